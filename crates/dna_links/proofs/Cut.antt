@@ -1,9 +1,9 @@
--- From what a program keeps of the links the same becomes of them: pieces and what comes for a flow, look-ups
+-- From what a program keeps of the links the same becomes of them: pieces and what comes for a link's segments, look-ups
 pub mod Pieces
-pub mod FlowArriving
+pub mod SegmentsArriving
 pub mod LookUps
--- what a flow sends, and what is left of one that ends
-pub mod FlowSending
+-- what is sent of a link's segments, and what is left of them when it ends
+pub mod SegmentsSending
 pub mod Ended
 -- each of the three tables
 pub mod User

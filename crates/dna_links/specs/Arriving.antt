@@ -10,8 +10,8 @@ use Rattle.dna_links.specs.declared.tag.LinkTag.{LinkTag}
 use Rattle.dna_links.specs.declared.port.Phase.TheVariants.{Called, Running}
 use Rattle.dna_links.specs.declared.port.LinkTest.TheVariants.{TheLink, LiveTo, CallingAt, ActedOn}
 use Rattle.dna_links.specs.LookUps.{is_at}
-use Rattle.dna_links.specs.Flow.{Flows}
-use Rattle.dna_links.specs.Links.{LinkOf, LinksOf, Carried, LinkTruth, check, goes, with_link, begun, changed, in_phase, with_flow, ended}
+use Rattle.dna_links.specs.SegmentBook.{SegmentBook}
+use Rattle.dna_links.specs.Links.{LinkOf, LinksOf, Carried, LinkTruth, check, goes, with_link, begun, changed, in_phase, with_segments, ended}
 
 -- ---- the rule on partners
 
@@ -38,7 +38,7 @@ is_for number tag = is_some tag.link && is_at tag.partner number
 abbrev pub is_of_pair : ℕ → Option ℕ → LinkTag → Bool
 is_of_pair number partner tag = are_same partner tag.link && is_at tag.partner number
 
-module _ {D K : Type 0} (flows : Flows D K) (rule : PartnerRule) where
+module _ {D K : Type 0} (book : SegmentBook D K) (rule : PartnerRule) where
   -- ---- the table
 
   -- a link that a CI begins: in Called, with that far address; its partner is the sender, its SEGSIZE the CI's
@@ -47,7 +47,7 @@ module _ {D K : Type 0} (flows : Flows D K) (rule : PartnerRule) where
     port = record { phase = Called; opened = false; own = None; far = Some far };
     partner = tag.link;
     segsize = segsize;
-    flow = flows.empty;
+    segments = book.empty;
   }
 
   -- CC: to RUN with the sender as partner, its address and its SEGSIZE
@@ -61,12 +61,12 @@ module _ {D K : Type 0} (flows : Flows D K) (rule : PartnerRule) where
   -- DI, DC: the link, or the one in Calling with the own address, is ended
   abbrev pub ends_link : (own far : ℕ) → LinksOf D → LinksOf D
   ends_link own far s =
-      with_link (TheLink own far) s (with_link (CallingAt own) s s (λ number link. changed number (ended flows link) s))
-      (λ number link. changed number (ended flows link) s)
+      with_link (TheLink own far) s (with_link (CallingAt own) s s (λ number link. changed number (ended book link) s))
+      (λ number link. changed number (ended book link) s)
 
-  -- Confirming goes to RUN; then what the message does to the flow
+  -- Confirming goes to RUN; then what the message does to the segments
   abbrev pub running : (LinkOf D → D) → LinkOf D → LinkOf D
-  running takes link = with_flow (takes link) (in_phase Running link)
+  running takes link = with_segments (takes link) (in_phase Running link)
 
   -- segment, data ack, link service, interrupt, other-data ack: the link in Confirming or RUN; of this pair, else 25
   abbrev pub acted_on : (own far : ℕ) → LinkTag → (LinkOf D → D) → LinksOf D → Result (LinksOf D) LinkRefusal
@@ -88,11 +88,11 @@ module _ {D K : Type 0} (flows : Flows D K) (rule : PartnerRule) where
   message_arrived s (DisconnectConfirm dst src reason) truth = Ok (ends_link dst src s)
   -- segment, data ack: acted on, with their numbers
   message_arrived s (DataSegment segment) truth =
-      acted_on segment.dstaddr segment.srcaddr truth.tag (λ link. flows.takes_segment segment truth.known link.flow) s
-  message_arrived s (DataAck dst src acks) truth = acted_on dst src truth.tag (λ link. flows.takes_acks acks truth.known link.flow) s
+      acted_on segment.dstaddr segment.srcaddr truth.tag (λ link. book.takes_segment segment truth.known link.segments) s
+  message_arrived s (DataAck dst src acks) truth = acted_on dst src truth.tag (λ link. book.takes_acks acks truth.known link.segments) s
   -- link service, interrupt, other-data ack: acted on, and no number is read
-  message_arrived s (LinkService interrupt dst src rest) truth = acted_on dst src truth.tag (λ link. link.flow) s
-  message_arrived s (OtherDataAck dst src rest) truth = acted_on dst src truth.tag (λ link. link.flow) s
+  message_arrived s (LinkService interrupt dst src rest) truth = acted_on dst src truth.tag (λ link. link.segments) s
+  message_arrived s (OtherDataAck dst src rest) truth = acted_on dst src truth.tag (λ link. link.segments) s
 
   -- from the other node to this one, else 16; then by message
   abbrev pub arrived_step : LinksOf D → Carried → LinkTruth K → Result (LinksOf D) LinkRefusal

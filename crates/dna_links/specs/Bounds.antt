@@ -4,11 +4,11 @@ use Rattle.dna_packet.specs.Nsp.{IsInRange}
 use Rattle.dna_links.specs.Links.{LinkOf, Carried}
 use Rattle.dna_links.specs.User.{LinkEventValue}
 use Rattle.dna_links.specs.Arriving.{of_partner}
-use Rattle.dna_links.specs.TrueFlow.{TrueFlow}
+use Rattle.dna_links.specs.TrueSegments.{TrueSegments}
 use Rattle.dna_links.specs.TrueLinks.{links_user, links_sent, links_arrived}
 use Rattle.dna_links.specs.WireLinks.{wire_links_user, wire_links_sent, wire_links_arrived}
 use Rattle.dna_links.specs.Runs.{SentMessage, LinkSide}
-use Rattle.dna_links.specs.CutFlow.{IsAnswered}
+use Rattle.dna_links.specs.CutSegments.{IsAnswered}
 use Rattle.dna_links.specs.CutLinks.{cut_links, cut_result, cut_sent, AreOrdered, ArrivesNear}
 
 -- Each link's own numbers are in order, and its highest number received is at most 2,047 above the last acknowledgement that it sent;
@@ -17,7 +17,7 @@ use Rattle.dna_links.specs.CutLinks.{cut_links, cut_result, cut_sent, AreOrdered
 -- through the highest given
 pub record AreLinksBounded (own other : LinkSide) : Type 0 where
   pub ordered : AreOrdered own.links
-  pub answered : (i : ℕ) (link : LinkOf TrueFlow) → slice_get own.links.links i ≡ Some link → IsAnswered link.flow
+  pub answered : (i : ℕ) (link : LinkOf TrueSegments) → slice_get own.links.links i ≡ Some link → IsAnswered link.segments
   pub near : (place : ℕ) (unit : SentMessage) → own.front ≤ place → slice_get other.sent place ≡ Some (Some unit) → IsInRange unit.packet.message →
       ArrivesNear of_partner own.links unit.packet.message unit.truth
 

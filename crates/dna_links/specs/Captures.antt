@@ -4,7 +4,7 @@ use Rattle.two_nodes.specs.Beginning.{BeginsWith}
 use Rattle.dna_links.specs.LookUps.{is_at}
 use Rattle.dna_links.specs.Links.{LinkOf}
 use Rattle.dna_links.specs.User.{LinkEventValue, Open, Accept, Reject, In, Up}
-use Rattle.dna_links.specs.TrueFlow.{TrueFlow}
+use Rattle.dna_links.specs.TrueSegments.{TrueSegments}
 
 -- the own address that an event gives to a link
 abbrev pub given_address : LinkEventValue → Option ℕ
@@ -43,28 +43,28 @@ behind zero (event ∷ events) = events
 behind (suc place) (event ∷ events) = behind place events
 
 -- the event at this place gave the link its address, and behind it stands what was handed in and delivered there
-pub record IsReadFrom (events : List LinkEventValue) (link : LinkOf TrueFlow) (place : ℕ) : Type 0 where
+pub record IsReadFrom (events : List LinkEventValue) (link : LinkOf TrueSegments) (place : ℕ) : Type 0 where
   pub event : LinkEventValue
   pub there : slice_get events place ≡ Some event
   pub own : ℕ
   pub gives : given_address event ≡ Some own
-  pub handed : link.flow.handed ≡ handed_in own (behind place events)
-  pub up : link.flow.delivered ≡ delivered_up own (behind place events)
+  pub handed : link.segments.handed ≡ handed_in own (behind place events)
+  pub up : link.segments.delivered ≡ delivered_up own (behind place events)
 
 -- a link that no event gave an address has neither
-pub record HasNeither (link : LinkOf TrueFlow) : Type 0 where
-  pub handed : link.flow.handed ≡ []
-  pub up : link.flow.delivered ≡ []
+pub record HasNeither (link : LinkOf TrueSegments) : Type 0 where
+  pub handed : link.segments.handed ≡ []
+  pub up : link.segments.delivered ≡ []
 
-abbrev pub IsRead : List LinkEventValue → LinkOf TrueFlow → Option ℕ → Type 0
+abbrev pub IsRead : List LinkEventValue → LinkOf TrueSegments → Option ℕ → Type 0
 IsRead events link None = HasNeither link
 IsRead events link (Some place) = IsReadFrom events link place
 
 -- All links of a side, off its user's events: at most one event gave each link its address, and each event that gives an address gave
 -- it to one link
-pub record AreRead (events : List LinkEventValue) (links : List (LinkOf TrueFlow)) : Type 0 where
+pub record AreRead (events : List LinkEventValue) (links : List (LinkOf TrueSegments)) : Type 0 where
   pub place_of : ℕ → Option ℕ
-  pub read : (i : ℕ) (link : LinkOf TrueFlow) → slice_get links i ≡ Some link → IsRead events link (place_of i)
+  pub read : (i : ℕ) (link : LinkOf TrueSegments) → slice_get links i ≡ Some link → IsRead events link (place_of i)
   pub within : (i place : ℕ) → place_of i ≡ Some place → i < length links
   pub once : (i j place : ℕ) → place_of i ≡ Some place → place_of j ≡ Some place → i ≡ j
   pub all : (place own : ℕ) (event : LinkEventValue) → slice_get events place ≡ Some event → given_address event ≡ Some own →
@@ -85,19 +85,19 @@ BeginsFor events delivered place_of (Some partner) = BeginsAt events delivered (
 
 -- what was delivered at each address, from the event that gave it to a link up to the next that gives it again, is a beginning of what was
 -- handed in at that link's partner. Whose partner a link is, is the run's
-pub record AreUpFrom (events further : List LinkEventValue) (links others : List (LinkOf TrueFlow)) : Type 0 where
+pub record AreUpFrom (events further : List LinkEventValue) (links others : List (LinkOf TrueSegments)) : Type 0 where
   pub own : AreRead events links
   pub other : AreRead further others
-  pub up : (i place address : ℕ) (link : LinkOf TrueFlow) (event : LinkEventValue) → slice_get links i ≡ Some link → own.place_of i ≡ Some place →
+  pub up : (i place address : ℕ) (link : LinkOf TrueSegments) (event : LinkEventValue) → slice_get links i ≡ Some link → own.place_of i ≡ Some place →
       slice_get events place ≡ Some event → given_address event ≡ Some address →
       BeginsFor further (delivered_up address (behind place events)) other.place_of link.partner
 
 -- ---- how many
 
 -- how many messages were delivered at all links
-abbrev pub deliveries : List (LinkOf TrueFlow) → ℕ
+abbrev pub deliveries : List (LinkOf TrueSegments) → ℕ
 deliveries [] = 0
-deliveries (link ∷ links) = length link.flow.delivered + deliveries links
+deliveries (link ∷ links) = length link.segments.delivered + deliveries links
 
 -- and how many events say so
 abbrev pub delivery_count : LinkEventValue → ℕ

@@ -5,24 +5,24 @@ use Rattle.dna_station.specs.declared.link_refusal.LinkRefusal.{LinkRefusal}
 use Rattle.dna_links.specs.LookUps.{is_live, is_running, passes}
 use Rattle.dna_links.specs.declared.port.Port.{Port}
 use Rattle.dna_links.specs.declared.port.LinkTest.TheVariants.{ActedOn}
-use Rattle.dna_links.specs.Flow.{wire}
+use Rattle.dna_links.specs.SegmentBook.{wire}
 use Rattle.dna_links.specs.Links.{LinkOf, LinkTruth}
 use Rattle.dna_links.specs.Sending.{Sent}
 use Rattle.dna_links.specs.Arriving.{PartnerRule, is_of_pair}
-use Rattle.dna_links.specs.TrueFlow.{TrueFlow, Numbers}
-use Rattle.dna_links.specs.WireFlow.{WireFlow, empty, ends}
-use Rattle.dna_links.specs.CutFlow.{cut, IsOrdered, IsAnswered, Spells, AcksAreNear, SegmentIsNear}
+use Rattle.dna_links.specs.TrueSegments.{TrueSegments, Numbers}
+use Rattle.dna_links.specs.WireSegments.{WireSegments, empty, ends}
+use Rattle.dna_links.specs.CutSegments.{cut, IsOrdered, IsAnswered, Spells, AcksAreNear, SegmentIsNear}
 use Rattle.dna_links.specs.TrueLinks.{Links}
 use Rattle.dna_links.specs.WireLinks.{WireLinks}
 
--- A live link's flow; what is left of one that has ended, while it has its own address; and nothing of one that has not
-abbrev pub cut_as : (live : Bool) → (own : Option ℕ) → TrueFlow → WireFlow
+-- A live link's segments; what is left of one that has ended, while it has its own address; and nothing of one that has not
+abbrev pub cut_as : (live : Bool) → (own : Option ℕ) → TrueSegments → WireSegments
 cut_as true own f = cut f
 cut_as false (Some own) f = ends (cut f)
 cut_as false None f = empty
 
-abbrev pub cut_link : LinkOf TrueFlow → LinkOf WireFlow
-cut_link l = record { port = l.port; partner = l.partner; segsize = l.segsize; flow = cut_as (is_live l.port.phase) l.port.own l.flow }
+abbrev pub cut_link : LinkOf TrueSegments → LinkOf WireSegments
+cut_link l = record { port = l.port; partner = l.partner; segsize = l.segsize; segments = cut_as (is_live l.port.phase) l.port.own l.segments }
 
 abbrev pub cut_links : Links → WireLinks
 cut_links s = record { node = s.node; peer = s.peer; links = map cut_link s.links }
@@ -33,24 +33,24 @@ cut_result (Ok s) = Ok (cut_links s)
 cut_result (Err reason) = Err reason
 
 -- and what is answered of a message that is sent: of what is true of it, a node has the tag
-abbrev pub cut_sent : Result (Sent TrueFlow Numbers) LinkRefusal → Result (Sent WireFlow (Unit {0})) LinkRefusal
+abbrev pub cut_sent : Result (Sent TrueSegments Numbers) LinkRefusal → Result (Sent WireSegments (Unit {0})) LinkRefusal
 cut_sent (Ok sent) = Ok (record { links = cut_links sent.links; truth = record { tag = sent.truth.tag; known = tt } })
 cut_sent (Err reason) = Err reason
 
 -- ---- what has to hold
 
--- Of one link: its flow's numbers are in order; in RUN its last acknowledgement is at most 2,047 below the highest received; and while a
+-- Of one link: the numbers of its segments are in order; in RUN its last acknowledgement is at most 2,047 below the highest received; and while a
 -- live link has no own address, nothing has come on it
-pub record IsLinkOrdered (l : LinkOf TrueFlow) : Type 0 where
-  pub flow : IsOrdered l.flow
-  pub answered : is_running l.port.phase ≡ true → IsAnswered l.flow
-  pub fresh : is_live l.port.phase ≡ true → l.port.own ≡ None → l.flow.received ≡ []
+pub record IsLinkOrdered (l : LinkOf TrueSegments) : Type 0 where
+  pub segments : IsOrdered l.segments
+  pub answered : is_running l.port.phase ≡ true → IsAnswered l.segments
+  pub fresh : is_live l.port.phase ≡ true → l.port.own ≡ None → l.segments.received ≡ []
 
 abbrev pub AreOrdered : Links → Type 0
-AreOrdered s = (number : ℕ) (l : LinkOf TrueFlow) → slice_get s.links number ≡ Some l → IsLinkOrdered l
+AreOrdered s = (number : ℕ) (l : LinkOf TrueSegments) → slice_get s.links number ≡ Some l → IsLinkOrdered l
 
--- the numbers of a message that comes to this flow are near its own, and its bytes have them
-abbrev pub ComesNear : TrueFlow → NspValue → Numbers → Type 0
+-- the numbers of a message that comes to these segments are near their own, and its bytes have them
+abbrev pub ComesNear : TrueSegments → NspValue → Numbers → Type 0
 ComesNear f (DataSegment s) known =
     Spells s.acks known.acknowledgements × (s.number ≡ wire known.segment) × AcksAreNear f known.acknowledgements × SegmentIsNear f known.segment
 ComesNear f (DataAck dst src acks) known = Spells acks known.acknowledgements × AcksAreNear f known.acknowledgements
@@ -64,5 +64,5 @@ IsActedOn m port = ⊥
 
 -- where a link acts on the message, and the rule on partners lets it, the numbers are near
 abbrev pub ArrivesNear : PartnerRule → Links → NspValue → LinkTruth Numbers → Type 0
-ArrivesNear rule s m truth = (number : ℕ) (l : LinkOf TrueFlow) → slice_get s.links number ≡ Some l
-    → IsActedOn m l.port → rule (is_of_pair number l.partner truth.tag) ≡ true → ComesNear l.flow m truth.known
+ArrivesNear rule s m truth = (number : ℕ) (l : LinkOf TrueSegments) → slice_get s.links number ≡ Some l
+    → IsActedOn m l.port → rule (is_of_pair number l.partner truth.tag) ≡ true → ComesNear l.segments m truth.known

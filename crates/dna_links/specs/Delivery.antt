@@ -3,7 +3,7 @@ use Rattle.std.specs.Prelude.{◌≡◌, ℕ, Option, Some, None, List, [], ◌�
 use Rattle.two_nodes.specs.Beginning.{BeginsWith}
 use Rattle.dna_links.specs.Pieces.{Piece}
 use Rattle.dna_links.specs.Links.{LinkOf}
-use Rattle.dna_links.specs.TrueFlow.{TrueFlow}
+use Rattle.dna_links.specs.TrueSegments.{TrueSegments}
 use Rattle.dna_links.specs.TrueLinks.{Links}
 
 -- ---- messages out of pieces
@@ -23,27 +23,27 @@ with_begun begun [] = []
 with_begun begun (rest ∷ later) = (begun ++ rest) ∷ later
 
 -- what was given is a cut of what was handed in: the messages that the pieces make, and what is in no piece yet
-pub record IsCut (f : TrueFlow) : Type 0 where
+pub record IsCut (f : TrueSegments) : Type 0 where
   pub all : f.handed ≡ whole [] f.given ++ with_begun (unfinished [] f.given) f.unsent.messages
   pub none_left : f.unsent.messages ≡ [] → unfinished [] f.given ≡ []
 
 -- ---- from link to link
 
 -- each piece that was received is the one that the partner gave under that number; without a partner nothing was received
-abbrev pub HeldFrom : Option ℕ → List (Option Piece) → List (LinkOf TrueFlow) → Type 0
+abbrev pub HeldFrom : Option ℕ → List (Option Piece) → List (LinkOf TrueSegments) → Type 0
 HeldFrom None received of_other = received ≡ []
 HeldFrom (Some partner) received of_other =
-    (there : LinkOf TrueFlow) × (slice_get of_other partner ≡ Some there) ×
-    ((n : ℕ) (p : Piece) → slice_get received n ≡ Some (Some p) → slice_get there.flow.given n ≡ Some p)
+    (there : LinkOf TrueSegments) × (slice_get of_other partner ≡ Some there) ×
+    ((n : ℕ) (p : Piece) → slice_get received n ≡ Some (Some p) → slice_get there.segments.given n ≡ Some p)
 
 -- what was delivered is a beginning of what was handed in at the partner; without a partner it is nothing
-abbrev pub UpFrom : Option ℕ → List (List ℕ) → List (LinkOf TrueFlow) → Type 0
+abbrev pub UpFrom : Option ℕ → List (List ℕ) → List (LinkOf TrueSegments) → Type 0
 UpFrom None delivered of_other = delivered ≡ []
 UpFrom (Some partner) delivered of_other =
-    (there : LinkOf TrueFlow) × (slice_get of_other partner ≡ Some there) × BeginsWith there.flow.handed delivered
+    (there : LinkOf TrueSegments) × (slice_get of_other partner ≡ Some there) × BeginsWith there.segments.handed delivered
 
 -- of every link of this side
 pub record DeliversLinks (own other : Links) : Type 0 where
-  pub cut : (i : ℕ) (link : LinkOf TrueFlow) → slice_get own.links i ≡ Some link → IsCut link.flow
-  pub held : (i : ℕ) (link : LinkOf TrueFlow) → slice_get own.links i ≡ Some link → HeldFrom link.partner link.flow.received other.links
-  pub up : (i : ℕ) (link : LinkOf TrueFlow) → slice_get own.links i ≡ Some link → UpFrom link.partner link.flow.delivered other.links
+  pub cut : (i : ℕ) (link : LinkOf TrueSegments) → slice_get own.links i ≡ Some link → IsCut link.segments
+  pub held : (i : ℕ) (link : LinkOf TrueSegments) → slice_get own.links i ≡ Some link → HeldFrom link.partner link.segments.received other.links
+  pub up : (i : ℕ) (link : LinkOf TrueSegments) → slice_get own.links i ≡ Some link → UpFrom link.partner link.segments.delivered other.links

@@ -1,19 +1,19 @@
 -- What a reader must believe of the links of a node: which link is meant, pieces of messages, and what the tables ask of the segments of a link
 pub mod LookUps
 pub mod Pieces
-pub mod Flow
+pub mod SegmentBook
 -- the links and their three tables
 pub mod Links
 pub mod User
 pub mod Sending
 pub mod Arriving
 -- segments and links on true numbers, and as a program keeps them
-pub mod TrueFlow
-pub mod WireFlow
+pub mod TrueSegments
+pub mod WireSegments
 pub mod TrueLinks
 pub mod WireLinks
 -- how the two go together
-pub mod CutFlow
+pub mod CutSegments
 pub mod CutLinks
 -- the links of both sides, in every run: what they come to, the bounds of numbers, what is delivered, and what the captures tell of it
 pub mod Runs

@@ -1,4 +1,4 @@
--- The logical links of one node, over any flow (NSP 4.0, ports). What the user does stands in `User`, what may be sent in
+-- The logical links of one node, over any book of their segments (NSP 4.0, ports). What the user does stands in `User`, what may be sent in
 -- `Sending`, what an arrival does in `Arriving`.
 use Rattle.std.specs.Prelude.{ℕ, Bool, true, false, ◌&&◌, ◌==◌, Option, Some, None, List, [], ◌∷◌, ◌++◌, slice_get, slice_set, position, Result, Err}
 use Rattle.dna_packet.specs.Nsp.{NspValue}
@@ -11,7 +11,7 @@ use Rattle.dna_links.specs.declared.port.Port.{Port}
 use Rattle.dna_links.specs.declared.port.LinkTest.{LinkTest}
 use Rattle.dna_links.specs.declared.port.LinkTest.TheVariants.{HasAddress}
 use Rattle.dna_links.specs.LookUps.{passes}
-use Rattle.dna_links.specs.Flow.{Flows}
+use Rattle.dna_links.specs.SegmentBook.{SegmentBook}
 
 -- One end of a link
 pub record LinkOf (D : Type 0) : Type 0 where
@@ -20,7 +20,7 @@ pub record LinkOf (D : Type 0) : Type 0 where
   pub partner : Option ℕ
   -- how many data bytes the partner takes in a segment: the SEGSIZE of the CI or CC that was acted on, and 0 before
   pub segsize : ℕ
-  pub flow : D
+  pub segments : D
 
 -- All links of a node that ever were, in the order in which they began: the first has number 0
 pub record LinksOf (D : Type 0) : Type 0 where
@@ -83,17 +83,17 @@ module _ {D : Type 0} where
   abbrev pub in_phase : Phase → LinkOf D → LinkOf D
   in_phase phase link = record link { port = record link.port { phase = phase } }
 
-  abbrev pub with_flow : D → LinkOf D → LinkOf D
-  with_flow flow link = record link { flow = flow }
+  abbrev pub with_segments : D → LinkOf D → LinkOf D
+  with_segments segments link = record link { segments = segments }
 
-module _ {D K : Type 0} (flows : Flows D K) where
+module _ {D K : Type 0} (book : SegmentBook D K) where
   -- the link is over
   abbrev pub ended : LinkOf D → LinkOf D
-  ended link = with_flow (flows.ends link.flow) (in_phase Ended link)
+  ended link = with_segments (book.ends link.segments) (in_phase Ended link)
 
   -- An own address that is given again is no longer that of the ended link which had it: `Up` goes by the link that got it last
   abbrev pub forgotten : LinkOf D → LinkOf D
-  forgotten link = record link { port = record link.port { own = None }; flow = flows.forgets link.flow }
+  forgotten link = record link { port = record link.port { own = None }; segments = book.forgets link.segments }
 
   abbrev pub freed : (own : ℕ) → LinksOf D → LinksOf D
   freed own s = with_link (HasAddress own) s s (λ number link. changed number (forgotten link) s)

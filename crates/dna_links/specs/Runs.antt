@@ -6,7 +6,7 @@ use Rattle.dna_links.specs.Links.{Carried, LinkTruth}
 use Rattle.dna_links.specs.User.{LinkEventValue}
 use Rattle.dna_links.specs.Sending.{Sent}
 use Rattle.dna_links.specs.Arriving.{of_partner}
-use Rattle.dna_links.specs.TrueFlow.{TrueFlow, Numbers}
+use Rattle.dna_links.specs.TrueSegments.{TrueSegments, Numbers}
 use Rattle.dna_links.specs.TrueLinks.{Links, new_links, links_user, links_sent, links_arrived}
 
 -- a message of the links in a packet that was first sent, with what was true of it then
@@ -37,7 +37,7 @@ pub data LinkStep (own other : LinkSide) : List LinkEventValue → LinkSide → 
   ByUser : (event : LinkEventValue) (links : Links) → links_user own.links event ≡ Ok links →
       LinkStep own other (event ∷ []) (record { links = links; sent = own.sent; front = own.front })
   -- a packet is first sent: it has a message of the links, or none
-  Sends : (packet : Carried) (made : Sent TrueFlow Numbers) → links_sent own.links packet ≡ Ok made →
+  Sends : (packet : Carried) (made : Sent TrueSegments Numbers) → links_sent own.links packet ≡ Ok made →
       LinkStep own other [] (sends own made.links (Some (record { packet = packet; truth = made.truth })))
   SendsNone : LinkStep own other [] (sends own own.links None)
   -- a packet is kept: it lies at or behind the front, and is the one that was first sent there, with its truth

@@ -9,18 +9,18 @@ use Rattle.dna_links.specs.declared.port.Phase.{Phase}
 use Rattle.dna_links.specs.declared.port.LinkTest.{LinkTest}
 use Rattle.dna_links.specs.declared.port.LinkTest.TheVariants.{TheLink, OpenedAt, CalledBy, BegunBy}
 use Rattle.dna_links.specs.LookUps.{is_calling, is_confirming, is_running, is_disconnecting}
-use Rattle.dna_links.specs.Flow.{Flows, Sending}
-use Rattle.dna_links.specs.Links.{LinkOf, LinksOf, Carried, LinkTruth, check, goes, with_link, changed, with_flow, ended}
+use Rattle.dna_links.specs.SegmentBook.{SegmentBook, Sending}
+use Rattle.dna_links.specs.Links.{LinkOf, LinksOf, Carried, LinkTruth, check, goes, with_link, changed, with_segments, ended}
 
 -- what a message that may be sent makes of the links, and what is true of it
 pub record Sent (D K : Type 0) : Type 0 where
   pub links : LinksOf D
   pub truth : LinkTruth K
 
-module _ {D K : Type 0} (flows : Flows D K) where
+module _ {D K : Type 0} (book : SegmentBook D K) where
   -- a message of no link changes nothing
   abbrev pub of_no_link : LinksOf D → Sent D K
-  of_no_link s = record { links = s; truth = record { tag = record { link = None; partner = None }; known = flows.sends_other flows.empty } }
+  of_no_link s = record { links = s; truth = record { tag = record { link = None; partner = None }; known = book.sends_other book.empty } }
 
   -- a message of this link, the number of which is given
   abbrev pub truth_of : ℕ → LinkOf D → K → LinkTruth K
@@ -28,11 +28,11 @@ module _ {D K : Type 0} (flows : Flows D K) where
 
   -- one that changes nothing
   abbrev pub unchanged : LinksOf D → ℕ → LinkOf D → Sent D K
-  unchanged s number link = record { links = s; truth = truth_of number link (flows.sends_other link.flow) }
+  unchanged s number link = record { links = s; truth = truth_of number link (book.sends_other link.segments) }
 
   -- one that ends the link
   abbrev pub ending : LinksOf D → ℕ → LinkOf D → Sent D K
-  ending s number link = record { links = changed number (ended flows link) s; truth = truth_of number link (flows.sends_other link.flow) }
+  ending s number link = record { links = changed number (ended book link) s; truth = truth_of number link (book.sends_other link.segments) }
 
   -- a message that changes nothing: the link that this test finds, else 18; in a phase of this kind, else 19
   abbrev pub in_its_phase : LinkTest → (Phase → Bool) → LinksOf D → Result (Sent D K) LinkRefusal
@@ -43,10 +43,11 @@ module _ {D K : Type 0} (flows : Flows D K) where
   abbrev pub confirms_end : LinksOf D → (src dst : ℕ) → Sent D K
   confirms_end s src dst = if src == 0 then with_link (CalledBy dst) s (of_no_link s) (λ number link. ending s number link) else of_no_link s
 
-  -- what a message of a link in RUN makes of its flow
+  -- what a message of a link in RUN makes of its segments
   abbrev pub carries : LinksOf D → ℕ → LinkOf D → Result (Sending D K) LinkRefusal → Result (Sent D K) LinkRefusal
   carries s number link (Err refusal) = Err refusal
-  carries s number link (Ok sent) = Ok (record { links = changed number (with_flow sent.flow link) s; truth = truth_of number link sent.known })
+  carries s number link (Ok sent) =
+      Ok (record { links = changed number (with_segments sent.segments link) s; truth = truth_of number link sent.known })
 
   -- a segment, or acknowledgement words alone: the link, else 18; in RUN, else 19; then the rules on numbers
   abbrev pub in_run : (src dst : ℕ) → (LinkOf D → Result (Sending D K) LinkRefusal) → LinksOf D → Result (Sent D K) LinkRefusal
@@ -54,7 +55,7 @@ module _ {D K : Type 0} (flows : Flows D K) where
       with_link (TheLink src dst) s (Err NoLink) (λ number link. check (is_running link.port.phase) LinkState (carries s number link (sends link)))
 
   abbrev pub segment_of : SegmentValue → LinkOf D → Result (Sending D K) LinkRefusal
-  segment_of segment link = flows.sends_segment link.segsize segment link.flow
+  segment_of segment link = book.sends_segment link.segsize segment link.segments
 
   abbrev pub message_sent : LinksOf D → NspValue → Result (Sent D K) LinkRefusal
   -- CI, new or sent again: a live link opened here has SRCADDR, else 18; in Calling, else 19
@@ -69,7 +70,7 @@ module _ {D K : Type 0} (flows : Flows D K) where
   message_sent s (DisconnectConfirm dst src reason) = with_link (TheLink src dst) s (Ok (confirms_end s src dst)) (λ number link. Err LinkState)
   -- segment and data ack: in RUN, by the rules on numbers
   message_sent s (DataSegment segment) = in_run segment.srcaddr segment.dstaddr (segment_of segment) s
-  message_sent s (DataAck dst src acks) = in_run src dst (λ link. flows.sends_acks acks link.flow) s
+  message_sent s (DataAck dst src acks) = in_run src dst (λ link. book.sends_acks acks link.segments) s
   -- link service, interrupt, other-data ack: the link, else 18; in RUN, else 19
   message_sent s (LinkService interrupt dst src rest) = in_its_phase (TheLink src dst) is_running s
   message_sent s (OtherDataAck dst src rest) = in_its_phase (TheLink src dst) is_running s

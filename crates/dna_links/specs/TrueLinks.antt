@@ -5,20 +5,20 @@ use Rattle.dna_links.specs.Links.{LinksOf, Carried, LinkTruth, no_links}
 use Rattle.dna_links.specs.User.{LinkEventValue, user_step}
 use Rattle.dna_links.specs.Sending.{Sent, sent_step}
 use Rattle.dna_links.specs.Arriving.{PartnerRule, arrived_step}
-use Rattle.dna_links.specs.TrueFlow.{TrueFlow, Numbers, true_flows}
+use Rattle.dna_links.specs.TrueSegments.{TrueSegments, Numbers, true_segments}
 
 abbrev pub Links : Type 0
-Links = LinksOf TrueFlow
+Links = LinksOf TrueSegments
 
 abbrev pub new_links : (node peer : ℕ) → Links
 new_links node peer = no_links node peer
 
 -- what the user does, a message that is sent, a message that comes: what becomes of the links, or the first refusal
 abbrev pub links_user : Links → LinkEventValue → Result Links LinkRefusal
-links_user s event = user_step true_flows s event
+links_user s event = user_step true_segments s event
 
-abbrev pub links_sent : Links → Carried → Result (Sent TrueFlow Numbers) LinkRefusal
-links_sent s packet = sent_step true_flows s packet
+abbrev pub links_sent : Links → Carried → Result (Sent TrueSegments Numbers) LinkRefusal
+links_sent s packet = sent_step true_segments s packet
 
 abbrev pub links_arrived : PartnerRule → Links → Carried → LinkTruth Numbers → Result Links LinkRefusal
-links_arrived rule s packet truth = arrived_step true_flows rule s packet truth
+links_arrived rule s packet truth = arrived_step true_segments rule s packet truth

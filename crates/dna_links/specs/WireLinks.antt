@@ -6,10 +6,10 @@ use Rattle.dna_links.specs.Links.{LinksOf, Carried, no_links}
 use Rattle.dna_links.specs.User.{LinkEventValue, user_step}
 use Rattle.dna_links.specs.Sending.{Sent, sent_step}
 use Rattle.dna_links.specs.Arriving.{PartnerRule, arrived_step}
-use Rattle.dna_links.specs.WireFlow.{WireFlow, wire_flows}
+use Rattle.dna_links.specs.WireSegments.{WireSegments, wire_segments}
 
 abbrev pub WireLinks : Type 0
-WireLinks = LinksOf WireFlow
+WireLinks = LinksOf WireSegments
 
 abbrev pub new_wire_links : (node peer : ℕ) → WireLinks
 new_wire_links node peer = no_links node peer
@@ -17,10 +17,10 @@ new_wire_links node peer = no_links node peer
 -- what the user does, a message that is sent, a message that comes: what becomes of the links, or the first refusal. Of a message
 -- that is sent, `truth.tag` is its tag
 abbrev pub wire_links_user : WireLinks → LinkEventValue → Result WireLinks LinkRefusal
-wire_links_user s event = user_step wire_flows s event
+wire_links_user s event = user_step wire_segments s event
 
-abbrev pub wire_links_sent : WireLinks → Carried → Result (Sent WireFlow (Unit {0})) LinkRefusal
-wire_links_sent s packet = sent_step wire_flows s packet
+abbrev pub wire_links_sent : WireLinks → Carried → Result (Sent WireSegments (Unit {0})) LinkRefusal
+wire_links_sent s packet = sent_step wire_segments s packet
 
 abbrev pub wire_links_arrived : PartnerRule → WireLinks → Carried → LinkTag → Result WireLinks LinkRefusal
-wire_links_arrived rule s packet tag = arrived_step wire_flows rule s packet (record { tag = tag; known = tt })
+wire_links_arrived rule s packet tag = arrived_step wire_segments rule s packet (record { tag = tag; known = tt })

@@ -4,38 +4,38 @@ ghost use Rattle.std.specs.Prelude.{◌≡◌, ℕ, List};
 ghost use Rattle.std.specs.Option.{option_map};
 ghost use Rattle.dna_packet.specs.declared.ack_word.AckWord.{AckWord};
 ghost use Rattle.dna_packet.specs.Nsp.{SegmentValue};
-ghost use Rattle.dna_links.specs.Flow.{wire};
+ghost use Rattle.dna_links.specs.SegmentBook.{wire};
 ghost use Rattle.dna_links.specs.Links.{Carried, LinkTruth};
 ghost use Rattle.dna_links.specs.User.{LinkEventValue};
 ghost use Rattle.dna_links.specs.Arriving.{PartnerRule};
-ghost use Rattle.dna_links.specs.TrueFlow.{TrueFlow, Numbers};
-ghost use Rattle.dna_links.specs.TrueFlow as true_flow;
-ghost use Rattle.dna_links.specs.WireFlow as wire_flow;
+ghost use Rattle.dna_links.specs.TrueSegments.{TrueSegments, Numbers};
+ghost use Rattle.dna_links.specs.TrueSegments as on_true;
+ghost use Rattle.dna_links.specs.WireSegments as on_wire;
 ghost use Rattle.dna_links.specs.TrueLinks.{Links, new_links, links_user, links_sent, links_arrived};
 ghost use Rattle.dna_links.specs.WireLinks.{new_wire_links, wire_links_user, wire_links_sent, wire_links_arrived};
-ghost use Rattle.dna_links.specs.CutFlow.{cut, cut_sending, IsOrdered, IsAnswered, Spells, AcksAreNear, SegmentIsNear};
+ghost use Rattle.dna_links.specs.CutSegments.{cut, cut_sending, IsOrdered, IsAnswered, Spells, AcksAreNear, SegmentIsNear};
 ghost use Rattle.dna_links.specs.CutLinks.{cut_links, cut_result, cut_sent, AreOrdered, ArrivesNear};
 
 /// From what a node keeps of a link's segments the same messages are delivered, the same segments and acknowledgements are refused
-/// for the same reasons, and what is sent and what comes change it as they change the flow on true numbers.
-pub fn cut_flow()
-    ensures empty { cut true_flow.empty ≡ wire_flow.empty }
-    ensures hands_in { (f : TrueFlow) (message : List ℕ) → cut (true_flow.hands_in message f) ≡ wire_flow.hands_in message (cut f) }
-    ensures delivers { (f : TrueFlow) (message : List ℕ) → option_map cut (true_flow.delivers message f) ≡ wire_flow.delivers message (cut f) }
+/// for the same reasons, and what is sent and what comes change it as they change the segments on true numbers.
+pub fn cut_segments()
+    ensures empty { cut on_true.empty ≡ on_wire.empty }
+    ensures hands_in { (f : TrueSegments) (message : List ℕ) → cut (on_true.hands_in message f) ≡ on_wire.hands_in message (cut f) }
+    ensures delivers { (f : TrueSegments) (message : List ℕ) → option_map cut (on_true.delivers message f) ≡ on_wire.delivers message (cut f) }
 
-    // What is sent, where the flow's own numbers are in order and its last acknowledgement is at most 2,047 below the highest received.
-    ensures sends_acks { (f : TrueFlow) (words : List AckWord) → IsOrdered f → IsAnswered f
-        → cut_sending (true_flow.sends_acks words f) ≡ wire_flow.sends_acks words (cut f) }
-    ensures sends_segment { (f : TrueFlow) (segsize : ℕ) (s : SegmentValue) → IsOrdered f → IsAnswered f
-        → cut_sending (true_flow.sends_segment segsize s f) ≡ wire_flow.sends_segment segsize s (cut f) }
+    // What is sent, where the segments' own numbers are in order and its last acknowledgement is at most 2,047 below the highest received.
+    ensures sends_acks { (f : TrueSegments) (words : List AckWord) → IsOrdered f → IsAnswered f
+        → cut_sending (on_true.sends_acks words f) ≡ on_wire.sends_acks words (cut f) }
+    ensures sends_segment { (f : TrueSegments) (segsize : ℕ) (s : SegmentValue) → IsOrdered f → IsAnswered f
+        → cut_sending (on_true.sends_segment segsize s f) ≡ on_wire.sends_segment segsize s (cut f) }
 
-    // What comes, where its numbers are near those of the flow, and its bytes have them modulo 4,096.
-    ensures takes_acks { (f : TrueFlow) (words : List AckWord) (known : Numbers) → IsOrdered f
+    // What comes, where its numbers are near those of the segments, and its bytes have them modulo 4,096.
+    ensures takes_acks { (f : TrueSegments) (words : List AckWord) (known : Numbers) → IsOrdered f
         → Spells words known.acknowledgements → AcksAreNear f known.acknowledgements
-        → cut (true_flow.takes_acks words known f) ≡ wire_flow.takes_acks words tt (cut f) }
-    ensures takes_segment { (f : TrueFlow) (s : SegmentValue) (known : Numbers) → IsOrdered f
+        → cut (on_true.takes_acks words known f) ≡ on_wire.takes_acks words tt (cut f) }
+    ensures takes_segment { (f : TrueSegments) (s : SegmentValue) (known : Numbers) → IsOrdered f
         → Spells s.acks known.acknowledgements → s.number ≡ wire known.segment → AcksAreNear f known.acknowledgements → SegmentIsNear f known.segment
-        → cut (true_flow.takes_segment s known f) ≡ wire_flow.takes_segment s tt (cut f) }
+        → cut (on_true.takes_segment s known f) ≡ on_wire.takes_segment s tt (cut f) }
 {}
 
 /// From what a node keeps of its links the same events and messages are refused for the same reasons, and change it as they change the

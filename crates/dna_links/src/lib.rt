@@ -10,7 +10,7 @@ pub mod run_laws;
 mod tag;
 
 pub use event::LinkEvent;
-pub use laws::{cut_flow, cut_link_steps};
+pub use laws::{cut_link_steps, cut_segments};
 pub use port::{LinkTest, Phase, Port};
 pub use run_laws::{
     links_count_deliveries, links_deliver_in_order, links_read_off_captures, links_within_bounds,

@@ -31,9 +31,9 @@ use Rattle.dna_station.specs.Machine.{unless_refused, step}
 use Rattle.dna_links.specs.User.{LinkEventValue}
 use Rattle.dna_links.specs.Sending as links_sending
 use Rattle.dna_links.specs.Links.{Carried}
-use Rattle.dna_links.specs.TrueFlow.{TrueFlow, Numbers}
+use Rattle.dna_links.specs.TrueSegments.{TrueSegments, Numbers}
 use Rattle.dna_links.specs.TrueLinks.{Links, links_user, links_sent, links_arrived}
-use Rattle.dna_links.specs.WireFlow.{WireFlow}
+use Rattle.dna_links.specs.WireSegments.{WireSegments}
 use Rattle.dna_links.specs.WireLinks.{WireLinks, wire_links_user}
 use Rattle.dna_links.specs.Arriving.{of_partner}
 use Rattle.dna_links.specs.CutLinks.{cut_links}
@@ -147,7 +147,7 @@ module _ (own other : Half LayersNode LayersUnit) (front of_other : ℕ) (c : Is
         ap₂ (wire_made (cut_links links) (tag_of s.station)) (first_station new links carried)
         (sym (ap (λ (change : Change). tag_by change carried) (gives_packet s.station m new)))
 
-    by_message : gives_number s.station m ≡ true → (packet : Carried) (o : Result (links_sending.Sent TrueFlow Numbers) LinkRefusal) →
+    by_message : gives_number s.station m ≡ true → (packet : Carried) (o : Result (links_sending.Sent TrueSegments Numbers) LinkRefusal) →
         with_tag wire_after (of_links.cut_sent o) ≡ layers_sent m (with_message s after packet o)
     by_message new packet (Ok made) = first new made.links (Some (record { packet = packet; truth = made.truth }))
     by_message new packet (Err refusal) = refl
@@ -155,7 +155,7 @@ module _ (own other : Half LayersNode LayersUnit) (front of_other : ℕ) (c : Is
     by_content : gives_number s.station m ≡ true → (r : Result (Option Carried) StepRefusal) →
         wire_sends_first (cut_layers s) wire_after r ≡ layers_sent m (sends_first s after r)
     by_content new (Ok (Some packet)) =
-        ap (λ (o : Result (links_sending.Sent WireFlow (Unit {0})) LinkRefusal). with_tag wire_after o) (sym (c.links.sent packet))
+        ap (λ (o : Result (links_sending.Sent WireSegments (Unit {0})) LinkRefusal). with_tag wire_after o) (sym (c.links.sent packet))
         ∙ by_message new packet (links_sent s.links packet)
     by_content new (Ok None) = first new s.links None
     by_content new (Err refusal) = refl

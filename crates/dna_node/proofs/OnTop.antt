@@ -37,7 +37,7 @@ use Rattle.dna_station.specs.Pair.{pair}
 use Rattle.dna_links.specs.Links.{Carried}
 use Rattle.dna_links.specs.User.{LinkEventValue, Open, Accept, Reject, In, Up, Close}
 use Rattle.dna_links.specs.Sending as links_sending
-use Rattle.dna_links.specs.TrueFlow.{TrueFlow, Numbers}
+use Rattle.dna_links.specs.TrueSegments.{TrueSegments, Numbers}
 use Rattle.dna_links.specs.TrueLinks.{Links, links_user, links_sent, links_arrived}
 use Rattle.dna_links.specs.Runs.{SentMessage}
 use Rattle.dna_node.specs.Content.{content, link_event}
@@ -49,7 +49,8 @@ use Rattle.dna_station.proofs.Steps.Happens.{event_of}
 -- what is read of a packet that is first sent, and what the links make of it
 pub data FirstSent (links : Links) (body : List ℕ) : Links → Option SentMessage → Type 0 where
   NoMessage : content body ≡ Ok None → FirstSent links body links None
-  Message : (packet : Carried) (made : links_sending.Sent TrueFlow Numbers) → content body ≡ Ok (Some packet) → links_sent links packet ≡ Ok made →
+  Message : (packet : Carried) (made : links_sending.Sent TrueSegments Numbers) → content body ≡ Ok (Some packet) →
+      links_sent links packet ≡ Ok made →
       FirstSent links body made.links (Some (record { packet = packet; truth = made.truth }))
 
 -- and of a receipt, by whether its packet was kept
@@ -159,7 +160,7 @@ module _ (rules : Rules) (own other h : Half LayersNode LayersUnit) where
         (record { bytes = bytes; message = m; known = truth_of s.station m })
 
     by_message : (packet : Carried) → content (body_of m) ≡ Ok (Some packet) → gives_number s.station m ≡ true →
-        (o : Result (links_sending.Sent TrueFlow Numbers) LinkRefusal) → links_sent s.links packet ≡ o →
+        (o : Result (links_sending.Sent TrueSegments Numbers) LinkRefusal) → links_sent s.links packet ≡ o →
         answered own other (sends own.state bytes m (with_message s (sent_by own m) packet o)) ≡ Made h → Follows (Sent bytes) (Made low_sent)
     by_message packet read new (Ok made) done is =
         pushed bytes m (first_sent s (sent_by own m) made.links (Some (record { packet = packet; truth = made.truth })))

@@ -14,9 +14,9 @@ use Rattle.dna_station.specs.Book.{body_of}
 use Rattle.dna_station.specs.WireStation.{StationVariables}
 use Rattle.dna_station.specs.WireBook.{acknowledges}
 use Rattle.dna_links.specs.declared.port.LinkTest.TheVariants.{ActedOn}
-use Rattle.dna_links.specs.Flow.{REACH, distance, is_of_data}
+use Rattle.dna_links.specs.SegmentBook.{REACH, distance, is_of_data}
 use Rattle.dna_links.specs.Links.{Carried, with_link}
-use Rattle.dna_links.specs.WireFlow.{LinkVariables, WireFlow, acknowledged_by}
+use Rattle.dna_links.specs.WireSegments.{LinkVariables, WireSegments, acknowledged_by}
 use Rattle.dna_links.specs.WireLinks.{WireLinks}
 use Rattle.dna_node.specs.Content.{content}
 use Rattle.dna_node.specs.WireLayers.{WireLayers}
@@ -77,12 +77,12 @@ may_acknowledge_all gave_many (word ∷ words) k =
     && may_acknowledge_all gave_many words (acknowledged_by k word)
 
 -- else (21)
-abbrev pub wrong_words : List AckWord → WireFlow → Option StepRefusal
-wrong_words acks f = if may_acknowledge_all f.gave_many acks f.kept then None else Some (OfLinks WrongAck)
+abbrev pub wrong_words : List AckWord → WireSegments → Option StepRefusal
+wrong_words acks f = if may_acknowledge_all f.gave_many acks f.variables then None else Some (OfLinks WrongAck)
 
 -- of the link that acts on the message, if one does
 abbrev pub wrong_acks : (own far : ℕ) → List AckWord → WireLinks → Option StepRefusal
-wrong_acks own far acks s = with_link (ActedOn own far) s None (λ number link. wrong_words acks link.flow)
+wrong_acks own far acks s = with_link (ActedOn own far) s None (λ number link. wrong_words acks link.segments)
 
 abbrev pub wrong_message : WireLinks → NspValue → Option StepRefusal
 wrong_message s (DataSegment segment) = wrong_acks segment.dstaddr segment.srcaddr segment.acks s

@@ -20,7 +20,7 @@ use Rattle.dna_station.specs.Node.{Node, station_machine}
 use Rattle.dna_links.specs.Links.{Carried}
 use Rattle.dna_links.specs.User.{LinkEventValue}
 use Rattle.dna_links.specs.Sending.{Sent}
-use Rattle.dna_links.specs.TrueFlow.{TrueFlow, Numbers}
+use Rattle.dna_links.specs.TrueSegments.{TrueSegments, Numbers}
 use Rattle.dna_links.specs.TrueLinks.{Links, new_links, links_user, links_sent, links_arrived}
 use Rattle.dna_links.specs.Runs.{SentMessage}
 use Rattle.dna_node.specs.Content.{content, link_event}
@@ -52,7 +52,8 @@ abbrev pub first_sent : Layers → Station × Truth → Links → Option SentMes
 first_sent s after links carried =
     (record { station = after.0; links = links; messages = s.messages ++ carried ∷ [] }, record { station = after.1; carried = carried })
 
-abbrev pub with_message : Layers → Station × Truth → Carried → Result (Sent TrueFlow Numbers) LinkRefusal → Result (Layers × LayersTruth) StepRefusal
+abbrev pub with_message : Layers → Station × Truth → Carried → Result (Sent TrueSegments Numbers) LinkRefusal →
+    Result (Layers × LayersTruth) StepRefusal
 with_message s after packet (Ok made) = Ok (first_sent s after made.links (Some (record { packet = packet; truth = made.truth })))
 with_message s after packet (Err refusal) = Err (OfLinks refusal)
 

@@ -21,7 +21,7 @@ use Rattle.dna_station.specs.WireNode.{wire_machine}
 use Rattle.dna_links.specs.Links.{Carried}
 use Rattle.dna_links.specs.User.{LinkEventValue}
 use Rattle.dna_links.specs.Sending.{Sent}
-use Rattle.dna_links.specs.WireFlow.{WireFlow}
+use Rattle.dna_links.specs.WireSegments.{WireSegments}
 use Rattle.dna_links.specs.WireLinks.{WireLinks, new_wire_links, wire_links_user, wire_links_sent, wire_links_arrived}
 use Rattle.dna_node.specs.Content.{content, link_event}
 
@@ -52,7 +52,7 @@ with_wire_links s (Err refusal) = Err (OfLinks refusal)
 abbrev pub first_tagged : WireStation LinkTag × Tag → WireLinks → LinkTag → WireLayers × LayersTag
 first_tagged after links tag = (record { station = wire_after_label after.0 tag; links = links }, record { station = after.1; link = Some tag })
 
-abbrev pub with_tag : WireStation LinkTag × Tag → Result (Sent WireFlow (Unit {0})) LinkRefusal → Result (WireLayers × LayersTag) StepRefusal
+abbrev pub with_tag : WireStation LinkTag × Tag → Result (Sent WireSegments (Unit {0})) LinkRefusal → Result (WireLayers × LayersTag) StepRefusal
 with_tag after (Ok made) = Ok (first_tagged after made.links made.truth.tag)
 with_tag after (Err refusal) = Err (OfLinks refusal)
 

@@ -1,9 +1,9 @@
 -- What holds of the links of an end: what they choose to send they may send
-pub mod FlowPays
+pub mod SegmentsPay
 pub mod Pays
 pub mod Choices
 pub mod Confirms
-pub mod FlowDid
+pub mod SegmentsDid
 -- what they owe goes with their phases
 pub mod Owing
 pub mod Debts

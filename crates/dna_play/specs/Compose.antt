@@ -11,7 +11,7 @@ use Rattle.dna_packet.specs.Nsp.{DisconnectConfirm, nsp_bytes}
 use Rattle.dna_station.specs.declared.head.Head.{Head}
 use Rattle.dna_station.specs.Station.{wire}
 use Rattle.dna_station.specs.WireStation.{HeldPacket, StationVariables}
-use Rattle.dna_links.specs.Flow as flows
+use Rattle.dna_links.specs.SegmentBook as book
 use Rattle.dna_links.specs.Pieces.{Piece, Unsent, next_piece, SEGSIZE}
 use Rattle.dna_play.specs.LinkOwed.{Turn, ConnectAckTurn, InitiateTurn, ConfirmTurn, DisconnectTurn, DataAckTurn, SegmentTurn}
 use Rattle.dna_play.specs.NextSent.{LinkEnd, LinkChoice, Confirms, OfLink, Choice, SendStrt, SendStack, SendNak, SendRep, SendAgain, SendNew, SendAck}
@@ -46,7 +46,7 @@ segment_with l p = record {
   dstaddr = address l.port.far;
   srcaddr = address l.port.own;
   acks = [];
-  number = flows.wire (l.variables.acknowledged + 1 + l.owed.ahead);
+  number = book.wire (l.variables.acknowledged + 1 + l.owed.ahead);
   bit_12 = false;
   body = p.body;
 }

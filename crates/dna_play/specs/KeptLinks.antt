@@ -10,9 +10,9 @@ use Rattle.dna_links.specs.declared.port.Phase.TheVariants.{Calling, Called, Con
 use Rattle.dna_links.specs.declared.port.LinkTest.{LinkTest}
 use Rattle.dna_links.specs.declared.port.LinkTest.TheVariants.{TheLink, LiveTo, CallingAt, ActedOn}
 use Rattle.dna_links.specs.LookUps.{passes, is_running}
-use Rattle.dna_links.specs.Flow.{distance}
+use Rattle.dna_links.specs.SegmentBook.{distance}
 use Rattle.dna_links.specs.Pieces.{Piece, none_unsent, with_message, without_piece, in_whole_messages}
-use Rattle.dna_links.specs.WireFlow.{LinkVariables, acknowledged_by_all, segment_taken}
+use Rattle.dna_links.specs.WireSegments.{LinkVariables, acknowledged_by_all, segment_taken}
 use Rattle.dna_play.specs.LinkOwed.{LinkOwed, EndConfirm, Turn, ConnectAckTurn, InitiateTurn, ConfirmTurn, DisconnectTurn, DataAckTurn, SegmentTurn}
 use Rattle.dna_play.specs.LinkOwed.{with_turn, same_phase, unless_left, lowered}
 use Rattle.dna_play.specs.LinkOwed as owing

@@ -6,11 +6,11 @@ use Rattle.dna_links.specs.declared.port.Phase.{Phase}
 use Rattle.dna_links.specs.declared.port.Phase.TheVariants.{Calling, Called, Confirming, Running, Disconnecting, Ended}
 use Rattle.dna_links.specs.declared.port.LinkTest.TheVariants.{TheLink, LiveTo, CallingAt, ActedOn}
 use Rattle.dna_links.specs.LookUps.{is_running}
-use Rattle.dna_links.specs.Flow.{distance}
+use Rattle.dna_links.specs.SegmentBook.{distance}
 use Rattle.dna_links.specs.Links.{LinkOf, LinksOf, with_link}
-use Rattle.dna_links.specs.TrueFlow.{TrueFlow}
-use Rattle.dna_links.specs.WireFlow.{LinkVariables}
-use Rattle.dna_links.specs.CutFlow.{cut}
+use Rattle.dna_links.specs.TrueSegments.{TrueSegments}
+use Rattle.dna_links.specs.WireSegments.{LinkVariables}
+use Rattle.dna_links.specs.CutSegments.{cut}
 
 -- What a link has to send: the six kinds, in the order in which they go
 pub data Turn : Type 0 where
@@ -141,17 +141,17 @@ abbrev pub lowered : ℕ → LinkOwed → LinkOwed
 lowered count owed = record owed { ahead = owed.ahead - count }
 
 -- what a node keeps of a link's segments
-abbrev pub variables_of : LinkOf TrueFlow → LinkVariables
-variables_of link = (cut link.flow).kept
+abbrev pub variables_of : LinkOf TrueSegments → LinkVariables
+variables_of link = (cut link.segments).variables
 
 -- a phase that was left drops what was owed, and what was acknowledged is no longer among the segments sent in this go
-abbrev pub still_owed : (before after : LinkOf TrueFlow) → LinkOwed → LinkOwed
+abbrev pub still_owed : (before after : LinkOf TrueSegments) → LinkOwed → LinkOwed
 still_owed before after owed =
     lowered (distance (variables_of before).acknowledged (variables_of after).acknowledged)
     (unless_left (same_phase before.port.phase after.port.phase) owed)
 
 -- of each link; a new one owes nothing
-abbrev pub all_still_owed : (before after : List (LinkOf TrueFlow)) → List LinkOwed → List LinkOwed
+abbrev pub all_still_owed : (before after : List (LinkOf TrueSegments)) → List LinkOwed → List LinkOwed
 all_still_owed before [] owed = []
 all_still_owed [] (link ∷ later) owed = nothing ∷ all_still_owed [] later []
 all_still_owed (was ∷ before) (link ∷ later) [] = nothing ∷ all_still_owed before later []

@@ -10,10 +10,10 @@ use Rattle.dna_station.specs.WireStation.{StationVariables}
 use Rattle.dna_station.specs.WireBook.{wire_is_new}
 use Rattle.dna_links.specs.LookUps.{is_running}
 use Rattle.dna_links.specs.Pieces.{has_more}
-use Rattle.dna_links.specs.Flow.{REACH}
+use Rattle.dna_links.specs.SegmentBook.{REACH}
 use Rattle.dna_links.specs.Links.{LinkOf}
-use Rattle.dna_links.specs.TrueFlow.{TrueFlow}
-use Rattle.dna_links.specs.WireFlow.{LinkVariables}
+use Rattle.dna_links.specs.TrueSegments.{TrueSegments}
+use Rattle.dna_links.specs.WireSegments.{LinkVariables}
 use Rattle.dna_play.specs.Owed.{Owed, with_nak}
 use Rattle.dna_play.specs.LinkOwed.{LinkOwed, LinksOwed, EndConfirm, Turn, ConnectAckTurn, InitiateTurn, ConfirmTurn, DisconnectTurn, DataAckTurn}
 use Rattle.dna_play.specs.LinkOwed.{SegmentTurn, variables_of, with_turn, changed}
@@ -27,7 +27,7 @@ pub record LinkEnd : Type 0 where
   pub owed : LinkOwed
 
 -- all of them, in the order in which they began
-abbrev pub link_ends : List (LinkOf TrueFlow) → List LinkOwed → List LinkEnd
+abbrev pub link_ends : List (LinkOf TrueSegments) → List LinkOwed → List LinkEnd
 link_ends [] owed = []
 link_ends (link ∷ links) [] = []
 link_ends (link ∷ links) (first ∷ owed) = record { port = link.port; variables = variables_of link; owed = first } ∷ link_ends links owed

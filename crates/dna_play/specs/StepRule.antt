@@ -10,7 +10,7 @@ use Rattle.dna_station.specs.declared.state.State.TheVariants.{Halted}
 use Rattle.dna_links.specs.declared.port.Phase.{Phase}
 use Rattle.dna_links.specs.declared.port.Phase.TheVariants.{Calling, Called, Confirming, Running, Disconnecting}
 use Rattle.dna_links.specs.Links.{LinkOf}
-use Rattle.dna_links.specs.TrueFlow.{TrueFlow}
+use Rattle.dna_links.specs.TrueSegments.{TrueSegments}
 use Rattle.dna_node.specs.Layers.{LayersNode, LayersUnit}
 use Rattle.dna_play.specs.Script.{StepValue, Start, Halt, Timer, Send, Deliver, Refuse, Lose, Damage, Noise, Open, Accept, Reject, In, Close, Retry}
 use Rattle.dna_play.specs.Script.{ScriptStep, Script}
@@ -53,7 +53,7 @@ IsOneOf (one ∷ others) phase = (phase ≡ one) ⊎ IsOneOf others phase
 -- a link of the end has this address, and is in one of these phases
 pub record HasLink (own : End) (address : ℕ) (phases : List Phase) : Type 0 where
   pub number : ℕ
-  pub link : LinkOf TrueFlow
+  pub link : LinkOf TrueSegments
   pub there : slice_get (links_of own.half).links number ≡ Some link
   pub owns : link.port.own ≡ Some address
   pub phase : IsOneOf phases link.port.phase
@@ -61,7 +61,7 @@ pub record HasLink (own : End) (address : ℕ) (phases : List Phase) : Type 0 wh
 -- a link of the end in Called has this far address
 pub record IsCalled (own : End) (partner : ℕ) : Type 0 where
   pub number : ℕ
-  pub link : LinkOf TrueFlow
+  pub link : LinkOf TrueSegments
   pub there : slice_get (links_of own.half).links number ≡ Some link
   pub far : link.port.far ≡ Some partner
   pub phase : link.port.phase ≡ Called

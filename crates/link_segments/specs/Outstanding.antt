@@ -2,7 +2,7 @@
 use Rattle.std.specs.Prelude.{ℕ, Bool, true, false, ◌&&◌, nat_le, Option, Some, None, List, length, drop, fold}
 use Rattle.wire_base.specs.Window.{WindowView, empty_from}
 use Rattle.dna_packet.specs.declared.ack_word.AckWord.{AckWord}
-use Rattle.dna_links.specs.Flow.{wire, distance, is_of_data}
+use Rattle.dna_links.specs.SegmentBook.{wire, distance, is_of_data}
 
 module _ {W T : Type 0} where
   -- a window that is not made yet is an empty one from 0 on

@@ -2,8 +2,8 @@
 
 ghost use Rattle.std.specs.Prelude.{◌≡◌, ◌+◌, ◌-◌, ◌<◌, ◌≤◌, ◌++◌, ◌∷◌, [], length, drop, slice_get, option_copied, nat_le, OnOk, OnErr};
 ghost use Rattle.wire_base.specs.Window.{empty_from};
-ghost use Rattle.dna_links.specs.Flow.{wire, distance};
-ghost use Rattle.dna_links.specs.Flow as flow;
+ghost use Rattle.dna_links.specs.SegmentBook.{wire, distance};
+ghost use Rattle.dna_links.specs.SegmentBook as segments;
 ghost use Rattle.std.specs.List.{AllByRecursion};
 ghost use Rattle.dna_packet.specs.AckWord.{IsAckWord};
 ghost use Rattle.link_segments.specs.Outstanding.{acknowledged_to, acknowledged_words};
@@ -148,7 +148,7 @@ fn push<T: Drop, W: Window<T, 4096> + Drop>(window: &mut W, segment: T) -> Resul
 
 /// Whether a word with this qualifier acknowledges data segments, and none of the other subchannel.
 pub fn is_of_data(qualifier: AckQualifier) -> bool
-    ensures { result ≡ flow.is_of_data qualifier }
+    ensures { result ≡ segments.is_of_data qualifier }
 {
     match qualifier {
         AckQualifier::Ack | AckQualifier::Nak => true,

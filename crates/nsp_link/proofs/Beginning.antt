@@ -7,7 +7,7 @@ use Rattle.dna_links.specs.LookUps.{is_live, is_at, is_called, is_calling}
 use Rattle.dna_links.specs.Links.{LinkOf}
 use Rattle.dna_links.specs.Arriving.{of_partner, called}
 use Rattle.dna_links.specs.declared.tag.LinkTag.{LinkTag}
-use Rattle.dna_links.specs.WireFlow.{WireFlow, wire_flows}
+use Rattle.dna_links.specs.WireSegments.{WireSegments, wire_segments}
 use Rattle.nsp_link.specs.inner.Index.{IsIndexed, look_in, look_at, own_of, begun_from, lives_to, waits, counted}
 use Rattle.nsp_link.proofs.Counting.{bit, bit_false, counted_some, counted_push}
 use Rattle.nsp_link.proofs.LookUps.{called_lives, both_true, eq-is_at}
@@ -19,13 +19,14 @@ begun_by false true true f q lives e = eq-is_at f q e
 begun_by false true false f q lives e = absurd (cc)
 begun_by false false o f q lives e = absurd (cc)
 
-begun_lives : (l : LinkOf WireFlow) (q : ℕ) → begun_from l ≡ Some q → lives_to q l ≡ true
+begun_lives : (l : LinkOf WireSegments) (q : ℕ) → begun_from l ≡ Some q → lives_to q l ≡ true
 begun_lives l q e = begun_by (is_called l.port.phase) (is_live l.port.phase) (not l.port.opened) l.port.far q (called_lives l.port.phase) e
 
-module _ (links : List (LinkOf WireFlow)) (h c : ℕ → Option ℕ) (r : ℕ → ℕ) (w : ℕ) (index : IsIndexed links h c r w) (far : ℕ) (m : LinkOf WireFlow)
+module _ (links : List (LinkOf WireSegments)) (h c : ℕ → Option ℕ) (r : ℕ → ℕ) (w : ℕ) (index : IsIndexed links h c r w) (far : ℕ)
+    (m : LinkOf WireSegments)
     (unowned : m.port.own ≡ None) (begun : begun_from m ≡ Some far) (known : (q : ℕ) → lives_to q m ≡ eqb far q)
     (calling : is_calling m.port.phase ≡ false) (free : counted (lives_to far) links ≡ 0) where
-  knows : (n : ℕ) (o : Option (LinkOf WireFlow)) → slice_get links n ≡ o → look_in begun_from o ≡ Some far → ⊥
+  knows : (n : ℕ) (o : Option (LinkOf WireSegments)) → slice_get links n ≡ o → look_in begun_from o ≡ Some far → ⊥
   knows n None is e = absurd (cc)
   knows n (Some l) is e = let some = counted_some (lives_to far) links n l is (begun_lives l far e) in absurd (omega arith)
 
@@ -85,11 +86,11 @@ module _ (links : List (LinkOf WireFlow)) (h c : ℕ → Option ℕ) (r : ℕ �
       few_all : w' ≤ length (links ++ m ∷ [])
       few_all = let longer = length_push links m in let before = index.few in omega arith
 
-pub called_index : (far segsize : ℕ) (tag : LinkTag) (m : LinkOf WireFlow) (items ys : List (LinkOf WireFlow)) (h c h' c' : ℕ → Option ℕ)
-    (r r' : ℕ → ℕ) (w w' : ℕ) → IsIndexed items h c r w → counted (lives_to far) items ≡ 0 → m ≡ called wire_flows of_partner far segsize tag →
+pub called_index : (far segsize : ℕ) (tag : LinkTag) (m : LinkOf WireSegments) (items ys : List (LinkOf WireSegments)) (h c h' c' : ℕ → Option ℕ)
+    (r r' : ℕ → ℕ) (w w' : ℕ) → IsIndexed items h c r w → counted (lives_to far) items ≡ 0 → m ≡ called wire_segments of_partner far segsize tag →
     ys ≡ items ++ m ∷ [] → ((q : ℕ) → h' q ≡ h q) → ((q : ℕ) → c' q ≡ cond (eqb far q) (Some (length items)) (c q)) →
     ((q : ℕ) → r' q ≡ cond (eqb far q) (suc (r q)) (r q)) → w' ≡ w → IsIndexed ys h' c' r' w'
 called_index far segsize tag m items ys h c h' c' r r' w w' index free is same holders given counts wait =
-    subst (λ (xs : List (LinkOf WireFlow)). IsIndexed xs h' c' r' w') (sym same)
-    (indexed_call items h c r w index far m (ap (λ (k : LinkOf WireFlow). k.port.own) is) (ap begun_from is) (λ q. ap (lives_to q) is)
-    (ap (λ (k : LinkOf WireFlow). is_calling k.port.phase) is) free h' c' r' w' holders given counts wait)
+    subst (λ (xs : List (LinkOf WireSegments)). IsIndexed xs h' c' r' w') (sym same)
+    (indexed_call items h c r w index far m (ap (λ (k : LinkOf WireSegments). k.port.own) is) (ap begun_from is) (λ q. ap (lives_to q) is)
+    (ap (λ (k : LinkOf WireSegments). is_calling k.port.phase) is) free h' c' r' w' holders given counts wait)

@@ -6,15 +6,15 @@ use Rattle.std.specs.Prelude.{slice_get}
 use Rattle.std.proofs.lemmas.List.{set-get_or}
 use Rattle.dna_station.specs.declared.link_refusal.LinkRefusal.{LinkRefusal}
 use Rattle.dna_station.specs.declared.link_refusal.LinkRefusal.TheVariants.{WrongDelivery}
-use Rattle.dna_links.specs.Flow.{Sending}
+use Rattle.dna_links.specs.SegmentBook.{Sending}
 use Rattle.dna_links.specs.User.{delivered}
 use Rattle.dna_links.specs.Sending.{carries, truth_of}
 use Rattle.std.proofs.lemmas.Option.{slice_get_read}
 use Rattle.dna_links.specs.LookUps.{is_live, is_at}
-use Rattle.dna_links.specs.Links.{LinkOf, changed, in_phase, with_flow, ended}
+use Rattle.dna_links.specs.Links.{LinkOf, changed, in_phase, with_segments, ended}
 use Rattle.dna_links.specs.Arriving.{of_partner, confirmed}
 use Rattle.dna_links.specs.declared.tag.LinkTag.{LinkTag}
-use Rattle.dna_links.specs.WireFlow.{WireFlow, wire_flows, sending, delivers}
+use Rattle.dna_links.specs.WireSegments.{WireSegments, wire_segments, sending, delivers}
 use Rattle.dna_links.specs.WireLinks.{WireLinks}
 use Rattle.dna_links.specs.declared.port.Phase.{Phase}
 use Rattle.dna_links.specs.declared.port.Phase.TheVariants.{Running}
@@ -33,16 +33,17 @@ map_ok (Ok x) f h = f h
 map_ok (Err e) f h = h
 
 -- one of the links of a node, at its number
-pub record InPlace (node peer : ℕ) (items : List (LinkOf WireFlow)) (s : WireLinks) (n : ℕ) (l : LinkOf WireFlow) : Type 0 where
+pub record InPlace (node peer : ℕ) (items : List (LinkOf WireSegments)) (s : WireLinks) (n : ℕ) (l : LinkOf WireSegments) : Type 0 where
   pub is : record { node = node; peer = peer; links = items } ≡ s
   pub within : n < length s.links
   pub there : l ≡ get_or items n l
 
-pub in_place : {node peer : ℕ} {items : List (LinkOf WireFlow)} {s : WireLinks} {n : ℕ} {l : LinkOf WireFlow} →
+pub in_place : {node peer : ℕ} {items : List (LinkOf WireSegments)} {s : WireLinks} {n : ℕ} {l : LinkOf WireSegments} →
     record { node = node; peer = peer; links = items } ≡ s → n < length s.links → l ≡ get_or items n l → InPlace node peer items s n l
 in_place is within there = record { is = is; within = within; there = there }
 
-module _ {node peer : ℕ} {items : List (LinkOf WireFlow)} {s : WireLinks} {n : ℕ} {l : LinkOf WireFlow} (at : InPlace node peer items s n l) where
+module _ {node peer : ℕ} {items : List (LinkOf WireSegments)} {s : WireLinks} {n : ℕ} {l : LinkOf WireSegments}
+    (at : InPlace node peer items s n l) where
   shown_within : n < length items
   shown_within = subst (λ (t : WireLinks). n < length t.links) (sym at.is) at.within
 
@@ -52,119 +53,122 @@ module _ {node peer : ℕ} {items : List (LinkOf WireFlow)} {s : WireLinks} {n :
   pub link_found : slice_get s.links n ≡ Some l
   link_found = ap (λ (t : WireLinks). slice_get t.links n) (sym at.is) ∙ link_there
 
-  pub same_link : (link : LinkOf WireFlow) → slice_get s.links n ≡ Some link → l ≡ link
+  pub same_link : (link : LinkOf WireSegments) → slice_get s.links n ≡ Some link → l ≡ link
   same_link link e = let both : Some l ≡ Some link = sym link_found ∙ e in cc
 
   -- what holds of it holds of the link that is there
-  pub holds_there : (P : LinkOf WireFlow → Type 0) → P l → (link : LinkOf WireFlow) → slice_get s.links n ≡ Some link → P link
+  pub holds_there : (P : LinkOf WireSegments → Type 0) → P l → (link : LinkOf WireSegments) → slice_get s.links n ≡ Some link → P link
   holds_there P h link found = subst P (same_link link found) h
 
   -- it changes to this one
-  pub changes_to : (m : LinkOf WireFlow) → record { node = node; peer = peer; links = set items n m } ≡ changed n m s
+  pub changes_to : (m : LinkOf WireSegments) → record { node = node; peer = peer; links = set items n m } ≡ changed n m s
   changes_to m = ap (λ (t : WireLinks). changed n m t) at.is
 
   -- it is the change of the link that is there
-  pub change_made : (f : LinkOf WireFlow → LinkOf WireFlow) {m : LinkOf WireFlow} → m ≡ f l → (link : LinkOf WireFlow) →
+  pub change_made : (f : LinkOf WireSegments → LinkOf WireSegments) {m : LinkOf WireSegments} → m ≡ f l → (link : LinkOf WireSegments) →
       slice_get s.links n ≡ Some link → record { node = node; peer = peer; links = set items n m } ≡ changed n (f link) s
   change_made f {m} e link found =
-      changes_to m ∙ ap (λ (k : LinkOf WireFlow). changed n k s) (e ∙ ap f (same_link link found))
+      changes_to m ∙ ap (λ (k : LinkOf WireSegments). changed n k s) (e ∙ ap f (same_link link found))
 
-  pub made_if_ok : {A E : Type 0} (r : Result A E) (f : LinkOf WireFlow → LinkOf WireFlow) (m : LinkOf WireFlow) → OnOk r (m ≡ f l) →
-      (link : LinkOf WireFlow) → slice_get s.links n ≡ Some link →
+  pub made_if_ok : {A E : Type 0} (r : Result A E) (f : LinkOf WireSegments → LinkOf WireSegments) (m : LinkOf WireSegments) → OnOk r (m ≡ f l) →
+      (link : LinkOf WireSegments) → slice_get s.links n ≡ Some link →
       OnOk r (record { node = node; peer = peer; links = set items n m } ≡ changed n (f link) s)
   made_if_ok r f m made link found = map_ok r (λ e. change_made f e link found) made
 
   -- one that stays as it was changes nothing
-  pub change_none : {m : LinkOf WireFlow} → m ≡ l → record { node = node; peer = peer; links = set items n m } ≡ s
-  change_none e = ap (λ (xs : List (LinkOf WireFlow)). record { node = node; peer = peer; links = xs })
-      (ap (λ (k : LinkOf WireFlow). set items n k) (e ∙ at.there) ∙ set-get_or items n l) ∙ at.is
+  pub change_none : {m : LinkOf WireSegments} → m ≡ l → record { node = node; peer = peer; links = set items n m } ≡ s
+  change_none e = ap (λ (xs : List (LinkOf WireSegments)). record { node = node; peer = peer; links = xs })
+      (ap (λ (k : LinkOf WireSegments). set items n k) (e ∙ at.there) ∙ set-get_or items n l) ∙ at.is
 
   -- a message that is sent
-  carry_made : (step : LinkOf WireFlow → Result (Sending WireFlow (Unit {0})) LinkRefusal) {m : LinkOf WireFlow} → m ≡ with_flow m.flow l →
-      step l ≡ Ok (sending m.flow) → (link : LinkOf WireFlow) → slice_get s.links n ≡ Some link → carries wire_flows s n link (step link) ≡ Ok
-      (record { links = record { node = node; peer = peer; links = set items n m }; truth = truth_of wire_flows n link tt })
+  carry_made : (step : LinkOf WireSegments → Result (Sending WireSegments (Unit {0})) LinkRefusal) {m : LinkOf WireSegments} →
+      m ≡ with_segments m.segments l →
+      step l ≡ Ok (sending m.segments) → (link : LinkOf WireSegments) → slice_get s.links n ≡ Some link →
+      carries wire_segments s n link (step link) ≡ Ok
+      (record { links = record { node = node; peer = peer; links = set items n m }; truth = truth_of wire_segments n link tt })
   carry_made step {m} rest e link found =
-      ap (λ (r : Result (Sending WireFlow (Unit {0})) LinkRefusal). carries wire_flows s n link r) (ap step (sym (same_link link found)) ∙ e)
-      ∙ ap (λ (t : WireLinks). Ok (record { links = t; truth = truth_of wire_flows n link tt }))
-      (sym (change_made (with_flow m.flow) rest link found))
+      ap (λ (r : Result (Sending WireSegments (Unit {0})) LinkRefusal). carries wire_segments s n link r) (ap step (sym (same_link link found)) ∙ e)
+      ∙ ap (λ (t : WireLinks). Ok (record { links = t; truth = truth_of wire_segments n link tt }))
+      (sym (change_made (with_segments m.segments) rest link found))
 
-  pub carried_if_ok : {A E : Type 0} (r : Result A E) (step : LinkOf WireFlow → Result (Sending WireFlow (Unit {0})) LinkRefusal)
-      {m : LinkOf WireFlow} →
-      m ≡ with_flow m.flow l → OnOk r (step l ≡ Ok (sending m.flow)) → (link : LinkOf WireFlow) → slice_get s.links n ≡ Some link →
-      OnOk r (carries wire_flows s n link (step link) ≡ Ok
-      (record { links = record { node = node; peer = peer; links = set items n m }; truth = truth_of wire_flows n link tt }))
+  pub carried_if_ok : {A E : Type 0} (r : Result A E) (step : LinkOf WireSegments → Result (Sending WireSegments (Unit {0})) LinkRefusal)
+      {m : LinkOf WireSegments} →
+      m ≡ with_segments m.segments l → OnOk r (step l ≡ Ok (sending m.segments)) → (link : LinkOf WireSegments) → slice_get s.links n ≡ Some link →
+      OnOk r (carries wire_segments s n link (step link) ≡ Ok
+      (record { links = record { node = node; peer = peer; links = set items n m }; truth = truth_of wire_segments n link tt }))
   carried_if_ok r step rest made link found = map_ok r (λ e. carry_made step rest e link found) made
 
   -- a message that is delivered, or not
-  pub told_made : (message : List ℕ) (r : Bool) {m : LinkOf WireFlow} → m ≡ with_flow m.flow l → (r ≡ true → delivers message l.flow ≡ Some m.flow) →
-      (r ≡ false → (delivers message l.flow ≡ None) × (m ≡ l)) → (link : LinkOf WireFlow) → slice_get s.links n ≡ Some link →
-      delivered wire_flows n link s (delivers message link.flow) ≡ cond r (Ok (record { node = node; peer = peer; links = set items n m }))
+  pub told_made : (message : List ℕ) (r : Bool) {m : LinkOf WireSegments} → m ≡ with_segments m.segments l →
+      (r ≡ true → delivers message l.segments ≡ Some m.segments) →
+      (r ≡ false → (delivers message l.segments ≡ None) × (m ≡ l)) → (link : LinkOf WireSegments) → slice_get s.links n ≡ Some link →
+      delivered wire_segments n link s (delivers message link.segments) ≡ cond r (Ok (record { node = node; peer = peer; links = set items n m }))
       (Err WrongDelivery)
   told_made message true {m} rest told none link found =
-      ap (λ (o : Option WireFlow). delivered wire_flows n link s o)
-      (ap (λ (k : LinkOf WireFlow). delivers message k.flow) (sym (same_link link found)) ∙ told refl)
-      ∙ ap Ok (sym (change_made (with_flow m.flow) rest link found))
+      ap (λ (o : Option WireSegments). delivered wire_segments n link s o)
+      (ap (λ (k : LinkOf WireSegments). delivers message k.segments) (sym (same_link link found)) ∙ told refl)
+      ∙ ap Ok (sym (change_made (with_segments m.segments) rest link found))
   told_made message false rest told none link found =
-      ap (λ (o : Option WireFlow). delivered wire_flows n link s o)
-      (ap (λ (k : LinkOf WireFlow). delivers message k.flow) (sym (same_link link found)) ∙ (none refl).0)
+      ap (λ (o : Option WireSegments). delivered wire_segments n link s o)
+      (ap (λ (k : LinkOf WireSegments). delivers message k.segments) (sym (same_link link found)) ∙ (none refl).0)
 
   -- ---- how it is found
 
   module _ {h c : ℕ → Option ℕ} {r : ℕ → ℕ} {w : ℕ} (index : IsIndexed items h c r w) where
     -- the index stays where it is found as before
-    pub change_indexed : {m : LinkOf WireFlow} → Stays l m → IsIndexed (set items n m) h c r w
+    pub change_indexed : {m : LinkOf WireSegments} → Stays l m → IsIndexed (set items n m) h c r w
     change_indexed {m} stays = indexed_change items h c r w index n l m link_there stays
 
-    -- where its flow changes, and nothing else
-    pub kept_indexed : {m : LinkOf WireFlow} → m ≡ with_flow m.flow l → IsIndexed (set items n m) h c r w
-    kept_indexed {m} rest = change_indexed (stays_same l m (ap (λ (k : LinkOf WireFlow). k.port) rest))
+    -- where its segments change, and nothing else
+    pub kept_indexed : {m : LinkOf WireSegments} → m ≡ with_segments m.segments l → IsIndexed (set items n m) h c r w
+    kept_indexed {m} rest = change_indexed (stays_same l m (ap (λ (k : LinkOf WireSegments). k.port) rest))
 
     -- where it goes to another phase
-    pub moved_indexed : (phase : Phase) {m k : LinkOf WireFlow} → LivesAt n s → m ≡ k → k.port ≡ record l.port { phase = phase } →
+    pub moved_indexed : (phase : Phase) {m k : LinkOf WireSegments} → LivesAt n s → m ≡ k → k.port ≡ record l.port { phase = phase } →
         is_live phase ≡ true → is_called phase ≡ false → is_calling phase ≡ false → IsIndexed (set items n m) h c r w
     moved_indexed phase {m} {k} lives made moved live called calling =
-        change_indexed (stays_moved phase l m (ap (λ (x : LinkOf WireFlow). x.port) made ∙ moved) live called calling (lives l link_found))
+        change_indexed (stays_moved phase l m (ap (λ (x : LinkOf WireSegments). x.port) made ∙ moved) live called calling (lives l link_found))
 
     module _ {h' c' : ℕ → Option ℕ} {r' : ℕ → ℕ} {w' : ℕ} (holders : (q : ℕ) → h' q ≡ h q) (callers : (q : ℕ) → c' q ≡ c q) where
       -- a CC confirms it: it gets to know an address of the other side
-      pub confirmed_index : (far segsize : ℕ) (tag : LinkTag) {m : LinkOf WireFlow} → is_calling l.port.phase ≡ true →
-          (l.port.opened ≡ true) × (l.port.far ≡ None) → m ≡ confirmed wire_flows of_partner far segsize tag l → suc w' ≡ w →
+      pub confirmed_index : (far segsize : ℕ) (tag : LinkTag) {m : LinkOf WireSegments} → is_calling l.port.phase ≡ true →
+          (l.port.opened ≡ true) × (l.port.far ≡ None) → m ≡ confirmed wire_segments of_partner far segsize tag l → suc w' ≡ w →
           ((q : ℕ) → r' q ≡ cond (eqb far q) (suc (r q)) (r q)) → IsIndexed (set items n m) h' c' r' w'
       confirmed_index far segsize tag {m} calling known made wait counts =
-          indexed_confirm items h c r w index n l m link_there h' c' r' w' holders callers (ap (λ (k : LinkOf WireFlow). k.port.own) made)
-          (λ q. no_more m q (ap (λ (k : LinkOf WireFlow). is_called k.port.phase) made)
-          (ap (λ (k : LinkOf WireFlow). is_live k.port.phase && not k.port.opened) made ∙ ap not known.0))
+          indexed_confirm items h c r w index n l m link_there h' c' r' w' holders callers (ap (λ (k : LinkOf WireSegments). k.port.own) made)
+          (λ q. no_more m q (ap (λ (k : LinkOf WireSegments). is_called k.port.phase) made)
+          (ap (λ (k : LinkOf WireSegments). is_live k.port.phase && not k.port.opened) made ∙ ap not known.0))
           far calling
           (λ q. ap (λ (f : Option ℕ). is_live l.port.phase && is_at f q) known.1 ∙ and_false (is_live l.port.phase))
-          (ap (λ (k : LinkOf WireFlow). is_calling k.port.phase) made) (λ q. ap (lives_to q) made) wait counts
+          (ap (λ (k : LinkOf WireSegments). is_calling k.port.phase) made) (λ q. ap (lives_to q) made) wait counts
 
       -- it ends
-      pub ended_index : {port : Port} {m : LinkOf WireFlow} → port ≡ l.port → is_live l.port.phase ≡ true → m ≡ ended wire_flows l →
+      pub ended_index : {port : Port} {m : LinkOf WireSegments} → port ≡ l.port → is_live l.port.phase ≡ true → m ≡ ended wire_segments l →
           cond (is_calling port.phase) (suc w') w' ≡ w → ((q : ℕ) → cond (is_at port.far q) (suc (r' q)) (r' q) ≡ r q) →
           IsIndexed (set items n m) h' c' r' w'
       ended_index {port} {m} same lived made wait counts =
-          indexed_end items h c r w index n l m link_there h' c' r' w' holders callers (ap (λ (k : LinkOf WireFlow). k.port.own) made)
-          (λ q. no_more m q (ap (λ (k : LinkOf WireFlow). is_called k.port.phase) made)
-          (ap (λ (k : LinkOf WireFlow). is_live k.port.phase && not k.port.opened) made))
-          lived (ap (λ (k : LinkOf WireFlow). is_live k.port.phase) made) (ap (λ (k : LinkOf WireFlow). is_calling k.port.phase) made)
+          indexed_end items h c r w index n l m link_there h' c' r' w' holders callers (ap (λ (k : LinkOf WireSegments). k.port.own) made)
+          (λ q. no_more m q (ap (λ (k : LinkOf WireSegments). is_called k.port.phase) made)
+          (ap (λ (k : LinkOf WireSegments). is_live k.port.phase && not k.port.opened) made))
+          lived (ap (λ (k : LinkOf WireSegments). is_live k.port.phase) made) (ap (λ (k : LinkOf WireSegments). is_calling k.port.phase) made)
           (sym (ap (λ (p : Port). cond (is_calling p.phase) (suc w') w') same) ∙ wait)
           (λ q. sym (ap (λ (p : Port). cond (is_at p.far q) (suc (r' q)) (r' q)) same) ∙ counts q)
 
 -- ---- that the index stays one, as the tactic finds it
 
-module _ {node peer : ℕ} {items : List (LinkOf WireFlow)} {s : WireLinks} {n : ℕ} {l m : LinkOf WireFlow} {h c : ℕ → Option ℕ} {r : ℕ → ℕ}
+module _ {node peer : ℕ} {items : List (LinkOf WireSegments)} {s : WireLinks} {n : ℕ} {l m : LinkOf WireSegments} {h c : ℕ → Option ℕ} {r : ℕ → ℕ}
     {w : ℕ} where
   pub stays_index : Stays l m → l ≡ get_or items n l → record { node = node; peer = peer; links = items } ≡ s → n < length s.links →
       IsIndexed items h c r w → IsIndexed (set items n m) h c r w
   stays_index stays there is within index = change_indexed (in_place is within there) index stays
 
-  pub keeps_index : m ≡ with_flow m.flow l → l ≡ get_or items n l → record { node = node; peer = peer; links = items } ≡ s →
+  pub keeps_index : m ≡ with_segments m.segments l → l ≡ get_or items n l → record { node = node; peer = peer; links = items } ≡ s →
       n < length s.links → IsIndexed items h c r w → IsIndexed (set items n m) h c r w
   keeps_index rest there is within index = kept_indexed (in_place is within there) index rest
 
-  pub runs_index : (flow : WireFlow) → m ≡ with_flow flow (in_phase Running l) → l ≡ get_or items n l →
+  pub runs_index : (segments : WireSegments) → m ≡ with_segments segments (in_phase Running l) → l ≡ get_or items n l →
       record { node = node; peer = peer; links = items } ≡ s → n < length s.links → LivesAt n s → IsIndexed items h c r w →
       IsIndexed (set items n m) h c r w
-  runs_index flow made there is within live index = moved_indexed (in_place is within there) index Running live made refl refl refl refl
+  runs_index segments made there is within live index = moved_indexed (in_place is within there) index Running live made refl refl refl refl
 
 pub ruleset changes = (stays_index, keeps_index, runs_index)

@@ -2,7 +2,7 @@
 use Rattle.std.proofs.Common.{◌≡◌, ℕ, ◌+◌, ◌≤◌, Bool, true, false, cond, Option, Some, None, List, [], ◌∷◌, drop, refl, ap, arith}
 use Rattle.std.specs.Str.{bytes_eq}
 use Rattle.dna_links.specs.Pieces.{Piece, Whole, in_order, next_message, with_piece}
-use Rattle.dna_links.specs.WireFlow.{WireFlow, delivers, delivers_whole, delivered_as}
+use Rattle.dna_links.specs.WireSegments.{WireSegments, delivers, delivers_whole, delivered_as}
 use Rattle.link_segments.specs.Received.{pieces_if, pieces_of, delivered_pieces}
 
 -- ---- a whole message has no more pieces than come before the first that is missing
@@ -37,27 +37,28 @@ delivered_within message xs n e = told_within message (next_message xs) (in_orde
 
 -- ---- what is delivered
 
-some_of : (message : List ℕ) (o : Option Whole) (f : WireFlow) (n : ℕ) → pieces_of message o ≡ Some n →
-    delivers_whole o message f ≡ Some (record f { kept = record f.kept { pieces = drop n f.kept.pieces } })
+some_of : (message : List ℕ) (o : Option Whole) (f : WireSegments) (n : ℕ) → pieces_of message o ≡ Some n →
+    delivers_whole o message f ≡ Some (record f { variables = record f.variables { pieces = drop n f.variables.pieces } })
 some_of message None f n e = absurd (cc)
 some_of message (Some w) f n e = by_same (bytes_eq message w.message) e where
   by_same : (b : Bool) → pieces_if b w.pieces ≡ Some n →
-      delivered_as b w f ≡ Some (record f { kept = record f.kept { pieces = drop n f.kept.pieces } })
-  by_same true same = let is : w.pieces ≡ n = cc in ap (λ (k : ℕ). Some (record f { kept = record f.kept { pieces = drop k f.kept.pieces } })) is
+      delivered_as b w f ≡ Some (record f { variables = record f.variables { pieces = drop n f.variables.pieces } })
+  by_same true same = let is : w.pieces ≡ n = cc in
+      ap (λ (k : ℕ). Some (record f { variables = record f.variables { pieces = drop k f.variables.pieces } })) is
   by_same false same = absurd (cc)
 
-none_of : (message : List ℕ) (o : Option Whole) (f : WireFlow) → pieces_of message o ≡ None → delivers_whole o message f ≡ None
+none_of : (message : List ℕ) (o : Option Whole) (f : WireSegments) → pieces_of message o ≡ None → delivers_whole o message f ≡ None
 none_of message None f e = refl
 none_of message (Some w) f e = by_same (bytes_eq message w.message) e where
   by_same : (b : Bool) → pieces_if b w.pieces ≡ None → delivered_as b w f ≡ None
   by_same true same = absurd (cc)
   by_same false same = refl
 
-pub delivers_some : (message : List ℕ) (f : WireFlow) (n : ℕ) → delivered_pieces message f.kept.pieces ≡ Some n →
-    delivers message f ≡ Some (record f { kept = record f.kept { pieces = drop n f.kept.pieces } })
-delivers_some message f n e = some_of message (next_message f.kept.pieces) f n e
+pub delivers_some : (message : List ℕ) (f : WireSegments) (n : ℕ) → delivered_pieces message f.variables.pieces ≡ Some n →
+    delivers message f ≡ Some (record f { variables = record f.variables { pieces = drop n f.variables.pieces } })
+delivers_some message f n e = some_of message (next_message f.variables.pieces) f n e
 
-pub delivers_none : (message : List ℕ) (f : WireFlow) → delivered_pieces message f.kept.pieces ≡ None → delivers message f ≡ None
-delivers_none message f e = none_of message (next_message f.kept.pieces) f e
+pub delivers_none : (message : List ℕ) (f : WireSegments) → delivered_pieces message f.variables.pieces ≡ None → delivers message f ≡ None
+delivers_none message f e = none_of message (next_message f.variables.pieces) f e
 
 pub ruleset delivery = (delivered_within, delivers_some, delivers_none)

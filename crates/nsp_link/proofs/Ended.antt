@@ -2,13 +2,13 @@
 use Rattle.std.proofs.Common.{◌≡◌, true, Option, List, [], ◌∷◌, length, eqb, refl, sym, ap, ◌∙◌, arith}
 use Rattle.std.proofs.lemmas.Bool.{eqb-true}
 use Rattle.dna_links.specs.Pieces.{Piece}
-use Rattle.dna_links.specs.WireFlow.{WireFlow, empty, with_pieces_alone, ends}
+use Rattle.dna_links.specs.WireSegments.{WireSegments, empty, with_pieces_alone, ends}
 
 none_alone : (pieces : List (Option Piece)) → eqb (length pieces) 0 ≡ true → empty ≡ with_pieces_alone pieces
 none_alone [] e = refl
 none_alone (p ∷ pieces) e = let none = eqb-true (length (p ∷ pieces)) 0 e in absurd (omega arith)
 
-pub nothing_left : (f g : WireFlow) → g ≡ ends f → eqb (length g.kept.pieces) 0 ≡ true → empty ≡ ends f
-nothing_left f g is e = none_alone (ends f).kept.pieces (sym (ap (λ (h : WireFlow). eqb (length h.kept.pieces) 0) is) ∙ e)
+pub nothing_left : (f g : WireSegments) → g ≡ ends f → eqb (length g.variables.pieces) 0 ≡ true → empty ≡ ends f
+nothing_left f g is e = none_alone (ends f).variables.pieces (sym (ap (λ (h : WireSegments). eqb (length h.variables.pieces) 0) is) ∙ e)
 
 pub ruleset left = (nothing_left)

@@ -8,11 +8,11 @@ use Rattle.std.proofs.lemmas.List.{length-take-le}
 use Rattle.std.proofs.lemmas.Slice.Eq.{bytes_eq-Decides}
 use Rattle.dna_links.specs.declared.port.LinkTest.{LinkTest}
 use Rattle.dna_links.specs.Arriving.{is_for, is_of_pair}
-use Rattle.dna_links.specs.Flow.{REACH, distance, wire}
+use Rattle.dna_links.specs.SegmentBook.{REACH, distance, wire}
 use Rattle.dna_links.specs.Links.{LinkOf, number_of}
 use Rattle.dna_links.specs.LookUps.{passes}
 use Rattle.dna_links.specs.Pieces.{Piece, Unsent, Whole, alike, is_next_of, is_next_piece, is_piece_of, same_piece}
-use Rattle.dna_links.specs.WireFlow.{LastSent, WireFlow, highest_given, is_ahead, is_behind, last_named, moved_to}
+use Rattle.dna_links.specs.WireSegments.{LastSent, WireSegments, highest_given, is_ahead, is_behind, last_named, moved_to}
 use Rattle.dna_links.specs.WireLinks.{WireLinks}
 use Rattle.nsp_link.specs.inner.Index.{passes_in}
 use Rattle.nsp_link.specs.FailedEvent.{is_whole}
@@ -22,17 +22,17 @@ use Rattle.nsp_link.proofs.LookUps.{IsFound, Nowhere, both_true, found}
 
 -- ---- a link
 
-there_by : (test : LinkTest) (links : List (LinkOf WireFlow)) (number : ℕ) (link : LinkOf WireFlow) (r : Option ℕ) →
-    IsFound (λ (l : LinkOf WireFlow). passes test l.port) links r → slice_get links number ≡ Some link → passes test link.port ≡ true →
+there_by : (test : LinkTest) (links : List (LinkOf WireSegments)) (number : ℕ) (link : LinkOf WireSegments) (r : Option ℕ) →
+    IsFound (λ (l : LinkOf WireSegments). passes test l.port) links r → slice_get links number ≡ Some link → passes test link.port ≡ true →
     is_some r ≡ true
 there_by test links number link (Some m) is at holds = refl
 there_by test links number link None (Nowhere _ none) at holds =
-    sym (none number) ∙ ap (passes_in (λ (l : LinkOf WireFlow). passes test l.port)) at ∙ holds
+    sym (none number) ∙ ap (passes_in (λ (l : LinkOf WireSegments). passes test l.port)) at ∙ holds
 
-pub link_passes : (test : LinkTest) (s : WireLinks) (number : ℕ) (link : LinkOf WireFlow) → slice_get s.links number ≡ Some link →
+pub link_passes : (test : LinkTest) (s : WireLinks) (number : ℕ) (link : LinkOf WireSegments) → slice_get s.links number ≡ Some link →
     passes test link.port ≡ true → is_some (number_of test s) ≡ true
 link_passes test s number link at holds =
-    there_by test s.links number link (number_of test s) (found (λ (l : LinkOf WireFlow). passes test l.port) s.links) at holds
+    there_by test s.links number link (number_of test s) (found (λ (l : LinkOf WireSegments). passes test l.port) s.links) at holds
 
 -- ---- numbers
 
@@ -94,21 +94,21 @@ past_is : (highest number back : ℕ) → highest < 4096 → number < 4096 → d
     back ≤ distance number highest → number ≡ wire (highest + 1)
 past_is highest number back low small h k = omega (arith, low, small, h, k)
 
-repeat_by : (f : WireFlow) (below : ℕ) → below < segments_back f → may_repeat below f ≡ true
+repeat_by : (f : WireSegments) (below : ℕ) → below < segments_back f → may_repeat below f ≡ true
 repeat_by f below within = by_many f.gave_many within where
-  by_many : (b : Bool) → below < cond b REACH (min REACH (highest_given f.kept)) →
-      (ltb below REACH && (b || ltb below (highest_given f.kept))) ≡ true
+  by_many : (b : Bool) → below < cond b REACH (min REACH (highest_given f.variables)) →
+      (ltb below REACH && (b || ltb below (highest_given f.variables))) ≡ true
   by_many true h = both_true (ltb below REACH) true (lt-ltb below REACH h) refl
   by_many false h =
-      both_true (ltb below REACH) (ltb below (highest_given f.kept)) (lt-ltb below REACH (omega (arith, h)))
-      (lt-ltb below (highest_given f.kept) (omega (arith, h)))
+      both_true (ltb below REACH) (ltb below (highest_given f.variables)) (lt-ltb below REACH (omega (arith, h)))
+      (lt-ltb below (highest_given f.variables) (omega (arith, h)))
 
 wire_small : (n : ℕ) → wire n < 4096
 wire_small n = omega arith
 
-module _ (f : WireFlow) (number : ℕ) (small : number < 4096) where
+module _ (f : WireSegments) (number : ℕ) (small : number < 4096) where
   abbrev highest : ℕ
-  highest = highest_given f.kept
+  highest = highest_given f.variables
 
   abbrev next : ℕ
   next = wire (highest + 1)
@@ -117,7 +117,7 @@ module _ (f : WireFlow) (number : ℕ) (small : number < 4096) where
       may_repeat (distance number highest) f ≡ true
   below_by true e differs within = repeat_by f (distance number highest) (ltb-true (distance number highest) (segments_back f) e)
   below_by false e differs within =
-      absurd (differs (past_is highest number (segments_back f) (wire_small (f.kept.acknowledged + length f.kept.outstanding)) small within
+      absurd (differs (past_is highest number (segments_back f) (wire_small (f.variables.acknowledged + length f.variables.outstanding)) small within
       (ltb-false (distance number highest) (segments_back f) e)))
 
   first_by : (b : Bool) → leb (distance next number) (distance next next) ≡ b → (number ≡ next → ⊥) →
@@ -128,11 +128,12 @@ module _ (f : WireFlow) (number : ℕ) (small : number < 4096) where
       below_by (ltb (distance number highest) (segments_back f)) refl differs
       (again_within next (segments_back f) number (wire_small (highest + 1)) (words_few f.gave_many highest) h)
 
-pub segment_passes : (f : WireFlow) (number : ℕ) → number < 4096 → is_allowed (segment_numbers f) number ≡ true →
-    (number ≡ wire (highest_given f.kept + 1) → ⊥) → may_repeat (distance number (highest_given f.kept)) f ≡ true
+pub segment_passes : (f : WireSegments) (number : ℕ) → number < 4096 → is_allowed (segment_numbers f) number ≡ true →
+    (number ≡ wire (highest_given f.variables + 1) → ⊥) → may_repeat (distance number (highest_given f.variables)) f ≡ true
 segment_passes f number small e differs =
     first_by f number small
-    (leb (distance (wire (highest_given f.kept + 1)) number) (distance (wire (highest_given f.kept + 1)) (wire (highest_given f.kept + 1)))) refl
+    (leb (distance (wire (highest_given f.variables + 1)) number)
+    (distance (wire (highest_given f.variables + 1)) (wire (highest_given f.variables + 1)))) refl
     differs e
 
 -- ---- pieces
@@ -180,8 +181,8 @@ pub next_passes : (u : Unsent) (rest : List ℕ) (count : ℕ) → slice_get u.m
     (count ≡ 0 → length rest ≡ 0) → is_next_piece (front_piece u.begun count rest) u ≡ true
 next_passes u rest count at fits some = next_by u.begun u.messages rest count at fits some
 
-pub room_passes : (f : WireFlow) → length f.kept.outstanding ≤ 2046 → ltb (length f.kept.outstanding) REACH ≡ true
-room_passes f few = lt-ltb (length f.kept.outstanding) REACH (omega (arith, few))
+pub room_passes : (f : WireSegments) → length f.variables.outstanding ≤ 2046 → ltb (length f.variables.outstanding) REACH ≡ true
+room_passes f few = lt-ltb (length f.variables.outstanding) REACH (omega (arith, few))
 
 -- ---- partners, and what is delivered
 

@@ -9,7 +9,7 @@ use Rattle.dna_links.specs.declared.port.LinkTest.TheVariants.{CallingAt, LiveTo
 use Rattle.dna_links.specs.declared.tag.LinkTag.{LinkTag}
 use Rattle.dna_links.specs.Arriving.{acted_on, called, confirmed, is_for, is_of_pair, message_arrived, of_partner, running}
 use Rattle.dna_links.specs.Links.{LinkOf, Carried, begun, changed, with_link, at_number, on_link, number_of}
-use Rattle.dna_links.specs.WireFlow.{WireFlow, takes_acks, takes_segment, wire_flows}
+use Rattle.dna_links.specs.WireSegments.{WireSegments, takes_acks, takes_segment, wire_segments}
 use Rattle.dna_links.specs.WireLinks.{WireLinks, wire_links_arrived}
 use Rattle.nsp_link.specs.FailedSending.{nodes_of}
 use Rattle.nsp_link.specs.FailedArrival.{failed_pair, failed_taken, failed_arrival, refusal_of_arrival}
@@ -22,8 +22,8 @@ abbrev refused : Option FailedLinkArrival → Option LinkRefusal
 refused failed = option_map refusal_of_arrival failed
 
 -- where none is refused, whether a link is found or not
-module _ {R : Type 0} (test : LinkTest) (s : WireLinks) (otherwise : R) (next : ℕ → LinkOf WireFlow → R) where
-  made_on : (number : ℕ) (o : Option (LinkOf WireFlow)) →
+module _ {R : Type 0} (test : LinkTest) (s : WireLinks) (otherwise : R) (next : ℕ → LinkOf WireSegments → R) where
+  made_on : (number : ℕ) (o : Option (LinkOf WireSegments)) →
       refusal_in {E = LinkRefusal} (on_link number o (Ok otherwise) (λ number link. Ok (next number link))) ≡ None
   made_on number None = refl
   made_on number (Some link) = refl
@@ -35,23 +35,23 @@ module _ {R : Type 0} (test : LinkTest) (s : WireLinks) (otherwise : R) (next : 
   made_either_way : refusal_in {E = LinkRefusal} (with_link test s (Ok otherwise) (λ number link. Ok (next number link))) ≡ None
   made_either_way = made_at (number_of test s)
 
-pair_same : (own far : ℕ) (tag : LinkTag) (takes : LinkOf WireFlow → WireFlow) (s : WireLinks) →
-    refused (failed_pair own far tag s) ≡ refusal_in (acted_on wire_flows of_partner own far tag takes s)
+pair_same : (own far : ℕ) (tag : LinkTag) (takes : LinkOf WireSegments → WireSegments) (s : WireLinks) →
+    refused (failed_pair own far tag s) ≡ refusal_in (acted_on wire_segments of_partner own far tag takes s)
 pair_same own far tag takes s = linked_same refused refusal_in (ActedOn own far) s _ _ _ _ refl (λ number link.
     check_same refusal_of_arrival (is_of_pair number link.partner tag) (OtherPair number link.partner tag) None
-    (Ok (changed number (running wire_flows of_partner takes link) s)) refl)
+    (Ok (changed number (running wire_segments of_partner takes link) s)) refl)
 
 taken_same : (s : WireLinks) (m : NspValue) (tag : LinkTag) →
-    refused (failed_taken s m tag) ≡ refusal_in (message_arrived wire_flows of_partner s m (record { tag = tag; known = tt }))
+    refused (failed_taken s m tag) ≡ refusal_in (message_arrived wire_segments of_partner s m (record { tag = tag; known = tt }))
 taken_same s (ConnectConfirm dst src services info segsize user_data) tag = linked_same refused refusal_in (CallingAt dst) s _ _ _ _ refl
     (λ number link. check_same refusal_of_arrival (is_for number tag) (OtherCall number tag) None
-    (Ok (changed number (confirmed wire_flows of_partner src segsize tag link) s)) refl)
-taken_same s (DataSegment segment) tag = pair_same segment.dstaddr segment.srcaddr tag (λ link. takes_segment segment tt link.flow) s
-taken_same s (DataAck dst src acks) tag = pair_same dst src tag (λ link. takes_acks acks tt link.flow) s
-taken_same s (LinkService interrupt dst src rest) tag = pair_same dst src tag (λ link. link.flow) s
-taken_same s (OtherDataAck dst src rest) tag = pair_same dst src tag (λ link. link.flow) s
+    (Ok (changed number (confirmed wire_segments of_partner src segsize tag link) s)) refl)
+taken_same s (DataSegment segment) tag = pair_same segment.dstaddr segment.srcaddr tag (λ link. takes_segment segment tt link.segments) s
+taken_same s (DataAck dst src acks) tag = pair_same dst src tag (λ link. takes_acks acks tt link.segments) s
+taken_same s (LinkService interrupt dst src rest) tag = pair_same dst src tag (λ link. link.segments) s
+taken_same s (OtherDataAck dst src rest) tag = pair_same dst src tag (λ link. link.segments) s
 taken_same s (ConnectInitiate retransmitted src services info segsize user_data) tag =
-    sym (made_either_way (LiveTo src) s (begun (called wire_flows of_partner src segsize tag) s) (λ number link. s))
+    sym (made_either_way (LiveTo src) s (begun (called wire_segments of_partner src segsize tag) s) (λ number link. s))
 taken_same s (ConnectAck dst) tag = refl
 taken_same s (NoOperation rest) tag = refl
 taken_same s (DisconnectInitiate dst src reason user_data) tag = refl
@@ -62,5 +62,5 @@ pub arrival_same : (s : WireLinks) (packet : Carried) (tag : LinkTag) →
 arrival_same s packet tag =
     check_same refusal_of_arrival (eqb packet.src s.peer && eqb packet.dst s.node)
     (Between (nodes_of packet) (record { source = s.peer; destination = s.node })) (failed_taken s packet.message tag)
-    (message_arrived wire_flows of_partner s packet.message (record { tag = tag; known = tt }))
+    (message_arrived wire_segments of_partner s packet.message (record { tag = tag; known = tt }))
     (taken_same s packet.message tag)

@@ -12,13 +12,14 @@ use Rattle.dna_links.specs.declared.port.LinkTest.{LinkTest}
 use Rattle.dna_links.specs.declared.port.LinkTest.TheVariants.{TheLink, OpenedAt, BegunBy}
 use Rattle.dna_links.specs.declared.port.Phase.{Phase}
 use Rattle.dna_links.specs.declared.port.Phase.TheVariants.{Calling, Confirming, Running, Disconnecting}
-use Rattle.dna_links.specs.Flow.{REACH, distance, is_of_data, Sending}
+use Rattle.dna_links.specs.SegmentBook.{REACH, distance, is_of_data, Sending}
 use Rattle.dna_links.specs.Links.{LinkOf, Carried, check, with_link, at_number, on_link, number_of}
 use Rattle.dna_links.specs.Pieces.{Piece, piece_of, same_piece, is_next_piece}
 use Rattle.dna_links.specs.Sending.{carries, in_its_phase, in_run, message_sent, segment_of, unchanged}
-use Rattle.dna_links.specs.WireFlow.{WireFlow, LastSent, all_named, last_named, after_first, last_of, is_new, highest_given, is_given, is_repeat}
-use Rattle.dna_links.specs.WireFlow.{sends_acks, acks_named, sends_new, sends_again, segment_named}
-use Rattle.dna_links.specs.WireFlow.{sends_segment, sending, with_last, with_new, wire_flows}
+use Rattle.dna_links.specs.WireSegments.{WireSegments, LastSent, all_named, last_named, after_first, last_of, is_new, highest_given, is_given}
+use Rattle.dna_links.specs.WireSegments.{is_repeat}
+use Rattle.dna_links.specs.WireSegments.{sends_acks, acks_named, sends_new, sends_again, segment_named}
+use Rattle.dna_links.specs.WireSegments.{sends_segment, sending, with_last, with_new, wire_segments}
 use Rattle.dna_links.specs.WireLinks.{WireLinks, wire_links_sent}
 use Rattle.nsp_link.specs.Missing.{refusal_in}
 use Rattle.nsp_link.specs.Phases.{is_in}
@@ -45,10 +46,10 @@ check_same refusal_of true failed o next same = same
 check_same refusal_of false failed o next same = refl
 
 -- what holds of both where no link is found, and where one is, holds of both
-module _ {R S P : Type 0} (f : R → P) (g : S → P) (test : LinkTest) (s : WireLinks) (r : R) (t : S) (on_r : ℕ → LinkOf WireFlow → R)
-    (on_t : ℕ → LinkOf WireFlow → S) (none_same : f r ≡ g t)
-    (some_same : (number : ℕ) (link : LinkOf WireFlow) → f (on_r number link) ≡ g (on_t number link)) where
-  on_same : (number : ℕ) (o : Option (LinkOf WireFlow)) → f (on_link number o r on_r) ≡ g (on_link number o t on_t)
+module _ {R S P : Type 0} (f : R → P) (g : S → P) (test : LinkTest) (s : WireLinks) (r : R) (t : S) (on_r : ℕ → LinkOf WireSegments → R)
+    (on_t : ℕ → LinkOf WireSegments → S) (none_same : f r ≡ g t)
+    (some_same : (number : ℕ) (link : LinkOf WireSegments) → f (on_r number link) ≡ g (on_t number link)) where
+  on_same : (number : ℕ) (o : Option (LinkOf WireSegments)) → f (on_link number o r on_r) ≡ g (on_link number o t on_t)
   on_same number None = none_same
   on_same number (Some link) = some_same number link
 
@@ -89,13 +90,13 @@ words_same : (again : Bool) (received : ℕ) (words : List AckWord) (sent : Last
 words_same again received [] sent = Passes sent
 words_same again received (word ∷ words) sent = word_same again received word words sent (λ next. words_same again received words next)
 
-acks_by : (o : Option FailedLinkSending) (p : Option LastSent) (f : WireFlow) → SameWords o p → refused o ≡ refusal_in (acks_named p f)
+acks_by : (o : Option FailedLinkSending) (p : Option LastSent) (f : WireSegments) → SameWords o p → refused o ≡ refusal_in (acks_named p f)
 acks_by _ _ f (Fails seen allowed) = refl
 acks_by _ _ f (Passes sent) = refl
 
-acks_same : (words : List AckWord) (f : WireFlow) → refused (failed_acks words f) ≡ refusal_in (sends_acks words f)
+acks_same : (words : List AckWord) (f : WireSegments) → refused (failed_acks words f) ≡ refusal_in (sends_acks words f)
 acks_same words f =
-    acks_by (failed_acks words f) (all_named false f.kept.received words (last_of f)) f (words_same false f.kept.received words (last_of f))
+    acks_by (failed_acks words f) (all_named false f.variables.received words (last_of f)) f (words_same false f.variables.received words (last_of f))
 
 -- ---- segments
 
@@ -106,10 +107,10 @@ three_same true false c x y z made = refl
 three_same true true false x y z made = refl
 three_same true true true x y z made = refl
 
-new_same : (segsize : ℕ) (p : Piece) (sent : LastSent) (f : WireFlow) → refused (failed_new segsize p f) ≡ refusal_in (sends_new segsize p sent f)
+new_same : (segsize : ℕ) (p : Piece) (sent : LastSent) (f : WireSegments) → refused (failed_new segsize p f) ≡ refusal_in (sends_new segsize p sent f)
 new_same segsize p sent f =
-    three_same (ltb (length f.kept.outstanding) REACH) (leb (length p.body) segsize) (is_next_piece p f.kept.unsent)
-    (Room (length f.kept.outstanding) 2046) (Length (length p.body) segsize) (NextPiece (shape_of p) (next_in f.kept.unsent))
+    three_same (ltb (length f.variables.outstanding) REACH) (leb (length p.body) segsize) (is_next_piece p f.variables.unsent)
+    (Room (length f.variables.outstanding) 2046) (Length (length p.body) segsize) (NextPiece (shape_of p) (next_in f.variables.unsent))
     (sending (with_last sent (with_new p f)))
 
 -- what is outstanding has its first sending
@@ -135,64 +136,65 @@ repeat_same below s outstanding made = by_place (leb (length outstanding) below)
       let above = leb-false (length outstanding) below e in
       given_same s outstanding (length outstanding - 1 - below) made (omega arith)
 
-again_same : (below : ℕ) (s : SegmentValue) (sent : LastSent) (f : WireFlow) →
+again_same : (below : ℕ) (s : SegmentValue) (sent : LastSent) (f : WireSegments) →
     refused (failed_again below s f) ≡ refusal_in (sends_again below (piece_of s) sent f)
 again_same below s sent f =
-    check_same refusal_of_sending (ltb below REACH && (f.gave_many || ltb below (highest_given f.kept))) (Number s.number (segment_numbers f))
-    (failed_repeat below s f.kept.outstanding)
-    (check (is_repeat below (piece_of s) f.kept.outstanding) WrongSegment (Ok (sending (with_last sent f))))
-    (repeat_same below s f.kept.outstanding (sending (with_last sent f)))
+    check_same refusal_of_sending (ltb below REACH && (f.gave_many || ltb below (highest_given f.variables))) (Number s.number (segment_numbers f))
+    (failed_repeat below s f.variables.outstanding)
+    (check (is_repeat below (piece_of s) f.variables.outstanding) WrongSegment (Ok (sending (with_last sent f))))
+    (repeat_same below s f.variables.outstanding (sending (with_last sent f)))
 
-segment_by : (o : Option FailedLinkSending) (p : Option LastSent) (segsize : ℕ) (s : SegmentValue) (f : WireFlow) → SameWords o p →
-    refused (or_next o (cond (is_new s f.kept) (failed_new segsize (piece_of s) f) (failed_again (distance s.number (highest_given f.kept)) s f)))
+segment_by : (o : Option FailedLinkSending) (p : Option LastSent) (segsize : ℕ) (s : SegmentValue) (f : WireSegments) → SameWords o p →
+    refused (or_next o
+    (cond (is_new s f.variables) (failed_new segsize (piece_of s) f) (failed_again (distance s.number (highest_given f.variables)) s f)))
     ≡ refusal_in (segment_named p segsize s f)
 segment_by _ _ segsize s f (Fails seen allowed) = refl
-segment_by _ _ segsize s f (Passes sent) = by_number (is_new s f.kept) where
+segment_by _ _ segsize s f (Passes sent) = by_number (is_new s f.variables) where
   by_number : (b : Bool) →
-      refused (cond b (failed_new segsize (piece_of s) f) (failed_again (distance s.number (highest_given f.kept)) s f)) ≡
-      refusal_in (cond b (sends_new segsize (piece_of s) sent f) (sends_again (distance s.number (highest_given f.kept)) (piece_of s) sent f))
+      refused (cond b (failed_new segsize (piece_of s) f) (failed_again (distance s.number (highest_given f.variables)) s f)) ≡
+      refusal_in (cond b (sends_new segsize (piece_of s) sent f) (sends_again (distance s.number (highest_given f.variables)) (piece_of s) sent f))
   by_number true = new_same segsize (piece_of s) sent f
-  by_number false = again_same (distance s.number (highest_given f.kept)) s sent f
+  by_number false = again_same (distance s.number (highest_given f.variables)) s sent f
 
-segment_same : (segsize : ℕ) (s : SegmentValue) (f : WireFlow) →
+segment_same : (segsize : ℕ) (s : SegmentValue) (f : WireSegments) →
     refused (failed_segment segsize s f) ≡ refusal_in (sends_segment segsize s f)
 segment_same segsize s f =
-    segment_by _ _ segsize s f (words_same (not (is_new s f.kept)) f.kept.received s.acks (last_of f))
+    segment_by _ _ segsize s f (words_same (not (is_new s f.variables)) f.variables.received s.acks (last_of f))
 
 -- ---- which link
 
 phase_same : (test : LinkTest) (wanted : Phase) (s : WireLinks) →
-    refused (failed_phase test wanted s) ≡ refusal_in (in_its_phase wire_flows test (is_in wanted) s)
+    refused (failed_phase test wanted s) ≡ refusal_in (in_its_phase wire_segments test (is_in wanted) s)
 phase_same test wanted s = linked_same refused refusal_in test s _ _ _ _ refl (λ number link.
     check_same refusal_of_sending (is_in wanted link.port.phase) (InPhase number link.port.phase wanted) None
-    (Ok (unchanged wire_flows s number link)) refl)
+    (Ok (unchanged wire_segments s number link)) refl)
 
-carries_same : (s : WireLinks) (number : ℕ) (link : LinkOf WireFlow) (r : Result (Sending WireFlow (Unit {0})) LinkRefusal) →
-    refusal_in (carries wire_flows s number link r) ≡ refusal_in r
+carries_same : (s : WireLinks) (number : ℕ) (link : LinkOf WireSegments) (r : Result (Sending WireSegments (Unit {0})) LinkRefusal) →
+    refusal_in (carries wire_segments s number link r) ≡ refusal_in r
 carries_same s number link (Ok sent) = refl
 carries_same s number link (Err refusal) = refl
 
-run_same : (src dst : ℕ) (fails : LinkOf WireFlow → Option FailedLinkSending)
-    (sends : LinkOf WireFlow → Result (Sending WireFlow (Unit {0})) LinkRefusal) (s : WireLinks) →
-    ((link : LinkOf WireFlow) → refused (fails link) ≡ refusal_in (sends link)) →
-    refused (failed_in_run src dst fails s) ≡ refusal_in (in_run wire_flows src dst sends s)
+run_same : (src dst : ℕ) (fails : LinkOf WireSegments → Option FailedLinkSending)
+    (sends : LinkOf WireSegments → Result (Sending WireSegments (Unit {0})) LinkRefusal) (s : WireLinks) →
+    ((link : LinkOf WireSegments) → refused (fails link) ≡ refusal_in (sends link)) →
+    refused (failed_in_run src dst fails s) ≡ refusal_in (in_run wire_segments src dst sends s)
 run_same src dst fails sends s same = linked_same refused refusal_in (TheLink src dst) s _ _ _ _ refl (λ number link.
     check_same refusal_of_sending (is_in Running link.port.phase) (InPhase number link.port.phase Running) (fails link)
-    (carries wire_flows s number link (sends link)) (same link ∙ sym (carries_same s number link (sends link))))
+    (carries wire_segments s number link (sends link)) (same link ∙ sym (carries_same s number link (sends link))))
 
 -- ---- each message
 
-message_same : (s : WireLinks) (m : NspValue) → refused (failed_message s m) ≡ refusal_in (message_sent wire_flows s m)
+message_same : (s : WireLinks) (m : NspValue) → refused (failed_message s m) ≡ refusal_in (message_sent wire_segments s m)
 message_same s (ConnectInitiate retransmitted src services info segsize user_data) = phase_same (OpenedAt src) Calling s
 message_same s (ConnectAck dst) = linked_same refused refusal_in (BegunBy dst) s _ _ _ _ refl (λ number link. refl)
 message_same s (ConnectConfirm dst src services info segsize user_data) = phase_same (TheLink src dst) Confirming s
 message_same s (DisconnectInitiate dst src reason user_data) = phase_same (TheLink src dst) Disconnecting s
 message_same s (DisconnectConfirm dst src reason) = linked_same refused refusal_in (TheLink src dst) s _ _ _ _ refl (λ number link. refl)
 message_same s (DataSegment segment) =
-    run_same segment.srcaddr segment.dstaddr (λ link. failed_segment link.segsize segment link.flow) (segment_of wire_flows segment) s (λ link.
-    segment_same link.segsize segment link.flow)
+    run_same segment.srcaddr segment.dstaddr (λ link. failed_segment link.segsize segment link.segments) (segment_of wire_segments segment) s (λ link.
+    segment_same link.segsize segment link.segments)
 message_same s (DataAck dst src acks) =
-    run_same src dst (λ link. failed_acks acks link.flow) (λ link. sends_acks acks link.flow) s (λ link. acks_same acks link.flow)
+    run_same src dst (λ link. failed_acks acks link.segments) (λ link. sends_acks acks link.segments) s (λ link. acks_same acks link.segments)
 message_same s (LinkService interrupt dst src rest) = phase_same (TheLink src dst) Running s
 message_same s (OtherDataAck dst src rest) = phase_same (TheLink src dst) Running s
 message_same s (NoOperation rest) = refl
@@ -201,4 +203,4 @@ pub sending_same : (s : WireLinks) (packet : Carried) → refused (failed_sendin
 sending_same s packet =
     check_same refusal_of_sending (eqb packet.src s.node && eqb packet.dst s.peer)
     (Between (nodes_of packet) (record { source = s.node; destination = s.peer }))
-    (failed_message s packet.message) (message_sent wire_flows s packet.message) (message_same s packet.message)
+    (failed_message s packet.message) (message_sent wire_segments s packet.message) (message_same s packet.message)

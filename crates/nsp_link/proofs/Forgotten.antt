@@ -6,20 +6,20 @@ use Rattle.std.proofs.lemmas.Option.{slice_get_within}
 use Rattle.std.proofs.lemmas.Bool.{eqb-true, eqb-false}
 use Rattle.dna_links.specs.declared.port.LinkTest.TheVariants.{HasAddress}
 use Rattle.dna_links.specs.Links.{LinkOf, number_of, at_number, on_link, changed, forgotten, freed}
-use Rattle.dna_links.specs.WireFlow.{WireFlow, wire_flows}
+use Rattle.dna_links.specs.WireSegments.{WireSegments, wire_segments}
 use Rattle.dna_links.specs.WireLinks.{WireLinks}
 use Rattle.nsp_link.specs.inner.Index.{forgotten_found, forgotten_at, look_in, look_at, own_of, begun_from, counted}
 use Rattle.nsp_link.proofs.Counting.{bit, counted_set}
 use Rattle.nsp_link.proofs.Indexed.{look_set, length_set}
 use Rattle.nsp_link.proofs.Holders.{lost}
 
-module _ (look : LinkOf WireFlow → Option ℕ) where
-  pub set_same : (links : List (LinkOf WireFlow)) (n : ℕ) (m : LinkOf WireFlow) → n < length links → look_at look (set links n m) n ≡ look m
+module _ (look : LinkOf WireSegments → Option ℕ) where
+  pub set_same : (links : List (LinkOf WireSegments)) (n : ℕ) (m : LinkOf WireSegments) → n < length links → look_at look (set links n m) n ≡ look m
   set_same [] n m h = absurd (omega arith)
   set_same (x ∷ links) zero m h = refl
   set_same (x ∷ links) (suc n) m h = set_same links n m (omega arith)
 
-  pub set_other : (links : List (LinkOf WireFlow)) (n k : ℕ) (m : LinkOf WireFlow) → (k ≡ n → ⊥) → look_at look (set links n m) k
+  pub set_other : (links : List (LinkOf WireSegments)) (n k : ℕ) (m : LinkOf WireSegments) → (k ≡ n → ⊥) → look_at look (set links n m) k
       ≡ look_at look links k
   set_other [] n k m apart = refl
   set_other (x ∷ links) zero zero m apart = absurd (apart refl)
@@ -27,81 +27,84 @@ module _ (look : LinkOf WireFlow → Option ℕ) where
   set_other (x ∷ links) (suc n) zero m apart = refl
   set_other (x ∷ links) (suc n) (suc k) m apart = set_other links n k m (λ e. apart (ap suc e))
 
-  pub push_here : (links : List (LinkOf WireFlow)) (m : LinkOf WireFlow) → look_at look (links ++ m ∷ []) (length links) ≡ look m
+  pub push_here : (links : List (LinkOf WireSegments)) (m : LinkOf WireSegments) → look_at look (links ++ m ∷ []) (length links) ≡ look m
   push_here [] m = refl
   push_here (x ∷ links) m = push_here links m
 
-  pub push_other : (links : List (LinkOf WireFlow)) (m : LinkOf WireFlow) (k : ℕ) → (k ≡ length links → ⊥) → look_at look (links ++ m ∷ []) k ≡
+  pub push_other : (links : List (LinkOf WireSegments)) (m : LinkOf WireSegments) (k : ℕ) → (k ≡ length links → ⊥) →
+      look_at look (links ++ m ∷ []) k ≡
       look_at look links k
   push_other [] m zero apart = absurd (apart refl)
   push_other [] m (suc k) apart = refl
   push_other (x ∷ links) m zero apart = refl
   push_other (x ∷ links) m (suc k) apart = push_other links m k (λ e. apart (ap suc e))
 
-  pub past : (links : List (LinkOf WireFlow)) → look_at look links (length links) ≡ None
+  pub past : (links : List (LinkOf WireSegments)) → look_at look links (length links) ≡ None
   past [] = refl
   past (x ∷ links) = past links
 
-pub length_push : (links : List (LinkOf WireFlow)) (m : LinkOf WireFlow) → length (links ++ m ∷ []) ≡ suc (length links)
+pub length_push : (links : List (LinkOf WireSegments)) (m : LinkOf WireSegments) → length (links ++ m ∷ []) ≡ suc (length links)
 length_push [] m = refl
 length_push (x ∷ links) m = ap suc (length_push links m)
 
-own_forgotten_by : (links : List (LinkOf WireFlow)) (m k : ℕ) (o : Option (LinkOf WireFlow)) (b : Bool) → slice_get links m ≡ o → eqb m k ≡ b →
+own_forgotten_by : (links : List (LinkOf WireSegments)) (m k : ℕ) (o : Option (LinkOf WireSegments)) (b : Bool) → slice_get links m ≡ o →
+    eqb m k ≡ b →
     look_at own_of (forgotten_found m o links) k ≡ cond b None (look_at own_of links k)
 own_forgotten_by links m k None true is same = sym (ap (λ (n : ℕ). look_at own_of links n) (eqb-true m k same)) ∙ ap (look_in own_of) is
 own_forgotten_by links m k None false is apart = refl
 own_forgotten_by links m k (Some l) true is same =
-    sym (ap (λ (n : ℕ). look_at own_of (set links m (forgotten wire_flows l)) n) (eqb-true m k same))
-    ∙ set_same own_of links m (forgotten wire_flows l) (slice_get_within links m l is)
-own_forgotten_by links m k (Some l) false is apart = set_other own_of links m k (forgotten wire_flows l) (λ e. eqb-false m k apart (sym e))
+    sym (ap (λ (n : ℕ). look_at own_of (set links m (forgotten wire_segments l)) n) (eqb-true m k same))
+    ∙ set_same own_of links m (forgotten wire_segments l) (slice_get_within links m l is)
+own_forgotten_by links m k (Some l) false is apart = set_other own_of links m k (forgotten wire_segments l) (λ e. eqb-false m k apart (sym e))
 
-pub own_forgotten : (links : List (LinkOf WireFlow)) (holder : Option ℕ) (k : ℕ) → look_at own_of (forgotten_at holder links) k
+pub own_forgotten : (links : List (LinkOf WireSegments)) (holder : Option ℕ) (k : ℕ) → look_at own_of (forgotten_at holder links) k
     ≡ lost holder k (look_at own_of links k)
 own_forgotten links None k = refl
 own_forgotten links (Some m) k = own_forgotten_by links m k (slice_get links m) (eqb m k) refl refl
 
-begun_forgotten_by : (links : List (LinkOf WireFlow)) (m k : ℕ) (o : Option (LinkOf WireFlow)) → slice_get links m ≡ o →
+begun_forgotten_by : (links : List (LinkOf WireSegments)) (m k : ℕ) (o : Option (LinkOf WireSegments)) → slice_get links m ≡ o →
     look_at begun_from (forgotten_found m o links) k ≡ look_at begun_from links k
 begun_forgotten_by links m k None is = refl
-begun_forgotten_by links m k (Some l) is = look_set begun_from links m k l (forgotten wire_flows l) is refl
+begun_forgotten_by links m k (Some l) is = look_set begun_from links m k l (forgotten wire_segments l) is refl
 
-pub begun_forgotten : (links : List (LinkOf WireFlow)) (holder : Option ℕ) (k : ℕ) → look_at begun_from (forgotten_at holder links) k ≡
+pub begun_forgotten : (links : List (LinkOf WireSegments)) (holder : Option ℕ) (k : ℕ) → look_at begun_from (forgotten_at holder links) k ≡
     look_at begun_from links k
 begun_forgotten links None k = refl
 begun_forgotten links (Some m) k = begun_forgotten_by links m k (slice_get links m) refl
 
-module _ (p : LinkOf WireFlow → Bool) (same : (l : LinkOf WireFlow) → p (forgotten wire_flows l) ≡ p l) where
-  counted_forgotten_by : (links : List (LinkOf WireFlow)) (m : ℕ) (o : Option (LinkOf WireFlow)) → slice_get links m ≡ o →
+module _ (p : LinkOf WireSegments → Bool) (same : (l : LinkOf WireSegments) → p (forgotten wire_segments l) ≡ p l) where
+  counted_forgotten_by : (links : List (LinkOf WireSegments)) (m : ℕ) (o : Option (LinkOf WireSegments)) → slice_get links m ≡ o →
       counted p (forgotten_found m o links) ≡ counted p links
   counted_forgotten_by links m None is = refl
   counted_forgotten_by links m (Some l) is =
-      let counts = counted_set p links m l (forgotten wire_flows l) is in
+      let counts = counted_set p links m l (forgotten wire_segments l) is in
       let bits = ap bit (same l) in
       omega arith
 
-  pub counted_forgotten : (links : List (LinkOf WireFlow)) (holder : Option ℕ) → counted p (forgotten_at holder links) ≡ counted p links
+  pub counted_forgotten : (links : List (LinkOf WireSegments)) (holder : Option ℕ) → counted p (forgotten_at holder links) ≡ counted p links
   counted_forgotten links None = refl
   counted_forgotten links (Some m) = counted_forgotten_by links m (slice_get links m) refl
 
-length_forgotten_by : (links : List (LinkOf WireFlow)) (m : ℕ) (o : Option (LinkOf WireFlow)) → length (forgotten_found m o links) ≡ length links
+length_forgotten_by : (links : List (LinkOf WireSegments)) (m : ℕ) (o : Option (LinkOf WireSegments)) →
+    length (forgotten_found m o links) ≡ length links
 length_forgotten_by links m None = refl
-length_forgotten_by links m (Some l) = length_set links m (forgotten wire_flows l)
+length_forgotten_by links m (Some l) = length_set links m (forgotten wire_segments l)
 
-pub length_forgotten : (links : List (LinkOf WireFlow)) (holder : Option ℕ) → length (forgotten_at holder links) ≡ length links
+pub length_forgotten : (links : List (LinkOf WireSegments)) (holder : Option ℕ) → length (forgotten_at holder links) ≡ length links
 length_forgotten links None = refl
 length_forgotten links (Some m) = length_forgotten_by links m (slice_get links m)
 
-freed_by : (s : WireLinks) (r : Option ℕ) → (o : Option (LinkOf WireFlow)) (m : ℕ) →
-    on_link m o s (λ n l. changed n (forgotten wire_flows l) s) ≡ record s { links = forgotten_found m o s.links }
+freed_by : (s : WireLinks) (r : Option ℕ) → (o : Option (LinkOf WireSegments)) (m : ℕ) →
+    on_link m o s (λ n l. changed n (forgotten wire_segments l) s) ≡ record s { links = forgotten_found m o s.links }
 freed_by s r None m = refl
 freed_by s r (Some l) m = refl
 
 freed_with : (s : WireLinks) (r : Option ℕ) → number_of (HasAddress 0) s ≡ number_of (HasAddress 0) s →
-    at_number s.links r s (λ n l. changed n (forgotten wire_flows l) s) ≡ record s { links = forgotten_at r s.links }
+    at_number s.links r s (λ n l. changed n (forgotten wire_segments l) s) ≡ record s { links = forgotten_at r s.links }
 freed_with s None e = refl
 freed_with s (Some m) e = freed_by s None (slice_get s.links m) m
 
 -- what the definitions make of an address that is given again
 pub freed_is : (own : ℕ) (s : WireLinks) (r : Option ℕ) → number_of (HasAddress own) s ≡ r →
-    freed wire_flows own s ≡ record s { links = forgotten_at r s.links }
-freed_is own s r e = ap (λ (o : Option ℕ). at_number s.links o s (λ n l. changed n (forgotten wire_flows l) s)) e ∙ freed_with s r refl
+    freed wire_segments own s ≡ record s { links = forgotten_at r s.links }
+freed_is own s r e = ap (λ (o : Option ℕ). at_number s.links o s (λ n l. changed n (forgotten wire_segments l) s)) e ∙ freed_with s r refl

@@ -9,7 +9,7 @@ use Rattle.dna_links.specs.LookUps.{is_live, is_at, is_called, is_calling}
 use Rattle.dna_links.specs.Links.{LinkOf, begun, changed, forgotten, freed}
 use Rattle.dna_links.specs.User.{opened, answered}
 use Rattle.dna_links.specs.declared.port.Phase.{Phase}
-use Rattle.dna_links.specs.WireFlow.{WireFlow, wire_flows}
+use Rattle.dna_links.specs.WireSegments.{WireSegments, wire_segments}
 use Rattle.dna_links.specs.WireLinks.{WireLinks}
 use Rattle.nsp_link.specs.inner.Index.{IsIndexed, forgotten_found, forgotten_at, look_in, look_at, own_of, begun_from, lives_to, waits, counted}
 use Rattle.nsp_link.proofs.Counting.{bit, bit_false, counted_set, counted_push}
@@ -21,7 +21,8 @@ use Rattle.nsp_link.proofs.Forgotten.{counted_forgotten, length_forgotten, freed
 
 -- ---- the two ways to give an own address
 
-module _ (links : List (LinkOf WireFlow)) (h c : ℕ → Option ℕ) (r : ℕ → ℕ) (w : ℕ) (index : IsIndexed links h c r w) (own : ℕ) (m : LinkOf WireFlow)
+module _ (links : List (LinkOf WireSegments)) (h c : ℕ → Option ℕ) (r : ℕ → ℕ) (w : ℕ) (index : IsIndexed links h c r w) (own : ℕ)
+    (m : LinkOf WireSegments)
     (owns : m.port.own ≡ Some own) where
   module _ (h' c' : ℕ → Option ℕ) (r' : ℕ → ℕ) (w' : ℕ) (callers : (q : ℕ) → c' q ≡ c q) (counts : (q : ℕ) → r' q ≡ r q) where
     pub indexed_open : (begun : (q : ℕ) → begun_from m ≡ Some q → ⊥) → ((q : ℕ) → lives_to q m ≡ false) → w' ≡ suc w →
@@ -38,7 +39,7 @@ module _ (links : List (LinkOf WireFlow)) (h c : ℕ → Option ℕ) (r : ℕ �
           n : ℕ
           n = length links
 
-          left : List (LinkOf WireFlow)
+          left : List (LinkOf WireSegments)
           left = forgotten_at (h own) links
 
           f' : ℕ → Option ℕ
@@ -91,18 +92,18 @@ module _ (links : List (LinkOf WireFlow)) (h c : ℕ → Option ℕ) (r : ℕ �
               let was = index.few in
               omega arith
 
-  slice_set_other : (xs : List (LinkOf WireFlow)) (k n : ℕ) (x : LinkOf WireFlow) → (n ≡ k → ⊥) → slice_get (set xs k x) n ≡ slice_get xs n
+  slice_set_other : (xs : List (LinkOf WireSegments)) (k n : ℕ) (x : LinkOf WireSegments) → (n ≡ k → ⊥) → slice_get (set xs k x) n ≡ slice_get xs n
   slice_set_other [] k n x apart = refl
   slice_set_other (y ∷ xs) zero zero x apart = absurd (apart refl)
   slice_set_other (y ∷ xs) zero (suc n) x apart = refl
   slice_set_other (y ∷ xs) (suc k) zero x apart = refl
   slice_set_other (y ∷ xs) (suc k) (suc n) x apart = slice_set_other xs k n x (λ e. apart (ap suc e))
 
-  still_by : (k n : ℕ) (o : Option (LinkOf WireFlow)) → (n ≡ k → ⊥) → slice_get (forgotten_found k o links) n ≡ slice_get links n
+  still_by : (k n : ℕ) (o : Option (LinkOf WireSegments)) → (n ≡ k → ⊥) → slice_get (forgotten_found k o links) n ≡ slice_get links n
   still_by k n None apart = refl
-  still_by k n (Some l) apart = slice_set_other links k n (forgotten wire_flows l) apart
+  still_by k n (Some l) apart = slice_set_other links k n (forgotten wire_segments l) apart
 
-  module _ (n : ℕ) (l : LinkOf WireFlow) (there : slice_get links n ≡ Some l) (unowned : l.port.own ≡ None) where
+  module _ (n : ℕ) (l : LinkOf WireSegments) (there : slice_get links n ≡ Some l) (unowned : l.port.own ≡ None) where
     not_holder : (k : ℕ) → h own ≡ Some k → n ≡ k → ⊥
     not_holder k held same =
         let mine : look_at own_of links n ≡ Some own = ap (look_at own_of links) same ∙ index.holds own k held in
@@ -129,7 +130,7 @@ module _ (links : List (LinkOf WireFlow)) (h c : ℕ → Option ℕ) (r : ℕ �
           waits = few_wait;
           few = few_all;
         } where
-          left : List (LinkOf WireFlow)
+          left : List (LinkOf WireSegments)
           left = forgotten_at (h own) links
 
           f' : ℕ → Option ℕ
@@ -174,16 +175,16 @@ module _ (links : List (LinkOf WireFlow)) (h c : ℕ → Option ℕ) (r : ℕ �
 
 -- ---- the same, by what the calls tell
 
-pub answered_index : (phase : Phase) (own n : ℕ) (l m : LinkOf WireFlow) (items ys : List (LinkOf WireFlow)) (h c h' c' : ℕ → Option ℕ)
+pub answered_index : (phase : Phase) (own n : ℕ) (l m : LinkOf WireSegments) (items ys : List (LinkOf WireSegments)) (h c h' c' : ℕ → Option ℕ)
     (r r' : ℕ → ℕ) (w w' : ℕ) → IsIndexed items h c r w → slice_get items n ≡ Some l → is_called l.port.phase ≡ true → l.port.own ≡ None →
-    m ≡ answered wire_flows phase own l → is_live phase ≡ true → is_called phase ≡ false → is_calling phase ≡ false →
+    m ≡ answered wire_segments phase own l → is_live phase ≡ true → is_called phase ≡ false → is_calling phase ≡ false →
     ys ≡ set (forgotten_at (h own) items) n m → ((q : ℕ) → c' q ≡ c q) → ((q : ℕ) → r' q ≡ r q) → w' ≡ w →
     ((q : ℕ) → h' q ≡ cond (eqb own q) (Some n) (h q)) → IsIndexed ys h' c' r' w'
 answered_index phase own n l m items ys h c h' c' r r' w w' index there was unowned is live answers known same callers counts wait given =
-    subst (λ (xs : List (LinkOf WireFlow)). IsIndexed xs h' c' r' w') (sym same)
-    (indexed_answer items h c r w index own m (ap (λ (k : LinkOf WireFlow). k.port.own) is) n l there unowned h' c' r' w' callers counts wait
+    subst (λ (xs : List (LinkOf WireSegments)). IsIndexed xs h' c' r' w') (sym same)
+    (indexed_answer items h c r w index own m (ap (λ (k : LinkOf WireSegments). k.port.own) is) n l there unowned h' c' r' w' callers counts wait
     begun lives
-    (ap (λ (k : LinkOf WireFlow). is_calling k.port.phase) is ∙ known) given) where
+    (ap (λ (k : LinkOf WireSegments). is_calling k.port.phase) is ∙ known) given) where
       both : is_live phase ≡ is_live l.port.phase
       both = live ∙ sym (called_lives l.port.phase was)
 
@@ -195,56 +196,57 @@ answered_index phase own n l m items ys h c h' c' r r' w w' index there was unow
       lives : (q : ℕ) → lives_to q m ≡ lives_to q l
       lives q = ap (lives_to q) is ∙ ap (λ (b : Bool). b && is_at l.port.far q) both
 
-pub opened_index : (own : ℕ) (m : LinkOf WireFlow) (items ys : List (LinkOf WireFlow)) (h c h' c' : ℕ → Option ℕ) (r r' : ℕ → ℕ) (w w' : ℕ) →
-    IsIndexed items h c r w → m ≡ opened wire_flows own → ys ≡ forgotten_at (h own) items ++ m ∷ [] → ((q : ℕ) → c' q ≡ c q) →
+pub opened_index : (own : ℕ) (m : LinkOf WireSegments) (items ys : List (LinkOf WireSegments)) (h c h' c' : ℕ → Option ℕ) (r r' : ℕ → ℕ) (w w' : ℕ) →
+    IsIndexed items h c r w → m ≡ opened wire_segments own → ys ≡ forgotten_at (h own) items ++ m ∷ [] → ((q : ℕ) → c' q ≡ c q) →
     ((q : ℕ) → r' q ≡ r q) → w' ≡ suc w → ((q : ℕ) → h' q ≡ cond (eqb own q) (Some (length items)) (h q)) → IsIndexed ys h' c' r' w'
 opened_index own m items ys h c h' c' r r' w w' index is same callers counts wait given =
-    subst (λ (xs : List (LinkOf WireFlow)). IsIndexed xs h' c' r' w') (sym same)
-    (indexed_open items h c r w index own m (ap (λ (k : LinkOf WireFlow). k.port.own) is) h' c' r' w' callers counts
-    (λ q. no_more m q (ap (λ (k : LinkOf WireFlow). is_called k.port.phase) is)
-    (ap (λ (k : LinkOf WireFlow). is_live k.port.phase && not k.port.opened) is))
+    subst (λ (xs : List (LinkOf WireSegments)). IsIndexed xs h' c' r' w') (sym same)
+    (indexed_open items h c r w index own m (ap (λ (k : LinkOf WireSegments). k.port.own) is) h' c' r' w' callers counts
+    (λ q. no_more m q (ap (λ (k : LinkOf WireSegments). is_called k.port.phase) is)
+    (ap (λ (k : LinkOf WireSegments). is_live k.port.phase && not k.port.opened) is))
     (λ q. ap (lives_to q) is) wait given)
 
 pub ruleset indexes = (indexed_same)
 
 -- ---- what the definitions make of it
 
-module _ (node peer : ℕ) (items : List (LinkOf WireFlow)) (s : WireLinks) (is : record { node = node; peer = peer; links = items } ≡ s) (own : ℕ)
-    (h : Option ℕ) (held : position (λ (l : LinkOf WireFlow). is_at l.port.own own) items ≡ h) (ys : List (LinkOf WireFlow)) where
-  shown_freed : freed wire_flows own s ≡ record { node = node; peer = peer; links = forgotten_at h items }
-  shown_freed = ap (freed wire_flows own) (sym is) ∙ freed_is own (record { node = node; peer = peer; links = items }) h held
+module _ (node peer : ℕ) (items : List (LinkOf WireSegments)) (s : WireLinks) (is : record { node = node; peer = peer; links = items } ≡ s) (own : ℕ)
+    (h : Option ℕ) (held : position (λ (l : LinkOf WireSegments). is_at l.port.own own) items ≡ h) (ys : List (LinkOf WireSegments)) where
+  shown_freed : freed wire_segments own s ≡ record { node = node; peer = peer; links = forgotten_at h items }
+  shown_freed = ap (freed wire_segments own) (sym is) ∙ freed_is own (record { node = node; peer = peer; links = items }) h held
 
-  pub opened_made : ys ≡ forgotten_at h items ++ opened wire_flows own ∷ [] → record { node = node; peer = peer; links = ys } ≡ begun
-      (opened wire_flows own) (freed wire_flows own s)
+  pub opened_made : ys ≡ forgotten_at h items ++ opened wire_segments own ∷ [] → record { node = node; peer = peer; links = ys } ≡ begun
+      (opened wire_segments own) (freed wire_segments own s)
   opened_made e =
-      ap (λ (xs : List (LinkOf WireFlow)). record { node = node; peer = peer; links = xs }) e
-      ∙ ap (begun (opened wire_flows own)) (sym shown_freed)
+      ap (λ (xs : List (LinkOf WireSegments)). record { node = node; peer = peer; links = xs }) e
+      ∙ ap (begun (opened wire_segments own)) (sym shown_freed)
 
-  pub answered_made : (phase : Phase) (n : ℕ) (link : LinkOf WireFlow) → ys ≡ set (forgotten_at h items) n (answered wire_flows phase own link) →
-      record { node = node; peer = peer; links = ys } ≡ changed n (answered wire_flows phase own link) (freed wire_flows own s)
+  pub answered_made : (phase : Phase) (n : ℕ) (link : LinkOf WireSegments) →
+      ys ≡ set (forgotten_at h items) n (answered wire_segments phase own link) →
+      record { node = node; peer = peer; links = ys } ≡ changed n (answered wire_segments phase own link) (freed wire_segments own s)
   answered_made phase n link e =
-      ap (λ (xs : List (LinkOf WireFlow)). record { node = node; peer = peer; links = xs }) e
-      ∙ ap (changed n (answered wire_flows phase own link)) (sym shown_freed)
+      ap (λ (xs : List (LinkOf WireSegments)). record { node = node; peer = peer; links = xs }) e
+      ∙ ap (changed n (answered wire_segments phase own link)) (sym shown_freed)
 
 -- ---- the link that is answered
 
-pub link_at : (xs : List (LinkOf WireFlow)) (n : ℕ) (l : LinkOf WireFlow) → n < length xs → l ≡ get_or xs n l → slice_get xs n ≡ Some l
+pub link_at : (xs : List (LinkOf WireSegments)) (n : ℕ) (l : LinkOf WireSegments) → n < length xs → l ≡ get_or xs n l → slice_get xs n ≡ Some l
 link_at xs n l within there = slice_get_read xs (length xs) n l refl within there
 
-pub still_here : (links : List (LinkOf WireFlow)) (h c : ℕ → Option ℕ) (r : ℕ → ℕ) (w : ℕ) → IsIndexed links h c r w →
-    (own n : ℕ) (l : LinkOf WireFlow) → slice_get links n ≡ Some l → l.port.own ≡ None → slice_get (forgotten_at (h own) links) n ≡ Some l
+pub still_here : (links : List (LinkOf WireSegments)) (h c : ℕ → Option ℕ) (r : ℕ → ℕ) (w : ℕ) → IsIndexed links h c r w →
+    (own n : ℕ) (l : LinkOf WireSegments) → slice_get links n ≡ Some l → l.port.own ≡ None → slice_get (forgotten_at (h own) links) n ≡ Some l
 still_here links h c r w index own n l there unowned = still_there links h c r w index own (owned own) refl n l there unowned
   where
-    owned : ℕ → LinkOf WireFlow
-    owned address = opened wire_flows address
+    owned : ℕ → LinkOf WireSegments
+    owned address = opened wire_segments address
 
-pub one_link : (xs ys : List (LinkOf WireFlow)) (n : ℕ) (k l link : LinkOf WireFlow) → xs ≡ ys → k ≡ get_or xs n k → slice_get ys n ≡ Some l →
+pub one_link : (xs ys : List (LinkOf WireSegments)) (n : ℕ) (k l link : LinkOf WireSegments) → xs ≡ ys → k ≡ get_or xs n k → slice_get ys n ≡ Some l →
     Some l ≡ Some link → k ≡ link
 one_link xs ys n k l link same there still one =
-    let here : slice_get xs n ≡ Some l = ap (λ (zs : List (LinkOf WireFlow)). slice_get zs n) same ∙ still in
+    let here : slice_get xs n ≡ Some l = ap (λ (zs : List (LinkOf WireSegments)). slice_get zs n) same ∙ still in
     let mine : slice_get xs n ≡ Some k = link_at xs n k (slice_get_within xs n l here) there in
     let both : Some k ≡ Some link = sym mine ∙ here ∙ one in
     cc
 
-pub same_set : (xs ys : List (LinkOf WireFlow)) (n : ℕ) (m k : LinkOf WireFlow) → xs ≡ ys → m ≡ k → set xs n m ≡ set ys n k
-same_set xs ys n m k lists links = ap (λ (zs : List (LinkOf WireFlow)). set zs n m) lists ∙ ap (λ (x : LinkOf WireFlow). set ys n x) links
+pub same_set : (xs ys : List (LinkOf WireSegments)) (n : ℕ) (m k : LinkOf WireSegments) → xs ≡ ys → m ≡ k → set xs n m ≡ set ys n k
+same_set xs ys n m k lists links = ap (λ (zs : List (LinkOf WireSegments)). set zs n m) lists ∙ ap (λ (x : LinkOf WireSegments). set ys n x) links

@@ -2,7 +2,7 @@
 use Rattle.std.proofs.Common.{◌≡◌, ℕ, ◌+◌, ◌<◌, Bool, true, false, Option, Some, None, List, ◌∷◌, length, drop, get_or, cond, ap, ◌∙◌}
 use Rattle.std.proofs.lemmas.List.{drop_more}
 use Rattle.dna_packet.specs.declared.ack_word.AckWord.{AckWord}
-use Rattle.dna_links.specs.Flow.{is_of_data}
+use Rattle.dna_links.specs.SegmentBook.{is_of_data}
 use Rattle.nsp_link.specs.declared.given.Given.{Given}
 use Rattle.nsp_link.specs.Given.{all_may_come, behind, if_behind}
 use Rattle.link_segments.proofs.AckWords.{first_in_range, later_in_range}

@@ -2,8 +2,8 @@
 use Rattle.std.proofs.Common.{◌≡◌, ℕ, ◌+◌, ◌<◌, Bool, true, false, Option, Some, None, List, ◌∷◌, length, drop, get_or, cond, ap, ◌∙◌}
 use Rattle.std.proofs.lemmas.List.{drop_more}
 use Rattle.dna_packet.specs.declared.ack_word.AckWord.{AckWord}
-use Rattle.dna_links.specs.Flow.{is_of_data}
-use Rattle.dna_links.specs.WireFlow.{LastSent, all_named, last_named, after_first}
+use Rattle.dna_links.specs.SegmentBook.{is_of_data}
+use Rattle.dna_links.specs.WireSegments.{LastSent, all_named, last_named, after_first}
 use Rattle.link_segments.proofs.AckWords.{first_in_range, later_in_range}
 
 module _ (again : Bool) (received : ℕ) (words : List AckWord) (i : ℕ) (d : AckWord) (sent : LastSent) (h : i < length words) where

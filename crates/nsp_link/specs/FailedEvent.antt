@@ -10,7 +10,7 @@ use Rattle.dna_links.specs.Links.{LinkOf, with_link}
 use Rattle.dna_links.specs.LookUps.{is_connected, takes_messages}
 use Rattle.dna_links.specs.Pieces.{Piece, Whole, next_message}
 use Rattle.dna_links.specs.User.{LinkEventValue, Open, Accept, Reject, In, Up, Close}
-use Rattle.dna_links.specs.WireFlow.{WireFlow}
+use Rattle.dna_links.specs.WireSegments.{WireSegments}
 use Rattle.dna_links.specs.WireLinks.{WireLinks}
 use Rattle.link_segments.specs.Received.{next_length}
 use Rattle.nsp_link.specs.FailedSending.{named}
@@ -19,7 +19,7 @@ use Rattle.nsp_link.specs.declared.failed.FailedLinkEvent.{FailedLinkEvent}
 use Rattle.nsp_link.specs.declared.failed.FailedLinkEvent.TheVariants as failed
 
 -- the link that this test finds, else none is as the event asks for
-abbrev pub on_link_asked : LinkTest → WireLinks → (ℕ → LinkOf WireFlow → Option FailedLinkEvent) → Option FailedLinkEvent
+abbrev pub on_link_asked : LinkTest → WireLinks → (ℕ → LinkOf WireSegments → Option FailedLinkEvent) → Option FailedLinkEvent
 on_link_asked test s next = with_link test s (Some (failed.NoLink (missing test s))) next
 
 -- an address that is given
@@ -53,7 +53,7 @@ failed_event s (Open own) = failed_address own s
 failed_event s (Accept far own) = failed_answer far own s
 failed_event s (Reject far own) = failed_answer far own s
 failed_event s (In own message) = failed_handing_in own s
-failed_event s (Up own message) = on_link_asked (HasAddress own) s (λ number link. failed_delivery number message link.flow.kept.pieces)
+failed_event s (Up own message) = on_link_asked (HasAddress own) s (λ number link. failed_delivery number message link.segments.variables.pieces)
 failed_event s (Close own) = failed_close own s
 
 -- the refusal of each

@@ -1,5 +1,5 @@
 -- The first check that a message does not pass which a node's links send, by its name, with what is seen there and what is allowed. The checks
--- are those of `Sending` and `WireFlow` of `dna_links`, in their order.
+-- are those of `Sending` and `WireSegments` of `dna_links`, in their order.
 use Rattle.std.specs.Prelude.{ℕ, ◌+◌, ◌-◌, Bool, true, false, ◌&&◌, ◌||◌, not, ◌==◌, nat_lt, nat_le, min, if◌then◌else◌, Option, Some, None, List, []}
 use Rattle.std.specs.Prelude.{◌∷◌, length, take, slice_get}
 use Rattle.dna_packet.specs.Nsp.{SegmentValue, NspValue, DataSegment, LinkService, DataAck, OtherDataAck, ConnectAck, NoOperation, ConnectInitiate}
@@ -12,10 +12,10 @@ use Rattle.dna_links.specs.declared.port.Phase.{Phase}
 use Rattle.dna_links.specs.declared.port.Phase.TheVariants.{Calling, Confirming, Running, Disconnecting}
 use Rattle.dna_links.specs.declared.port.LinkTest.{LinkTest}
 use Rattle.dna_links.specs.declared.port.LinkTest.TheVariants.{TheLink, OpenedAt, BegunBy}
-use Rattle.dna_links.specs.Flow.{REACH, wire, distance, is_of_data}
+use Rattle.dna_links.specs.SegmentBook.{REACH, wire, distance, is_of_data}
 use Rattle.dna_links.specs.Links.{LinkOf, Carried, with_link}
 use Rattle.dna_links.specs.Pieces.{Piece, piece_of, same_piece, Unsent, is_next_piece}
-use Rattle.dna_links.specs.WireFlow.{WireFlow, LastSent, last_named, last_of, is_new, highest_given}
+use Rattle.dna_links.specs.WireSegments.{WireSegments, LastSent, last_named, last_of, is_new, highest_given}
 use Rattle.dna_links.specs.WireLinks.{WireLinks}
 use Rattle.nsp_link.specs.Missing.{missing}
 use Rattle.nsp_link.specs.Phases.{is_in}
@@ -74,8 +74,8 @@ failed_words again received (word ∷ words) sent =
     (λ next. failed_words again received words next)
     else failed_words again received words sent
 
-abbrev pub failed_acks : List AckWord → WireFlow → Option FailedLinkSending
-failed_acks words f = failed_words false f.kept.received words (last_of f)
+abbrev pub failed_acks : List AckWord → WireSegments → Option FailedLinkSending
+failed_acks words f = failed_words false f.variables.received words (last_of f)
 
 -- ---- segments
 
@@ -94,22 +94,22 @@ next_of begun (Some rest) = Some (record { begins = not begun; left = length res
 abbrev pub next_in : Unsent → Option NextPiece
 next_in u = next_of u.begun (slice_get u.messages 0)
 
-abbrev pub failed_new : (segsize : ℕ) → Piece → WireFlow → Option FailedLinkSending
+abbrev pub failed_new : (segsize : ℕ) → Piece → WireSegments → Option FailedLinkSending
 failed_new segsize p f =
-    named (nat_lt (length f.kept.outstanding) REACH) (failed.Room (length f.kept.outstanding) 2046)
+    named (nat_lt (length f.variables.outstanding) REACH) (failed.Room (length f.variables.outstanding) 2046)
     (named (nat_le (length p.body) segsize) (failed.Length (length p.body) segsize)
-    (named (is_next_piece p f.kept.unsent) (failed.NextPiece (shape_of p) (next_in f.kept.unsent)) None))
+    (named (is_next_piece p f.variables.unsent) (failed.NextPiece (shape_of p) (next_in f.variables.unsent)) None))
 
 -- how many of the last ones may be sent again
-abbrev pub segments_back : WireFlow → ℕ
-segments_back f = if f.gave_many then REACH else min REACH (highest_given f.kept)
+abbrev pub segments_back : WireSegments → ℕ
+segments_back f = if f.gave_many then REACH else min REACH (highest_given f.variables)
 
 -- the next one, or again one of the last
-abbrev pub segment_numbers : WireFlow → Numbers
+abbrev pub segment_numbers : WireSegments → Numbers
 segment_numbers f = record {
-  lowest = wire (highest_given f.kept + 1);
-  highest = wire (highest_given f.kept + 1);
-  again = from_below (wire (highest_given f.kept + 1)) (segments_back f);
+  lowest = wire (highest_given f.variables + 1);
+  highest = wire (highest_given f.variables + 1);
+  again = from_below (wire (highest_given f.variables + 1)) (segments_back f);
 }
 
 abbrev pub failed_given : SegmentValue → Option Piece → Option FailedLinkSending
@@ -121,18 +121,18 @@ abbrev pub failed_repeat : (below : ℕ) → SegmentValue → List Piece → Opt
 failed_repeat below s outstanding =
     if nat_le (length outstanding) below then None else failed_given s (slice_get outstanding (length outstanding - 1 - below))
 
-abbrev pub may_repeat : (below : ℕ) → WireFlow → Bool
-may_repeat below f = nat_lt below REACH && (f.gave_many || nat_lt below (highest_given f.kept))
+abbrev pub may_repeat : (below : ℕ) → WireSegments → Bool
+may_repeat below f = nat_lt below REACH && (f.gave_many || nat_lt below (highest_given f.variables))
 
-abbrev pub failed_again : (below : ℕ) → SegmentValue → WireFlow → Option FailedLinkSending
+abbrev pub failed_again : (below : ℕ) → SegmentValue → WireSegments → Option FailedLinkSending
 failed_again below s f =
     named (may_repeat below f) (failed.Number s.number (segment_numbers f))
-    (failed_repeat below s f.kept.outstanding)
+    (failed_repeat below s f.variables.outstanding)
 
-abbrev pub failed_segment : (segsize : ℕ) → SegmentValue → WireFlow → Option FailedLinkSending
+abbrev pub failed_segment : (segsize : ℕ) → SegmentValue → WireSegments → Option FailedLinkSending
 failed_segment segsize s f =
-    or_next (failed_words (not (is_new s f.kept)) f.kept.received s.acks (last_of f))
-    (if is_new s f.kept then failed_new segsize (piece_of s) f else failed_again (distance s.number (highest_given f.kept)) s f)
+    or_next (failed_words (not (is_new s f.variables)) f.variables.received s.acks (last_of f))
+    (if is_new s f.variables then failed_new segsize (piece_of s) f else failed_again (distance s.number (highest_given f.variables)) s f)
 
 -- ---- which link
 
@@ -140,7 +140,7 @@ abbrev pub failed_phase : LinkTest → Phase → WireLinks → Option FailedLink
 failed_phase test wanted s = with_link test s (Some (failed.NoLink (missing test s))) (λ number link.
     named (is_in wanted link.port.phase) (failed.Phase number link.port.phase wanted) None)
 
-abbrev pub failed_in_run : (src dst : ℕ) → (LinkOf WireFlow → Option FailedLinkSending) → WireLinks → Option FailedLinkSending
+abbrev pub failed_in_run : (src dst : ℕ) → (LinkOf WireSegments → Option FailedLinkSending) → WireLinks → Option FailedLinkSending
 failed_in_run src dst fails s = with_link (TheLink src dst) s (Some (failed.NoLink (missing (TheLink src dst) s))) (λ number link.
     named (is_in Running link.port.phase) (failed.Phase number link.port.phase Running) (fails link))
 
@@ -157,8 +157,8 @@ failed_message s (ConnectConfirm dst src services info segsize user_data) = fail
 failed_message s (DisconnectInitiate dst src reason user_data) = failed_phase (TheLink src dst) Disconnecting s
 failed_message s (DisconnectConfirm dst src reason) = failed_end src dst s
 failed_message s (DataSegment segment) =
-    failed_in_run segment.srcaddr segment.dstaddr (λ link. failed_segment link.segsize segment link.flow) s
-failed_message s (DataAck dst src acks) = failed_in_run src dst (λ link. failed_acks acks link.flow) s
+    failed_in_run segment.srcaddr segment.dstaddr (λ link. failed_segment link.segsize segment link.segments) s
+failed_message s (DataAck dst src acks) = failed_in_run src dst (λ link. failed_acks acks link.segments) s
 failed_message s (LinkService interrupt dst src rest) = failed_phase (TheLink src dst) Running s
 failed_message s (OtherDataAck dst src rest) = failed_phase (TheLink src dst) Running s
 failed_message s (NoOperation rest) = None

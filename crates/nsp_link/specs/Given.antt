@@ -2,18 +2,18 @@
 use Rattle.std.specs.Prelude.{ℕ, ◌-◌, Bool, true, false, ◌&&◌, ◌||◌, nat_le, if◌then◌else◌, Option, Some, None, List, [], ◌∷◌, length}
 use Rattle.dna_packet.specs.declared.ack_word.AckWord.{AckWord}
 use Rattle.dna_links.specs.declared.port.LinkTest.TheVariants.{ActedOn}
-use Rattle.dna_links.specs.Flow.{REACH, wire, distance, is_of_data}
+use Rattle.dna_links.specs.SegmentBook.{REACH, wire, distance, is_of_data}
 use Rattle.dna_links.specs.Links.{with_link}
-use Rattle.dna_links.specs.WireFlow.{WireFlow}
+use Rattle.dna_links.specs.WireSegments.{WireSegments}
 use Rattle.dna_links.specs.WireLinks.{WireLinks}
 use Rattle.nsp_link.specs.declared.given.Given.{Given}
 
-abbrev pub given_of : WireFlow → Given
-given_of f = record { acknowledged = f.kept.acknowledged; outstanding = length f.kept.outstanding; gave_many = f.gave_many }
+abbrev pub given_of : WireSegments → Given
+given_of f = record { acknowledged = f.variables.acknowledged; outstanding = length f.variables.outstanding; gave_many = f.gave_many }
 
 -- of the link that acts on a message between these addresses, if one does
 abbrev pub given_at : (own far : ℕ) → WireLinks → Option Given
-given_at own far s = with_link (ActedOn own far) s None (λ number link. Some (given_of link.flow))
+given_at own far s = with_link (ActedOn own far) s None (λ number link. Some (given_of link.segments))
 
 -- a number that was acknowledged before: at most 2,047 below, and not below 0 as long as the highest given has not reached 2,047
 abbrev pub is_earlier : Given → ℕ → Bool

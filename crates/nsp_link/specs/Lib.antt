@@ -4,7 +4,7 @@ pub mod FailedArrival
 pub mod FailedEvent
 pub mod FailedSending
 pub mod Fault
-pub mod Flow
+pub mod Segments
 pub mod Given
 pub mod Missing
 pub mod PartnerRules

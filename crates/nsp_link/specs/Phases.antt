@@ -7,9 +7,9 @@ use Rattle.dna_links.specs.LookUps.{is_calling, is_confirming, is_running, is_di
 use Rattle.dna_links.specs.declared.port.LinkTest.TheVariants.{TheLink, LiveTo, ActedOn}
 use Rattle.dna_links.specs.Links.{with_link}
 use Rattle.dna_links.specs.User.{LinkEventValue, Open, Accept, Reject, In}
-use Rattle.dna_links.specs.WireFlow.{is_new}
+use Rattle.dna_links.specs.WireSegments.{is_new}
 use Rattle.dna_links.specs.WireLinks.{WireLinks}
-use Rattle.nsp_link.specs.Flow.{is_held}
+use Rattle.nsp_link.specs.Segments.{is_held}
 
 -- messages ask for Calling, Confirming, RUN or DI
 abbrev pub is_in : Phase → Phase → Bool
@@ -31,7 +31,7 @@ event_takes_memory event = false
 
 -- a segment that is new is kept; a repeat and any other message is not
 abbrev pub gives_new : WireLinks → SegmentValue → Bool
-gives_new s segment = with_link (TheLink segment.srcaddr segment.dstaddr) s false (λ number link. is_new segment link.flow.kept)
+gives_new s segment = with_link (TheLink segment.srcaddr segment.dstaddr) s false (λ number link. is_new segment link.segments.variables)
 
 abbrev pub sending_takes_memory : WireLinks → NspValue → Bool
 sending_takes_memory s (DataSegment segment) = gives_new s segment
@@ -39,7 +39,7 @@ sending_takes_memory s m = false
 
 -- a segment that is held is kept; a CI that is no repeat begins a link
 abbrev pub holds_segment : WireLinks → SegmentValue → Bool
-holds_segment s segment = with_link (ActedOn segment.dstaddr segment.srcaddr) s false (λ number link. is_held segment link.flow.kept)
+holds_segment s segment = with_link (ActedOn segment.dstaddr segment.srcaddr) s false (λ number link. is_held segment link.segments.variables)
 
 abbrev pub begins_link : WireLinks → (far : ℕ) → Bool
 begins_link s far = with_link (LiveTo far) s true (λ number link. false)

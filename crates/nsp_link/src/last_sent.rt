@@ -3,8 +3,8 @@
 ghost use Rattle.std.specs.Prelude.{◌≡◌, ◌<◌, false};
 ghost use Rattle.std.specs.List.{AllByRecursion};
 ghost use Rattle.dna_packet.specs.AckWord.{IsAckWord};
-ghost use Rattle.dna_links.specs.Flow.{distance, is_of_data};
-ghost use Rattle.dna_links.specs.WireFlow.{all_named, last_named, is_ahead, is_behind, moved_to};
+ghost use Rattle.dna_links.specs.SegmentBook.{distance, is_of_data};
+ghost use Rattle.dna_links.specs.WireSegments.{all_named, last_named, is_ahead, is_behind, moved_to};
 
 pub(crate) mod failing;
 
@@ -21,7 +21,7 @@ pub struct LastSent {
 }
 
 impl Model for LastSent {
-    ghost use Rattle.dna_links.specs.WireFlow.{LastSent};
+    ghost use Rattle.dna_links.specs.WireSegments.{LastSent};
 
     ghost Value = { LastSent };
 

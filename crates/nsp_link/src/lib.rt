@@ -5,7 +5,6 @@
 
 mod failed;
 mod fault;
-mod flow;
 mod given;
 mod index;
 mod last_sent;
@@ -13,6 +12,7 @@ mod laws;
 mod link;
 mod links;
 mod phase;
+mod segments;
 mod view;
 
 pub use dna_links::{LinkEvent, LinkTag};

@@ -5,16 +5,16 @@ ghost use Rattle.std.specs.List.{AllByRecursion};
 ghost use Rattle.dna_packet.specs.AckWord.{IsAckWord};
 ghost use Rattle.dna_packet.specs.Nsp.{segment_view};
 ghost use Rattle.dna_links.specs.LookUps.{is_live, is_called, is_calling};
-ghost use Rattle.dna_links.specs.Links.{in_phase, with_flow};
+ghost use Rattle.dna_links.specs.Links.{in_phase, with_segments};
 ghost use Rattle.dna_links.specs.Links as links;
 ghost use Rattle.dna_links.specs.User as user;
 ghost use Rattle.dna_links.specs.Sending.{segment_of};
 ghost use Rattle.dna_links.specs.Arriving.{of_partner, running};
 ghost use Rattle.dna_links.specs.Arriving as arriving;
-ghost use Rattle.dna_links.specs.WireFlow.{wire_flows, hands_in, delivers, sends_acks, sending, takes_segment, takes_acks};
-ghost use Rattle.dna_links.specs.WireFlow as spec;
+ghost use Rattle.dna_links.specs.WireSegments.{wire_segments, hands_in, delivers, sends_acks, sending, takes_segment, takes_acks};
+ghost use Rattle.dna_links.specs.WireSegments as spec;
 ghost use Rattle.nsp_link.specs.Fault.{IsFault};
-ghost use Rattle.nsp_link.specs.Flow.{is_held};
+ghost use Rattle.nsp_link.specs.Segments.{is_held};
 ghost use Rattle.nsp_link.specs.Given.{given_of};
 ghost use Rattle.nsp_link.specs.inner.Index.{Stays};
 
@@ -22,7 +22,7 @@ mod due;
 mod failing;
 mod shown;
 
-use crate::flow::Flow;
+use crate::segments::Segments;
 use crate::{Given, LinkFault, LinkRefusal, LinkTag, Piece};
 use dna_links::{Phase, Port};
 use dna_packet::{AckWord, Segment};
@@ -39,33 +39,33 @@ pub struct Link<W: Window<Piece, 4096> + Drop> {
     partner: Option<u64>,
     // how many data bytes the partner takes in a segment
     segsize: u16,
-    flow: Option<Box<Flow<W>>>,
+    segments: Option<Box<Segments<W>>>,
 }
 
 impl<W: Window<Piece, 4096> + Drop> Model for Link<W> {
     ghost use Rattle.std.specs.Prelude.{◌≡◌, true, None, IsSome};
     ghost use Rattle.dna_links.specs.Links.{LinkOf};
     ghost use Rattle.dna_links.specs.LookUps.{is_live, is_called, is_calling};
-    ghost use Rattle.dna_links.specs.WireFlow.{WireFlow};
-    ghost use Rattle.nsp_link.specs.inner.Link.{flow_in};
+    ghost use Rattle.dna_links.specs.WireSegments.{WireSegments};
+    ghost use Rattle.nsp_link.specs.inner.Link.{segments_in};
 
-    ghost Value = { LinkOf WireFlow };
+    ghost Value = { LinkOf WireSegments };
 
     ghost view = { λ l. record {
       port = l.port;
       partner = l.partner;
       segsize = l.segsize;
-      flow = flow_in (λ b. b.value) l.flow;
+      segments = segments_in (λ b. b.value) l.segments;
     } };
 
-    ghost invariant = { λ l. (is_called l.port.phase ≡ true → l.port.own ≡ None) × (is_live l.port.phase ≡ true → IsSome l.flow)
+    ghost invariant = { λ l. (is_called l.port.phase ≡ true → l.port.own ≡ None) × (is_live l.port.phase ≡ true → IsSome l.segments)
         × (is_calling l.port.phase ≡ true → (l.port.opened ≡ true) × (l.port.far ≡ None)) };
 }
 
 impl<W: Window<Piece, 4096> + Drop> Link<W> {
     /// A link that is opened here, with this own address.
     pub fn opened(alloc: Global, own: u16) -> Result<Self, AllocError>
-        ensures { IfOk result (λ link. link ≡ user.opened wire_flows own) }
+        ensures { IfOk result (λ link. link ≡ user.opened wire_segments own) }
     {
         let port = Port {
             phase: Phase::Calling,
@@ -78,7 +78,7 @@ impl<W: Window<Piece, 4096> + Drop> Link<W> {
 
     /// A link that a CI begins, with this far address and the CI's SEGSIZE; its partner is the sender.
     pub fn called(alloc: Global, far: u16, segsize: u16, tag: LinkTag) -> Result<Self, AllocError>
-        ensures { IfOk result (λ link. link ≡ arriving.called wire_flows of_partner far segsize tag) }
+        ensures { IfOk result (λ link. link ≡ arriving.called wire_segments of_partner far segsize tag) }
     {
         let port = Port {
             phase: Phase::Called,
@@ -98,16 +98,16 @@ impl<W: Window<Piece, 4096> + Drop> Link<W> {
     ) -> Result<Self, AllocError>
         requires called { is_called port.phase ≡ true → port.own ≡ None }
         requires calling { is_calling port.phase ≡ true → (port.opened ≡ true) × (port.far ≡ None) }
-        ensures { IfOk result (λ link. link ≡ record { port = port; partner = partner; segsize = segsize; flow = spec.empty }) }
+        ensures { IfOk result (λ link. link ≡ record { port = port; partner = partner; segsize = segsize; segments = spec.empty }) }
     {
-        let Ok(flow) = Box::new(alloc, Flow::new(alloc)) else {
+        let Ok(segments) = Box::new(alloc, Segments::new(alloc)) else {
             return Err(AllocError);
         };
         Ok(Link {
             port,
             partner,
             segsize,
-            flow: Some(flow),
+            segments: Some(segments),
         })
     }
 
@@ -129,11 +129,11 @@ impl<W: Window<Piece, 4096> + Drop> Link<W> {
 
     /// What it has given.
     pub fn given(&self) -> Given
-        ensures given { result ≡ given_of self.now.flow }
+        ensures given { result ≡ given_of self.now.segments }
         ensures below { result.acknowledged < 4096 }
     {
-        match &self.flow {
-            Some(flow) => flow.given(),
+        match &self.segments {
+            Some(segments) => segments.given(),
             None => Given {
                 acknowledged: 0,
                 outstanding: 0,
@@ -147,24 +147,24 @@ impl<W: Window<Piece, 4096> + Drop> Link<W> {
     /// A message is handed in. Where memory is refused, nothing changes.
     pub fn hand_in(&mut self, alloc: Global, message: &[u8]) -> Result<(), AllocError>
         requires { is_live self.old.port.phase ≡ true }
-        ensures ok { OnOk result (self.new ≡ with_flow (hands_in message.now self.old.flow) self.old) }
-        ensures rest { self.new ≡ with_flow self.new.flow self.old }
+        ensures ok { OnOk result (self.new ≡ with_segments (hands_in message.now self.old.segments) self.old) }
+        ensures rest { self.new ≡ with_segments self.new.segments self.old }
         ensures err { OnErr result (self.new ≡ self.old) }
     {
-        match &mut self.flow {
-            Some(flow) => flow.hand_in(alloc, message),
+        match &mut self.segments {
+            Some(segments) => segments.hand_in(alloc, message),
             None => unreachable!(),
         }
     }
 
     /// A message is delivered, if it is the next whole one; the answer is whether it is.
     pub fn deliver(&mut self, message: &[u8]) -> bool
-        ensures yes { result ≡ true → delivers message.now self.old.flow ≡ Some self.new.flow }
-        ensures rest { self.new ≡ with_flow self.new.flow self.old }
-        ensures no { result ≡ false → (delivers message.now self.old.flow ≡ None) × (self.new ≡ self.old) }
+        ensures yes { result ≡ true → delivers message.now self.old.segments ≡ Some self.new.segments }
+        ensures rest { self.new ≡ with_segments self.new.segments self.old }
+        ensures no { result ≡ false → (delivers message.now self.old.segments ≡ None) × (self.new ≡ self.old) }
     {
-        match &mut self.flow {
-            Some(flow) => flow.deliver(message),
+        match &mut self.segments {
+            Some(segments) => segments.deliver(message),
             None => false,
         }
     }
@@ -182,7 +182,7 @@ impl<W: Window<Piece, 4096> + Drop> Link<W> {
         requires live { is_live self.old.port.phase ≡ true }
         requires phase { is_called phase ≡ false }
         requires known { is_calling phase ≡ false }
-        ensures { self.new ≡ user.answered wire_flows phase own self.old }
+        ensures { self.new ≡ user.answered wire_segments phase own self.old }
     {
         self.port.phase = phase;
         self.port.own = Some(own);
@@ -191,10 +191,10 @@ impl<W: Window<Piece, 4096> + Drop> Link<W> {
     /// Its own address is given to another link.
     pub fn forget(&mut self)
         requires { is_live self.old.port.phase ≡ false }
-        ensures { self.new ≡ links.forgotten wire_flows self.old }
+        ensures { self.new ≡ links.forgotten wire_segments self.old }
     {
         self.port.own = None;
-        self.flow = None;
+        self.segments = None;
     }
 
     // ---- what is sent
@@ -204,15 +204,15 @@ impl<W: Window<Piece, 4096> + Drop> Link<W> {
         requires live { is_live self.old.port.phase ≡ true }
         requires acks { AllByRecursion IsAckWord segment.now.acks.items }
         requires number { segment.now.number < 4096 }
-        ensures ok { OnOk result (segment_of wire_flows (segment_view segment.now) self.old ≡ Ok (sending self.new.flow)) }
-        ensures rest { self.new ≡ with_flow self.new.flow self.old }
-        ensures refused { IfErr result (λ fault. IsFault (segment_of wire_flows (segment_view segment.now) self.old)
-            (spec.is_new (segment_view segment.now) self.old.flow.kept) fault) }
+        ensures ok { OnOk result (segment_of wire_segments (segment_view segment.now) self.old ≡ Ok (sending self.new.segments)) }
+        ensures rest { self.new ≡ with_segments self.new.segments self.old }
+        ensures refused { IfErr result (λ fault. IsFault (segment_of wire_segments (segment_view segment.now) self.old)
+            (spec.is_new (segment_view segment.now) self.old.segments.variables) fault) }
         ensures err { OnErr result (self.new ≡ self.old) }
     {
         let segsize = self.segsize;
-        match &mut self.flow {
-            Some(flow) => flow.send_segment(alloc, segsize, segment),
+        match &mut self.segments {
+            Some(segments) => segments.send_segment(alloc, segsize, segment),
             None => unreachable!(),
         }
     }
@@ -221,13 +221,13 @@ impl<W: Window<Piece, 4096> + Drop> Link<W> {
     pub fn send_acks(&mut self, words: &[AckWord]) -> Result<(), LinkRefusal>
         requires live { is_live self.old.port.phase ≡ true }
         requires acks { AllByRecursion IsAckWord words.now }
-        ensures ok { OnOk result (sends_acks words.now self.old.flow ≡ Ok (sending self.new.flow)) }
-        ensures rest { self.new ≡ with_flow self.new.flow self.old }
-        ensures refused { IfErr result (λ refusal. sends_acks words.now self.old.flow ≡ Err refusal) }
+        ensures ok { OnOk result (sends_acks words.now self.old.segments ≡ Ok (sending self.new.segments)) }
+        ensures rest { self.new ≡ with_segments self.new.segments self.old }
+        ensures refused { IfErr result (λ refusal. sends_acks words.now self.old.segments ≡ Err refusal) }
         ensures err { OnErr result (self.new ≡ self.old) }
     {
-        match &mut self.flow {
-            Some(flow) => flow.send_acks(words),
+        match &mut self.segments {
+            Some(segments) => segments.send_acks(words),
             None => unreachable!(),
         }
     }
@@ -238,22 +238,22 @@ impl<W: Window<Piece, 4096> + Drop> Link<W> {
     #[tactic(auto, using(crate::proofs::Ended::left))]
     pub fn end(&mut self, alloc: Global)
         requires { is_live self.old.port.phase ≡ true }
-        ensures { self.new ≡ links.ended wire_flows self.old }
+        ensures { self.new ≡ links.ended wire_segments self.old }
     {
         self.port.phase = Phase::Ended;
-        let Some(flow) = &mut self.flow else {
+        let Some(segments) = &mut self.segments else {
             unreachable!();
         };
-        let empty = flow.end(alloc);
+        let empty = segments.end(alloc);
         if empty {
-            self.flow = None;
+            self.segments = None;
         }
     }
 
     /// A CC confirms it: it runs, with this partner.
     pub fn confirm(&mut self, far: u16, segsize: u16, tag: LinkTag)
         requires { is_live self.old.port.phase ≡ true }
-        ensures { self.new ≡ arriving.confirmed wire_flows of_partner far segsize tag self.old }
+        ensures { self.new ≡ arriving.confirmed wire_segments of_partner far segsize tag self.old }
     {
         self.port.phase = Phase::Running;
         self.port.far = Some(far);
@@ -274,13 +274,14 @@ impl<W: Window<Piece, 4096> + Drop> Link<W> {
         requires live { is_live self.old.port.phase ≡ true }
         requires acks { AllByRecursion IsAckWord segment.now.acks.items }
         requires number { segment.now.number < 4096 }
-        ensures ok { OnOk result (self.new ≡ running wire_flows of_partner (λ link. takes_segment (segment_view segment.now) tt link.flow) self.old) }
+        ensures ok { OnOk result
+            (self.new ≡ running wire_segments of_partner (λ link. takes_segment (segment_view segment.now) tt link.segments) self.old) }
         ensures stays { Stays self.old self.new }
-        ensures held { IfErr result (λ e. is_held (segment_view segment.now) self.old.flow.kept ≡ true) }
+        ensures held { IfErr result (λ e. is_held (segment_view segment.now) self.old.segments.variables ≡ true) }
         ensures err { OnErr result (self.new ≡ self.old) }
     {
-        match &mut self.flow {
-            Some(flow) => flow.take_segment(alloc, segment)?,
+        match &mut self.segments {
+            Some(segments) => segments.take_segment(alloc, segment)?,
             None => unreachable!(),
         }
         self.port.phase = Phase::Running;
@@ -291,10 +292,10 @@ impl<W: Window<Piece, 4096> + Drop> Link<W> {
     pub fn take_acks(&mut self, words: &[AckWord])
         requires live { is_live self.old.port.phase ≡ true }
         requires acks { AllByRecursion IsAckWord words.now }
-        ensures { self.new ≡ running wire_flows of_partner (λ link. takes_acks words.now tt link.flow) self.old }
+        ensures { self.new ≡ running wire_segments of_partner (λ link. takes_acks words.now tt link.segments) self.old }
     {
-        match &mut self.flow {
-            Some(flow) => flow.take_acks(words),
+        match &mut self.segments {
+            Some(segments) => segments.take_acks(words),
             None => unreachable!(),
         }
         self.port.phase = Phase::Running;

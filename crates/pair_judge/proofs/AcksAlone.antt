@@ -8,9 +8,9 @@ use Rattle.dna_station.specs.declared.link_refusal.LinkRefusal.TheVariants.{Wron
 use Rattle.dna_station.specs.declared.refusal.StepRefusal.{StepRefusal}
 use Rattle.dna_station.specs.declared.refusal.StepRefusal.TheVariants.{Links as OfLinks}
 use Rattle.dna_links.specs.declared.port.LinkTest.TheVariants.{ActedOn}
-use Rattle.dna_links.specs.Flow.{REACH, wire, distance, is_of_data}
+use Rattle.dna_links.specs.SegmentBook.{REACH, wire, distance, is_of_data}
 use Rattle.dna_links.specs.Links.{LinkOf, number_of, on_link, at_number}
-use Rattle.dna_links.specs.WireFlow.{LinkVariables, WireFlow}
+use Rattle.dna_links.specs.WireSegments.{LinkVariables, WireSegments}
 use Rattle.dna_links.specs.WireLinks.{WireLinks}
 use Rattle.dna_node.specs.Accusing.{may_acknowledge_all, wrong_words, wrong_acks}
 use Rattle.nsp_link.specs.declared.given.Given.{Given}
@@ -52,14 +52,14 @@ wrong_given acks None = None
 wrong_given acks (Some g) = cond (all_may_come acks g) None (Some (OfLinks WrongAck))
 
 module _ (acks : List AckWord) (s : WireLinks) where
-  by_link : (number : ℕ) (link : Option (LinkOf WireFlow)) → on_link number link None (λ number link. wrong_words acks link.flow)
-      ≡ wrong_given acks (on_link number link None (λ number link. Some (given_of link.flow)))
+  by_link : (number : ℕ) (link : Option (LinkOf WireSegments)) → on_link number link None (λ number link. wrong_words acks link.segments)
+      ≡ wrong_given acks (on_link number link None (λ number link. Some (given_of link.segments)))
   by_link number None = refl
   by_link number (Some link) =
-      ap (λ (b : Bool). cond b None (Some (OfLinks WrongAck))) (sym (words_agree link.flow.gave_many acks link.flow.kept))
+      ap (λ (b : Bool). cond b None (Some (OfLinks WrongAck))) (sym (words_agree link.segments.gave_many acks link.segments.kept))
 
-  by_number : (number : Option ℕ) → at_number s.links number None (λ number link. wrong_words acks link.flow)
-      ≡ wrong_given acks (at_number s.links number None (λ number link. Some (given_of link.flow)))
+  by_number : (number : Option ℕ) → at_number s.links number None (λ number link. wrong_words acks link.segments)
+      ≡ wrong_given acks (at_number s.links number None (λ number link. Some (given_of link.segments)))
   by_number None = refl
   by_number (Some number) = by_link number (slice_get s.links number)
 

@@ -15,10 +15,10 @@ use Rattle.dna_links.specs.declared.port.Phase.TheVariants.{Called, Confirming}
 use Rattle.dna_links.specs.declared.port.LinkTest.{LinkTest}
 use Rattle.dna_links.specs.declared.port.LinkTest.TheVariants.{ActedOn, CallingAt, LiveTo, TheLink}
 use Rattle.dna_play.specs.HasLine.{are_bytes}
-use Rattle.dna_links.specs.Flow.{REACH, distance, is_of_data}
+use Rattle.dna_links.specs.SegmentBook.{REACH, distance, is_of_data}
 use Rattle.dna_links.specs.LookUps.{has_both, is_at, is_connected, is_running, passes}
 use Rattle.dna_links.specs.Pieces.{Piece, piece_of}
-use Rattle.dna_links.specs.WireFlow.{LinkVariables, acknowledged_by, acknowledged_by_all, acknowledged_to, held, segment_taken, with_pieces}
+use Rattle.dna_links.specs.WireSegments.{LinkVariables, acknowledged_by, acknowledged_by_all, acknowledged_to, held, segment_taken, with_pieces}
 use Rattle.dna_play.specs.NextSent.{LinkEnd}
 use Rattle.dna_links.specs.Pieces.{SEGSIZE}
 use Rattle.dna_play.specs.Kept.{KeptLinks}

@@ -1,13 +1,13 @@
--- What is left of a flow when its link ends delivers the same messages.
+-- What is left of a link's segments when it ends delivers the same messages.
 use Rattle.std.proofs.Common.{◌≡◌, ℕ, zero, suc, ◌+◌, ◌≤◌, Bool, true, false, cond, Option, Some, None, List, [], ◌∷◌, take, drop, refl, sym, ap, ◌∙◌}
 use Rattle.std.proofs.Common.{arith, option_map, drop-drop}
 use Rattle.std.specs.Str.{bytes_eq}
 use Rattle.std.proofs.lemmas.List.{drop-take}
 use Rattle.dna_links.specs.Pieces.{Piece, Whole, with_piece, next_message, one_more, in_whole_messages}
-use Rattle.dna_links.specs.TrueFlow.{TrueFlow, delivered_as, delivers_whole, delivers}
-use Rattle.dna_links.specs.WireFlow.{WireFlow, with_pieces_alone, ends}
-use Rattle.dna_links.specs.WireFlow as kept
-use Rattle.dna_links.specs.CutFlow.{cut}
+use Rattle.dna_links.specs.TrueSegments.{TrueSegments, delivered_as, delivers_whole, delivers}
+use Rattle.dna_links.specs.WireSegments.{WireSegments, with_pieces_alone, ends}
+use Rattle.dna_links.specs.WireSegments as kept
+use Rattle.dna_links.specs.CutSegments.{cut}
 
 -- the pieces in whole messages are those of the next message, and those in whole messages behind it
 abbrev pub Splits : List (Option Piece) → Option Whole → Type 0
@@ -101,7 +101,7 @@ still_there (suc n) (Some p ∷ xs) = as_there n p xs (next_message (Some p ∷ 
 
 -- ---- what is left delivers the same
 
-module _ (f : TrueFlow) where
+module _ (f : TrueSegments) where
   abbrev pieces : List (Option Piece)
   pieces = drop f.passed f.received
 
@@ -113,7 +113,7 @@ module _ (f : TrueFlow) where
   found_in (Some w) split there = let whole = split.1 in there (omega arith)
 
   delivered_from : (b : Bool) (w : Whole) → in_whole_messages pieces ≡ w.pieces + in_whole_messages (drop w.pieces pieces)
-      → option_map (λ (g : TrueFlow). ends (cut g)) (delivered_as b w f) ≡ kept.delivered_as b w (ends (cut f))
+      → option_map (λ (g : TrueSegments). ends (cut g)) (delivered_as b w f) ≡ kept.delivered_as b w (ends (cut f))
   delivered_from true w whole =
       ap (λ (ps : List (Option Piece)). Some (with_pieces_alone (take (in_whole_messages ps) ps))) (sym (drop-drop w.pieces f.passed f.received))
       ∙ ap (λ (ps : List (Option Piece)). Some (with_pieces_alone ps))
@@ -121,11 +121,12 @@ module _ (f : TrueFlow) where
   delivered_from false w whole = refl
 
   whole_from : (o : Option Whole) (message : List ℕ) → Splits pieces o →
-      option_map (λ (g : TrueFlow). ends (cut g)) (delivers_whole o message f) ≡ kept.delivers_whole o message (ends (cut f))
+      option_map (λ (g : TrueSegments). ends (cut g)) (delivers_whole o message f) ≡ kept.delivers_whole o message (ends (cut f))
   whole_from None message split = refl
   whole_from (Some w) message split = delivered_from (bytes_eq message w.message) w split.1
 
-  pub ended_delivers : (message : List ℕ) → option_map (λ (g : TrueFlow). ends (cut g)) (delivers message f) ≡ kept.delivers message (ends (cut f))
+  pub ended_delivers : (message : List ℕ) →
+      option_map (λ (g : TrueSegments). ends (cut g)) (delivers message f) ≡ kept.delivers message (ends (cut f))
   ended_delivers message =
       whole_from (next_message pieces) message (splits pieces)
       ∙ ap (λ (o : Option Whole). kept.delivers_whole o message (ends (cut f)))

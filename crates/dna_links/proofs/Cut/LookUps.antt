@@ -9,8 +9,8 @@ use Rattle.std.proofs.lemmas.Bool.{cases_lt}
 use Rattle.dna_links.specs.declared.port.LinkTest.{LinkTest}
 use Rattle.dna_links.specs.LookUps.{passes}
 use Rattle.dna_links.specs.Links.{LinkOf, number_of, on_link, at_number, with_link, begun, changed}
-use Rattle.dna_links.specs.TrueFlow.{TrueFlow}
-use Rattle.dna_links.specs.WireFlow.{WireFlow}
+use Rattle.dna_links.specs.TrueSegments.{TrueSegments}
+use Rattle.dna_links.specs.WireSegments.{WireSegments}
 use Rattle.dna_links.specs.TrueLinks.{Links}
 use Rattle.dna_links.specs.CutLinks.{cut_link, cut_links}
 
@@ -71,30 +71,31 @@ module _ {X : Type 0} (p : X → Bool) where
 -- ---- one look-up
 
 -- the test of a look-up
-abbrev passed_by : LinkTest → LinkOf TrueFlow → Bool
+abbrev passed_by : LinkTest → LinkOf TrueSegments → Bool
 passed_by test l = passes test l.port
 
 -- no link passes
 abbrev pub NoneFor : LinkTest → Links → Type 0
-NoneFor test s = (n : ℕ) (l : LinkOf TrueFlow) → slice_get s.links n ≡ Some l → passes test l.port ≡ false
+NoneFor test s = (n : ℕ) (l : LinkOf TrueSegments) → slice_get s.links n ≡ Some l → passes test l.port ≡ false
 
 -- a way to go on with a link commutes, wherever a link stands there and passes
-abbrev pub GoesAlong : {R R' : Type 0} (g : R → R') → LinkTest → Links → (ℕ → LinkOf TrueFlow → R) → (ℕ → LinkOf WireFlow → R') → Type 0
-GoesAlong g test s next next' = (n : ℕ) (l : LinkOf TrueFlow) → slice_get s.links n ≡ Some l → passes test l.port ≡ true →
+abbrev pub GoesAlong : {R R' : Type 0} (g : R → R') → LinkTest → Links → (ℕ → LinkOf TrueSegments → R) → (ℕ → LinkOf WireSegments → R') → Type 0
+GoesAlong g test s next next' = (n : ℕ) (l : LinkOf TrueSegments) → slice_get s.links n ≡ Some l → passes test l.port ≡ true →
     g (next n l) ≡ next' n (cut_link l)
 
 number_same : (test : LinkTest) (s : Links) → number_of test (cut_links s) ≡ number_of test s
-number_same test s = position-map (λ (l : LinkOf WireFlow). passes test l.port) cut_link s.links
+number_same test s = position-map (λ (l : LinkOf WireSegments). passes test l.port) cut_link s.links
 
-module _ {R R' : Type 0} (g : R → R') (test : LinkTest) (s : Links) (otherwise : R) (otherwise' : R') (next : ℕ → LinkOf TrueFlow → R)
-    (next' : ℕ → LinkOf WireFlow → R') where
+module _ {R R' : Type 0} (g : R → R') (test : LinkTest) (s : Links) (otherwise : R) (otherwise' : R') (next : ℕ → LinkOf TrueSegments → R)
+    (next' : ℕ → LinkOf WireSegments → R') where
   at_same : (NoneFor test s → g otherwise ≡ otherwise') → GoesAlong g test s next next' → (o : Option ℕ) → IsFound (passed_by test) s.links o
       → g (at_number s.links o otherwise next) ≡ at_number (map cut_link s.links) o otherwise' next'
   at_same none along None nobody = none nobody
   at_same none along (Some n) (l, here) =
-      ap (λ (o : Option (LinkOf TrueFlow)). g (on_link n o otherwise next)) here.0
+      ap (λ (o : Option (LinkOf TrueSegments)). g (on_link n o otherwise next)) here.0
       ∙ along n l here.0 here.1
-      ∙ ap (λ (o : Option (LinkOf WireFlow)). on_link n o otherwise' next') (sym (slice_get-map cut_link s.links n ∙ ap (option_map cut_link) here.0))
+      ∙ ap (λ (o : Option (LinkOf WireSegments)). on_link n o otherwise' next')
+      (sym (slice_get-map cut_link s.links n ∙ ap (option_map cut_link) here.0))
 
   pub with_link_same : (NoneFor test s → g otherwise ≡ otherwise') → GoesAlong g test s next next' →
       g (with_link test s otherwise next) ≡ with_link test (cut_links s) otherwise' next'
@@ -104,8 +105,8 @@ module _ {R R' : Type 0} (g : R → R') (test : LinkTest) (s : Links) (otherwise
 
 -- ---- changes
 
-pub changed_same : (n : ℕ) (l : LinkOf TrueFlow) (s : Links) → cut_links (changed n l s) ≡ changed n (cut_link l) (cut_links s)
-changed_same n l s = ap (λ (links : List (LinkOf WireFlow)). record (cut_links s) { links = links }) (map-set cut_link s.links n l)
+pub changed_same : (n : ℕ) (l : LinkOf TrueSegments) (s : Links) → cut_links (changed n l s) ≡ changed n (cut_link l) (cut_links s)
+changed_same n l s = ap (λ (links : List (LinkOf WireSegments)). record (cut_links s) { links = links }) (map-set cut_link s.links n l)
 
-pub begun_same : (l : LinkOf TrueFlow) (s : Links) → cut_links (begun l s) ≡ begun (cut_link l) (cut_links s)
-begun_same l s = ap (λ (links : List (LinkOf WireFlow)). record (cut_links s) { links = links }) (map-append cut_link s.links (l ∷ []))
+pub begun_same : (l : LinkOf TrueSegments) (s : Links) → cut_links (begun l s) ≡ begun (cut_link l) (cut_links s)
+begun_same l s = ap (λ (links : List (LinkOf WireSegments)). record (cut_links s) { links = links }) (map-append cut_link s.links (l ∷ []))

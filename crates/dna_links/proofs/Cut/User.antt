@@ -8,16 +8,16 @@ use Rattle.dna_links.specs.declared.port.Phase.{Phase}
 use Rattle.dna_links.specs.declared.port.Phase.TheVariants.{Confirming, Disconnecting, Ended}
 use Rattle.dna_links.specs.declared.port.LinkTest.TheVariants.{HasAddress, LiveAt, CalledBy}
 use Rattle.dna_links.specs.LookUps.{is_live, is_called, is_connected, is_at, takes_messages, passes}
-use Rattle.dna_links.specs.Links.{LinkOf, LinksOf, check, begun, changed, in_phase, with_flow, forgotten, freed}
+use Rattle.dna_links.specs.Links.{LinkOf, LinksOf, check, begun, changed, in_phase, with_segments, forgotten, freed}
 use Rattle.dna_links.specs.User.{LinkEventValue, Open, Accept, Reject, In, Up, Close, opened, answered, gives, answers, delivered}
-use Rattle.dna_links.specs.TrueFlow.{TrueFlow, hands_in, delivers, true_flows}
-use Rattle.dna_links.specs.WireFlow.{WireFlow, wire_flows}
-use Rattle.dna_links.specs.WireFlow as kept
+use Rattle.dna_links.specs.TrueSegments.{TrueSegments, hands_in, delivers, true_segments}
+use Rattle.dna_links.specs.WireSegments.{WireSegments, wire_segments}
+use Rattle.dna_links.specs.WireSegments as kept
 use Rattle.dna_links.specs.TrueLinks.{Links, links_user}
 use Rattle.dna_links.specs.WireLinks.{wire_links_user}
-use Rattle.dna_links.specs.CutFlow.{cut}
+use Rattle.dna_links.specs.CutSegments.{cut}
 use Rattle.dna_links.specs.CutLinks.{cut_as, cut_link, cut_links, cut_result}
-use Rattle.dna_links.proofs.Cut.FlowArriving.{delivers_same}
+use Rattle.dna_links.proofs.Cut.SegmentsArriving.{delivers_same}
 use Rattle.dna_links.proofs.Cut.Ended.{ended_delivers}
 use Rattle.dna_links.proofs.Cut.LookUps.{NoneFor, with_link_same, changed_same, begun_same}
 
@@ -28,31 +28,34 @@ pub live_if : (test : Phase → Bool) → test Ended ≡ false → (phase : Phas
 live_if test none Ended e = sym none ∙ e
 live_if test none phase e = refl
 
-module _ (l : LinkOf TrueFlow) where
+module _ (l : LinkOf TrueSegments) where
   module _ (live : is_live l.port.phase ≡ true) where
-    -- a live link's flow is cut whole
-    pub live_flow : (cut_link l).flow ≡ cut l.flow
-    live_flow = ap (λ (b : Bool). cut_as b l.port.own l.flow) live
+    -- a live link's segments are cut whole
+    pub live_segments : (cut_link l).segments ≡ cut l.segments
+    live_segments = ap (λ (b : Bool). cut_as b l.port.own l.segments) live
 
-    pub flow_changed : (f : TrueFlow) (w : WireFlow) → cut f ≡ w → cut_link (with_flow f l) ≡ with_flow w (cut_link l)
-    flow_changed f w same = ap (λ (v : WireFlow). with_flow v (cut_link l)) (ap (λ (b : Bool). cut_as b l.port.own f) live ∙ same)
+    pub segments_changed : (f : TrueSegments) (w : WireSegments) → cut f ≡ w → cut_link (with_segments f l) ≡ with_segments w (cut_link l)
+    segments_changed f w same = ap (λ (v : WireSegments). with_segments v (cut_link l)) (ap (λ (b : Bool). cut_as b l.port.own f) live ∙ same)
 
     pub phase_changed : (phase : Phase) → is_live phase ≡ true → cut_link (in_phase phase l) ≡ in_phase phase (cut_link l)
     phase_changed phase to =
-        ap (λ (w : WireFlow). with_flow w (in_phase phase (cut_link l))) (ap (λ (b : Bool). cut_as b l.port.own l.flow) to ∙ sym live_flow)
+        ap (λ (w : WireSegments). with_segments w (in_phase phase (cut_link l)))
+        (ap (λ (b : Bool). cut_as b l.port.own l.segments) to ∙ sym live_segments)
 
-    answered_same : (phase : Phase) (own : ℕ) → is_live phase ≡ true → cut_link (answered true_flows phase own l) ≡ answered wire_flows phase own
+    answered_same : (phase : Phase) (own : ℕ) → is_live phase ≡ true →
+        cut_link (answered true_segments phase own l) ≡ answered wire_segments phase own
         (cut_link l)
     answered_same phase own to =
-        ap (λ (w : WireFlow). with_flow w (answered wire_flows phase own (cut_link l)))
-        (ap (λ (b : Bool). cut_as b (Some own) l.flow) to ∙ sym live_flow)
+        ap (λ (w : WireSegments). with_segments w (answered wire_segments phase own (cut_link l)))
+        (ap (λ (b : Bool). cut_as b (Some own) l.segments) to ∙ sym live_segments)
 
   -- an ended link that loses its address keeps nothing
-  forgotten_same : is_live l.port.phase ≡ false → cut_link (forgotten true_flows l) ≡ forgotten wire_flows (cut_link l)
-  forgotten_same dead = ap (λ (w : WireFlow). with_flow w (forgotten wire_flows (cut_link l))) (ap (λ (b : Bool). cut_as b None l.flow) dead)
+  forgotten_same : is_live l.port.phase ≡ false → cut_link (forgotten true_segments l) ≡ forgotten wire_segments (cut_link l)
+  forgotten_same dead =
+      ap (λ (w : WireSegments). with_segments w (forgotten wire_segments (cut_link l))) (ap (λ (b : Bool). cut_as b None l.segments) dead)
 
 -- the messages that are delivered, of a live link and of one that has ended
-delivers_at : (b : Bool) (own : Option ℕ) (address : ℕ) (f : TrueFlow) (message : List ℕ) → is_at own address ≡ true
+delivers_at : (b : Bool) (own : Option ℕ) (address : ℕ) (f : TrueSegments) (message : List ℕ) → is_at own address ≡ true
     → option_map (cut_as b own) (delivers message f) ≡ kept.delivers message (cut_as b own f)
 delivers_at true own address f message at = delivers_same f message
 delivers_at false (Some number) address f message at = ended_delivers f message
@@ -64,84 +67,87 @@ check_same : (b : Bool) (reason : LinkRefusal) (s : Links) → cut_result (check
 check_same true reason s = refl
 check_same false reason s = refl
 
-delivered_same : (n : ℕ) (l : LinkOf TrueFlow) (s : Links) (o : Option TrueFlow)
-    → cut_result (delivered true_flows n l s o) ≡ delivered wire_flows n (cut_link l) (cut_links s)
+delivered_same : (n : ℕ) (l : LinkOf TrueSegments) (s : Links) (o : Option TrueSegments)
+    → cut_result (delivered true_segments n l s o) ≡ delivered wire_segments n (cut_link l) (cut_links s)
     (option_map (cut_as (is_live l.port.phase) l.port.own) o)
 delivered_same n l s None = refl
-delivered_same n l s (Some f) = ap Ok (changed_same n (with_flow f l) s)
+delivered_same n l s (Some f) = ap Ok (changed_same n (with_segments f l) s)
 
 module _ (s : Links) where
   -- a link that is changed where a check is passed
-  changes : (n : ℕ) (l after : LinkOf TrueFlow) (after' : LinkOf WireFlow) (b : Bool) → cut_link after ≡ after'
+  changes : (n : ℕ) (l after : LinkOf TrueSegments) (after' : LinkOf WireSegments) (b : Bool) → cut_link after ≡ after'
       → cut_result (check b LinkState (Ok (changed n after s))) ≡ check b LinkState (Ok (changed n after' (cut_links s)))
   changes n l after after' b same =
       check_same b LinkState (changed n after s)
-      ∙ ap (λ (all : LinksOf WireFlow). check b LinkState (Ok all))
-      (changed_same n after s ∙ ap (λ (w : LinkOf WireFlow). changed n w (cut_links s)) same)
+      ∙ ap (λ (all : LinksOf WireSegments). check b LinkState (Ok all))
+      (changed_same n after s ∙ ap (λ (w : LinkOf WireSegments). changed n w (cut_links s)) same)
 
   -- the address that is given is no live link's
-  freed_same : (own : ℕ) → NoneFor (LiveAt own) s → cut_links (freed true_flows own s) ≡ freed wire_flows own (cut_links s)
+  freed_same : (own : ℕ) → NoneFor (LiveAt own) s → cut_links (freed true_segments own s) ≡ freed wire_segments own (cut_links s)
   freed_same own none =
-      with_link_same cut_links (HasAddress own) s s (cut_links s) (λ n l. changed n (forgotten true_flows l) s)
-      (λ n l. changed n (forgotten wire_flows l) (cut_links s))
+      with_link_same cut_links (HasAddress own) s s (cut_links s) (λ n l. changed n (forgotten true_segments l) s)
+      (λ n l. changed n (forgotten wire_segments l) (cut_links s))
       (λ nobody. refl)
-      (λ n l there here. changed_same n (forgotten true_flows l) s ∙ ap (λ (w : LinkOf WireFlow). changed n w (cut_links s))
+      (λ n l there here. changed_same n (forgotten true_segments l) s ∙ ap (λ (w : LinkOf WireSegments). changed n w (cut_links s))
       (forgotten_same l (dead n l there here)))
     where
-      dead : (n : ℕ) (l : LinkOf TrueFlow) → slice_get s.links n ≡ Some l → is_at l.port.own own ≡ true → is_live l.port.phase ≡ false
+      dead : (n : ℕ) (l : LinkOf TrueSegments) → slice_get s.links n ≡ Some l → is_at l.port.own own ≡ true → is_live l.port.phase ≡ false
       dead n l there here = by_phase (is_live l.port.phase) refl
         where
           by_phase : (b : Bool) → is_live l.port.phase ≡ b → is_live l.port.phase ≡ false
           by_phase false e = e
           by_phase true e = let n = none n l there in absurd cc
 
-  gives_same : (own : ℕ) (next : Links) (next' : LinksOf WireFlow) → (NoneFor (LiveAt own) s → cut_links next ≡ next') →
-      cut_result (gives true_flows own s next) ≡ gives wire_flows own (cut_links s) next'
+  gives_same : (own : ℕ) (next : Links) (next' : LinksOf WireSegments) → (NoneFor (LiveAt own) s → cut_links next ≡ next') →
+      cut_result (gives true_segments own s next) ≡ gives wire_segments own (cut_links s) next'
   gives_same own next next' same =
       with_link_same cut_result (LiveAt own) s (Ok next) (Ok next') (λ n l. Err AddressInUse) (λ n l. Err AddressInUse) (λ none. ap Ok (same none))
       (λ n l there here. refl)
 
-  answers_same : (phase : Phase) (far own : ℕ) → is_live phase ≡ true → cut_result (answers true_flows phase far own s) ≡ answers wire_flows phase far
+  answers_same : (phase : Phase) (far own : ℕ) → is_live phase ≡ true →
+      cut_result (answers true_segments phase far own s) ≡ answers wire_segments phase far
       own (cut_links s)
   answers_same phase far own to =
       with_link_same cut_result (CalledBy far) s (Err NoLink) (Err NoLink)
-      (λ n l. gives true_flows own s (changed n (answered true_flows phase own l) (freed true_flows own s)))
-      (λ n l. gives wire_flows own (cut_links s) (changed n (answered wire_flows phase own l) (freed wire_flows own (cut_links s))))
+      (λ n l. gives true_segments own s (changed n (answered true_segments phase own l) (freed true_segments own s)))
+      (λ n l. gives wire_segments own (cut_links s) (changed n (answered wire_segments phase own l) (freed wire_segments own (cut_links s))))
       (λ none. refl) along
     where
-      along : (n : ℕ) (l : LinkOf TrueFlow) → slice_get s.links n ≡ Some l → passes (CalledBy far) l.port ≡ true
-          → cut_result (gives true_flows own s (changed n (answered true_flows phase own l) (freed true_flows own s)))
-          ≡ gives wire_flows own (cut_links s) (changed n (answered wire_flows phase own (cut_link l)) (freed wire_flows own (cut_links s)))
+      along : (n : ℕ) (l : LinkOf TrueSegments) → slice_get s.links n ≡ Some l → passes (CalledBy far) l.port ≡ true
+          → cut_result (gives true_segments own s (changed n (answered true_segments phase own l) (freed true_segments own s)))
+          ≡ gives wire_segments own (cut_links s) (changed n (answered wire_segments phase own (cut_link l)) (freed wire_segments own (cut_links s)))
       along n l there here =
           let called = (and_parts (is_called l.port.phase) (is_at l.port.far far) here).0 in
-          gives_same own (changed n (answered true_flows phase own l) (freed true_flows own s))
-          (changed n (answered wire_flows phase own (cut_link l)) (freed wire_flows own (cut_links s)))
-          (λ none. changed_same n (answered true_flows phase own l) (freed true_flows own s)
-          ∙ ap₂ (λ (w : LinkOf WireFlow) (all : LinksOf WireFlow). changed n w all)
+          gives_same own (changed n (answered true_segments phase own l) (freed true_segments own s))
+          (changed n (answered wire_segments phase own (cut_link l)) (freed wire_segments own (cut_links s)))
+          (λ none. changed_same n (answered true_segments phase own l) (freed true_segments own s)
+          ∙ ap₂ (λ (w : LinkOf WireSegments) (all : LinksOf WireSegments). changed n w all)
           (answered_same l (live_if is_called refl l.port.phase called) phase own to) (freed_same own none))
 
   pub user_same : (event : LinkEventValue) → cut_result (links_user s event) ≡ wire_links_user (cut_links s) event
   user_same (Open own) =
-      gives_same own (begun (opened true_flows own) (freed true_flows own s)) (begun (opened wire_flows own) (freed wire_flows own (cut_links s)))
-      (λ none. begun_same (opened true_flows own) (freed true_flows own s) ∙ ap (begun (opened wire_flows own)) (freed_same own none))
+      gives_same own (begun (opened true_segments own) (freed true_segments own s))
+      (begun (opened wire_segments own) (freed wire_segments own (cut_links s)))
+      (λ none. begun_same (opened true_segments own) (freed true_segments own s) ∙ ap (begun (opened wire_segments own)) (freed_same own none))
   user_same (Accept far own) = answers_same Confirming far own refl
   user_same (Reject far own) = answers_same Disconnecting far own refl
   user_same (In own message) =
       with_link_same cut_result (LiveAt own) s (Err NoLink) (Err NoLink)
-      (λ n l. check (takes_messages l.port.phase) LinkState (Ok (changed n (with_flow (hands_in message l.flow) l) s)))
-      (λ n l. check (takes_messages l.port.phase) LinkState (Ok (changed n (with_flow (kept.hands_in message l.flow) l) (cut_links s))))
+      (λ n l. check (takes_messages l.port.phase) LinkState (Ok (changed n (with_segments (hands_in message l.segments) l) s)))
+      (λ n l. check (takes_messages l.port.phase) LinkState (Ok (changed n (with_segments (kept.hands_in message l.segments) l) (cut_links s))))
       (λ none. refl) (λ n l there here.
       let live = (and_parts (is_live l.port.phase) (is_at l.port.own own) here).0 in
-      changes n l (with_flow (hands_in message l.flow) l) (with_flow (kept.hands_in message (cut_link l).flow) (cut_link l))
+      changes n l (with_segments (hands_in message l.segments) l) (with_segments (kept.hands_in message (cut_link l).segments) (cut_link l))
       (takes_messages l.port.phase)
-      (flow_changed l live (hands_in message l.flow) (kept.hands_in message (cut_link l).flow) (ap (kept.hands_in message) (sym (live_flow l live)))))
+      (segments_changed l live (hands_in message l.segments) (kept.hands_in message (cut_link l).segments)
+      (ap (kept.hands_in message) (sym (live_segments l live)))))
   user_same (Up own message) =
       with_link_same cut_result (HasAddress own) s (Err NoLink) (Err NoLink)
-      (λ n l. delivered true_flows n l s (delivers message l.flow))
-      (λ n l. delivered wire_flows n l (cut_links s) (kept.delivers message l.flow))
+      (λ n l. delivered true_segments n l s (delivers message l.segments))
+      (λ n l. delivered wire_segments n l (cut_links s) (kept.delivers message l.segments))
       (λ none. refl) (λ n l there here.
-      delivered_same n l s (delivers message l.flow)
-      ∙ ap (delivered wire_flows n (cut_link l) (cut_links s)) (delivers_at (is_live l.port.phase) l.port.own own l.flow message here))
+      delivered_same n l s (delivers message l.segments)
+      ∙ ap (delivered wire_segments n (cut_link l) (cut_links s)) (delivers_at (is_live l.port.phase) l.port.own own l.segments message here))
   user_same (Close own) =
       with_link_same cut_result (LiveAt own) s (Err NoLink) (Err NoLink)
       (λ n l. check (is_connected l.port.phase) LinkState (Ok (changed n (in_phase Disconnecting l) s)))

@@ -10,12 +10,12 @@ use Rattle.dna_packet.specs.AckWord.{IsAckWord}
 use Rattle.dna_packet.specs.Nsp.{NspValue, DataSegment, DataAck, IsInRange}
 use Rattle.two_nodes.specs.Beginning.{BeginsWith}
 use Rattle.dna_links.specs.Pieces.{Piece, in_order}
-use Rattle.dna_links.specs.Flow.{wire, is_of_data}
+use Rattle.dna_links.specs.SegmentBook.{wire, is_of_data}
 use Rattle.dna_links.specs.Links.{LinkOf}
 use Rattle.dna_links.specs.User.{LinkEventValue}
 use Rattle.dna_links.specs.Arriving.{of_partner, is_of_pair}
-use Rattle.dna_links.specs.TrueFlow.{TrueFlow, highest_given, highest_received, true_flows}
-use Rattle.dna_links.specs.CutFlow.{IsOrdered, IsAnswered, data_numbers, Spells, AcksAreNear}
+use Rattle.dna_links.specs.TrueSegments.{TrueSegments, highest_given, highest_received, true_segments}
+use Rattle.dna_links.specs.CutSegments.{IsOrdered, IsAnswered, data_numbers, Spells, AcksAreNear}
 use Rattle.dna_links.specs.CutLinks.{ComesNear, IsActedOn}
 use Rattle.dna_links.specs.Runs.{SentMessage, LinkSide, LinkWorld, LinkStep, ByUser, Sends, SendsNone, Keeps, KeepsNone, Reached}
 use Rattle.dna_links.specs.Runs.{new_side, new_world}
@@ -30,7 +30,7 @@ use Rattle.dna_links.proofs.Cut.Arriving.{arrived_same}
 use Rattle.dna_links.proofs.Tables.Outcomes.{user_did, sent_did, arrived_did}
 use Rattle.dna_links.proofs.Tables.Words.{limits, AreWords}
 use Rattle.dna_links.proofs.Runs.Pieces.{IsPassed, passed_begins}
-use Rattle.dna_links.proofs.Runs.Sends.{number_in, IsSoundFlow, within_all}
+use Rattle.dna_links.proofs.Runs.Sends.{number_in, AreSoundSegments, within_all}
 use Rattle.dna_links.proofs.Runs.Takes.{of_pair_is, end_near}
 use Rattle.dna_links.proofs.Runs.Sides.{IsSoundSide}
 use Rattle.dna_links.proofs.Runs.Steps.{BothLinksSound, OfSides, IsKeptByStep, of_reached, step_sound, new_sound}
@@ -44,16 +44,16 @@ first_in_order : (first : List Piece) (rest : List (Option Piece)) → length fi
 first_in_order [] rest = omega arith
 first_in_order (p ∷ first) rest = let l = first_in_order first rest in omega arith
 
-flow_ordered : (f : TrueFlow) → IsSoundFlow f → IsOrdered f
-flow_ordered f s = record {
+segments_ordered : (f : TrueSegments) → AreSoundSegments f → IsOrdered f
+segments_ordered f s = record {
   given = s.acknowledged;
   few = s.few;
   last = s.last;
   passed = let p = s.passed in let many = p.many in let l = first_in_order p.first p.rest in let e = ap in_order p.are in omega arith;
 }
 
-flow_answered : (f : TrueFlow) → IsSoundFlow f → IsAnswered f
-flow_answered f s = let r = s.recent in let w = within_all f.received in omega arith
+segments_answered : (f : TrueSegments) → AreSoundSegments f → IsAnswered f
+segments_answered f s = let r = s.recent in let w = within_all f.received in omega arith
 
 words_spelled : (words : List AckWord) (numbers : List ℕ) → AllByRecursion IsAckWord words → AreWords words numbers → Spells words numbers
 words_spelled [] numbers small are = sym (ap (map wire) are)
@@ -69,13 +69,13 @@ words_spelled (word ∷ words) numbers small are = go (λ n a. words_spelled wor
         ap (λ (b : Bool). cond b (word.number ∷ data_numbers words) (data_numbers words)) e.0
         ∙ ap₂ (λ (x : ℕ) (y : List ℕ). x ∷ y) (sym (e.4 small.0)) (later e.2 e.5) ∙ sym (ap (map wire) e.3)
 
-acks_near : (acks : List ℕ) (f : TrueFlow) → AcksFrom limits f.acknowledged (highest_given f) acks → AcksAreNear f acks
+acks_near : (acks : List ℕ) (f : TrueSegments) → AcksFrom limits f.acknowledged (highest_given f) acks → AcksAreNear f acks
 acks_near [] f fits = tt
 acks_near (ack ∷ acks) f fits =
     (record { least = fits.0; most = fits.1 }, go (nat_lt f.acknowledged ack && nat_le ack (highest_given f)) refl (λ g. acks_near acks g))
   where
     go : (b : Bool) → (nat_lt f.acknowledged ack && nat_le ack (highest_given f)) ≡ b →
-        ((g : TrueFlow) → AcksFrom limits g.acknowledged (highest_given g) acks → AcksAreNear g acks) →
+        ((g : TrueSegments) → AcksFrom limits g.acknowledged (highest_given g) acks → AcksAreNear g acks) →
         AcksAreNear (cond b (record f { acknowledged = ack }) f) acks
     go true e later =
         let low : f.acknowledged < ack = ltb-true _ _ (and_parts (nat_lt f.acknowledged ack) (nat_le ack (highest_given f)) e).0 in
@@ -95,66 +95,70 @@ segment_near (suc n) received some near = let a = near.0 in let b = near.1 in (o
 
 module _ (own other : LinkSide) (h : IsSoundSide own other) (theirs : IsSoundSide other own) where
   comes_near : (place : ℕ) (u : SentMessage) → own.front ≤ place → slice_get other.sent place ≡ Some (Some u) → (m : NspValue) →
-      u.packet.message ≡ m → IsInRange m → (number : ℕ) (l : LinkOf TrueFlow) → slice_get own.links.links number ≡ Some l →
-      IsActedOn m l.port → is_of_pair number l.partner u.truth.tag ≡ true → ComesNear l.flow m u.truth.known
+      u.packet.message ≡ m → IsInRange m → (number : ℕ) (l : LinkOf TrueSegments) → slice_get own.links.links number ≡ Some l →
+      IsActedOn m l.port → is_of_pair number l.partner u.truth.tag ≡ true → ComesNear l.segments m u.truth.known
   comes_near place u ahead there (DataSegment s) is small number l at acted pair =
       let p = of_pair_is number l.partner u.truth.tag pair in
       let told = theirs.told place u there in
       let t = told.segment s is in
       let n = end_near own.sent other.sent own.front other.links.links number l (h.ends number l at) theirs.messages place u there ahead told p in
-      let near = segment_near u.truth.known.segment (highest_received l.flow) t.is_true.some n.number in (
+      let near = segment_near u.truth.known.segment (highest_received l.segments) t.is_true.some n.number in (
         words_spelled s.acks u.truth.known.acknowledgements small.0 t.is_true.words,
         sym (t.is_true.spelled small.1),
-        acks_near u.truth.known.acknowledgements l.flow n.acks,
+        acks_near u.truth.known.acknowledgements l.segments n.acks,
         record { first = t.is_true.some; least = near.0; most = near.1 },
       )
   comes_near place u ahead there (DataAck dst src acks) is small number l at acted pair =
       let p = of_pair_is number l.partner u.truth.tag pair in
       let told = theirs.told place u there in
-      let n = end_near own.sent other.sent own.front other.links.links number l (h.ends number l at) theirs.messages place u there ahead told p in
-      (words_spelled acks u.truth.known.acknowledgements small.0 (told.words dst src acks is), acks_near u.truth.known.acknowledgements l.flow n.acks)
+      let n = end_near own.sent other.sent own.front other.links.links number l (h.ends number l at) theirs.messages place u there ahead told p in (
+        words_spelled acks u.truth.known.acknowledgements small.0 (told.words dst src acks is),
+        acks_near u.truth.known.acknowledgements l.segments n.acks,
+      )
   comes_near place u ahead there m is small number l at acted pair = tt
 
   side_bounded : (events : List LinkEventValue) → AreOwned events own.links.links → AreLinksBounded own other
   side_bounded events o = record {
     ordered = λ i l at. record {
-      flow = flow_ordered l.flow (h.ends i l at).flow;
-      answered = λ run. flow_answered l.flow (h.ends i l at).flow;
+      segments = segments_ordered l.segments (h.ends i l at).segments;
+      answered = λ run. segments_answered l.segments (h.ends i l at).segments;
       fresh =
           (o.owned i l at).fresh;
     };
-    answered = λ i l at. flow_answered l.flow (h.ends i l at).flow;
+    answered = λ i l at. segments_answered l.segments (h.ends i l at).segments;
     near = λ place u ahead there small. λ number l at acted pair. comes_near place u ahead there u.packet.message refl small number l at acted pair;
   }
 
   -- ---- the order
 
-  none_passed : (f : TrueFlow) → f.received ≡ [] → IsPassed f → f.delivered ≡ []
+  none_passed : (f : TrueSegments) → f.received ≡ [] → IsPassed f → f.delivered ≡ []
   none_passed f none p = sym p.make ∙ ap (whole []) (go p.first (sym none ∙ p.are))
     where
       go : (first : List Piece) → [] ≡ map Some first ++ p.rest → first ≡ []
       go [] e = refl
       go (q ∷ first) e = absurd cc
 
-  up_from : (l : LinkOf TrueFlow) → IsPassed l.flow → (partner : Option ℕ) → HeldFrom partner l.flow.received other.links.links →
-      UpFrom partner l.flow.delivered other.links.links
-  up_from l p None held = none_passed l.flow held p
-  up_from l p (Some partner) held = (held.0, held.1, passed_begins l.flow held.0.flow p (theirs.ends partner held.0 held.1).flow.cut held.2)
+  up_from : (l : LinkOf TrueSegments) → IsPassed l.segments → (partner : Option ℕ) → HeldFrom partner l.segments.received other.links.links →
+      UpFrom partner l.segments.delivered other.links.links
+  up_from l p None held = none_passed l.segments held p
+  up_from l p (Some partner) held =
+      (held.0, held.1, passed_begins l.segments held.0.segments p (theirs.ends partner held.0 held.1).segments.cut held.2)
 
   side_delivers : DeliversLinks own.links other.links
   side_delivers = record {
-    cut = λ i l at. (h.ends i l at).flow.cut;
+    cut = λ i l at. (h.ends i l at).segments.cut;
     held = λ i l at. (h.ends i l at).held;
-    up = λ i l at. up_from l (h.ends i l at).flow.passed l.partner (h.ends i l at).held;
+    up = λ i l at. up_from l (h.ends i l at).segments.passed l.partner (h.ends i l at).held;
   }
 
   -- ---- off the captures
 
-  begins_at : (further : List LinkEventValue) (delivered : List (List ℕ)) (there : LinkOf TrueFlow) (place : Option ℕ) → IsRead further there place →
-      BeginsWith there.flow.handed delivered → BeginsAt further delivered place
+  begins_at : (further : List LinkEventValue) (delivered : List (List ℕ)) (there : LinkOf TrueSegments) (place : Option ℕ) →
+      IsRead further there place →
+      BeginsWith there.segments.handed delivered → BeginsAt further delivered place
   begins_at further delivered there None r b = nothing delivered (b.whole)
     where
-      nothing : (d : List (List ℕ)) → there.flow.handed ≡ d ++ b.rest → d ≡ []
+      nothing : (d : List (List ℕ)) → there.segments.handed ≡ d ++ b.rest → d ≡ []
       nothing [] e = refl
       nothing (x ∷ d) e = let n = r.handed in absurd cc
   begins_at further delivered there (Some place) r b = (r.own, r.event, r.there, r.gives, record { rest = b.rest; whole = sym r.handed ∙ b.whole })
@@ -175,7 +179,7 @@ module _ (own other : LinkSide) (h : IsSoundSide own other) (theirs : IsSoundSid
             (subst (IsRead events link) is (read.read i link at));
       }
     where
-      go : (i place address : ℕ) (link : LinkOf TrueFlow) (event : LinkEventValue) → slice_get own.links.links i ≡ Some link →
+      go : (i place address : ℕ) (link : LinkOf TrueSegments) (event : LinkEventValue) → slice_get own.links.links i ≡ Some link →
           slice_get events place ≡ Some event → given_address event ≡ Some address → IsReadFrom events link place →
           BeginsFor further (delivered_up address (behind place events)) theirs_read.place_of link.partner
       go i place address link event at there gives r =
@@ -183,8 +187,8 @@ module _ (own other : LinkSide) (h : IsSoundSide own other) (theirs : IsSoundSid
           same_Some r.own address (sym r.gives ∙ ap given_address (same_Some r.event event (sym r.there ∙ there)) ∙ gives) in
           subst (λ (x : List (List ℕ)). BeginsFor further x theirs_read.place_of link.partner)
           (r.up ∙ ap (λ (n : ℕ). delivered_up n (behind place events)) same)
-          (begins_for further theirs_read link.flow.delivered link.partner
-          (up_from link (h.ends i link at).flow.passed link.partner (h.ends i link at).held))
+          (begins_for further theirs_read link.segments.delivered link.partner
+          (up_from link (h.ends i link at).segments.passed link.partner (h.ends i link at).held))
 
 side_in_step : (own other : LinkSide) → AreLinksBounded own other → AreCutInStep own other
 side_in_step own other b = record {
@@ -204,16 +208,16 @@ pub record KnownSide (own other : LinkSide) (events : List LinkEventValue) : Typ
 step_owned : (own other left : LinkSide) (events made : List LinkEventValue) → IsSoundSide own other → AreOwned events own.links.links →
     LinkStep own other made left → AreOwned (events ++ made) left.links.links
 step_owned own other left events made h o (ByUser event links does) =
-    user_owned events own.links o event links (user_did true_flows own.links links event does)
+    user_owned events own.links o event links (user_did true_segments own.links links event does)
 step_owned own other left events made h o (Sends packet sent does) =
     subst (λ (x : List LinkEventValue). AreOwned x sent.links.links) (sym (append-nil events))
-    (sent_owned events own.links o packet.message sent (λ number link there. (h.ends number link there).flow)
-    (sent_did true_flows own.links sent packet does))
+    (sent_owned events own.links o packet.message sent (λ number link there. (h.ends number link there).segments)
+    (sent_did true_segments own.links sent packet does))
 step_owned own other left events made h o SendsNone = subst (λ (x : List LinkEventValue). AreOwned x own.links.links) (sym (append-nil events)) o
 step_owned own other left events made h o (Keeps place unit links ahead there does) =
     subst (λ (x : List LinkEventValue). AreOwned x links.links) (sym (append-nil events))
     (arrived_owned events own.links o unit.packet.message unit.truth links
-    (arrived_did true_flows of_partner own.links links unit.truth unit.packet does))
+    (arrived_did true_segments of_partner own.links links unit.truth unit.packet does))
 step_owned own other left events made h o (KeepsNone place ahead there) =
     subst (λ (x : List LinkEventValue). AreOwned x own.links.links) (sym (append-nil events)) o
 
@@ -221,13 +225,15 @@ step_counted : (own other left : LinkSide) (events made : List LinkEventValue) �
     LinkStep own other made left → deliveries left.links.links ≡ ups (events ++ made)
 step_counted own other left events made h e (ByUser event links does) =
     ups_more events event (deliveries own.links.links) (deliveries links.links) e
-    (user_count own.links event links (user_did true_flows own.links links event does))
+    (user_count own.links event links (user_did true_segments own.links links event does))
 step_counted own other left events made h e (Sends packet sent does) =
-    sent_count own.links packet.message sent (λ number link there. (h.ends number link there).flow) (sent_did true_flows own.links sent packet does) ∙
+    sent_count own.links packet.message sent
+    (λ number link there. (h.ends number link there).segments) (sent_did true_segments own.links sent packet does) ∙
     e ∙ ap ups (sym (append-nil events))
 step_counted own other left events made h e SendsNone = e ∙ ap ups (sym (append-nil events))
 step_counted own other left events made h e (Keeps place unit links ahead there does) =
-    arrived_count own.links unit.packet.message unit.truth links (arrived_did true_flows of_partner own.links links unit.truth unit.packet does) ∙ e ∙
+    arrived_count own.links unit.packet.message unit.truth links (arrived_did true_segments of_partner own.links links unit.truth unit.packet does)
+    ∙ e ∙
     ap ups (sym (append-nil events))
 step_counted own other left events made h e (KeepsNone place ahead there) = e ∙ ap ups (sym (append-nil events))
 

@@ -8,18 +8,18 @@ use Rattle.dna_packet.specs.Nsp.{NspValue}
 use Rattle.dna_links.specs.declared.port.Phase.{Phase}
 use Rattle.dna_links.specs.declared.port.Phase.TheVariants.{Confirming, Disconnecting, Running}
 use Rattle.dna_links.specs.declared.port.LinkTest.TheVariants.{HasAddress}
-use Rattle.dna_links.specs.Links.{LinkOf, LinkTruth, changed, in_phase, with_flow, ended, forgotten, freed}
+use Rattle.dna_links.specs.Links.{LinkOf, LinkTruth, changed, in_phase, with_segments, ended, forgotten, freed}
 use Rattle.dna_links.specs.User.{LinkEventValue, opened, answered}
 use Rattle.dna_links.specs.Sending.{Sent}
 use Rattle.dna_links.specs.Arriving.{of_partner, called, confirmed}
-use Rattle.dna_links.specs.TrueFlow.{TrueFlow, Numbers, true_flows}
-use Rattle.dna_links.specs.TrueFlow as flow
+use Rattle.dna_links.specs.TrueSegments.{TrueSegments, Numbers, true_segments}
+use Rattle.dna_links.specs.TrueSegments as segments
 use Rattle.dna_links.specs.TrueLinks.{Links}
 use Rattle.dna_links.specs.Captures.{deliveries, delivery_count, ups}
 use Rattle.dna_links.proofs.Tables.Outcomes.{looked, UserDid, Opens, Accepts, Rejects, HandsIn, Delivers, Closes, SentDid, OfNone, Stays, EndsCalled}
 use Rattle.dna_links.proofs.Tables.Outcomes.{Segment, Acks, ArrivedDid, Ignores, Begins, Confirms, Ends, TakesSegment, TakesAcks, TakesOther}
 use Rattle.dna_links.proofs.Runs.Pieces.{delivered_is}
-use Rattle.dna_links.proofs.Runs.Sends.{IsSoundFlow, acks_sent, segment_sent}
+use Rattle.dna_links.proofs.Runs.Sends.{AreSoundSegments, acks_sent, segment_sent}
 use Rattle.dna_links.proofs.Runs.Sides.{set_same, set_other}
 use Rattle.dna_links.proofs.Runs.Owners.{fold_same}
 
@@ -27,100 +27,104 @@ ups-append : (events : List LinkEventValue) (event : LinkEventValue) → ups (ev
 ups-append [] event = omega arith
 ups-append (first ∷ events) event = let e = ups-append events event in omega arith
 
-set_counts : (links : List (LinkOf TrueFlow)) (number : ℕ) (link left : LinkOf TrueFlow) → slice_get links number ≡ Some link →
-    deliveries (slice_set links number left) + length link.flow.delivered ≡ deliveries links + length left.flow.delivered
+set_counts : (links : List (LinkOf TrueSegments)) (number : ℕ) (link left : LinkOf TrueSegments) → slice_get links number ≡ Some link →
+    deliveries (slice_set links number left) + length link.segments.delivered ≡ deliveries links + length left.segments.delivered
 set_counts [] number link left at = absurd cc
 set_counts (x ∷ links) zero link left at =
-    let e : length x.flow.delivered ≡ length link.flow.delivered = ap (λ (l : LinkOf TrueFlow). length l.flow.delivered) (same_Some x link at) in
+    let e : length x.segments.delivered ≡ length link.segments.delivered =
+    ap (λ (l : LinkOf TrueSegments). length l.segments.delivered) (same_Some x link at) in
     omega arith
 set_counts (x ∷ links) (suc number) link left at = let e = set_counts links number link left at in omega arith
 
 -- a link changes, and nothing is delivered there
-set_same_count : (links : List (LinkOf TrueFlow)) (number : ℕ) (link left : LinkOf TrueFlow) → slice_get links number ≡ Some link →
-    left.flow.delivered ≡ link.flow.delivered → deliveries (slice_set links number left) ≡ deliveries links
+set_same_count : (links : List (LinkOf TrueSegments)) (number : ℕ) (link left : LinkOf TrueSegments) → slice_get links number ≡ Some link →
+    left.segments.delivered ≡ link.segments.delivered → deliveries (slice_set links number left) ≡ deliveries links
 set_same_count links number link left at same = let e = set_counts links number link left at in let l = ap length same in omega arith
 
-pushed_count : (links : List (LinkOf TrueFlow)) (link : LinkOf TrueFlow) → link.flow.delivered ≡ [] →
+pushed_count : (links : List (LinkOf TrueSegments)) (link : LinkOf TrueSegments) → link.segments.delivered ≡ [] →
     deliveries (links ++ link ∷ []) ≡ deliveries links
 pushed_count [] link none = let l = ap length none in omega arith
 pushed_count (x ∷ links) link none = let e = pushed_count links link none in omega arith
 
 module _ (s : Links) where
-  freed_count : (own : ℕ) → deliveries (freed true_flows own s).links ≡ deliveries s.links
-  freed_count own = looked (HasAddress own) s s (λ number link. changed number (forgotten true_flows link) s) (freed true_flows own s) refl
+  freed_count : (own : ℕ) → deliveries (freed true_segments own s).links ≡ deliveries s.links
+  freed_count own = looked (HasAddress own) s s (λ number link. changed number (forgotten true_segments link) s) (freed true_segments own s) refl
       (λ none e. ap (λ (x : Links). deliveries x.links) (sym e))
-      (λ number link found e. ap (λ (x : Links). deliveries x.links) (sym e) ∙ set_same_count s.links number link (forgotten true_flows link)
+      (λ number link found e. ap (λ (x : Links). deliveries x.links) (sym e) ∙ set_same_count s.links number link (forgotten true_segments link)
       found.there refl)
 
   -- a link that was there has delivered as much
-  freed_at : (own number : ℕ) (link : LinkOf TrueFlow) → slice_get s.links number ≡ Some link → (there : LinkOf TrueFlow) ×
-      (slice_get (freed true_flows own s).links number ≡ Some there) × (there.flow.delivered ≡ link.flow.delivered)
-  freed_at own number link at = looked (HasAddress own) s s (λ n l. changed n (forgotten true_flows l) s) (freed true_flows own s) refl
-      (λ none e. subst (λ (x : Links). (there : LinkOf TrueFlow) × (slice_get x.links number ≡ Some there) ×
-      (there.flow.delivered ≡ link.flow.delivered)) e (link, at, refl))
+  freed_at : (own number : ℕ) (link : LinkOf TrueSegments) → slice_get s.links number ≡ Some link → (there : LinkOf TrueSegments) ×
+      (slice_get (freed true_segments own s).links number ≡ Some there) × (there.segments.delivered ≡ link.segments.delivered)
+  freed_at own number link at = looked (HasAddress own) s s (λ n l. changed n (forgotten true_segments l) s) (freed true_segments own s) refl
+      (λ none e. subst (λ (x : Links). (there : LinkOf TrueSegments) × (slice_get x.links number ≡ Some there) ×
+      (there.segments.delivered ≡ link.segments.delivered)) e (link, at, refl))
       (λ n l found e. subst
-      (λ (x : Links). (there : LinkOf TrueFlow) × (slice_get x.links number ≡ Some there) × (there.flow.delivered ≡ link.flow.delivered)) e
+      (λ (x : Links). (there : LinkOf TrueSegments) × (slice_get x.links number ≡ Some there) ×
+      (there.segments.delivered ≡ link.segments.delivered)) e
       (go n l found.there (cases_eq number n)))
     where
-      go : (n : ℕ) (l : LinkOf TrueFlow) → slice_get s.links n ≡ Some l → (number ≡ n) ⊎ (number ≡ n → ⊥) → (there : LinkOf TrueFlow) ×
-          (slice_get (slice_set s.links n (forgotten true_flows l)) number ≡ Some there) × (there.flow.delivered ≡ link.flow.delivered)
+      go : (n : ℕ) (l : LinkOf TrueSegments) → slice_get s.links n ≡ Some l → (number ≡ n) ⊎ (number ≡ n → ⊥) → (there : LinkOf TrueSegments) ×
+          (slice_get (slice_set s.links n (forgotten true_segments l)) number ≡ Some there) × (there.segments.delivered ≡ link.segments.delivered)
       go n l there (inl e) = (
-        forgotten true_flows l,
-        ap (slice_get (slice_set s.links n (forgotten true_flows l))) e ∙ set_same s.links n l (forgotten true_flows l) there,
-        ap (λ (x : LinkOf TrueFlow). x.flow.delivered) (same_Some l link (sym there ∙ ap (slice_get s.links) (sym e) ∙ at)),
+        forgotten true_segments l,
+        ap (slice_get (slice_set s.links n (forgotten true_segments l))) e ∙ set_same s.links n l (forgotten true_segments l) there,
+        ap (λ (x : LinkOf TrueSegments). x.segments.delivered) (same_Some l link (sym there ∙ ap (slice_get s.links) (sym e) ∙ at)),
       )
-      go n l there (inr d) = (link, set_other s.links n number (forgotten true_flows l) d ∙ at, refl)
+      go n l there (inr d) = (link, set_other s.links n number (forgotten true_segments l) d ∙ at, refl)
 
-  answered_count : (phase : Phase) (own number : ℕ) (link : LinkOf TrueFlow) → slice_get s.links number ≡ Some link →
-      deliveries (changed number (answered true_flows phase own link) (freed true_flows own s)).links ≡ deliveries s.links
+  answered_count : (phase : Phase) (own number : ℕ) (link : LinkOf TrueSegments) → slice_get s.links number ≡ Some link →
+      deliveries (changed number (answered true_segments phase own link) (freed true_segments own s)).links ≡ deliveries s.links
   answered_count phase own number link at =
       let f = freed_at own number link at in
-      set_same_count (freed true_flows own s).links number f.0 (answered true_flows phase own link) f.1 (sym f.2) ∙ freed_count own
+      set_same_count (freed true_segments own s).links number f.0 (answered true_segments phase own link) f.1 (sym f.2) ∙ freed_count own
 
-  pub user_count : (event : LinkEventValue) (left : Links) → UserDid true_flows s event left →
+  pub user_count : (event : LinkEventValue) (left : Links) → UserDid true_segments s event left →
       deliveries left.links ≡ deliveries s.links + delivery_count event
-  user_count event left (Opens own free) = let e = pushed_count (freed true_flows own s).links (opened true_flows own) refl in
+  user_count event left (Opens own free) = let e = pushed_count (freed true_segments own s).links (opened true_segments own) refl in
       let f = freed_count own in omega arith
   user_count event left (Accepts far own number link found free) = let e = answered_count Confirming own number link found.there in omega arith
   user_count event left (Rejects far own number link found free) = let e = answered_count Disconnecting own number link found.there in omega arith
   user_count event left (HandsIn own message number link found may) =
-      let e = set_same_count s.links number link (with_flow (flow.hands_in message link.flow) link) found.there refl in omega arith
+      let e = set_same_count s.links number link (with_segments (segments.hands_in message link.segments) link) found.there refl in omega arith
   user_count event left (Delivers own message number link next found delivers) =
-      let d = delivered_is message link.flow next delivers in
-      let e = set_counts s.links number link (with_flow next link) found.there in
-      let l : length next.delivered ≡ length link.flow.delivered + 1 =
-      ap (λ (f : TrueFlow). length f.delivered) d.is ∙ length-append link.flow.delivered (d.w.message ∷ []) in
+      let d = delivered_is message link.segments next delivers in
+      let e = set_counts s.links number link (with_segments next link) found.there in
+      let l : length next.delivered ≡ length link.segments.delivered + 1 =
+      ap (λ (f : TrueSegments). length f.delivered) d.is ∙ length-append link.segments.delivered (d.w.message ∷ []) in
       omega arith
   user_count event left (Closes own number link found connected) =
       let e = set_same_count s.links number link (in_phase Disconnecting link) found.there refl in omega arith
 
-  pub sent_count : (m : NspValue) (made : Sent TrueFlow Numbers) →
-      ((number : ℕ) (link : LinkOf TrueFlow) → slice_get s.links number ≡ Some link → IsSoundFlow link.flow) → SentDid true_flows s m made →
+  pub sent_count : (m : NspValue) (made : Sent TrueSegments Numbers) →
+      ((number : ℕ) (link : LinkOf TrueSegments) → slice_get s.links number ≡ Some link → AreSoundSegments link.segments) →
+      SentDid true_segments s m made →
       deliveries made.links.links ≡ deliveries s.links
   sent_count m made sound (OfNone none) = refl
   sent_count m made sound (Stays number link none there) = refl
   sent_count m made sound (EndsCalled far reason number link none is found) =
-      set_same_count s.links number link (ended true_flows link) found.there refl
+      set_same_count s.links number link (ended true_segments link) found.there refl
   sent_count m made sound (Segment segment number link sent is found run does) =
-      set_same_count s.links number link (with_flow sent.flow link) found.there
-      (segment_sent link.flow (sound number link found.there) link.segsize segment sent does).sends.delivered
+      set_same_count s.links number link (with_segments sent.segments link) found.there
+      (segment_sent link.segments (sound number link found.there) link.segsize segment sent does).sends.delivered
   sent_count m made sound (Acks dst src acks number link sent is found run does) =
-      set_same_count s.links number link (with_flow sent.flow link) found.there
-      (acks_sent link.flow (sound number link found.there) acks sent does).sends.delivered
+      set_same_count s.links number link (with_segments sent.segments link) found.there
+      (acks_sent link.segments (sound number link found.there) acks sent does).sends.delivered
 
-  pub arrived_count : (m : NspValue) (truth : LinkTruth Numbers) (left : Links) → ArrivedDid true_flows of_partner s m truth left →
+  pub arrived_count : (m : NspValue) (truth : LinkTruth Numbers) (left : Links) → ArrivedDid true_segments of_partner s m truth left →
       deliveries left.links ≡ deliveries s.links
   arrived_count m truth left Ignores = refl
-  arrived_count m truth left (Begins far segsize is none) = pushed_count s.links (called true_flows of_partner far segsize truth.tag) refl
+  arrived_count m truth left (Begins far segsize is none) = pushed_count s.links (called true_segments of_partner far segsize truth.tag) refl
   arrived_count m truth left (Confirms own far segsize number link is found for) =
-      set_same_count s.links number link (confirmed true_flows of_partner far segsize truth.tag link) found.there refl
-  arrived_count m truth left (Ends test number link found) = set_same_count s.links number link (ended true_flows link) found.there refl
+      set_same_count s.links number link (confirmed true_segments of_partner far segsize truth.tag link) found.there refl
+  arrived_count m truth left (Ends test number link found) = set_same_count s.links number link (ended true_segments link) found.there refl
   arrived_count m truth left (TakesSegment own far segment number link is found pair) =
-      set_same_count s.links number link (with_flow (flow.takes_segment segment truth.known link.flow) (in_phase Running link)) found.there
-      (fold_same truth.known.acknowledgements link.flow).1
+      set_same_count s.links number link
+      (with_segments (segments.takes_segment segment truth.known link.segments) (in_phase Running link)) found.there
+      (fold_same truth.known.acknowledgements link.segments).1
   arrived_count m truth left (TakesAcks own far dst src acks number link is found pair) =
-      set_same_count s.links number link (with_flow (flow.takes_acks acks truth.known link.flow) (in_phase Running link)) found.there
-      (fold_same truth.known.acknowledgements link.flow).1
+      set_same_count s.links number link (with_segments (segments.takes_acks acks truth.known link.segments) (in_phase Running link)) found.there
+      (fold_same truth.known.acknowledgements link.segments).1
   arrived_count m truth left (TakesOther own far number link found pair) = set_same_count s.links number link (in_phase Running link) found.there refl
 
 pub ups_more : (events : List LinkEventValue) (event : LinkEventValue) (before after : ℕ) → before ≡ ups events →

@@ -7,14 +7,14 @@ use Rattle.dna_packet.specs.Nsp.{SegmentValue, DataSegment, DataAck}
 use Rattle.dna_links.specs.declared.port.Port.{Port}
 use Rattle.dna_links.specs.LookUps.{is_calling}
 use Rattle.dna_links.specs.Pieces.{Piece, in_order}
-use Rattle.dna_links.specs.Links.{LinkOf, with_flow}
-use Rattle.dna_links.specs.TrueFlow.{TrueFlow, highest_given, highest_received}
+use Rattle.dna_links.specs.Links.{LinkOf, with_segments}
+use Rattle.dna_links.specs.TrueSegments.{TrueSegments, highest_given, highest_received}
 use Rattle.dna_links.specs.Runs.{SentMessage}
 use Rattle.dna_links.specs.Delivery.{HeldFrom}
 use Rattle.two_nodes.proofs.Numbered.{Numbers, Numbered, IsUpTo, ReceivedFrom, IsPresent}
 use Rattle.two_nodes.proofs.NumberedSteps.{present_beside, present_further, at_pushed}
 use Rattle.dna_links.proofs.Tables.Words.{limits, AreAtMost, AreWords}
-use Rattle.dna_links.proofs.Runs.Sends.{number_in, IsSoundFlow, within_all, IsTrueSegment}
+use Rattle.dna_links.proofs.Runs.Sends.{number_in, AreSoundSegments, within_all, IsTrueSegment}
 
 -- a link's name among the numbered: no message without a link has it
 abbrev pub name_of : Option ℕ → Option ℕ
@@ -28,15 +28,15 @@ sender_name (Some number) = number + 1
 abbrev pub nobody : Numbers
 nobody = record { name = 0; partner = None; given = 0; received = 0; acknowledged = 0; last = 0 }
 
-abbrev pub numbers_of : ℕ → LinkOf TrueFlow → Numbers
+abbrev pub numbers_of : ℕ → LinkOf TrueSegments → Numbers
 numbers_of i l = record {
   name = i + 1;
   partner = name_of l.partner;
-  given = highest_given l.flow;
-  received = highest_received l.flow;
+  given = highest_given l.segments;
+  received = highest_received l.segments;
   acknowledged =
-      l.flow.acknowledged;
-  last = l.flow.last;
+      l.segments.acknowledged;
+  last = l.segments.last;
 }
 
 abbrev pub view : Option SentMessage → Numbered
@@ -59,32 +59,32 @@ view (Some u) = record {
 -- ---- links that grow
 
 -- the link is still there, and has given what it had, and perhaps more
-pub record GrownAt (links : List (LinkOf TrueFlow)) (i : ℕ) (l : LinkOf TrueFlow) : Type 0 where
-  pub link : LinkOf TrueFlow
+pub record GrownAt (links : List (LinkOf TrueSegments)) (i : ℕ) (l : LinkOf TrueSegments) : Type 0 where
+  pub link : LinkOf TrueSegments
   pub there : slice_get links i ≡ Some link
   pub more : List Piece
-  pub given : link.flow.given ≡ l.flow.given ++ more
+  pub given : link.segments.given ≡ l.segments.given ++ more
 
-abbrev pub Grows : (links further : List (LinkOf TrueFlow)) → Type 0
-Grows links further = (i : ℕ) (l : LinkOf TrueFlow) → slice_get links i ≡ Some l → GrownAt further i l
+abbrev pub Grows : (links further : List (LinkOf TrueSegments)) → Type 0
+Grows links further = (i : ℕ) (l : LinkOf TrueSegments) → slice_get links i ≡ Some l → GrownAt further i l
 
 -- ---- what is true of a message that was sent
 
 -- a segment is of a link, and is true
-pub record SegmentTold (links : List (LinkOf TrueFlow)) (u : SentMessage) (s : SegmentValue) : Type 0 where
+pub record SegmentTold (links : List (LinkOf TrueSegments)) (u : SentMessage) (s : SegmentValue) : Type 0 where
   pub number : ℕ
-  pub link : LinkOf TrueFlow
+  pub link : LinkOf TrueSegments
   pub is_of : u.truth.tag.link ≡ Some number
   pub there : slice_get links number ≡ Some link
-  pub is_true : IsTrueSegment s link.flow.given u.truth.known
+  pub is_true : IsTrueSegment s link.segments.given u.truth.known
 
-pub record IsTold (links : List (LinkOf TrueFlow)) (u : SentMessage) : Type 0 where
-  pub sender : (number : ℕ) → u.truth.tag.link ≡ Some number → (link : LinkOf TrueFlow) × (slice_get links number ≡ Some link)
+pub record IsTold (links : List (LinkOf TrueSegments)) (u : SentMessage) : Type 0 where
+  pub sender : (number : ℕ) → u.truth.tag.link ≡ Some number → (link : LinkOf TrueSegments) × (slice_get links number ≡ Some link)
   pub at_most : AreAtMost u.truth.known.last u.truth.known.acknowledgements
   pub segment : (s : SegmentValue) → u.packet.message ≡ DataSegment s → SegmentTold links u s
   pub words : (dst src : ℕ) (acks : List AckWord) → u.packet.message ≡ DataAck dst src acks → AreWords acks u.truth.known.acknowledgements
 
-pub told_grown : (links further : List (LinkOf TrueFlow)) (u : SentMessage) → Grows links further → IsTold links u → IsTold further u
+pub told_grown : (links further : List (LinkOf TrueSegments)) (u : SentMessage) → Grows links further → IsTold links u → IsTold further u
 told_grown links further u grows t = record {
   sender = λ number e. let s = t.sender number e in let g = grows number s.0 s.1 in (g.link, g.there);
   at_most = t.at_most;
@@ -106,27 +106,28 @@ told_grown links further u grows t = record {
           is_of = d.is_of;
           there = g.there;
           is_true = subst (λ (x : List Piece). IsTrueSegment s x u.truth.known) (sym g.given)
-              (record { some = i.some; spelled = i.spelled; words = i.words; piece = piece_grown d.link.flow.given g.more _ _ _ i.piece });
+              (record { some = i.some; spelled = i.spelled; words = i.words; piece = piece_grown d.link.segments.given g.more _ _ _ i.piece });
         }
 
-pub held_grown : (links further : List (LinkOf TrueFlow)) (partner : Option ℕ) (received : List (Option Piece)) → Grows links further →
+pub held_grown : (links further : List (LinkOf TrueSegments)) (partner : Option ℕ) (received : List (Option Piece)) → Grows links further →
     HeldFrom partner received links → HeldFrom partner received further
 held_grown links further None received grows h = h
 held_grown links further (Some partner) received grows h =
     let g = grows partner h.0 h.1 in
-    (g.link, g.there, λ n p at. ap (λ (x : List Piece). slice_get x n) g.given ∙ slice_get-append h.0.flow.given g.more n p (h.2 n p at))
+    (g.link, g.there, λ n p at. ap (λ (x : List Piece). slice_get x n) g.given ∙ slice_get-append h.0.segments.given g.more n p (h.2 n p at))
 
 -- ---- one end
 
-pub record IsSoundEnd (own other : List (Option SentMessage)) (front : ℕ) (others : List (LinkOf TrueFlow)) (i : ℕ) (l : LinkOf TrueFlow) : Type 0
+pub record IsSoundEnd (own other : List (Option SentMessage)) (front : ℕ) (others : List (LinkOf TrueSegments)) (i : ℕ)
+    (l : LinkOf TrueSegments) : Type 0
   where
-    pub flow : IsSoundFlow l.flow
+    pub segments : AreSoundSegments l.segments
     pub present : IsPresent view limits own other front (numbers_of i l)
     -- also what came behind a gap was given by then
-    pub came : ReceivedFrom view other front (record (numbers_of i l) { received = length l.flow.received })
+    pub came : ReceivedFrom view other front (record (numbers_of i l) { received = length l.segments.received })
     pub calling : is_calling l.port.phase ≡ true → l.partner ≡ None
-    pub held : HeldFrom l.partner l.flow.received others
-    pub none : l.partner ≡ None → l.flow.acknowledged ≡ 0
+    pub held : HeldFrom l.partner l.segments.received others
+    pub none : l.partner ≡ None → l.segments.acknowledged ≡ 0
 
 -- the numbers of one that received more
 raised : (own other : List (Option SentMessage)) (front received : ℕ) (now : Numbers) → now.received ≤ received →
@@ -139,19 +140,20 @@ raised own other front received now more from p = record {
   acknowledged_from = p.acknowledged_from;
 }
 
-module _ (own other : List (Option SentMessage)) (front : ℕ) (others : List (LinkOf TrueFlow)) (i : ℕ) where
+module _ (own other : List (Option SentMessage)) (front : ℕ) (others : List (LinkOf TrueSegments)) (i : ℕ) where
   -- its port changes, and it is not in Calling but where it was
-  pub end_port : (l : LinkOf TrueFlow) (port : Port) → (is_calling port.phase ≡ true → is_calling l.port.phase ≡ true) →
+  pub end_port : (l : LinkOf TrueSegments) (port : Port) → (is_calling port.phase ≡ true → is_calling l.port.phase ≡ true) →
       IsSoundEnd own other front others i l → IsSoundEnd own other front others i (record l { port = port })
   end_port l port calling h =
-      record { flow = h.flow; present = h.present; came = h.came; calling = λ e. h.calling (calling e); held = h.held; none = h.none }
+      record { segments = h.segments; present = h.present; came = h.came; calling = λ e. h.calling (calling e); held = h.held; none = h.none }
 
   -- what is handed in or delivered changes nothing of its numbers
-  pub end_flow : (l : LinkOf TrueFlow) (f : TrueFlow) → IsSoundFlow f → f.given ≡ l.flow.given → f.received ≡ l.flow.received →
-      f.acknowledged ≡ l.flow.acknowledged → f.last ≡ l.flow.last → IsSoundEnd own other front others i l →
-      IsSoundEnd own other front others i (with_flow f l)
-  end_flow l f sound given received acknowledged last h = record {
-    flow = sound;
+  pub end_segments : (l : LinkOf TrueSegments) (f : TrueSegments) → AreSoundSegments f → f.given ≡ l.segments.given →
+      f.received ≡ l.segments.received →
+      f.acknowledged ≡ l.segments.acknowledged → f.last ≡ l.segments.last → IsSoundEnd own other front others i l →
+      IsSoundEnd own other front others i (with_segments f l)
+  end_segments l f sound given received acknowledged last h = record {
+    segments = sound;
     present = subst (IsPresent view limits own other front) numbers h.present;
     came = subst (λ (x : List (Option Piece)). ReceivedFrom view other front (record (numbers_of i l) { received = length x })) (sym received) h.came;
     calling = h.calling;
@@ -159,7 +161,7 @@ module _ (own other : List (Option SentMessage)) (front : ℕ) (others : List (L
     none = λ e. acknowledged ∙ h.none e;
   }
     where
-      numbers : numbers_of i l ≡ numbers_of i (with_flow f l)
+      numbers : numbers_of i l ≡ numbers_of i (with_segments f l)
       numbers =
           ap (λ (x : List Piece). record (numbers_of i l) { given = length x }) (sym given)
           ∙ ap (λ (x : List (Option Piece)). record (numbers_of i l) { given = length f.given; received = in_order x }) (sym received)
@@ -167,29 +169,29 @@ module _ (own other : List (Option SentMessage)) (front : ℕ) (others : List (L
           ∙ ap (λ (x : ℕ). record (numbers_of i l) { given = length f.given; received = highest_received f; acknowledged = f.acknowledged; last = x })
           (sym last)
 
-  module _ (l : LinkOf TrueFlow) (h : IsSoundEnd own other front others i l) where
-    pub present_raised : IsPresent view limits own other front (record (numbers_of i l) { received = length l.flow.received })
-    present_raised = raised own other front (length l.flow.received) (numbers_of i l) (within_all l.flow.received) h.came h.present
+  module _ (l : LinkOf TrueSegments) (h : IsSoundEnd own other front others i l) where
+    pub present_raised : IsPresent view limits own other front (record (numbers_of i l) { received = length l.segments.received })
+    present_raised = raised own other front (length l.segments.received) (numbers_of i l) (within_all l.segments.received) h.came h.present
 
     -- the other side's links grow
-    pub end_grown : (further : List (LinkOf TrueFlow)) → Grows others further → IsSoundEnd own other front further i l
+    pub end_grown : (further : List (LinkOf TrueSegments)) → Grows others further → IsSoundEnd own other front further i l
     end_grown further grows =
         record {
-          flow = h.flow;
+          segments = h.segments;
           present = h.present;
           came = h.came;
           calling = h.calling;
           held =
-              held_grown others further l.partner l.flow.received grows h.held;
+              held_grown others further l.partner l.segments.received grows h.held;
           none = h.none;
         }
 
     -- the other side sends
     pub end_beside : (x : Option SentMessage) → IsSoundEnd own (other ++ x ∷ []) front others i l
     end_beside x = record {
-      flow = h.flow;
+      segments = h.segments;
       present = present_beside view limits other x own front (numbers_of i l) h.present;
-      came = (present_beside view limits other x own front (record (numbers_of i l) { received = length l.flow.received })
+      came = (present_beside view limits other x own front (record (numbers_of i l) { received = length l.segments.received })
           present_raised).received_from;
       calling = h.calling;
       held = h.held;
@@ -199,9 +201,9 @@ module _ (own other : List (Option SentMessage)) (front : ℕ) (others : List (L
     -- this side keeps a packet
     pub end_further : (front' : ℕ) → front ≤ front' → IsSoundEnd own other front' others i l
     end_further front' further = record {
-      flow = h.flow;
+      segments = h.segments;
       present = present_further view limits own other front front' (numbers_of i l) h.present further;
-      came = (present_further view limits own other front front' (record (numbers_of i l) { received = length l.flow.received }) present_raised
+      came = (present_further view limits own other front front' (record (numbers_of i l) { received = length l.segments.received }) present_raised
           further).received_from;
       calling = h.calling;
       held = h.held;
@@ -223,11 +225,11 @@ present_aside own other front now x differs p = record {
     go i m same (inl at) = p.up_to i m at same
     go i m same (inr e) = absurd (differs (ap (λ (y : Option SentMessage). (view y).sender.name) e.1 ∙ same))
 
-pub end_aside : (own other : List (Option SentMessage)) (front : ℕ) (others : List (LinkOf TrueFlow)) (i : ℕ) (l : LinkOf TrueFlow)
+pub end_aside : (own other : List (Option SentMessage)) (front : ℕ) (others : List (LinkOf TrueSegments)) (i : ℕ) (l : LinkOf TrueSegments)
     (x : Option SentMessage) → ((view x).sender.name ≡ i + 1 → ⊥) → IsSoundEnd own other front others i l →
     IsSoundEnd (own ++ x ∷ []) other front others i l
 end_aside own other front others i l x differs h = record {
-  flow = h.flow;
+  segments = h.segments;
   present = present_aside own other front (numbers_of i l) x differs h.present;
   came = h.came;
   calling = h.calling;

@@ -9,29 +9,29 @@ use Rattle.dna_packet.specs.Nsp.{NspValue}
 use Rattle.dna_links.specs.declared.port.Phase.{Phase}
 use Rattle.dna_links.specs.declared.port.Phase.TheVariants.{Calling, Running}
 use Rattle.dna_links.specs.LookUps.{is_at, is_live, is_called, is_calling, is_connected, has_both}
-use Rattle.dna_links.specs.Links.{LinkOf, LinkTruth, changed, in_phase, with_flow, ended}
+use Rattle.dna_links.specs.Links.{LinkOf, LinkTruth, changed, in_phase, with_segments, ended}
 use Rattle.dna_links.specs.User.{LinkEventValue}
 use Rattle.dna_links.specs.Sending.{Sent}
 use Rattle.dna_links.specs.Arriving.{of_partner, called, confirmed}
-use Rattle.dna_links.specs.TrueFlow.{TrueFlow, Numbers, true_flows}
-use Rattle.dna_links.specs.TrueFlow as flow
+use Rattle.dna_links.specs.TrueSegments.{TrueSegments, Numbers, true_segments}
+use Rattle.dna_links.specs.TrueSegments as segments
 use Rattle.dna_links.specs.TrueLinks.{Links}
 use Rattle.dna_links.specs.Captures.{given_address, behind, AreRead}
 use Rattle.dna_links.proofs.Tables.Outcomes.{SentDid, OfNone, Stays, EndsCalled, Segment, Acks, ArrivedDid, Ignores, Begins, Confirms, Ends}
 use Rattle.dna_links.proofs.Tables.Outcomes.{TakesSegment, TakesAcks, TakesOther}
-use Rattle.dna_links.proofs.Runs.Sends.{IsSoundFlow, acks_sent, segment_sent}
+use Rattle.dna_links.proofs.Runs.Sends.{AreSoundSegments, acks_sent, segment_sent}
 use Rattle.dna_links.proofs.Runs.Sides.{all_set, all_pushed}
 use Rattle.dna_links.proofs.Runs.Reads.{given_again, later_gives, HoldsFrom, HoldsAt, IsOwned, owned_same, gives_is}
 
-pub record AreOwned (events : List LinkEventValue) (links : List (LinkOf TrueFlow)) : Type 0 where
+pub record AreOwned (events : List LinkEventValue) (links : List (LinkOf TrueSegments)) : Type 0 where
   pub place_of : ℕ → Option ℕ
-  pub owned : (i : ℕ) (link : LinkOf TrueFlow) → slice_get links i ≡ Some link → IsOwned events (place_of i) link
+  pub owned : (i : ℕ) (link : LinkOf TrueSegments) → slice_get links i ≡ Some link → IsOwned events (place_of i) link
   pub within : (i place : ℕ) → place_of i ≡ Some place → i < length links
   pub once : (i j place : ℕ) → place_of i ≡ Some place → place_of j ≡ Some place → i ≡ j
   pub all : (place own : ℕ) (event : LinkEventValue) → slice_get events place ≡ Some event → given_address event ≡ Some own →
       (i : ℕ) × (place_of i ≡ Some place)
 
-pub owned_read : (events : List LinkEventValue) (links : List (LinkOf TrueFlow)) → AreOwned events links → AreRead events links
+pub owned_read : (events : List LinkEventValue) (links : List (LinkOf TrueSegments)) → AreOwned events links → AreRead events links
 owned_read events links o =
     record { place_of = o.place_of; read = λ i link at. (o.owned i link at).read; within = o.within; once = o.once; all = o.all }
 
@@ -59,10 +59,10 @@ there_is (x ∷ xs) zero less = (x, refl)
 there_is (x ∷ xs) (suc i) less = there_is xs i (omega arith)
 
 -- what comes keeps what was handed in and delivered
-pub fold_same : (acks : List ℕ) (f : TrueFlow) → ((fold flow.acknowledged_through f acks).handed ≡ f.handed) ×
-    ((fold flow.acknowledged_through f acks).delivered ≡ f.delivered)
+pub fold_same : (acks : List ℕ) (f : TrueSegments) → ((fold segments.acknowledged_through f acks).handed ≡ f.handed) ×
+    ((fold segments.acknowledged_through f acks).delivered ≡ f.delivered)
 fold_same [] f = (refl, refl)
-fold_same (ack ∷ acks) f = let r = fold_same acks (flow.acknowledged_through f ack) in let t = one _ in (r.0 ∙ t.0, r.1 ∙ t.1)
+fold_same (ack ∷ acks) f = let r = fold_same acks (segments.acknowledged_through f ack) in let t = one _ in (r.0 ∙ t.0, r.1 ∙ t.1)
   where
     one : (b : Bool) → ((cond b (record f { acknowledged = ack }) f).handed ≡ f.handed) ×
         ((cond b (record f { acknowledged = ack }) f).delivered ≡ f.delivered)
@@ -85,7 +85,7 @@ module _ (events : List LinkEventValue) (s : Links) (o : AreOwned events s.links
       slice_get_within events k h.event h.there
 
   -- at most one link has an address
-  pub unique : (i j own : ℕ) (l m : LinkOf TrueFlow) → slice_get s.links i ≡ Some l → slice_get s.links j ≡ Some m → l.port.own ≡ Some own →
+  pub unique : (i j own : ℕ) (l m : LinkOf TrueSegments) → slice_get s.links i ≡ Some l → slice_get s.links j ≡ Some m → l.port.own ≡ Some own →
       m.port.own ≡ Some own → i ≡ j
   unique i j own l m at_i at_j own_l own_m = go (o.place_of i) (o.place_of j) refl refl (o.owned i l at_i).holds (o.owned j m at_j).holds
     where
@@ -123,63 +123,66 @@ module _ (events : List LinkEventValue) (s : Links) (o : AreOwned events s.links
 
   -- ---- no event
 
-  owned_links : (links : List (LinkOf TrueFlow)) → length s.links ≤ length links →
-      ((i : ℕ) (link : LinkOf TrueFlow) → slice_get links i ≡ Some link → IsOwned events (o.place_of i) link) → AreOwned events links
+  owned_links : (links : List (LinkOf TrueSegments)) → length s.links ≤ length links →
+      ((i : ℕ) (link : LinkOf TrueSegments) → slice_get links i ≡ Some link → IsOwned events (o.place_of i) link) → AreOwned events links
   owned_links links longer owned =
       record { place_of = o.place_of; owned = owned; within = λ i place at. let w = o.within i place at in omega arith; once = o.once; all = o.all }
 
   -- a link changes, and keeps its address and messages
-  one_owned : (number : ℕ) (link left : LinkOf TrueFlow) → slice_get s.links number ≡ Some link → left.port.own ≡ link.port.own →
-      left.flow.handed ≡ link.flow.handed → left.flow.delivered ≡ link.flow.delivered →
+  one_owned : (number : ℕ) (link left : LinkOf TrueSegments) → slice_get s.links number ≡ Some link → left.port.own ≡ link.port.own →
+      left.segments.handed ≡ link.segments.handed → left.segments.delivered ≡ link.segments.delivered →
       (is_called left.port.phase ≡ true → is_called link.port.phase ≡ true) →
-      (is_live left.port.phase ≡ true → left.port.own ≡ None → left.flow.received ≡ []) → AreOwned events (changed number left s).links
+      (is_live left.port.phase ≡ true → left.port.own ≡ None → left.segments.received ≡ []) → AreOwned events (changed number left s).links
   one_owned number link left there own handed up called fresh =
       owned_links (slice_set s.links number left) (let l = length-set s.links number left in omega arith)
-      (all_set (λ (i : ℕ) (l : LinkOf TrueFlow). IsOwned events (o.place_of i) l) s.links number left
+      (all_set (λ (i : ℕ) (l : LinkOf TrueSegments). IsOwned events (o.place_of i) l) s.links number left
       (owned_same events (o.place_of number) link left own handed up called fresh (o.owned number link there)) o.owned)
 
-  pub sent_owned : (m : NspValue) (made : Sent TrueFlow Numbers) →
-      ((number : ℕ) (link : LinkOf TrueFlow) → slice_get s.links number ≡ Some link → IsSoundFlow link.flow) → SentDid true_flows s m made →
+  pub sent_owned : (m : NspValue) (made : Sent TrueSegments Numbers) →
+      ((number : ℕ) (link : LinkOf TrueSegments) → slice_get s.links number ≡ Some link → AreSoundSegments link.segments) →
+      SentDid true_segments s m made →
       AreOwned events made.links.links
   sent_owned m made sound (OfNone none) = o
   sent_owned m made sound (Stays number link none there) = o
   sent_owned m made sound (EndsCalled far reason number link none is found) =
-      one_owned number link (ended true_flows link) found.there refl refl refl (λ c. absurd cc) (λ live. absurd cc)
+      one_owned number link (ended true_segments link) found.there refl refl refl (λ c. absurd cc) (λ live. absurd cc)
   sent_owned m made sound (Segment segment number link sent is found run does) =
-      let t = (segment_sent link.flow (sound number link found.there) link.segsize segment sent does).sends in
-      one_owned number link (with_flow sent.flow link) found.there refl t.handed t.delivered (λ c. c)
+      let t = (segment_sent link.segments (sound number link found.there) link.segsize segment sent does).sends in
+      one_owned number link (with_segments sent.segments link) found.there refl t.handed t.delivered (λ c. c)
       (λ live none. t.received ∙ (o.owned number link found.there).fresh live none)
   sent_owned m made sound (Acks dst src acks number link sent is found run does) =
-      let t = (acks_sent link.flow (sound number link found.there) acks sent does).sends in
-      one_owned number link (with_flow sent.flow link) found.there refl t.handed t.delivered (λ c. c)
+      let t = (acks_sent link.segments (sound number link found.there) acks sent does).sends in
+      one_owned number link (with_segments sent.segments link) found.there refl t.handed t.delivered (λ c. c)
       (λ live none. t.received ∙ (o.owned number link found.there).fresh live none)
 
-  pub arrived_owned : (m : NspValue) (truth : LinkTruth Numbers) (left : Links) → ArrivedDid true_flows of_partner s m truth left →
+  pub arrived_owned : (m : NspValue) (truth : LinkTruth Numbers) (left : Links) → ArrivedDid true_segments of_partner s m truth left →
       AreOwned events left.links
   arrived_owned m truth left Ignores = o
   arrived_owned m truth left (Begins far segsize is none) =
-      let l = called true_flows of_partner far segsize truth.tag in
+      let l = called true_segments of_partner far segsize truth.tag in
       owned_links (s.links ++ l ∷ []) (let e = length-append s.links (l ∷ []) in omega arith)
-      (all_pushed (λ (i : ℕ) (l : LinkOf TrueFlow). IsOwned events (o.place_of i) l) s.links l
+      (all_pushed (λ (i : ℕ) (l : LinkOf TrueSegments). IsOwned events (o.place_of i) l) s.links l
       (subst (λ (p : Option ℕ). IsOwned events p l) (sym place_beyond)
       (record { read = record { handed = refl; up = refl }; holds = refl; called = λ c. refl; fresh = λ live none. refl })) o.owned)
   arrived_owned m truth left (Confirms own far segsize number link is found for) =
       let calling = (and_parts (is_calling link.port.phase) (is_at link.port.own own) found.passed).0 in
-      one_owned number link (confirmed true_flows of_partner far segsize truth.tag link) found.there refl refl refl (λ c. absurd cc)
+      one_owned number link (confirmed true_segments of_partner far segsize truth.tag link) found.there refl refl refl (λ c. absurd cc)
       (λ live none. (o.owned number link found.there).fresh (calling_live link.port.phase calling) none)
   arrived_owned m truth left (Ends test number link found) =
-      one_owned number link (ended true_flows link) found.there refl refl refl (λ c. absurd cc) (λ live. absurd cc)
+      one_owned number link (ended true_segments link) found.there refl refl refl (λ c. absurd cc) (λ live. absurd cc)
   arrived_owned m truth left (TakesSegment own far segment number link is found pair) =
       let both = and_parts (is_at link.port.own own) (is_at link.port.far far)
       (and_parts (is_connected link.port.phase) (has_both link.port own far) found.passed).1 in
-      let f = fold_same truth.known.acknowledgements link.flow in
-      one_owned number link (with_flow (flow.takes_segment segment truth.known link.flow) (in_phase Running link)) found.there refl f.0 f.1
+      let f = fold_same truth.known.acknowledgements link.segments in
+      one_owned number link
+      (with_segments (segments.takes_segment segment truth.known link.segments) (in_phase Running link)) found.there refl f.0 f.1
       (λ c. absurd cc) (λ live none. absurd (none_at link.port.own own both.0 none))
   arrived_owned m truth left (TakesAcks own far dst src acks number link is found pair) =
       let both = and_parts (is_at link.port.own own) (is_at link.port.far far)
       (and_parts (is_connected link.port.phase) (has_both link.port own far) found.passed).1 in
-      let f = fold_same truth.known.acknowledgements link.flow in
-      one_owned number link (with_flow (flow.takes_acks acks truth.known link.flow) (in_phase Running link)) found.there refl f.0 f.1 (λ c. absurd cc)
+      let f = fold_same truth.known.acknowledgements link.segments in
+      one_owned number link (with_segments (segments.takes_acks acks truth.known link.segments) (in_phase Running link)) found.there refl f.0 f.1
+      (λ c. absurd cc)
       (λ live none. absurd (none_at link.port.own own both.0 none))
   arrived_owned m truth left (TakesOther own far number link found pair) =
       let both = and_parts (is_at link.port.own own) (is_at link.port.far far)

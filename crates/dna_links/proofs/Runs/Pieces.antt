@@ -10,7 +10,7 @@ use Rattle.two_nodes.proofs.Order.{slice_get-append}
 use Rattle.two_nodes.specs.Beginning.{BeginsWith}
 use Rattle.dna_links.specs.Pieces.{Piece, alike, Unsent, is_piece_of, is_next_of, is_next_piece, left_of, without_piece, hold, Whole, with_piece}
 use Rattle.dna_links.specs.Pieces.{next_message}
-use Rattle.dna_links.specs.TrueFlow.{TrueFlow, hands_in, delivered_as, delivers_whole, delivers}
+use Rattle.dna_links.specs.TrueSegments.{TrueSegments, hands_in, delivered_as, delivers_whole, delivers}
 use Rattle.dna_links.specs.Delivery.{whole, unfinished, with_begun, IsCut}
 
 -- ---- pieces behind pieces
@@ -39,7 +39,7 @@ unfinished-append begun (p ∷ ps) qs = go p.ends (unfinished-append [] ps qs) (
 
 -- ---- what was given is a cut of what was handed in
 
-pub cut_handed : (message : List ℕ) (f : TrueFlow) → IsCut f → IsCut (hands_in message f)
+pub cut_handed : (message : List ℕ) (f : TrueSegments) → IsCut f → IsCut (hands_in message f)
 cut_handed message f c = record { all = go f.unsent.messages c.all c.none_left; none_left = λ e. absurd (some_left f.unsent.messages e) }
   where
     some_left : (ms : List (List ℕ)) → ms ++ message ∷ [] ≡ [] → ⊥
@@ -93,7 +93,7 @@ after_piece begun p rest later n = go p.ends n.ends
       λ e. absurd cc,
     )
 
-pub cut_given : (p : Piece) (f g : TrueFlow) → IsCut f → is_next_piece p f.unsent ≡ true → g.handed ≡ f.handed → g.given ≡ f.given ++ p ∷ [] →
+pub cut_given : (p : Piece) (f g : TrueSegments) → IsCut f → is_next_piece p f.unsent ≡ true → g.handed ≡ f.handed → g.given ≡ f.given ++ p ∷ [] →
     g.unsent ≡ without_piece p f.unsent → IsCut g
 cut_given p f g c next handed given unsent = go f.unsent.messages c.all next (ap (λ (u : Unsent). u.messages) unsent)
   where
@@ -118,7 +118,7 @@ cut_given p f g c next handed given unsent = go f.unsent.messages c.all next (ap
 -- ---- what was delivered
 
 -- the pieces that were delivered are the first ones that came, and make whole messages
-pub record IsPassed (f : TrueFlow) : Type 0 where
+pub record IsPassed (f : TrueSegments) : Type 0 where
   pub first : List Piece
   pub rest : List (Option Piece)
   pub are : f.received ≡ map Some first ++ rest
@@ -133,7 +133,7 @@ hold_behind [] rest n p = (hold n p rest, refl)
 hold_behind (q ∷ first) rest zero p = (rest, refl)
 hold_behind (q ∷ first) rest (suc n) p = let h = hold_behind first rest n p in (h.0, ap (λ (x : List (Option Piece)). Some q ∷ x) h.1)
 
-pub passed_held : (f : TrueFlow) (n : ℕ) (p : Piece) → IsPassed f → IsPassed (record f { received = hold n p f.received })
+pub passed_held : (f : TrueSegments) (n : ℕ) (p : Piece) → IsPassed f → IsPassed (record f { received = hold n p f.received })
 passed_held f n p d =
     let h = hold_behind d.first d.rest n p in
     record { first = d.first; rest = h.0; are = ap (hold n p) d.are ∙ h.1; many = d.many; make = d.make; wholly = d.wholly }
@@ -185,13 +185,13 @@ next_whole begun (Some p ∷ pieces) w e = go p.ends refl (λ w e. next_whole (b
     go b ends later e = one b ends w later (next_message pieces) refl e
 
 -- what delivery changes
-pub record Delivered (message : List ℕ) (f g : TrueFlow) : Type 0 where
+pub record Delivered (message : List ℕ) (f g : TrueSegments) : Type 0 where
   pub w : Whole
   pub next : next_message (drop f.passed f.received) ≡ Some w
   pub message_is : message ≡ w.message
   pub is : g ≡ record f { delivered = f.delivered ++ w.message ∷ []; passed = f.passed + w.pieces }
 
-pub delivered_is : (message : List ℕ) (f g : TrueFlow) → delivers message f ≡ Some g → Delivered message f g
+pub delivered_is : (message : List ℕ) (f g : TrueSegments) → delivers message f ≡ Some g → Delivered message f g
 delivered_is message f g e = go _ refl e
   where
     same : (w : Whole) (b : Bool) → next_message (drop f.passed f.received) ≡ Some w → bytes_eq message w.message ≡ b → delivered_as b w f ≡ Some g →
@@ -203,7 +203,7 @@ delivered_is message f g e = go _ refl e
     go None next e = absurd cc
     go (Some w) next e = same w _ next refl e
 
-pub passed_delivered : (message : List ℕ) (f g : TrueFlow) → IsPassed f → Delivered message f g → IsPassed g
+pub passed_delivered : (message : List ℕ) (f g : TrueSegments) → IsPassed f → Delivered message f g → IsPassed g
 passed_delivered message f g d e = subst IsPassed (sym e.is) (record {
   first = d.first ++ n.first;
   rest = n.rest;
@@ -224,7 +224,7 @@ passed_delivered message f g d e = subst IsPassed (sym e.is) (record {
 -- ---- what was delivered is a beginning of what was handed in
 
 -- the pieces of a beginning make a beginning
-pub passed_begins : (f g : TrueFlow) → IsPassed f → IsCut g →
+pub passed_begins : (f g : TrueSegments) → IsPassed f → IsCut g →
     ((n : ℕ) (p : Piece) → slice_get f.received n ≡ Some (Some p) → slice_get g.given n ≡ Some p) → BeginsWith g.handed f.delivered
 passed_begins f g d c held =
     let b = beginning d.first g.given

@@ -9,11 +9,11 @@ use Rattle.dna_links.specs.declared.port.Phase.{Phase}
 use Rattle.dna_links.specs.declared.port.Phase.TheVariants.{Confirming, Running, Disconnecting}
 use Rattle.dna_links.specs.declared.port.LinkTest.TheVariants.{HasAddress, LiveAt}
 use Rattle.dna_links.specs.LookUps.{passes, is_at, is_live, is_called, is_connected}
-use Rattle.dna_links.specs.Links.{LinkOf, number_of, begun, changed, in_phase, with_flow, forgotten, freed}
+use Rattle.dna_links.specs.Links.{LinkOf, number_of, begun, changed, in_phase, with_segments, forgotten, freed}
 use Rattle.dna_links.specs.User.{LinkEventValue, Open, Accept, Reject, In, Up, Close, opened, answered}
 use Rattle.dna_links.specs.Arriving.{called}
-use Rattle.dna_links.specs.TrueFlow.{TrueFlow, Numbers, true_flows}
-use Rattle.dna_links.specs.TrueFlow as flow
+use Rattle.dna_links.specs.TrueSegments.{TrueSegments, Numbers, true_segments}
+use Rattle.dna_links.specs.TrueSegments as segments
 use Rattle.dna_links.specs.TrueLinks.{Links}
 use Rattle.dna_links.specs.Captures.{given_address, gives_address, message_in, message_up, handed_in, delivered_up, IsRead}
 use Rattle.two_nodes.proofs.NumberedSteps.{at_pushed}
@@ -27,8 +27,8 @@ module _ (events : List LinkEventValue) (s : Links) (o : AreOwned events s.links
   -- ---- an event that gives no address
 
   module _ (event : LinkEventValue) (gives_none : given_address event ≡ None) where
-    owned_event : (links : List (LinkOf TrueFlow)) → length s.links ≤ length links →
-        ((i : ℕ) (link : LinkOf TrueFlow) → slice_get links i ≡ Some link → IsOwned (events ++ event ∷ []) (o.place_of i) link) →
+    owned_event : (links : List (LinkOf TrueSegments)) → length s.links ≤ length links →
+        ((i : ℕ) (link : LinkOf TrueSegments) → slice_get links i ≡ Some link → IsOwned (events ++ event ∷ []) (o.place_of i) link) →
         AreOwned (events ++ event ∷ []) links
     owned_event links longer owned =
         record {
@@ -49,26 +49,30 @@ module _ (events : List LinkEventValue) (s : Links) (o : AreOwned events s.links
     gives_false own = ap (λ (x : Option ℕ). is_at x own) gives_none
 
     -- of a link at which it has no message
-    quiet : (i : ℕ) (l m : LinkOf TrueFlow) → slice_get s.links i ≡ Some l →
-        ((own : ℕ) → l.port.own ≡ Some own → (message_in own event ≡ []) × (message_up own event ≡ [])) → m.port.own ≡ l.port.own → m.flow ≡ l.flow →
+    quiet : (i : ℕ) (l m : LinkOf TrueSegments) → slice_get s.links i ≡ Some l →
+        ((own : ℕ) → l.port.own ≡ Some own → (message_in own event ≡ []) × (message_up own event ≡ [])) → m.port.own ≡ l.port.own →
+        m.segments ≡ l.segments →
         (is_called m.port.phase ≡ true → is_called l.port.phase ≡ true) → (is_live m.port.phase ≡ true → is_live l.port.phase ≡ true) →
         IsOwned (events ++ event ∷ []) (o.place_of i) m
     quiet i l m at silent own same called live = owned_more events event l m (o.place_of i) (o.owned i l at)
-        (λ none. record { handed = ap (λ (f : TrueFlow). f.handed) same; up = ap (λ (f : TrueFlow). f.delivered) same; own = own })
+        (λ none. record { handed = ap (λ (f : TrueSegments). f.handed) same; up = ap (λ (f : TrueSegments). f.delivered) same; own = own })
         (λ address is. let q = silent address is in record {
-          handed = ap (λ (f : TrueFlow). f.handed) same ∙ sym (append-nil l.flow.handed) ∙ ap (λ (x : List (List ℕ)). l.flow.handed ++ x) (sym q.0);
-          up = ap (λ (f : TrueFlow). f.delivered) same ∙ sym (append-nil l.flow.delivered) ∙ ap (λ (x : List (List ℕ)). l.flow.delivered ++ x)
+          handed = ap (λ (f : TrueSegments). f.handed) same ∙ sym (append-nil l.segments.handed) ∙ ap
+              (λ (x : List (List ℕ)). l.segments.handed ++ x) (sym q.0);
+          up = ap (λ (f : TrueSegments). f.delivered) same ∙ sym (append-nil l.segments.delivered) ∙ ap
+              (λ (x : List (List ℕ)). l.segments.delivered ++ x)
               (sym q.1);
           own = inl (own ∙ is, gives_false address);
         })
-        called (λ alive none. ap (λ (f : TrueFlow). f.received) same ∙ (o.owned i l at).fresh (live alive) (sym own ∙ none))
+        called (λ alive none. ap (λ (f : TrueSegments). f.received) same ∙ (o.owned i l at).fresh (live alive) (sym own ∙ none))
 
   -- a message is handed in at an address, or delivered there
-  module _ (event : LinkEventValue) (gives_none : given_address event ≡ None) (own number : ℕ) (link left : LinkOf TrueFlow)
+  module _ (event : LinkEventValue) (gives_none : given_address event ≡ None) (own number : ℕ) (link left : LinkOf TrueSegments)
       (there : slice_get s.links number ≡ Some link) (has : link.port.own ≡ Some own)
       (silent : (address : ℕ) → (own ≡ address → ⊥) → (message_in address event ≡ []) × (message_up address event ≡ []))
-      (same_port : left.port ≡ link.port) (same_received : left.flow.received ≡ link.flow.received)
-      (handed : left.flow.handed ≡ link.flow.handed ++ message_in own event) (up : left.flow.delivered ≡ link.flow.delivered ++ message_up own event)
+      (same_port : left.port ≡ link.port) (same_received : left.segments.received ≡ link.segments.received)
+      (handed : left.segments.handed ≡ link.segments.handed ++ message_in own event)
+      (up : left.segments.delivered ≡ link.segments.delivered ++ message_up own event)
     where
       message_owned : AreOwned (events ++ event ∷ []) (changed number left s).links
       message_owned = owned_event event gives_none (slice_set s.links number left) (let l = length-set s.links number left in omega arith)
@@ -78,14 +82,14 @@ module _ (events : List LinkEventValue) (s : Links) (o : AreOwned events s.links
           here = owned_more events event link left (o.place_of number) (o.owned number link there)
               (λ none. let e = sym has ∙ none in absurd cc)
               (λ address is. let same : own ≡ address = same_Some own address (sym has ∙ is) in record {
-                handed = handed ∙ ap (λ (n : ℕ). link.flow.handed ++ message_in n event) same;
-                up = up ∙ ap (λ (n : ℕ). link.flow.delivered ++ message_up n event) same;
+                handed = handed ∙ ap (λ (n : ℕ). link.segments.handed ++ message_in n event) same;
+                up = up ∙ ap (λ (n : ℕ). link.segments.delivered ++ message_up n event) same;
                 own = inl (ap (λ p. p.own) same_port ∙ is, gives_false event gives_none address);
               })
               (λ c. ap (λ p. is_called p.phase) (sym same_port) ∙ c)
               (λ live none. let e = sym has ∙ ap (λ p. p.own) (sym same_port) ∙ none in absurd cc)
 
-          go : (i : ℕ) (l : LinkOf TrueFlow) → ((i ≡ number) × (left ≡ l)) ⊎ ((i ≡ number → ⊥) × (slice_get s.links i ≡ Some l)) →
+          go : (i : ℕ) (l : LinkOf TrueSegments) → ((i ≡ number) × (left ≡ l)) ⊎ ((i ≡ number → ⊥) × (slice_get s.links i ≡ Some l)) →
               IsOwned (events ++ event ∷ []) (o.place_of i) l
           go i l (inl e) = subst (λ (j : ℕ). IsOwned (events ++ event ∷ []) (o.place_of j) l) (sym e.0)
               (subst (IsOwned (events ++ event ∷ []) (o.place_of number)) e.1 here)
@@ -106,50 +110,50 @@ module _ (events : List LinkEventValue) (s : Links) (o : AreOwned events s.links
     gives_other address differs = ap (λ (x : Option ℕ). is_at x address) gives ∙ ne_eqb own address differs
 
     -- a link with another address, or with none
-    other_owned : (i : ℕ) (l : LinkOf TrueFlow) → slice_get s.links i ≡ Some l → (l.port.own ≡ Some own → ⊥) →
+    other_owned : (i : ℕ) (l : LinkOf TrueSegments) → slice_get s.links i ≡ Some l → (l.port.own ≡ Some own → ⊥) →
         IsOwned (events ++ event ∷ []) (o.place_of i) l
     other_owned i l at differs = owned_more events event l l (o.place_of i) (o.owned i l at) (λ none. record { handed = refl; up = refl; own = refl })
         (λ address is. let q = giving_none event own gives address in record {
-          handed = sym (append-nil l.flow.handed) ∙ ap (λ (x : List (List ℕ)). l.flow.handed ++ x) (sym q.0);
-          up = sym (append-nil l.flow.delivered) ∙ ap (λ (x : List (List ℕ)). l.flow.delivered ++ x) (sym q.1);
+          handed = sym (append-nil l.segments.handed) ∙ ap (λ (x : List (List ℕ)). l.segments.handed ++ x) (sym q.0);
+          up = sym (append-nil l.segments.delivered) ∙ ap (λ (x : List (List ℕ)). l.segments.delivered ++ x) (sym q.1);
           own = inl (is, gives_other address (λ same. differs (is ∙ ap Some (sym same))));
         })
         (λ c. c) (o.owned i l at).fresh
 
     -- the link that had the address
-    forgotten_owned : (i : ℕ) (l : LinkOf TrueFlow) → slice_get s.links i ≡ Some l → l.port.own ≡ Some own →
-        IsOwned (events ++ event ∷ []) (o.place_of i) (forgotten true_flows l)
+    forgotten_owned : (i : ℕ) (l : LinkOf TrueSegments) → slice_get s.links i ≡ Some l → l.port.own ≡ Some own →
+        IsOwned (events ++ event ∷ []) (o.place_of i) (forgotten true_segments l)
     forgotten_owned i l at has =
-        owned_more events event l (forgotten true_flows l) (o.place_of i) (o.owned i l at) (λ none. let e = sym has ∙ none in absurd cc)
+        owned_more events event l (forgotten true_segments l) (o.place_of i) (o.owned i l at) (λ none. let e = sym has ∙ none in absurd cc)
         (λ address is. let q = giving_none event own gives address in record {
-          handed = sym (append-nil l.flow.handed) ∙ ap (λ (x : List (List ℕ)). l.flow.handed ++ x) (sym q.0);
-          up = sym (append-nil l.flow.delivered) ∙ ap (λ (x : List (List ℕ)). l.flow.delivered ++ x) (sym q.1);
+          handed = sym (append-nil l.segments.handed) ∙ ap (λ (x : List (List ℕ)). l.segments.handed ++ x) (sym q.0);
+          up = sym (append-nil l.segments.delivered) ∙ ap (λ (x : List (List ℕ)). l.segments.delivered ++ x) (sym q.1);
           own = inr (refl, gives_is address event (gives ∙ sym has ∙ is));
         })
         (λ c. c) (λ live none. absurd (dead live))
       where
         dead : is_live l.port.phase ≡ true → ⊥
         dead live =
-            let f = position_none (λ (k : LinkOf TrueFlow). passes (LiveAt own) k.port) s.links i l free at in
+            let f = position_none (λ (k : LinkOf TrueSegments). passes (LiveAt own) k.port) s.links i l free at in
             let t : (is_live l.port.phase && is_at l.port.own own) ≡ true =
             and_from _ _ live (ap (λ (x : Option ℕ). is_at x own) has ∙ eq-eqb own own refl) in
             absurd cc
 
     -- all links, once the address is free
-    freed_owned : (i : ℕ) (l : LinkOf TrueFlow) → slice_get (freed true_flows own s).links i ≡ Some l →
+    freed_owned : (i : ℕ) (l : LinkOf TrueSegments) → slice_get (freed true_segments own s).links i ≡ Some l →
         IsOwned (events ++ event ∷ []) (o.place_of i) l
-    freed_owned = looked (HasAddress own) s s (λ number link. changed number (forgotten true_flows link) s) (freed true_flows own s) refl
-        (λ none e. subst (λ (x : Links). (i : ℕ) (l : LinkOf TrueFlow) → slice_get x.links i ≡ Some l →
+    freed_owned = looked (HasAddress own) s s (λ number link. changed number (forgotten true_segments link) s) (freed true_segments own s) refl
+        (λ none e. subst (λ (x : Links). (i : ℕ) (l : LinkOf TrueSegments) → slice_get x.links i ≡ Some l →
         IsOwned (events ++ event ∷ []) (o.place_of i) l) e
         (λ i l at. other_owned i l at
-        (λ has. let f = position_none (λ (k : LinkOf TrueFlow). passes (HasAddress own) k.port) s.links i l none at in
+        (λ has. let f = position_none (λ (k : LinkOf TrueSegments). passes (HasAddress own) k.port) s.links i l none at in
         let t = ap (λ (x : Option ℕ). is_at x own) has ∙ eq-eqb own own refl in absurd cc)))
         (λ number link found e. subst
-        (λ (x : Links). (i : ℕ) (l : LinkOf TrueFlow) → slice_get x.links i ≡ Some l → IsOwned (events ++ event ∷ []) (o.place_of i) l) e
-        (λ i l at. go number link found i l (at_set s.links number i (forgotten true_flows link) l at)))
+        (λ (x : Links). (i : ℕ) (l : LinkOf TrueSegments) → slice_get x.links i ≡ Some l → IsOwned (events ++ event ∷ []) (o.place_of i) l) e
+        (λ i l at. go number link found i l (at_set s.links number i (forgotten true_segments link) l at)))
       where
-        go : (number : ℕ) (link : LinkOf TrueFlow) → IsFound (HasAddress own) s number link → (i : ℕ) (l : LinkOf TrueFlow) →
-            ((i ≡ number) × (forgotten true_flows link ≡ l)) ⊎ ((i ≡ number → ⊥) × (slice_get s.links i ≡ Some l)) →
+        go : (number : ℕ) (link : LinkOf TrueSegments) → IsFound (HasAddress own) s number link → (i : ℕ) (l : LinkOf TrueSegments) →
+            ((i ≡ number) × (forgotten true_segments link ≡ l)) ⊎ ((i ≡ number → ⊥) × (slice_get s.links i ≡ Some l)) →
             IsOwned (events ++ event ∷ []) (o.place_of i) l
         go number link found i l (inl e) =
             subst (λ (j : ℕ). IsOwned (events ++ event ∷ []) (o.place_of j) l) (sym e.0)
@@ -158,16 +162,16 @@ module _ (events : List LinkEventValue) (s : Links) (o : AreOwned events s.links
         go number link found i l (inr e) =
             other_owned i l e.1 (λ has. e.0 (unique events s o i number own l link e.1 found.there has (at_is link.port.own own found.passed)))
 
-    same_long : length (freed true_flows own s).links ≡ length s.links
-    same_long = looked (HasAddress own) s s (λ number link. changed number (forgotten true_flows link) s) (freed true_flows own s) refl
+    same_long : length (freed true_segments own s).links ≡ length s.links
+    same_long = looked (HasAddress own) s s (λ number link. changed number (forgotten true_segments link) s) (freed true_segments own s) refl
         (λ none e. ap (λ (x : Links). length x.links) (sym e))
-        (λ number link found e. ap (λ (x : Links). length x.links) (sym e) ∙ length-set s.links number (forgotten true_flows link))
+        (λ number link found e. ap (λ (x : Links). length x.links) (sym e) ∙ length-set s.links number (forgotten true_segments link))
 
     -- one link gets this place, and had none
-    module _ (number : ℕ) (left : LinkOf TrueFlow) (links : List (LinkOf TrueFlow)) (none : o.place_of number ≡ None)
+    module _ (number : ℕ) (left : LinkOf TrueSegments) (links : List (LinkOf TrueSegments)) (none : o.place_of number ≡ None)
         (here : slice_get links number ≡ Some left) (longer : length s.links ≤ length links) (has : left.port.own ≡ Some own)
-        (not_called : is_called left.port.phase ≡ false) (handed : left.flow.handed ≡ []) (up : left.flow.delivered ≡ [])
-        (others : (i : ℕ) (l : LinkOf TrueFlow) → slice_get links i ≡ Some l → ((i ≡ number) × (left ≡ l)) ⊎
+        (not_called : is_called left.port.phase ≡ false) (handed : left.segments.handed ≡ []) (up : left.segments.delivered ≡ [])
+        (others : (i : ℕ) (l : LinkOf TrueSegments) → slice_get links i ≡ Some l → ((i ≡ number) × (left ≡ l)) ⊎
         ((i ≡ number → ⊥) × IsOwned (events ++ event ∷ []) (o.place_of i) l)) where
       abbrev placed : ℕ → Option ℕ
       placed i = cond (i == number) (Some (length events)) (o.place_of i)
@@ -209,7 +213,7 @@ module _ (events : List LinkEventValue) (s : Links) (o : AreOwned events s.links
         all = λ place address e at g. all_at place address e g (at_pushed events event e place at);
       }
         where
-          own_at : (i : ℕ) (l : LinkOf TrueFlow) → ((i ≡ number) × (left ≡ l)) ⊎
+          own_at : (i : ℕ) (l : LinkOf TrueSegments) → ((i ≡ number) × (left ≡ l)) ⊎
               ((i ≡ number → ⊥) × IsOwned (events ++ event ∷ []) (o.place_of i) l) → IsOwned (events ++ event ∷ []) (placed i) l
           own_at i l (inl e) =
               subst (λ (p : Option ℕ). IsOwned (events ++ event ∷ []) p l) (sym (ap placed e.0 ∙ placed_here))
@@ -239,43 +243,48 @@ module _ (events : List LinkEventValue) (s : Links) (o : AreOwned events s.links
           all_at place address e g (inr same) = (number, placed_here ∙ ap Some (sym same.0))
 
     -- the link in Called that is answered
-    answered_owned : (phase : Phase) (number : ℕ) (link : LinkOf TrueFlow) → slice_get s.links number ≡ Some link → is_called link.port.phase ≡ true →
-        is_called phase ≡ false → AreOwned (events ++ event ∷ []) (changed number (answered true_flows phase own link) (freed true_flows own s)).links
+    answered_owned : (phase : Phase) (number : ℕ) (link : LinkOf TrueSegments) → slice_get s.links number ≡ Some link →
+        is_called link.port.phase ≡ true →
+        is_called phase ≡ false →
+        AreOwned (events ++ event ∷ []) (changed number (answered true_segments phase own link) (freed true_segments own s)).links
     answered_owned phase number link there called not_called =
-        given_owned number (answered true_flows phase own link) (slice_set (freed true_flows own s).links number (answered true_flows phase own link))
-        none (let t = there_is (freed true_flows own s).links number
+        given_owned number (answered true_segments phase own link)
+        (slice_set (freed true_segments own s).links number (answered true_segments phase own link))
+        none (let t = there_is (freed true_segments own s).links number
         (let w = slice_get_within s.links number link there in let l = same_long in omega arith) in
-        set_same (freed true_flows own s).links number t.0 (answered true_flows phase own link) t.1)
-        (let l = length-set (freed true_flows own s).links number (answered true_flows phase own link) in let m = same_long in omega arith) refl
+        set_same (freed true_segments own s).links number t.0 (answered true_segments phase own link) t.1)
+        (let l = length-set (freed true_segments own s).links number (answered true_segments phase own link) in let m = same_long in omega arith) refl
         not_called neither.0 neither.1
-        (λ i l at. go i l (at_set (freed true_flows own s).links number i (answered true_flows phase own link) l at))
+        (λ i l at. go i l (at_set (freed true_segments own s).links number i (answered true_segments phase own link) l at))
       where
         none : o.place_of number ≡ None
         none = (o.owned number link there).called called
 
-        neither : (link.flow.handed ≡ []) × (link.flow.delivered ≡ [])
+        neither : (link.segments.handed ≡ []) × (link.segments.delivered ≡ [])
         neither = let r = subst (λ (p : Option ℕ). IsRead events link p) none (o.owned number link there).read in (r.handed, r.up)
 
-        go : (i : ℕ) (l : LinkOf TrueFlow) → ((i ≡ number) × (answered true_flows phase own link ≡ l)) ⊎
-            ((i ≡ number → ⊥) × (slice_get (freed true_flows own s).links i ≡ Some l)) →
-            ((i ≡ number) × (answered true_flows phase own link ≡ l)) ⊎ ((i ≡ number → ⊥) × IsOwned (events ++ event ∷ []) (o.place_of i) l)
+        go : (i : ℕ) (l : LinkOf TrueSegments) → ((i ≡ number) × (answered true_segments phase own link ≡ l)) ⊎
+            ((i ≡ number → ⊥) × (slice_get (freed true_segments own s).links i ≡ Some l)) →
+            ((i ≡ number) × (answered true_segments phase own link ≡ l)) ⊎ ((i ≡ number → ⊥) × IsOwned (events ++ event ∷ []) (o.place_of i) l)
         go i l (inl e) = inl e
         go i l (inr e) = inr (e.0, freed_owned i l e.1)
 
     -- the link that is opened
-    opened_owned : AreOwned (events ++ event ∷ []) (begun (opened true_flows own) (freed true_flows own s)).links
+    opened_owned : AreOwned (events ++ event ∷ []) (begun (opened true_segments own) (freed true_segments own s)).links
     opened_owned =
-        given_owned (length s.links) (opened true_flows own) ((freed true_flows own s).links ++ opened true_flows own ∷ []) (place_beyond events s o)
-        (ap (slice_get ((freed true_flows own s).links ++ opened true_flows own ∷ [])) (sym same_long) ∙
-        next_at (freed true_flows own s).links [] (opened true_flows own))
-        (let l = length-append (freed true_flows own s).links (opened true_flows own ∷ []) in let m = same_long in omega arith) refl refl refl refl
-        (λ i l at. go i l (at_pushed (freed true_flows own s).links (opened true_flows own) l i at))
+        given_owned (length s.links) (opened true_segments own) ((freed true_segments own s).links ++ opened true_segments own ∷ [])
+        (place_beyond events s o)
+        (ap (slice_get ((freed true_segments own s).links ++ opened true_segments own ∷ [])) (sym same_long) ∙
+        next_at (freed true_segments own s).links [] (opened true_segments own))
+        (let l = length-append (freed true_segments own s).links (opened true_segments own ∷ []) in let m = same_long in
+        omega arith) refl refl refl refl
+        (λ i l at. go i l (at_pushed (freed true_segments own s).links (opened true_segments own) l i at))
       where
-        go : (i : ℕ) (l : LinkOf TrueFlow) → (slice_get (freed true_flows own s).links i ≡ Some l) ⊎
-            ((i ≡ length (freed true_flows own s).links) × (opened true_flows own ≡ l)) →
-            ((i ≡ length s.links) × (opened true_flows own ≡ l)) ⊎ ((i ≡ length s.links → ⊥) × IsOwned (events ++ event ∷ []) (o.place_of i) l)
+        go : (i : ℕ) (l : LinkOf TrueSegments) → (slice_get (freed true_segments own s).links i ≡ Some l) ⊎
+            ((i ≡ length (freed true_segments own s).links) × (opened true_segments own ≡ l)) →
+            ((i ≡ length s.links) × (opened true_segments own ≡ l)) ⊎ ((i ≡ length s.links → ⊥) × IsOwned (events ++ event ∷ []) (o.place_of i) l)
         go i l (inl at) = inr
-            (λ e. let w = slice_get_within (freed true_flows own s).links i l at in let m = same_long in absurd (omega arith), freed_owned i l at)
+            (λ e. let w = slice_get_within (freed true_segments own s).links i l at in let m = same_long in absurd (omega arith), freed_owned i l at)
         go i l (inr e) = inl (e.0 ∙ same_long, e.1)
 
   -- ---- every event
@@ -286,7 +295,7 @@ module _ (events : List LinkEventValue) (s : Links) (o : AreOwned events s.links
   at_own : (message : List ℕ) (own : ℕ) → message ∷ [] ≡ cond (own == own) (message ∷ []) []
   at_own message own = ap (λ (b : Bool). cond b (message ∷ []) []) (sym (eq-eqb own own refl))
 
-  pub user_owned : (event : LinkEventValue) (left : Links) → UserDid true_flows s event left → AreOwned (events ++ event ∷ []) left.links
+  pub user_owned : (event : LinkEventValue) (left : Links) → UserDid true_segments s event left → AreOwned (events ++ event ∷ []) left.links
   user_owned event left (Opens own free) = opened_owned (Open own) own refl free
   user_owned event left (Accepts far own number link found free) =
       answered_owned (Accept far own) own refl free Confirming number link found.there
@@ -295,21 +304,21 @@ module _ (events : List LinkEventValue) (s : Links) (o : AreOwned events s.links
       answered_owned (Reject far own) own refl free Disconnecting number link found.there
       (and_parts (is_called link.port.phase) (is_at link.port.far far) found.passed).0 refl
   user_owned event left (HandsIn own message number link found may) =
-      message_owned (In own message) refl own number link (with_flow (flow.hands_in message link.flow) link) found.there
+      message_owned (In own message) refl own number link (with_segments (segments.hands_in message link.segments) link) found.there
       (at_is link.port.own own (and_parts (is_live link.port.phase) (is_at link.port.own own) found.passed).1)
       (λ address differs. (at_other message own address differs, refl)) refl refl
-      (ap (λ (x : List (List ℕ)). link.flow.handed ++ x) (at_own message own)) (sym (append-nil link.flow.delivered))
+      (ap (λ (x : List (List ℕ)). link.segments.handed ++ x) (at_own message own)) (sym (append-nil link.segments.delivered))
   user_owned event left (Delivers own message number link next found delivers) =
-      let d = delivered_is message link.flow next delivers in
-      message_owned (Up own message) refl own number link (with_flow next link) found.there (at_is link.port.own own found.passed)
-      (λ address differs. (refl, at_other message own address differs)) refl (ap (λ (f : TrueFlow). f.received) d.is)
-      (ap (λ (f : TrueFlow). f.handed) d.is ∙ sym (append-nil link.flow.handed))
-      (ap (λ (f : TrueFlow). f.delivered) d.is ∙ ap (λ (x : List ℕ). link.flow.delivered ++ x ∷ []) (sym d.message_is) ∙
-      ap (λ (x : List (List ℕ)). link.flow.delivered ++ x) (at_own message own))
+      let d = delivered_is message link.segments next delivers in
+      message_owned (Up own message) refl own number link (with_segments next link) found.there (at_is link.port.own own found.passed)
+      (λ address differs. (refl, at_other message own address differs)) refl (ap (λ (f : TrueSegments). f.received) d.is)
+      (ap (λ (f : TrueSegments). f.handed) d.is ∙ sym (append-nil link.segments.handed))
+      (ap (λ (f : TrueSegments). f.delivered) d.is ∙ ap (λ (x : List ℕ). link.segments.delivered ++ x ∷ []) (sym d.message_is) ∙
+      ap (λ (x : List (List ℕ)). link.segments.delivered ++ x) (at_own message own))
   user_owned event left (Closes own number link found connected) =
       owned_event (Close own) refl (slice_set s.links number (in_phase Disconnecting link))
       (let l = length-set s.links number (in_phase Disconnecting link) in omega arith)
-      (all_set (λ (i : ℕ) (l : LinkOf TrueFlow). IsOwned (events ++ Close own ∷ []) (o.place_of i) l) s.links number (in_phase Disconnecting link)
+      (all_set (λ (i : ℕ) (l : LinkOf TrueSegments). IsOwned (events ++ Close own ∷ []) (o.place_of i) l) s.links number (in_phase Disconnecting link)
       (quiet (Close own) refl number link (in_phase Disconnecting link) found.there (λ address is. (refl, refl)) refl refl (λ c. absurd cc)
       (λ live. connected_live link.port.phase connected))
       (λ i l at. quiet (Close own) refl i l l at (λ address is. (refl, refl)) refl refl (λ c. c) (λ c. c)))

@@ -8,7 +8,7 @@ use Rattle.dna_links.specs.LookUps.{is_at, is_live, is_called}
 use Rattle.dna_links.specs.Links.{LinkOf}
 use Rattle.dna_links.specs.User.{LinkEventValue, Open, Accept, Reject, In, Up, Close}
 use Rattle.dna_links.specs.Arriving.{called}
-use Rattle.dna_links.specs.TrueFlow.{TrueFlow}
+use Rattle.dna_links.specs.TrueSegments.{TrueSegments}
 use Rattle.dna_links.specs.Captures.{given_address, gives_address, message_in, message_up, until_given, handed_in, delivered_up, behind, IsReadFrom}
 use Rattle.dna_links.specs.Captures.{IsRead}
 
@@ -118,17 +118,18 @@ abbrev pub HoldsAt : List LinkEventValue → Option ℕ → Option ℕ → Type 
 HoldsAt events own None = own ≡ None
 HoldsAt events own (Some place) = HoldsFrom events own place
 
-pub record IsOwned (events : List LinkEventValue) (place : Option ℕ) (l : LinkOf TrueFlow) : Type 0 where
+pub record IsOwned (events : List LinkEventValue) (place : Option ℕ) (l : LinkOf TrueSegments) : Type 0 where
   pub read : IsRead events l place
   pub holds : HoldsAt events l.port.own place
   pub called : is_called l.port.phase ≡ true → place ≡ None
   -- nothing has come while a live link has no address
-  pub fresh : is_live l.port.phase ≡ true → l.port.own ≡ None → l.flow.received ≡ []
+  pub fresh : is_live l.port.phase ≡ true → l.port.own ≡ None → l.segments.received ≡ []
 
 -- a link with the same address and messages
-pub owned_same : (events : List LinkEventValue) (place : Option ℕ) (l m : LinkOf TrueFlow) → m.port.own ≡ l.port.own → m.flow.handed ≡ l.flow.handed →
-    m.flow.delivered ≡ l.flow.delivered → (is_called m.port.phase ≡ true → is_called l.port.phase ≡ true) →
-    (is_live m.port.phase ≡ true → m.port.own ≡ None → m.flow.received ≡ []) → IsOwned events place l → IsOwned events place m
+pub owned_same : (events : List LinkEventValue) (place : Option ℕ) (l m : LinkOf TrueSegments) → m.port.own ≡ l.port.own →
+    m.segments.handed ≡ l.segments.handed →
+    m.segments.delivered ≡ l.segments.delivered → (is_called m.port.phase ≡ true → is_called l.port.phase ≡ true) →
+    (is_live m.port.phase ≡ true → m.port.own ≡ None → m.segments.received ≡ []) → IsOwned events place l → IsOwned events place m
 owned_same events place l m own handed up is_called fresh o = record {
   read = read place o.read;
   holds = subst (λ (x : Option ℕ). HoldsAt events x place) (sym own) o.holds;
@@ -148,17 +149,17 @@ at_is None own e = absurd cc
 at_is (Some n) own e = ap Some (eqb-true n own e)
 
 -- what an event does to a link: it hands in or delivers there, and the link keeps its address unless it is given again
-module _ (events : List LinkEventValue) (event : LinkEventValue) (l m : LinkOf TrueFlow) where
+module _ (events : List LinkEventValue) (event : LinkEventValue) (l m : LinkOf TrueSegments) where
   -- the link takes the messages of this address
   pub record Takes (address : ℕ) : Type 0 where
-    pub handed : m.flow.handed ≡ l.flow.handed ++ message_in address event
-    pub up : m.flow.delivered ≡ l.flow.delivered ++ message_up address event
+    pub handed : m.segments.handed ≡ l.segments.handed ++ message_in address event
+    pub up : m.segments.delivered ≡ l.segments.delivered ++ message_up address event
     pub own : ((m.port.own ≡ Some address) × (gives_address address event ≡ false)) ⊎ ((m.port.own ≡ None) × (gives_address address event ≡ true))
 
   -- it is as it was
   pub record IsAsBefore : Type 0 where
-    pub handed : m.flow.handed ≡ l.flow.handed
-    pub up : m.flow.delivered ≡ l.flow.delivered
+    pub handed : m.segments.handed ≡ l.segments.handed
+    pub up : m.segments.delivered ≡ l.segments.delivered
     pub own : m.port.own ≡ l.port.own
 
   module _ (place : ℕ) (r : IsReadFrom events l place) (h : HoldsFrom events l.port.own place) where
@@ -239,7 +240,7 @@ module _ (events : List LinkEventValue) (event : LinkEventValue) (l m : LinkOf T
   -- with its place or without
   pub owned_more : (place : Option ℕ) → IsOwned events place l → (l.port.own ≡ None → IsAsBefore) →
       ((address : ℕ) → l.port.own ≡ Some address → Takes address) → (is_called m.port.phase ≡ true → is_called l.port.phase ≡ true) →
-      (is_live m.port.phase ≡ true → m.port.own ≡ None → m.flow.received ≡ []) → IsOwned (events ++ event ∷ []) place m
+      (is_live m.port.phase ≡ true → m.port.own ≡ None → m.segments.received ≡ []) → IsOwned (events ++ event ∷ []) place m
   owned_more place o before takes called fresh = go place o.read o.holds o.called
     where
       go : (place : Option ℕ) → IsRead events l place → HoldsAt events l.port.own place → (is_called l.port.phase ≡ true → place ≡ None) →

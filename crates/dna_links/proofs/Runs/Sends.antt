@@ -1,4 +1,4 @@
--- What a link sends, on its true numbers: what becomes of its flow, and what is true of the message.
+-- What a link sends, on its true numbers: what becomes of its segments, and what is true of the message.
 use Rattle.std.proofs.Common.{◌≡◌, ℕ, zero, suc, ◌+◌, ◌-◌, ◌<◌, ◌≤◌, Bool, true, false, not, ◌&&◌, nat_lt, nat_le, cond, ◌⊎◌, inl, inr, Option, Some}
 use Rattle.std.proofs.Common.{None, List, [], ◌∷◌, ◌++◌, length, Result, Ok, refl, sym, ap, ◌∙◌, subst, arith, append-nil, eqb-true, ltb-true}
 use Rattle.std.proofs.Common.{leb-true, length-append}
@@ -11,11 +11,11 @@ use Rattle.dna_packet.specs.Nsp.{SegmentValue}
 use Rattle.dna_station.specs.declared.link_refusal.LinkRefusal.{LinkRefusal}
 use Rattle.dna_station.specs.declared.link_refusal.LinkRefusal.TheVariants.{WrongSegment, SegmentTooLong, LinkWindowFull}
 use Rattle.dna_links.specs.Pieces.{Piece, piece_of, alike, same_piece, in_order, is_next_piece, without_piece}
-use Rattle.dna_links.specs.Flow.{Sending, REACH, wire, distance}
+use Rattle.dna_links.specs.SegmentBook.{Sending, REACH, wire, distance}
 use Rattle.dna_links.specs.Delivery.{IsCut}
-use Rattle.dna_links.specs.TrueFlow.{TrueFlow, Numbers, highest_given, highest_received, Named, all_named, sending, acks_named}
-use Rattle.dna_links.specs.TrueFlow.{sends_acks, sends_other, sends_new}
-use Rattle.dna_links.specs.TrueFlow.{is_given, is_repeat, sends_again, is_new, segment_named, sends_segment}
+use Rattle.dna_links.specs.TrueSegments.{TrueSegments, Numbers, highest_given, highest_received, Named, all_named, sending, acks_named}
+use Rattle.dna_links.specs.TrueSegments.{sends_acks, sends_other, sends_new}
+use Rattle.dna_links.specs.TrueSegments.{is_given, is_repeat, sends_again, is_new, segment_named, sends_segment}
 use Rattle.two_nodes.proofs.Numbered.{IsGiven, AcksFrom}
 use Rattle.dna_links.proofs.Tables.Outcomes.{checked}
 use Rattle.dna_links.proofs.Tables.Words.{limits, AreAtMost, AreWords, AreNamed, names_are}
@@ -30,8 +30,8 @@ pub number_given : (number given : ℕ) → number ≤ given → given ≤ numbe
 number_given zero given p q = tt
 number_given (suc n) given p q = (p, q)
 
--- what holds of a flow at any time
-pub record IsSoundFlow (f : TrueFlow) : Type 0 where
+-- what holds of a link's segments at any time
+pub record AreSoundSegments (f : TrueSegments) : Type 0 where
   pub acknowledged : f.acknowledged ≤ highest_given f
   pub few : highest_given f ≤ f.acknowledged + 2047
   pub last : f.last ≤ highest_received f
@@ -45,17 +45,17 @@ within_all (None ∷ pieces) = omega arith
 within_all (Some p ∷ pieces) = let w = within_all pieces in omega arith
 
 -- the sender's numbers are told as they are
-pub record TellsNumbers (f after : TrueFlow) (k : Numbers) : Type 0 where
+pub record TellsNumbers (f after : TrueSegments) (k : Numbers) : Type 0 where
   pub given : k.given ≡ highest_given after
   pub received : k.received ≡ highest_received f
   pub acknowledged : k.acknowledged ≡ f.acknowledged
   pub last : k.last ≡ after.last
   pub last_before : k.last_before ≡ f.last
 
--- what was sent is lawful, and leaves a sound flow
-pub record SendsFrom (f after : TrueFlow) (k : Numbers) : Type 0 where
+-- what was sent is lawful, and leaves sound segments
+pub record SendsFrom (f after : TrueSegments) (k : Numbers) : Type 0 where
   pub tells : TellsNumbers f after k
-  pub sound : IsSoundFlow after
+  pub sound : AreSoundSegments after
   pub received : after.received ≡ f.received
   pub acknowledged : after.acknowledged ≡ f.acknowledged
   pub handed : after.handed ≡ f.handed
@@ -80,9 +80,9 @@ same_Ok x y e = cc
 
 -- ---- words alone, and no numbers
 
-module _ (f : TrueFlow) (o : IsSoundFlow f) where
-  -- the same flow with another last acknowledgement
-  with_last : (last : ℕ) → f.last ≤ last → last ≤ highest_received f → IsSoundFlow (record f { last = last })
+module _ (f : TrueSegments) (o : AreSoundSegments f) where
+  -- the same segments with another last acknowledgement
+  with_last : (last : ℕ) → f.last ≤ last → last ≤ highest_received f → AreSoundSegments (record f { last = last })
   with_last last more most = record {
     acknowledged = o.acknowledged;
     few = o.few;
@@ -111,18 +111,18 @@ module _ (f : TrueFlow) (o : IsSoundFlow f) where
   }
 
   -- a sending, and what is so of its words
-  pub record SendsWords (words : List AckWord) (s : Sending TrueFlow Numbers) : Type 0 where
-    pub sends : SendsFrom f s.flow s.known
+  pub record SendsWords (words : List AckWord) (s : Sending TrueSegments Numbers) : Type 0 where
+    pub sends : SendsFrom f s.segments s.known
     pub words_are : AreWords words s.known.acknowledgements
 
-  pub acks_sent : (words : List AckWord) (s : Sending TrueFlow Numbers) → sends_acks words f ≡ Ok s → SendsWords words s
+  pub acks_sent : (words : List AckWord) (s : Sending TrueSegments Numbers) → sends_acks words f ≡ Ok s → SendsWords words s
   acks_sent words s e = go (all_named false (highest_received f) words f.last) refl e
     where
       go : (n : Option Named) → all_named false (highest_received f) words f.last ≡ n → acks_named n f ≡ Ok s → SendsWords words s
       go None all e = absurd cc
       go (Some names) all e =
           let n = names_are false (highest_received f) words f.last names o.last all in
-          subst (λ (x : Sending TrueFlow Numbers). SendsWords words x) (same_Ok (sending 0 names f (record f { last = names.last })) s e)
+          subst (λ (x : Sending TrueSegments Numbers). SendsWords words x) (same_Ok (sending 0 names f (record f { last = names.last })) s e)
           (record { sends = named_sent words names n 0 tt; words_are = n.words })
 
   -- ---- a segment
@@ -142,12 +142,12 @@ module _ (f : TrueFlow) (o : IsSoundFlow f) where
       ap (λ (x : List ℕ). record q { body = x }) (sym body) ∙ ap (λ (x : Bool). record q { ends = x; body = p.body }) (sym ends) ∙
       ap (λ (x : Bool). record p { begins = x }) (sym begins)
 
-  pub record SendsSegment (s : SegmentValue) (x : Sending TrueFlow Numbers) : Type 0 where
-    pub sends : SendsFrom f x.flow x.known
-    pub is_true : IsTrueSegment s x.flow.given x.known
+  pub record SendsSegment (s : SegmentValue) (x : Sending TrueSegments Numbers) : Type 0 where
+    pub sends : SendsFrom f x.segments x.known
+    pub is_true : IsTrueSegment s x.segments.given x.known
 
-  module _ (s : SegmentValue) (x : Sending TrueFlow Numbers) (names : Named) (n : AreNamed s.acks f.last (highest_received f) names) where
-    given_new : TrueFlow
+  module _ (s : SegmentValue) (x : Sending TrueSegments Numbers) (names : Named) (n : AreNamed s.acks f.last (highest_received f) names) where
+    given_new : TrueSegments
     given_new = record f { last = names.last; given = f.given ++ piece_of s ∷ []; unsent = without_piece (piece_of s) f.unsent }
 
     new_sent : (segsize : ℕ) → s.number ≡ wire (highest_given f + 1) → sends_new segsize (piece_of s) names f ≡ Ok x → SendsSegment s x
@@ -159,7 +159,7 @@ module _ (f : TrueFlow) (o : IsSoundFlow f) where
         let room : highest_given f - f.acknowledged < 2047 = ltb-true _ _ a.0 in
         let long : length (f.given ++ piece_of s ∷ []) ≡ length f.given + 1 = length-append f.given (piece_of s ∷ []) in
         let acknowledged = o.acknowledged in let recent = o.recent in let more = n.more in
-        subst (λ (y : Sending TrueFlow Numbers). SendsSegment s y) (same_Ok (sending (highest_given f + 1) names f given_new) x c.1) (record {
+        subst (λ (y : Sending TrueSegments Numbers). SendsSegment s y) (same_Ok (sending (highest_given f + 1) names f given_new) x c.1) (record {
           sends = record {
             tells = record { given = refl; received = refl; acknowledged = refl; last = refl; last_before = refl };
             sound = record {
@@ -212,7 +212,7 @@ module _ (f : TrueFlow) (o : IsSoundFlow f) where
         (nat_lt (distance s.number (wire (highest_given f))) (highest_given f)) a.0 in
         let near : distance s.number (wire (highest_given f)) < 2047 = ltb-true _ _ t.0 in
         let low : distance s.number (wire (highest_given f)) < highest_given f = ltb-true _ _ t.1 in
-        subst (λ (y : Sending TrueFlow Numbers). SendsSegment s y)
+        subst (λ (y : Sending TrueSegments Numbers). SendsSegment s y)
         (same_Ok (sending (highest_given f - distance s.number (wire (highest_given f))) names f (record f { last = names.last })) x b.1)
         (record {
           sends = named_sent s.acks names n (highest_given f - distance s.number (wire (highest_given f)))
@@ -220,7 +220,7 @@ module _ (f : TrueFlow) (o : IsSoundFlow f) where
           is_true = record { some = omega arith; spelled = λ small. omega arith; words = n.words; piece = repeats _ b.0 };
         })
 
-  pub segment_sent : (segsize : ℕ) (s : SegmentValue) (x : Sending TrueFlow Numbers) → sends_segment segsize s f ≡ Ok x → SendsSegment s x
+  pub segment_sent : (segsize : ℕ) (s : SegmentValue) (x : Sending TrueSegments Numbers) → sends_segment segsize s f ≡ Ok x → SendsSegment s x
   segment_sent segsize s x e = go (all_named (not (is_new s f)) (highest_received f) s.acks f.last) refl e
     where
       kind : (names : Named) → AreNamed s.acks f.last (highest_received f) names → (b : Bool) → is_new s f ≡ b →
@@ -235,5 +235,5 @@ module _ (f : TrueFlow) (o : IsSoundFlow f) where
       go (Some names) all e = kind names (names_are (not (is_new s f)) (highest_received f) s.acks f.last names o.last all) (is_new s f) refl e
 
 -- no words at all
-pub other_sent : (f : TrueFlow) → IsSoundFlow f → SendsFrom f f (sends_other f)
+pub other_sent : (f : TrueSegments) → AreSoundSegments f → SendsFrom f f (sends_other f)
 other_sent f o = (acks_sent f o [] (sending 0 (record { numbers = []; last = f.last }) f f) refl).sends

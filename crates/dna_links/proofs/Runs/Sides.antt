@@ -9,10 +9,10 @@ use Rattle.dna_links.specs.declared.port.Phase.TheVariants.{Confirming, Disconne
 use Rattle.dna_links.specs.declared.port.LinkTest.TheVariants.{HasAddress}
 use Rattle.dna_links.specs.LookUps.{is_calling}
 use Rattle.dna_links.specs.Pieces.{Piece}
-use Rattle.dna_links.specs.Links.{LinkOf, LinksOf, begun, changed, in_phase, with_flow, forgotten, freed}
+use Rattle.dna_links.specs.Links.{LinkOf, LinksOf, begun, changed, in_phase, with_segments, forgotten, freed}
 use Rattle.dna_links.specs.User.{LinkEventValue, opened, answered}
-use Rattle.dna_links.specs.TrueFlow.{TrueFlow, empty, highest_given, highest_received, true_flows}
-use Rattle.dna_links.specs.TrueFlow as flow
+use Rattle.dna_links.specs.TrueSegments.{TrueSegments, empty, highest_given, highest_received, true_segments}
+use Rattle.dna_links.specs.TrueSegments as segments
 use Rattle.dna_links.specs.TrueLinks.{Links}
 use Rattle.dna_links.specs.Runs.{SentMessage, LinkSide, sends}
 use Rattle.dna_links.specs.Delivery.{HeldFrom}
@@ -21,8 +21,8 @@ use Rattle.two_nodes.proofs.NumberedSteps.{numbered_beside, present_beside, pres
 use Rattle.dna_links.proofs.Tables.Outcomes.{looked, UserDid, Opens, Accepts, Rejects, HandsIn, Delivers, Closes}
 use Rattle.dna_links.proofs.Tables.Words.{limits}
 use Rattle.dna_links.proofs.Runs.Pieces.{IsPassed, cut_handed, Delivered, delivered_is, passed_delivered}
-use Rattle.dna_links.proofs.Runs.Sends.{IsSoundFlow}
-use Rattle.dna_links.proofs.Runs.Ends.{sender_name, nobody, numbers_of, view, GrownAt, Grows, IsTold, told_grown, IsSoundEnd, end_port, end_flow}
+use Rattle.dna_links.proofs.Runs.Sends.{AreSoundSegments}
+use Rattle.dna_links.proofs.Runs.Ends.{sender_name, nobody, numbers_of, view, GrownAt, Grows, IsTold, told_grown, IsSoundEnd, end_port, end_segments}
 use Rattle.dna_links.proofs.Runs.Ends.{end_grown, end_beside}
 
 -- ---- lists of links
@@ -75,11 +75,11 @@ module _ {X : Type 0} where
       go (inl a) = all i x a
       go (inr e) = subst (λ (j : ℕ). P j x) (sym e.0) (subst (P (length xs)) e.1 here)
 
-pub grows_same : (links : List (LinkOf TrueFlow)) → Grows links links
-grows_same links i l at = record { link = l; there = at; more = []; given = sym (append-nil l.flow.given) }
+pub grows_same : (links : List (LinkOf TrueSegments)) → Grows links links
+grows_same links i l at = record { link = l; there = at; more = []; given = sym (append-nil l.segments.given) }
 
-pub grows_set : (links further : List (LinkOf TrueFlow)) (number : ℕ) (l y : LinkOf TrueFlow) (more : List Piece) → Grows links further →
-    slice_get links number ≡ Some l → y.flow.given ≡ l.flow.given ++ more → Grows links (slice_set further number y)
+pub grows_set : (links further : List (LinkOf TrueSegments)) (number : ℕ) (l y : LinkOf TrueSegments) (more : List Piece) → Grows links further →
+    slice_get links number ≡ Some l → y.segments.given ≡ l.segments.given ++ more → Grows links (slice_set further number y)
 grows_set links further number l y more grows there given i k at = go (cases_eq i number)
   where
     go : (i ≡ number) ⊎ (i ≡ number → ⊥) → GrownAt (slice_set further number y) i k
@@ -91,11 +91,11 @@ grows_set links further number l y more grows there given i k at = go (cases_eq 
           there = ap (slice_get (slice_set further number y)) e ∙ set_same further number g.link y g.there;
           more = more;
           given =
-              given ∙ ap (λ (x : LinkOf TrueFlow). x.flow.given ++ more) same;
+              given ∙ ap (λ (x : LinkOf TrueSegments). x.segments.given ++ more) same;
         }
     go (inr d) = let g = grows i k at in record { link = g.link; there = set_other further number i y d ∙ g.there; more = g.more; given = g.given }
 
-pub grows_pushed : (links further : List (LinkOf TrueFlow)) (y : LinkOf TrueFlow) → Grows links further → Grows links (further ++ y ∷ [])
+pub grows_pushed : (links further : List (LinkOf TrueSegments)) (y : LinkOf TrueSegments) → Grows links further → Grows links (further ++ y ∷ [])
 grows_pushed links further y grows i l at = let g = grows i l at in
     record { link = g.link; there = slice_get-append further (y ∷ []) i g.link g.there; more = g.more; given = g.given }
 
@@ -106,7 +106,7 @@ pub record IsSoundSide (own other : LinkSide) : Type 0 where
   pub messages : AreNumbered view limits own.sent other.sent
   pub nobody : IsPresent view limits own.sent other.sent own.front nobody
   pub told : (k : ℕ) (u : SentMessage) → slice_get own.sent k ≡ Some (Some u) → IsTold own.links.links u
-  pub ends : (i : ℕ) (l : LinkOf TrueFlow) → slice_get own.links.links i ≡ Some l → IsSoundEnd own.sent other.sent own.front other.links.links i l
+  pub ends : (i : ℕ) (l : LinkOf TrueSegments) → slice_get own.links.links i ≡ Some l → IsSoundEnd own.sent other.sent own.front other.links.links i l
 
 -- the other side's links grow
 pub side_grown : (own other : LinkSide) (links : Links) (front : ℕ) → Grows other.links.links links.links → IsSoundSide own other →
@@ -133,7 +133,7 @@ side_beside own other links x grows h = record {
 
 -- this side's links change and grow
 pub side_changed : (own other : LinkSide) (links : Links) → Grows own.links.links links.links → IsSoundSide own other →
-    ((i : ℕ) (l : LinkOf TrueFlow) → slice_get links.links i ≡ Some l → IsSoundEnd own.sent other.sent own.front other.links.links i l) →
+    ((i : ℕ) (l : LinkOf TrueSegments) → slice_get links.links i ≡ Some l → IsSoundEnd own.sent other.sent own.front other.links.links i l) →
     IsSoundSide (record { links = links; sent = own.sent; front = own.front }) other
 side_changed own other links grows h ends = record {
   met = h.met;
@@ -144,7 +144,7 @@ side_changed own other links grows h ends = record {
 }
 
 -- a new link: nothing is given, received or acknowledged
-pub empty_sound : IsSoundFlow empty
+pub empty_sound : AreSoundSegments empty
 empty_sound = record {
   acknowledged = omega arith;
   few = omega arith;
@@ -164,58 +164,61 @@ module _ (own other : LinkSide) (h : IsSoundSide own other) where
       go None e = omega arith
       go (Some number) e = let t = (h.told k u at).sender number e in let w = slice_get_within own.links.links number t.0 t.1 in omega arith
 
-  pub end_new : (number : ℕ) (l : LinkOf TrueFlow) → length own.links.links ≤ number → l.flow ≡ empty →
+  pub end_new : (number : ℕ) (l : LinkOf TrueSegments) → length own.links.links ≤ number → l.segments ≡ empty →
       (is_calling l.port.phase ≡ true → l.partner ≡ None) → HeldFrom l.partner [] other.links.links →
       IsSoundEnd own.sent other.sent own.front other.links.links number l
   end_new number l fresh is_empty calling held =
-      let given : highest_given l.flow ≡ 0 = ap highest_given is_empty in
-      let received : highest_received l.flow ≡ 0 = ap highest_received is_empty in
-      let acknowledged : l.flow.acknowledged ≡ 0 = ap (λ (f : TrueFlow). f.acknowledged) is_empty in
+      let given : highest_given l.segments ≡ 0 = ap highest_given is_empty in
+      let received : highest_received l.segments ≡ 0 = ap highest_received is_empty in
+      let acknowledged : l.segments.acknowledged ≡ 0 = ap (λ (f : TrueSegments). f.acknowledged) is_empty in
       record {
-        flow = subst IsSoundFlow (sym is_empty) empty_sound;
+        segments = subst AreSoundSegments (sym is_empty) empty_sound;
         present = present_new view limits own.sent other.sent own.front (numbers_of number l) received acknowledged (omega arith)
             (λ i m at same. let n = no_later i m at in absurd (omega arith));
-        came = inl (ap (λ (f : TrueFlow). length f.received) is_empty);
+        came = inl (ap (λ (f : TrueSegments). length f.received) is_empty);
         calling = calling;
-        held = subst (λ (x : List (Option Piece)). HeldFrom l.partner x other.links.links) (sym (ap (λ (f : TrueFlow). f.received) is_empty)) held;
+        held = subst
+            (λ (x : List (Option Piece)). HeldFrom l.partner x other.links.links) (sym (ap (λ (f : TrueSegments). f.received) is_empty)) held;
         none = λ e. acknowledged;
       }
 
   -- ---- the user
 
-  abbrev Ends : List (LinkOf TrueFlow) → Type 0
-  Ends links = (i : ℕ) (l : LinkOf TrueFlow) → slice_get links i ≡ Some l → IsSoundEnd own.sent other.sent own.front other.links.links i l
+  abbrev Ends : List (LinkOf TrueSegments) → Type 0
+  Ends links = (i : ℕ) (l : LinkOf TrueSegments) → slice_get links i ≡ Some l → IsSoundEnd own.sent other.sent own.front other.links.links i l
 
-  forgotten_sound : (i : ℕ) (l : LinkOf TrueFlow) → IsSoundEnd own.sent other.sent own.front other.links.links i l →
-      IsSoundEnd own.sent other.sent own.front other.links.links i (forgotten true_flows l)
+  forgotten_sound : (i : ℕ) (l : LinkOf TrueSegments) → IsSoundEnd own.sent other.sent own.front other.links.links i l →
+      IsSoundEnd own.sent other.sent own.front other.links.links i (forgotten true_segments l)
   forgotten_sound i l e = end_port own.sent other.sent own.front other.links.links i l (record l.port { own = None }) (λ x. x) e
 
   -- an address is free
-  record Frees (s left : LinksOf TrueFlow) : Type 0 where
+  record Frees (s left : LinksOf TrueSegments) : Type 0 where
     pub ends : Ends left.links
     pub grows : Grows s.links left.links
     pub same_length : length left.links ≡ length s.links
 
-  freed_sound : (address : ℕ) → Frees own.links (freed true_flows address own.links)
+  freed_sound : (address : ℕ) → Frees own.links (freed true_segments address own.links)
   freed_sound address =
-      looked (HasAddress address) own.links own.links (λ number link. changed number (forgotten true_flows link) own.links)
-      (freed true_flows address own.links) refl
+      looked (HasAddress address) own.links own.links (λ number link. changed number (forgotten true_segments link) own.links)
+      (freed true_segments address own.links) refl
       (λ none e. subst (Frees own.links) e (record { ends = h.ends; grows = grows_same own.links.links; same_length = refl }))
       (λ number link found e. subst (Frees own.links) e (record {
-        ends = all_set (λ (i : ℕ) (l : LinkOf TrueFlow). IsSoundEnd own.sent other.sent own.front other.links.links i l) own.links.links number
-            (forgotten true_flows link) (forgotten_sound number link (h.ends number link found.there)) h.ends;
-        grows = grows_set own.links.links own.links.links number link (forgotten true_flows link) [] (grows_same own.links.links) found.there
-            (sym (append-nil link.flow.given));
-        same_length = length-set own.links.links number (forgotten true_flows link);
+        ends = all_set (λ (i : ℕ) (l : LinkOf TrueSegments). IsSoundEnd own.sent other.sent own.front other.links.links i l) own.links.links number
+            (forgotten true_segments link) (forgotten_sound number link (h.ends number link found.there)) h.ends;
+        grows = grows_set own.links.links own.links.links number link (forgotten true_segments link) [] (grows_same own.links.links) found.there
+            (sym (append-nil link.segments.given));
+        same_length = length-set own.links.links number (forgotten true_segments link);
       }))
 
-  -- a link changes, and its flow gives nothing
-  one_sound : (links : Links) (f : Frees own.links links) (number : ℕ) (link left : LinkOf TrueFlow) → slice_get own.links.links number ≡ Some link →
-      left.flow.given ≡ link.flow.given →
+  -- a link changes, and its segments give nothing
+  one_sound : (links : Links) (f : Frees own.links links) (number : ℕ) (link left : LinkOf TrueSegments) →
+      slice_get own.links.links number ≡ Some link →
+      left.segments.given ≡ link.segments.given →
       IsSoundEnd own.sent other.sent own.front other.links.links number left → Frees own.links (changed number left links)
   one_sound links f number link left there given e = record {
-    ends = all_set (λ (i : ℕ) (l : LinkOf TrueFlow). IsSoundEnd own.sent other.sent own.front other.links.links i l) links.links number left e f.ends;
-    grows = grows_set own.links.links links.links number link left [] f.grows there (given ∙ sym (append-nil link.flow.given));
+    ends = all_set
+        (λ (i : ℕ) (l : LinkOf TrueSegments). IsSoundEnd own.sent other.sent own.front other.links.links i l) links.links number left e f.ends;
+    grows = grows_set own.links.links links.links number link left [] f.grows there (given ∙ sym (append-nil link.segments.given));
     same_length = length-set links.links number left ∙ f.same_length;
   }
 
@@ -225,11 +228,11 @@ module _ (own other : LinkSide) (h : IsSoundSide own other) where
   sound_after : (links : Links) → Frees own.links links → IsSoundSide (record { links = links; sent = own.sent; front = own.front }) other
   sound_after links f = side_changed own other links f.grows h f.ends
 
-  end_of : (number : ℕ) (link : LinkOf TrueFlow) → slice_get own.links.links number ≡ Some link →
+  end_of : (number : ℕ) (link : LinkOf TrueSegments) → slice_get own.links.links number ≡ Some link →
       IsSoundEnd own.sent other.sent own.front other.links.links number link
   end_of number link there = h.ends number link there
 
-  handed_sound : (message : List ℕ) (f : TrueFlow) → IsSoundFlow f → IsSoundFlow (flow.hands_in message f)
+  handed_sound : (message : List ℕ) (f : TrueSegments) → AreSoundSegments f → AreSoundSegments (segments.hands_in message f)
   handed_sound message f s = let p = s.passed in record {
     acknowledged = s.acknowledged;
     few = s.few;
@@ -239,10 +242,10 @@ module _ (own other : LinkSide) (h : IsSoundSide own other) where
     passed = record { first = p.first; rest = p.rest; are = p.are; many = p.many; make = p.make; wholly = p.wholly };
   }
 
-  delivered_sound : (message : List ℕ) (f g : TrueFlow) → IsSoundFlow f → Delivered message f g → IsSoundFlow g
+  delivered_sound : (message : List ℕ) (f g : TrueSegments) → AreSoundSegments f → Delivered message f g → AreSoundSegments g
   delivered_sound message f g s d =
       let passed = passed_delivered message f g s.passed d in
-      subst IsSoundFlow (sym d.is) (let c = s.cut in record {
+      subst AreSoundSegments (sym d.is) (let c = s.cut in record {
         acknowledged = s.acknowledged;
         few = s.few;
         last = s.last;
@@ -252,47 +255,50 @@ module _ (own other : LinkSide) (h : IsSoundSide own other) where
       })
 
   -- what the user did left sound links that grew
-  pub record LeavesSound (left : LinksOf TrueFlow) : Type 0 where
+  pub record LeavesSound (left : LinksOf TrueSegments) : Type 0 where
     pub side : IsSoundSide (record { links = left; sent = own.sent; front = own.front }) other
     pub grows : Grows own.links.links left.links
 
-  leaves : (left : LinksOf TrueFlow) → Frees own.links left → LeavesSound left
+  leaves : (left : LinksOf TrueSegments) → Frees own.links left → LeavesSound left
   leaves left f = record { side = sound_after left f; grows = f.grows }
 
-  pub user_sound : (event : LinkEventValue) (left : LinksOf TrueFlow) → UserDid true_flows own.links event left → LeavesSound left
+  pub user_sound : (event : LinkEventValue) (left : LinksOf TrueSegments) → UserDid true_segments own.links event left → LeavesSound left
   user_sound event left (Opens address free) =
       let f = freed_sound address in
-      let e = end_new (length (freed true_flows address own.links).links) (opened true_flows address) (let l = f.same_length in omega arith) refl
+      let e = end_new (length (freed true_segments address own.links).links) (opened true_segments address)
+      (let l = f.same_length in omega arith) refl
       (λ x. refl) refl in
-      let grows = grows_pushed own.links.links (freed true_flows address own.links).links (opened true_flows address) f.grows in
+      let grows = grows_pushed own.links.links (freed true_segments address own.links).links (opened true_segments address) f.grows in
       record {
-        side = side_changed own other (begun (opened true_flows address) (freed true_flows address own.links)) grows h
-            (all_pushed (λ (i : ℕ) (l : LinkOf TrueFlow). IsSoundEnd own.sent other.sent own.front other.links.links i l)
-            (freed true_flows address own.links).links (opened true_flows address) e f.ends);
+        side = side_changed own other (begun (opened true_segments address) (freed true_segments address own.links)) grows h
+            (all_pushed (λ (i : ℕ) (l : LinkOf TrueSegments). IsSoundEnd own.sent other.sent own.front other.links.links i l)
+            (freed true_segments address own.links).links (opened true_segments address) e f.ends);
         grows = grows;
       }
   user_sound event left (Accepts far address number link found free) =
-      leaves _ (one_sound (freed true_flows address own.links) (freed_sound address) number link (answered true_flows Confirming address link)
+      leaves _ (one_sound (freed true_segments address own.links) (freed_sound address) number link (answered true_segments Confirming address link)
       found.there refl
       (end_port own.sent other.sent own.front other.links.links number link (record link.port { phase = Confirming; own = Some address })
       (λ x. absurd cc) (end_of number link found.there)))
   user_sound event left (Rejects far address number link found free) =
-      leaves _ (one_sound (freed true_flows address own.links) (freed_sound address) number link (answered true_flows Disconnecting address link)
+      leaves _ (one_sound (freed true_segments address own.links) (freed_sound address) number link
+      (answered true_segments Disconnecting address link)
       found.there refl
       (end_port own.sent other.sent own.front other.links.links number link (record link.port { phase = Disconnecting; own = Some address })
       (λ x. absurd cc) (end_of number link found.there)))
   user_sound event left (HandsIn address message number link found may) =
       let e = end_of number link found.there in
-      leaves _ (one_sound own.links none_freed number link (with_flow (flow.hands_in message link.flow) link) found.there refl
-      (end_flow own.sent other.sent own.front other.links.links number link (flow.hands_in message link.flow) (handed_sound message link.flow e.flow)
+      leaves _ (one_sound own.links none_freed number link (with_segments (segments.hands_in message link.segments) link) found.there refl
+      (end_segments own.sent other.sent own.front other.links.links number link (segments.hands_in message link.segments)
+      (handed_sound message link.segments e.segments)
       refl refl refl refl e))
   user_sound event left (Delivers address message number link next found delivers) =
       let e = end_of number link found.there in
-      let d = delivered_is message link.flow next delivers in
-      leaves _ (one_sound own.links none_freed number link (with_flow next link) found.there (ap (λ (f : TrueFlow). f.given) d.is)
-      (end_flow own.sent other.sent own.front other.links.links number link next (delivered_sound message link.flow next e.flow d)
-      (ap (λ (f : TrueFlow). f.given) d.is) (ap (λ (f : TrueFlow). f.received) d.is) (ap (λ (f : TrueFlow). f.acknowledged) d.is)
-      (ap (λ (f : TrueFlow). f.last) d.is) e))
+      let d = delivered_is message link.segments next delivers in
+      leaves _ (one_sound own.links none_freed number link (with_segments next link) found.there (ap (λ (f : TrueSegments). f.given) d.is)
+      (end_segments own.sent other.sent own.front other.links.links number link next (delivered_sound message link.segments next e.segments d)
+      (ap (λ (f : TrueSegments). f.given) d.is) (ap (λ (f : TrueSegments). f.received) d.is) (ap (λ (f : TrueSegments). f.acknowledged) d.is)
+      (ap (λ (f : TrueSegments). f.last) d.is) e))
   user_sound event left (Closes address number link found connected) =
       leaves _ (one_sound own.links none_freed number link (in_phase Disconnecting link) found.there refl
       (end_port own.sent other.sent own.front other.links.links number link (record link.port { phase = Disconnecting }) (λ x. absurd cc)

@@ -9,12 +9,12 @@ use Rattle.dna_packet.specs.Nsp.{SegmentValue, DataSegment, DataAck}
 use Rattle.dna_links.specs.declared.port.Phase.TheVariants.{Running, Ended}
 use Rattle.dna_links.specs.LookUps.{is_calling, is_at}
 use Rattle.dna_links.specs.Pieces.{Piece, in_order}
-use Rattle.dna_links.specs.Links.{LinkOf, Carried, LinkTruth, begun, changed, in_phase, with_flow, ended}
+use Rattle.dna_links.specs.Links.{LinkOf, Carried, LinkTruth, begun, changed, in_phase, with_segments, ended}
 use Rattle.dna_links.specs.User.{LinkEventValue}
 use Rattle.dna_links.specs.Sending.{Sent, truth_of}
 use Rattle.dna_links.specs.Arriving.{of_partner, called, confirmed}
-use Rattle.dna_links.specs.TrueFlow.{TrueFlow, Numbers, empty, highest_given, highest_received, acknowledged_through, true_flows}
-use Rattle.dna_links.specs.TrueFlow as flow
+use Rattle.dna_links.specs.TrueSegments.{TrueSegments, Numbers, empty, highest_given, highest_received, acknowledged_through, true_segments}
+use Rattle.dna_links.specs.TrueSegments as segments
 use Rattle.dna_links.specs.TrueLinks.{Links}
 use Rattle.dna_links.specs.Runs.{SentMessage, LinkSide, LinkWorld, sends, keeps, LinkStep, ByUser, Sends, SendsNone, Keeps, KeepsNone, Reached, Start}
 use Rattle.dna_links.specs.Runs.{ByA, ByB, new_side}
@@ -41,7 +41,7 @@ pub record StaySound (left other : LinkSide) : Type 0 where
 
 -- what is true of a message of no link
 abbrev no_truth : LinkTruth Numbers
-no_truth = record { tag = record { link = None; partner = None }; known = flow.sends_other empty }
+no_truth = record { tag = record { link = None; partner = None }; known = segments.sends_other empty }
 
 same_numbers : (name : ℕ) (partner : Option ℕ) (g h r s a b l m : ℕ) → g ≡ h → r ≡ s → a ≡ b → l ≡ m →
     ◌≡◌ {A = numbered.Numbers} (record { name = name; partner = partner; given = g; received = r; acknowledged = a; last = l })
@@ -82,7 +82,7 @@ module _ (own other : LinkSide) (h : IsSoundSide own other) (theirs : IsSoundSid
   none_sent = nobody_sent None says_nothing refl (λ u e. absurd cc)
 
   -- a message without numbers says nothing of them
-  nothing_told : (packet : Carried) (truth : LinkTruth Numbers) (links : List (LinkOf TrueFlow)) → has_numbers packet.message ≡ false →
+  nothing_told : (packet : Carried) (truth : LinkTruth Numbers) (links : List (LinkOf TrueSegments)) → has_numbers packet.message ≡ false →
       (s : SegmentValue) → packet.message ≡ DataSegment s → SegmentTold links (record { packet = packet; truth = truth }) s
   nothing_told packet truth links none s e = let t = ap has_numbers e in absurd cc
 
@@ -90,25 +90,26 @@ module _ (own other : LinkSide) (h : IsSoundSide own other) (theirs : IsSoundSid
       packet.message ≡ DataAck dst src acks → AreWords acks truth.known.acknowledgements
   no_words packet truth none dst src acks e = let t = ap has_numbers e in absurd cc
 
-  -- by this link, which has this flow then
-  module _ (packet : Carried) (known : Numbers) (number : ℕ) (link left : LinkOf TrueFlow) (links : Links)
-      (there : slice_get own.links.links number ≡ Some link) (s : SendsFrom link.flow left.flow known) (same_partner : left.partner ≡ link.partner)
+  -- by this link, which has these segments then
+  module _ (packet : Carried) (known : Numbers) (number : ℕ) (link left : LinkOf TrueSegments) (links : Links)
+      (there : slice_get own.links.links number ≡ Some link) (s : SendsFrom link.segments left.segments known)
+      (same_partner : left.partner ≡ link.partner)
       (calling : is_calling left.port.phase ≡ true → is_calling link.port.phase ≡ true) (grows : Grows own.links.links links.links)
       (here : slice_get links.links number ≡ Some left)
-      (only : (i : ℕ) (l : LinkOf TrueFlow) → slice_get links.links i ≡ Some l → ((i ≡ number) × (left ≡ l)) ⊎
+      (only : (i : ℕ) (l : LinkOf TrueSegments) → slice_get links.links i ≡ Some l → ((i ≡ number) × (left ≡ l)) ⊎
       ((i ≡ number → ⊥) × (slice_get own.links.links i ≡ Some l)))
-      (segment : (x : SegmentValue) → packet.message ≡ DataSegment x → IsTrueSegment x left.flow.given known)
+      (segment : (x : SegmentValue) → packet.message ≡ DataSegment x → IsTrueSegment x left.segments.given known)
       (words : (dst src : ℕ) (acks : List AckWord) → packet.message ≡ DataAck dst src acks → AreWords acks known.acknowledgements) where
     abbrev unit : SentMessage
-    unit = record { packet = packet; truth = truth_of true_flows number link known }
+    unit = record { packet = packet; truth = truth_of true_segments number link known }
 
     e : IsSoundEnd own.sent other.sent own.front other.links.links number link
     e = h.ends number link there
 
-    longer : highest_given link.flow ≤ highest_given left.flow
-    longer = let g = ap length s.given in let l = length-append link.flow.given s.more in omega arith
+    longer : highest_given link.segments ≤ highest_given left.segments
+    longer = let g = ap length s.given in let l = length-append link.segments.given s.more in omega arith
 
-    sending_is : IsSending view limits (numbers_of number link) (highest_given left.flow) left.flow.last (view (Some unit))
+    sending_is : IsSending view limits (numbers_of number link) (highest_given left.segments) left.segments.last (view (Some unit))
     sending_is = let t = s.tells in let few = s.sound.few in let given = t.given in let acked = t.acknowledged in let same = s.acknowledged in
         record {
           sender = same_numbers (number + 1) (name_of link.partner) _ _ _ _ _ _ _ _ t.given t.received t.acknowledged t.last;
@@ -117,30 +118,31 @@ module _ (own other : LinkSide) (h : IsSoundSide own other) (theirs : IsSoundSid
             few = omega arith;
             number = s.number;
             acks = subst (λ (x : ℕ). AcksFrom limits x known.received known.acknowledgements) (sym t.last_before)
-                (subst (λ (x : ℕ). AcksFrom limits link.flow.last x known.acknowledgements) (sym t.received) s.acks);
+                (subst (λ (x : ℕ). AcksFrom limits link.segments.last x known.acknowledgements) (sym t.received) s.acks);
           };
           more_given = longer;
           more_last = s.more_last;
         }
 
-    numbers_then : record (numbers_of number link) { given = highest_given left.flow; last = left.flow.last } ≡ numbers_of number left
+    numbers_then : record (numbers_of number link) { given = highest_given left.segments; last = left.segments.last } ≡ numbers_of number left
     numbers_then =
-        ap (λ (x : Option ℕ). record (numbers_of number link) { partner = name_of x; given = highest_given left.flow; last = left.flow.last })
+        ap (λ (x : Option ℕ). record (numbers_of number link) { partner = name_of x; given = highest_given left.segments; last = left.segments.last })
         (sym same_partner)
         ∙ same_numbers (number + 1) (name_of left.partner) _ _ _ _ _ _ _ _ refl (ap in_order (sym s.received)) (sym s.acknowledged) refl
 
     end_then : IsSoundEnd (own.sent ++ Some unit ∷ []) other.sent own.front other.links.links number left
     end_then = record {
-      flow = s.sound;
+      segments = s.sound;
       present = subst (IsPresent view limits (own.sent ++ Some unit ∷ []) other.sent own.front) numbers_then
-          (present_sending view limits own.sent other.sent own.front (numbers_of number link) (highest_given left.flow) left.flow.last (Some unit)
+          (present_sending view limits own.sent other.sent own.front (numbers_of number link) (highest_given left.segments) left.segments.last
+          (Some unit)
           h.messages e.present h.met sending_is);
       came = subst (λ (x : Option ℕ). numbered.ReceivedFrom view other.sent own.front
-          (record (numbers_of number left) { partner = name_of x; received = length left.flow.received })) (sym same_partner)
+          (record (numbers_of number left) { partner = name_of x; received = length left.segments.received })) (sym same_partner)
           (subst (λ (x : List (Option Piece)). numbered.ReceivedFrom view other.sent own.front
           (record (numbers_of number link) { received = length x })) (sym s.received) e.came);
       calling = λ c. same_partner ∙ e.calling (calling c);
-      held = subst (λ (x : Option ℕ). HeldFrom x left.flow.received other.links.links) (sym same_partner)
+      held = subst (λ (x : Option ℕ). HeldFrom x left.segments.received other.links.links) (sym same_partner)
           (subst (λ (x : List (Option Piece)). HeldFrom link.partner x other.links.links) (sym s.received) e.held);
       none = λ p. s.acknowledged ∙ e.none (sym same_partner ∙ p);
     }
@@ -157,7 +159,8 @@ module _ (own other : LinkSide) (h : IsSoundSide own other) (theirs : IsSoundSid
     link_sent = record {
       side = record {
         met = h.met;
-        messages = numbered_sending view limits own.sent other.sent own.front (numbers_of number link) (highest_given left.flow) left.flow.last
+        messages =
+            numbered_sending view limits own.sent other.sent own.front (numbers_of number link) (highest_given left.segments) left.segments.last
             (Some unit) h.messages e.present h.met sending_is;
         nobody = present_aside own.sent other.sent own.front nobody (Some unit) (λ n. absurd (omega arith)) h.nobody;
         told = λ k u at. go k u (at_pushed own.sent (Some unit) (Some u) k at);
@@ -171,7 +174,7 @@ module _ (own other : LinkSide) (h : IsSoundSide own other) (theirs : IsSoundSid
         go k u (inl at) = told_grown own.links.links links.links u grows (h.told k u at)
         go k u (inr p) = subst (IsTold links.links) (same_Some unit u p.1) told_then
 
-        end_now : (i : ℕ) (l : LinkOf TrueFlow) → ((i ≡ number) × (left ≡ l)) ⊎ ((i ≡ number → ⊥) × (slice_get own.links.links i ≡ Some l)) →
+        end_now : (i : ℕ) (l : LinkOf TrueSegments) → ((i ≡ number) × (left ≡ l)) ⊎ ((i ≡ number → ⊥) × (slice_get own.links.links i ≡ Some l)) →
             IsSoundEnd (own.sent ++ Some unit ∷ []) other.sent own.front other.links.links i l
         end_now i l (inl p) =
             subst (λ (j : ℕ). IsSoundEnd (own.sent ++ Some unit ∷ []) other.sent own.front other.links.links j l) (sym p.0)
@@ -179,7 +182,7 @@ module _ (own other : LinkSide) (h : IsSoundSide own other) (theirs : IsSoundSid
         end_now i l (inr p) = end_aside own.sent other.sent own.front other.links.links i l (Some unit) (λ n. p.0 (omega arith)) (h.ends i l p.1)
 
   -- the link that is the same, or changed
-  only_same : (number : ℕ) (link : LinkOf TrueFlow) → slice_get own.links.links number ≡ Some link → (i : ℕ) (l : LinkOf TrueFlow) →
+  only_same : (number : ℕ) (link : LinkOf TrueSegments) → slice_get own.links.links number ≡ Some link → (i : ℕ) (l : LinkOf TrueSegments) →
       slice_get own.links.links i ≡ Some l → ((i ≡ number) × (link ≡ l)) ⊎ ((i ≡ number → ⊥) × (slice_get own.links.links i ≡ Some l))
   only_same number link there i l at = go (cases_eq i number)
     where
@@ -187,18 +190,19 @@ module _ (own other : LinkSide) (h : IsSoundSide own other) (theirs : IsSoundSid
       go (inl e) = inl (e, same_Some link l (sym there ∙ ap (slice_get own.links.links) (sym e) ∙ at))
       go (inr d) = inr (d, at)
 
-  changed_sent : (packet : Carried) (known : Numbers) (number : ℕ) (link left : LinkOf TrueFlow) → slice_get own.links.links number ≡ Some link →
-      SendsFrom link.flow left.flow known → left.partner ≡ link.partner →
+  changed_sent : (packet : Carried) (known : Numbers) (number : ℕ) (link left : LinkOf TrueSegments) → slice_get own.links.links number ≡ Some link →
+      SendsFrom link.segments left.segments known → left.partner ≡ link.partner →
       (is_calling left.port.phase ≡ true → is_calling link.port.phase ≡ true) →
-      ((x : SegmentValue) → packet.message ≡ DataSegment x → IsTrueSegment x left.flow.given known) →
+      ((x : SegmentValue) → packet.message ≡ DataSegment x → IsTrueSegment x left.segments.given known) →
       ((dst src : ℕ) (acks : List AckWord) → packet.message ≡ DataAck dst src acks → AreWords acks known.acknowledgements) →
-      StaySound (sends own (changed number left own.links) (Some (record { packet = packet; truth = truth_of true_flows number link known }))) other
+      StaySound
+      (sends own (changed number left own.links) (Some (record { packet = packet; truth = truth_of true_segments number link known }))) other
   changed_sent packet known number link left there s same_partner calling segment words =
       link_sent packet known number link left (changed number left own.links) there s same_partner calling
       (grows_set own.links.links own.links.links number link left s.more (grows_same own.links.links) there s.given)
       (set_same own.links.links number link left there) (λ i l at. at_set own.links.links number i left l at) segment words
 
-  pub message_sent : (packet : Carried) (made : Sent TrueFlow Numbers) → SentDid true_flows own.links packet.message made →
+  pub message_sent : (packet : Carried) (made : Sent TrueSegments Numbers) → SentDid true_segments own.links packet.message made →
       StaySound (sends own made.links (Some (record { packet = packet; truth = made.truth }))) other
   message_sent packet made (OfNone none) =
       nobody_sent (Some (record { packet = packet; truth = no_truth }))
@@ -212,23 +216,23 @@ module _ (own other : LinkSide) (h : IsSoundSide own other) (theirs : IsSoundSid
             no_words packet no_truth none;
       }))
   message_sent packet made (Stays number link none there) =
-      link_sent packet (flow.sends_other link.flow) number link link own.links there
-      (other_sent link.flow (h.ends number link there).flow) refl (λ c. c) (grows_same own.links.links) there
+      link_sent packet (segments.sends_other link.segments) number link link own.links there
+      (other_sent link.segments (h.ends number link there).segments) refl (λ c. c) (grows_same own.links.links) there
       (only_same number link there)
-      (λ x e. let t = ap has_numbers e in absurd cc) (no_words packet (truth_of true_flows number link (flow.sends_other link.flow)) none)
+      (λ x e. let t = ap has_numbers e in absurd cc) (no_words packet (truth_of true_segments number link (segments.sends_other link.segments)) none)
   message_sent packet made (EndsCalled far reason number link none is found) =
-      changed_sent packet (flow.sends_other link.flow) number link (ended true_flows link) found.there
-      (other_sent link.flow (h.ends number link found.there).flow) refl (λ c. absurd cc)
-      (λ x e. let t = ap has_numbers e in absurd cc) (no_words packet (truth_of true_flows number link (flow.sends_other link.flow)) none)
+      changed_sent packet (segments.sends_other link.segments) number link (ended true_segments link) found.there
+      (other_sent link.segments (h.ends number link found.there).segments) refl (λ c. absurd cc)
+      (λ x e. let t = ap has_numbers e in absurd cc) (no_words packet (truth_of true_segments number link (segments.sends_other link.segments)) none)
   message_sent packet made (Segment segment number link sent is found run does) =
-      let t = segment_sent link.flow (h.ends number link found.there).flow link.segsize segment sent does in
-      changed_sent packet sent.known number link (with_flow sent.flow link) found.there t.sends refl (λ c. c)
+      let t = segment_sent link.segments (h.ends number link found.there).segments link.segsize segment sent does in
+      changed_sent packet sent.known number link (with_segments sent.segments link) found.there t.sends refl (λ c. c)
       (λ x e. let same : segment ≡ x = let f = sym is ∙ e in cc in
-      subst (λ (y : SegmentValue). IsTrueSegment y sent.flow.given sent.known) same t.is_true)
+      subst (λ (y : SegmentValue). IsTrueSegment y sent.segments.given sent.known) same t.is_true)
       (λ dst src acks e. let f = sym is ∙ e in absurd cc)
   message_sent packet made (Acks dst src acks number link sent is found run does) =
-      let t = acks_sent link.flow (h.ends number link found.there).flow acks sent does in
-      changed_sent packet sent.known number link (with_flow sent.flow link) found.there t.sends refl (λ c. c)
+      let t = acks_sent link.segments (h.ends number link found.there).segments acks sent does in
+      changed_sent packet sent.known number link (with_segments sent.segments link) found.there t.sends refl (λ c. c)
       (λ x e. let f = sym is ∙ e in absurd cc)
       (λ d s a e. let same : acks ≡ a = let f = sym is ∙ e in cc in
       subst (λ (y : List AckWord). AreWords y sent.known.acknowledgements) same t.words_are)
@@ -247,7 +251,7 @@ module _ (own other : LinkSide) (h : IsSoundSide own other) (theirs : IsSoundSid
   }
 
   after_keeping : (links : Links) → Grows own.links.links links.links →
-      ((i : ℕ) (l : LinkOf TrueFlow) → slice_get links.links i ≡ Some l → IsSoundEnd own.sent other.sent (k + 1) other.links.links i l) →
+      ((i : ℕ) (l : LinkOf TrueSegments) → slice_get links.links i ≡ Some l → IsSoundEnd own.sent other.sent (k + 1) other.links.links i l) →
       StaySound (keeps own links k) other
   after_keeping links grows ends =
       record {
@@ -264,35 +268,36 @@ module _ (own other : LinkSide) (h : IsSoundSide own other) (theirs : IsSoundSid
   told : IsTold other.links.links u
   told = theirs.told k u there
 
-  now : (number : ℕ) (link : LinkOf TrueFlow) → slice_get own.links.links number ≡ Some link →
+  now : (number : ℕ) (link : LinkOf TrueSegments) → slice_get own.links.links number ≡ Some link →
       IsSoundEnd own.sent other.sent (k + 1) other.links.links number link
   now number link at = (none_kept own other h theirs k (Some u) ahead there).ends number link at
 
-  -- a link changes, and its flow gives nothing
-  one_kept : (number : ℕ) (link left : LinkOf TrueFlow) → slice_get own.links.links number ≡ Some link → left.flow.given ≡ link.flow.given →
+  -- a link changes, and its segments give nothing
+  one_kept : (number : ℕ) (link left : LinkOf TrueSegments) → slice_get own.links.links number ≡ Some link →
+      left.segments.given ≡ link.segments.given →
       IsSoundEnd own.sent other.sent (k + 1) other.links.links number left → StaySound (keeps own (changed number left own.links) k) other
   one_kept number link left at given e =
       after_keeping own other h theirs k (Some u) ahead there (changed number left own.links)
-      (grows_set own.links.links own.links.links number link left [] (grows_same own.links.links) at (given ∙ sym (append-nil link.flow.given)))
-      (all_set (λ (i : ℕ) (l : LinkOf TrueFlow). IsSoundEnd own.sent other.sent (k + 1) other.links.links i l) own.links.links number left e now)
+      (grows_set own.links.links own.links.links number link left [] (grows_same own.links.links) at (given ∙ sym (append-nil link.segments.given)))
+      (all_set (λ (i : ℕ) (l : LinkOf TrueSegments). IsSoundEnd own.sent other.sent (k + 1) other.links.links i l) own.links.links number left e now)
 
   -- the sender is there
   sender_there : (o : Option ℕ) → u.truth.tag.link ≡ o → HeldFrom o [] other.links.links
   sender_there None e = refl
   sender_there (Some n) e = let t = told.sender n e in (t.0, t.1, λ m p at. absurd cc)
 
-  confirmed_sound : (far segsize number : ℕ) (link : LinkOf TrueFlow) → slice_get own.links.links number ≡ Some link →
+  confirmed_sound : (far segsize number : ℕ) (link : LinkOf TrueSegments) → slice_get own.links.links number ≡ Some link →
       is_calling link.port.phase ≡ true →
-      IsSoundEnd own.sent other.sent (k + 1) other.links.links number (confirmed true_flows of_partner far segsize u.truth.tag link)
+      IsSoundEnd own.sent other.sent (k + 1) other.links.links number (confirmed true_segments of_partner far segsize u.truth.tag link)
   confirmed_sound far segsize number link at calling =
       let e = now number link at in
       let none : link.partner ≡ None = e.calling calling in
-      let received : link.flow.received ≡ [] = subst (λ (p : Option ℕ). HeldFrom p link.flow.received other.links.links) none e.held in
-      let acknowledged : link.flow.acknowledged ≡ 0 = e.none none in
+      let received : link.segments.received ≡ [] = subst (λ (p : Option ℕ). HeldFrom p link.segments.received other.links.links) none e.held in
+      let acknowledged : link.segments.acknowledged ≡ 0 = e.none none in
       record {
-        flow = e.flow;
+        segments = e.segments;
         present = present_new view limits own.sent other.sent (k + 1)
-            (numbers_of number (confirmed true_flows of_partner far segsize u.truth.tag link)) (ap in_order received) acknowledged e.present.few
+            (numbers_of number (confirmed true_segments of_partner far segsize u.truth.tag link)) (ap in_order received) acknowledged e.present.few
             (λ i m at same. let p = e.present.up_to i m at same in record { given = p.given; received = p.received; last = p.last });
         came = inl (ap length received);
         calling = λ c. absurd cc;
@@ -300,38 +305,38 @@ module _ (own other : LinkSide) (h : IsSoundSide own other) (theirs : IsSoundSid
         none = λ p. acknowledged;
       }
 
-  pub message_kept : (left : Links) → ArrivedDid true_flows of_partner own.links u.packet.message u.truth left → StaySound (keeps own left k) other
+  pub message_kept : (left : Links) → ArrivedDid true_segments of_partner own.links u.packet.message u.truth left → StaySound (keeps own left k) other
   message_kept left Ignores = nothing_kept own other h theirs k (Some u) ahead there
   message_kept left (Begins far segsize is none) =
-      let l = called true_flows of_partner far segsize u.truth.tag in
+      let l = called true_segments of_partner far segsize u.truth.tag in
       after_keeping own other h theirs k (Some u) ahead there (begun l own.links)
       (grows_pushed own.links.links own.links.links l (grows_same own.links.links))
-      (all_pushed (λ (i : ℕ) (l : LinkOf TrueFlow). IsSoundEnd own.sent other.sent (k + 1) other.links.links i l) own.links.links l
+      (all_pushed (λ (i : ℕ) (l : LinkOf TrueSegments). IsSoundEnd own.sent other.sent (k + 1) other.links.links i l) own.links.links l
       (end_new (keeps own own.links k) other (none_kept own other h theirs k (Some u) ahead there) (length own.links.links) l (omega arith) refl
       (λ c. absurd cc) (sender_there u.truth.tag.link refl)) now)
   message_kept left (Confirms address far segsize number link is found for) =
-      one_kept number link (confirmed true_flows of_partner far segsize u.truth.tag link) found.there refl
+      one_kept number link (confirmed true_segments of_partner far segsize u.truth.tag link) found.there refl
       (confirmed_sound far segsize number link found.there (and_parts (is_calling link.port.phase) (is_at link.port.own address) found.passed).0)
   message_kept left (Ends test number link found) =
-      one_kept number link (ended true_flows link) found.there refl
+      one_kept number link (ended true_segments link) found.there refl
       (end_port own.sent other.sent (k + 1) other.links.links number link (record link.port { phase = Ended }) (λ c. absurd cc)
       (now number link found.there))
   message_kept left (TakesSegment address far segment number link is found pair) =
       let p = of_pair_is number link.partner u.truth.tag pair in
       let e = h.ends number link found.there in
       let a = acknowledges own.sent other.sent own.front other.links.links number link e theirs.messages k u there ahead told p in
-      one_kept number link (with_flow (flow.takes_segment segment u.truth.known link.flow) (in_phase Running link)) found.there
-      (ap (λ (f : TrueFlow). f.given) a.is)
+      one_kept number link (with_segments (segments.takes_segment segment u.truth.known link.segments) (in_phase Running link)) found.there
+      (ap (λ (f : TrueSegments). f.given) a.is)
       (end_segment own.sent other.sent own.front other.links.links number link e theirs.messages k u there ahead told p segment
-      (told.segment segment is) (fold acknowledged_through link.flow u.truth.known.acknowledgements)
-      (ap (λ (f : TrueFlow). f.received) a.is) (ap (λ (f : TrueFlow). f.last) a.is)
+      (told.segment segment is) (fold acknowledged_through link.segments u.truth.known.acknowledgements)
+      (ap (λ (f : TrueSegments). f.received) a.is) (ap (λ (f : TrueSegments). f.last) a.is)
       (end_acks own.sent other.sent own.front other.links.links number link e theirs.messages k u there ahead told p))
   message_kept left (TakesAcks address far dst src acks number link is found pair) =
       let p = of_pair_is number link.partner u.truth.tag pair in
       let e = h.ends number link found.there in
       let a = acknowledges own.sent other.sent own.front other.links.links number link e theirs.messages k u there ahead told p in
-      one_kept number link (with_flow (flow.takes_acks acks u.truth.known link.flow) (in_phase Running link)) found.there
-      (ap (λ (f : TrueFlow). f.given) a.is)
+      one_kept number link (with_segments (segments.takes_acks acks u.truth.known link.segments) (in_phase Running link)) found.there
+      (ap (λ (f : TrueSegments). f.given) a.is)
       (end_acks own.sent other.sent own.front other.links.links number link e theirs.messages k u there ahead told p)
   message_kept left (TakesOther address far number link found pair) =
       one_kept number link (in_phase Running link) found.there refl
@@ -343,13 +348,13 @@ module _ (own other : LinkSide) (h : IsSoundSide own other) (theirs : IsSoundSid
 pub step_sound : (own other left : LinkSide) (events : List LinkEventValue) → IsSoundSide own other → IsSoundSide other own →
     LinkStep own other events left → StaySound left other
 step_sound own other left events h theirs (ByUser event links does) =
-    let l = user_sound own other h event links (user_did true_flows own.links links event does) in
+    let l = user_sound own other h event links (user_did true_segments own.links links event does) in
     record { side = l.side; beside = side_grown other own links own.front l.grows theirs }
 step_sound own other left events h theirs (Sends packet made does) =
-    message_sent own other h theirs packet made (sent_did true_flows own.links made packet does)
+    message_sent own other h theirs packet made (sent_did true_segments own.links made packet does)
 step_sound own other left events h theirs SendsNone = none_sent own other h theirs
 step_sound own other left events h theirs (Keeps place unit links ahead there does) =
-    message_kept own other h theirs place unit ahead there links (arrived_did true_flows of_partner own.links links unit.truth unit.packet does)
+    message_kept own other h theirs place unit ahead there links (arrived_did true_segments of_partner own.links links unit.truth unit.packet does)
 step_sound own other left events h theirs (KeepsNone place ahead there) = nothing_kept own other h theirs place None ahead there
 
 pub record BothLinksSound (w : LinkWorld) : Type 0 where

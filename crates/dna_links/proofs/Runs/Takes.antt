@@ -9,10 +9,10 @@ use Rattle.dna_links.specs.declared.tag.LinkTag.{LinkTag}
 use Rattle.dna_links.specs.declared.port.Phase.TheVariants.{Running}
 use Rattle.dna_links.specs.LookUps.{is_at}
 use Rattle.dna_links.specs.Pieces.{Piece, piece_of, in_order, hold}
-use Rattle.dna_links.specs.Links.{LinkOf, in_phase, with_flow}
+use Rattle.dna_links.specs.Links.{LinkOf, in_phase, with_segments}
 use Rattle.dna_links.specs.Arriving.{are_same, is_of_pair}
-use Rattle.dna_links.specs.TrueFlow.{TrueFlow, highest_given, highest_received, acknowledged_through}
-use Rattle.dna_links.specs.TrueFlow as flow
+use Rattle.dna_links.specs.TrueSegments.{TrueSegments, highest_given, highest_received, acknowledged_through}
+use Rattle.dna_links.specs.TrueSegments as segments
 use Rattle.dna_links.specs.Runs.{SentMessage}
 use Rattle.dna_links.specs.Delivery.{HeldFrom}
 use Rattle.two_nodes.proofs.Numbered.{AcksFrom, IsGiven, IsLawful, IsNear, AcknowledgedFrom, AreNumbered, IsPresent, near}
@@ -107,7 +107,7 @@ held_at (suc n) p (first ∷ later) =
         go (inl e) = inl e
         go (inr e) = inr (ap suc e.0, e.1, low first e.2)
 
-module _ (own other : List (Option SentMessage)) (front : ℕ) (others : List (LinkOf TrueFlow)) (i : ℕ) (l : LinkOf TrueFlow)
+module _ (own other : List (Option SentMessage)) (front : ℕ) (others : List (LinkOf TrueSegments)) (i : ℕ) (l : LinkOf TrueSegments)
     (h : IsSoundEnd own other front others i l)
     (theirs : AreNumbered view limits other own) (k : ℕ) (u : SentMessage) (there : slice_get other k ≡ Some (Some u)) (ahead : front ≤ k)
     (told : IsTold others u) (pair : IsOfPair i l.partner u.truth.tag) where
@@ -121,15 +121,15 @@ module _ (own other : List (Option SentMessage)) (front : ℕ) (others : List (L
   end_near = near view limits own other front (numbers_of i l) theirs h.present k (Some u) there ahead from to
 
   -- all that came was given by then
-  came_given : length l.flow.received ≤ u.truth.known.given
-  came_given = (near view limits own other front (record (numbers_of i l) { received = length l.flow.received }) theirs
+  came_given : length l.segments.received ≤ u.truth.known.given
+  came_given = (near view limits own other front (record (numbers_of i l) { received = length l.segments.received }) theirs
       (present_raised own other front others i l h) k (Some u) there ahead from to).given_least
 
   -- what its sender took as acknowledged, this link did acknowledge
-  acknowledged_last : u.truth.known.acknowledged ≤ l.flow.last
+  acknowledged_last : u.truth.known.acknowledged ≤ l.segments.last
   acknowledged_last = go (theirs.acknowledged_from k (Some u) there)
     where
-      go : AcknowledgedFrom view own (length own) (view (Some u)).sender → u.truth.known.acknowledged ≤ l.flow.last
+      go : AcknowledgedFrom view own (length own) (view (Some u)).sender → u.truth.known.acknowledged ≤ l.segments.last
       go (inl e) = omega arith
       go (inr s) = let p = h.present.up_to s.place s.unit s.there (same_Some _ _ (sym s.is_partner ∙ to)) in let a = s.says_so.0 in let b = p.last in
           omega arith
@@ -137,20 +137,21 @@ module _ (own other : List (Option SentMessage)) (front : ℕ) (others : List (L
   lawful : IsLawful limits (view (Some u))
   lawful = theirs.lawful k (Some u) there
 
-  pub acknowledges : Acknowledges l.flow u.truth.known.last u.truth.known.received (fold acknowledged_through l.flow u.truth.known.acknowledgements)
-  acknowledges = through u.truth.known.last u.truth.known.received u.truth.known.acknowledgements l.flow told.at_most
+  pub acknowledges : Acknowledges l.segments u.truth.known.last u.truth.known.received
+      (fold acknowledged_through l.segments u.truth.known.acknowledgements)
+  acknowledges = through u.truth.known.last u.truth.known.received u.truth.known.acknowledgements l.segments told.at_most
       (acks_below u.truth.known.last_before u.truth.known.received u.truth.known.acknowledgements lawful.acks)
 
   -- the link in RUN with its highest number acknowledged
-  acked : (acknowledged : ℕ) → LinkOf TrueFlow
-  acked acknowledged = record l { port = record l.port { phase = Running }; flow = record l.flow { acknowledged = acknowledged } }
+  acked : (acknowledged : ℕ) → LinkOf TrueSegments
+  acked acknowledged = record l { port = record l.port { phase = Running }; segments = record l.segments { acknowledged = acknowledged } }
 
-  end_acked : (acknowledged : ℕ) → l.flow.acknowledged ≤ acknowledged → acknowledged ≤ highest_given l.flow →
-      (acknowledged ≡ l.flow.acknowledged) ⊎ ((acknowledged ≤ u.truth.known.last) × (acknowledged ≤ u.truth.known.received)) →
+  end_acked : (acknowledged : ℕ) → l.segments.acknowledged ≤ acknowledged → acknowledged ≤ highest_given l.segments →
+      (acknowledged ≡ l.segments.acknowledged) ⊎ ((acknowledged ≤ u.truth.known.last) × (acknowledged ≤ u.truth.known.received)) →
       IsSoundEnd own other (k + 1) others i (acked acknowledged)
   unfolding acked
   end_acked acknowledged more given most = record {
-    flow = let f = h.flow in let few = f.few in let p = f.passed in let c = f.cut in record {
+    segments = let f = h.segments in let few = f.few in let p = f.passed in let c = f.cut in record {
       acknowledged = given;
       few = omega arith;
       last = f.last;
@@ -165,7 +166,7 @@ module _ (own other : List (Option SentMessage)) (front : ℕ) (others : List (L
     none = λ e. let p = pair.partner_is in absurd cc;
   }
     where
-      present : (acknowledged ≡ l.flow.acknowledged) ⊎ ((acknowledged ≤ u.truth.known.last) × (acknowledged ≤ u.truth.known.received)) →
+      present : (acknowledged ≡ l.segments.acknowledged) ⊎ ((acknowledged ≤ u.truth.known.last) × (acknowledged ≤ u.truth.known.received)) →
           IsPresent view limits own other (k + 1) (record (numbers_of i l) { acknowledged = acknowledged })
       present (inl e) = subst (λ (x : ℕ). IsPresent view limits own other (k + 1) (record (numbers_of i l) { acknowledged = x })) (sym e)
           (present_further view limits own other front (k + 1) (numbers_of i l) h.present (omega arith))
@@ -174,16 +175,16 @@ module _ (own other : List (Option SentMessage)) (front : ℕ) (others : List (L
 
   -- its words
   pub end_acks : IsSoundEnd own other (k + 1) others i
-      (with_flow (fold acknowledged_through l.flow u.truth.known.acknowledgements) (in_phase Running l))
+      (with_segments (fold acknowledged_through l.segments u.truth.known.acknowledgements) (in_phase Running l))
   unfolding acked
   end_acks =
       let a = acknowledges in
-      subst (λ (f : TrueFlow). IsSoundEnd own other (k + 1) others i (with_flow f (in_phase Running l))) (sym a.is)
-      (end_acked a.acknowledged a.more (a.given h.flow.acknowledged) a.most)
+      subst (λ (f : TrueSegments). IsSoundEnd own other (k + 1) others i (with_segments f (in_phase Running l))) (sym a.is)
+      (end_acked a.acknowledged a.more (a.given h.segments.acknowledged) a.most)
 
   -- its segment
-  module _ (s : SegmentValue) (t : SegmentTold others u s) (f : TrueFlow) (same_received : f.received ≡ l.flow.received)
-      (same_last : f.last ≡ l.flow.last) (e : IsSoundEnd own other (k + 1) others i (with_flow f (in_phase Running l))) where
+  module _ (s : SegmentValue) (t : SegmentTold others u s) (f : TrueSegments) (same_received : f.received ≡ l.segments.received)
+      (same_last : f.last ≡ l.segments.last) (e : IsSoundEnd own other (k + 1) others i (with_segments f (in_phase Running l))) where
     at : HeldAt (u.truth.known.segment - 1) (piece_of s) f.received (hold (u.truth.known.segment - 1) (piece_of s) f.received)
     at = held_at (u.truth.known.segment - 1) (piece_of s) f.received
 
@@ -209,21 +210,22 @@ module _ (own other : List (Option SentMessage)) (front : ℕ) (others : List (L
         link_is = same_Some t.link h.0 (sym t.there ∙ ap (slice_get others) number_is ∙ h.1)
 
         new : (q : Piece) → piece_of s ≡ q → in_order f.received ≤ u.truth.known.segment - 1 → (u.truth.known.segment ≤ u.truth.known.acknowledged) ⊎
-            (slice_get t.link.flow.given (u.truth.known.segment - 1) ≡ Some (piece_of s)) →
-            slice_get h.0.flow.given (u.truth.known.segment - 1) ≡ Some q
-        new q same gap (inl low) = let a = acknowledged_last in let b = e.flow.last in let some = t.is_true.some in absurd (omega arith)
-        new q same gap (inr there) = ap (λ (x : LinkOf TrueFlow). slice_get x.flow.given (u.truth.known.segment - 1)) (sym link_is) ∙ there ∙
+            (slice_get t.link.segments.given (u.truth.known.segment - 1) ≡ Some (piece_of s)) →
+            slice_get h.0.segments.given (u.truth.known.segment - 1) ≡ Some q
+        new q same gap (inl low) = let a = acknowledged_last in let b = e.segments.last in let some = t.is_true.some in absurd (omega arith)
+        new q same gap (inr there) = ap (λ (x : LinkOf TrueSegments). slice_get x.segments.given (u.truth.known.segment - 1)) (sym link_is) ∙ there ∙
             ap Some same
 
         go : (m : ℕ) (q : Piece) → (slice_get f.received m ≡ Some (Some q)) ⊎
             ((m ≡ u.truth.known.segment - 1) × (piece_of s ≡ q) × (in_order f.received ≤ u.truth.known.segment - 1)) →
-            slice_get h.0.flow.given m ≡ Some q
+            slice_get h.0.segments.given m ≡ Some q
         go m q (inl there) = h.2 m q there
-        go m q (inr x) = ap (slice_get h.0.flow.given) x.0 ∙ new q x.1 x.2 t.is_true.piece
+        go m q (inr x) = ap (slice_get h.0.segments.given) x.0 ∙ new q x.1 x.2 t.is_true.piece
 
-    pub end_segment : IsSoundEnd own other (k + 1) others i (with_flow (flow.with_segment u.truth.known.segment (piece_of s) f) (in_phase Running l))
+    pub end_segment : IsSoundEnd own other (k + 1) others i
+        (with_segments (segments.with_segment u.truth.known.segment (piece_of s) f) (in_phase Running l))
     end_segment = record {
-      flow = let g = e.flow in let c = g.cut in let few = lawful.few in let low = acknowledged_last in let more = at.in_order_more in
+      segments = let g = e.segments in let c = g.cut in let few = lawful.few in let low = acknowledged_last in let more = at.in_order_more in
           let last = g.last in let most = at.most in let recent = g.recent in let n = number_most in let some = t.is_true.some in record {
             acknowledged = g.acknowledged;
             few = g.few;
@@ -232,7 +234,7 @@ module _ (own other : List (Option SentMessage)) (front : ℕ) (others : List (L
             cut = record { all = c.all; none_left = c.none_left };
             passed = passed_held f (u.truth.known.segment - 1) (piece_of s) g.passed;
           };
-      present = present_received view limits own other (k + 1) (k + 1) (numbers_of i (with_flow f (in_phase Running l))) e.present (omega arith) k
+      present = present_received view limits own other (k + 1) (k + 1) (numbers_of i (with_segments f (in_phase Running l))) e.present (omega arith) k
           (Some u) there (omega arith) from
           (in_order (hold (u.truth.known.segment - 1) (piece_of s) f.received)) f.last at.in_order_more (omega arith) some_given;
       came = inr (record { place = k; unit = Some u; earlier = omega arith; there = there; is_partner = from; says_so = all_given });

@@ -2,7 +2,7 @@
 use Rattle.std.proofs.Common.{◌≡◌, ℕ, ◌+◌, ◌-◌, ◌<◌, ◌≤◌, Bool, true, false, ◌&&◌, ◌||◌, ltb, leb, arith, lt-ltb, le-leb}
 use Rattle.std.proofs.Common.{leb-true, ltb-true, ◌⊎◌, inl, inr, refl}
 use Rattle.std.proofs.lemmas.Bool.{cases_lt, lt-leb}
-use Rattle.dna_links.specs.Flow.{REACH, wire, distance}
+use Rattle.dna_links.specs.SegmentBook.{REACH, wire, distance}
 
 pub distance_ahead : (a n : ℕ) → a ≤ n → n ≤ a + 2047 → distance (wire a) (wire n) ≡ n - a
 distance_ahead a n l m = omega arith

@@ -1,4 +1,4 @@
--- What each table of the links comes to, over any flow: what is left of the links is one of a few things.
+-- What each table of the links comes to, over any book: what is left of the links is one of a few things.
 use Rattle.std.proofs.Common.{◌≡◌, ℕ, zero, suc, ◌+◌, ◌<◌, Bool, true, false, not, ◌==◌, nat_lt, cond, Option, Some, None, List, [], ◌∷◌, length}
 use Rattle.std.proofs.Common.{Result, Ok, Err, refl, ap, ◌∙◌, subst, arith, eqb-true, ltb-true, ltb-false, position, one-add}
 use Rattle.std.specs.Prelude.{slice_get}
@@ -14,9 +14,9 @@ use Rattle.dna_links.specs.declared.port.Phase.TheVariants.{Confirming, Disconne
 use Rattle.dna_links.specs.declared.port.LinkTest.{LinkTest}
 use Rattle.dna_links.specs.declared.port.LinkTest.TheVariants.{HasAddress, LiveAt, TheLink, LiveTo, OpenedAt, CallingAt, CalledBy, BegunBy, ActedOn}
 use Rattle.dna_links.specs.LookUps.{passes, takes_messages, is_connected, is_calling, is_confirming, is_running, is_disconnecting}
-use Rattle.dna_links.specs.Flow.{Flows, Sending}
+use Rattle.dna_links.specs.SegmentBook.{SegmentBook, Sending}
 use Rattle.dna_links.specs.Links.{LinkOf, LinksOf, Carried, LinkTruth, check, number_of, on_link, at_number, with_link, begun, changed, in_phase}
-use Rattle.dna_links.specs.Links.{with_flow, ended, freed}
+use Rattle.dna_links.specs.Links.{with_segments, ended, freed}
 use Rattle.dna_links.specs.User.{LinkEventValue, Open, Accept, Reject, In, Up, Close, opened, answered, gives, delivered, user_step}
 use Rattle.dna_links.specs.Sending.{Sent, of_no_link, truth_of, unchanged, ending, confirms_end, carries, in_run, segment_of, in_its_phase}
 use Rattle.dna_links.specs.Sending.{message_sent, sent_step}
@@ -117,21 +117,21 @@ checked false refusal next r e = absurd cc
 same_Ok : {R : Type 0} (x y : R) → ◌≡◌ {A = Result R LinkRefusal} (Ok x) (Ok y) → x ≡ y
 same_Ok x y e = cc
 
-module _ {D K : Type 0} (flows : Flows D K) where
+module _ {D K : Type 0} (book : SegmentBook D K) where
   -- ---- the user
 
   pub data UserDid (s : LinksOf D) : LinkEventValue → LinksOf D → Type 0 where
-    Opens : (own : ℕ) → number_of (LiveAt own) s ≡ None → UserDid s (Open own) (begun (opened flows own) (freed flows own s))
+    Opens : (own : ℕ) → number_of (LiveAt own) s ≡ None → UserDid s (Open own) (begun (opened book own) (freed book own s))
     Accepts : (far own number : ℕ) (link : LinkOf D) → IsFound (CalledBy far) s number link → number_of (LiveAt own) s ≡ None →
-        UserDid s (Accept far own) (changed number (answered flows Confirming own link) (freed flows own s))
+        UserDid s (Accept far own) (changed number (answered book Confirming own link) (freed book own s))
     Rejects : (far own number : ℕ) (link : LinkOf D) → IsFound (CalledBy far) s number link → number_of (LiveAt own) s ≡ None →
-        UserDid s (Reject far own) (changed number (answered flows Disconnecting own link) (freed flows own s))
+        UserDid s (Reject far own) (changed number (answered book Disconnecting own link) (freed book own s))
     HandsIn : (own : ℕ) (message : List ℕ) (number : ℕ) (link : LinkOf D) → IsFound (LiveAt own) s number link →
         takes_messages link.port.phase ≡ true →
-        UserDid s (In own message) (changed number (with_flow (flows.hands_in message link.flow) link) s)
-    Delivers : (own : ℕ) (message : List ℕ) (number : ℕ) (link : LinkOf D) (flow : D) → IsFound (HasAddress own) s number link →
-        flows.delivers message link.flow ≡ Some flow →
-        UserDid s (Up own message) (changed number (with_flow flow link) s)
+        UserDid s (In own message) (changed number (with_segments (book.hands_in message link.segments) link) s)
+    Delivers : (own : ℕ) (message : List ℕ) (number : ℕ) (link : LinkOf D) (segments : D) → IsFound (HasAddress own) s number link →
+        book.delivers message link.segments ≡ Some segments →
+        UserDid s (Up own message) (changed number (with_segments segments link) s)
     Closes : (own number : ℕ) (link : LinkOf D) → IsFound (LiveAt own) s number link → is_connected link.port.phase ≡ true →
         UserDid s (Close own) (changed number (in_phase Disconnecting link) s)
 
@@ -141,37 +141,38 @@ module _ {D K : Type 0} (flows : Flows D K) where
     did event next d e = subst (λ (x : LinksOf D). UserDid s event x) (same_Ok next left e) d
 
     given_did : (event : LinkEventValue) (own : ℕ) (next : LinksOf D) → (number_of (LiveAt own) s ≡ None → UserDid s event next) →
-        gives flows own s next ≡ Ok left → UserDid s event left
+        gives book own s next ≡ Ok left → UserDid s event left
     given_did event own next d e =
         looked (LiveAt own) s (Ok next) (λ number link. Err AddressInUse) (Ok left) e (λ free e. did event next (d free) e)
         (λ number link found e. absurd cc)
 
     delivered_did : (own : ℕ) (message : List ℕ) (number : ℕ) (link : LinkOf D) → IsFound (HasAddress own) s number link → (o : Option D) →
-        flows.delivers message link.flow ≡ o →
-        delivered flows number link s o ≡ Ok left → UserDid s (Up own message) left
-    delivered_did own message number link found None flow e = absurd cc
-    delivered_did own message number link found (Some next) flow e = did (Up own message) _ (Delivers own message number link next found flow) e
+        book.delivers message link.segments ≡ o →
+        delivered book number link s o ≡ Ok left → UserDid s (Up own message) left
+    delivered_did own message number link found None segments e = absurd cc
+    delivered_did own message number link found (Some next) segments e =
+        did (Up own message) _ (Delivers own message number link next found segments) e
 
-    pub user_did : (event : LinkEventValue) → user_step flows s event ≡ Ok left → UserDid s event left
-    user_did (Open own) e = given_did (Open own) own (begun (opened flows own) (freed flows own s)) (λ free. Opens own free) e
+    pub user_did : (event : LinkEventValue) → user_step book s event ≡ Ok left → UserDid s event left
+    user_did (Open own) e = given_did (Open own) own (begun (opened book own) (freed book own s)) (λ free. Opens own free) e
     user_did (Accept far own) e =
         looked (CalledBy far) s (Err NoLink)
-        (λ number link. gives flows own s (changed number (answered flows Confirming own link) (freed flows own s))) (Ok left) e
+        (λ number link. gives book own s (changed number (answered book Confirming own link) (freed book own s))) (Ok left) e
         (λ none e. absurd cc)
         (λ number link found e. given_did (Accept far own) own _ (λ free. Accepts far own number link found free) e)
     user_did (Reject far own) e =
         looked (CalledBy far) s (Err NoLink)
-        (λ number link. gives flows own s (changed number (answered flows Disconnecting own link) (freed flows own s))) (Ok left) e
+        (λ number link. gives book own s (changed number (answered book Disconnecting own link) (freed book own s))) (Ok left) e
         (λ none e. absurd cc)
         (λ number link found e. given_did (Reject far own) own _ (λ free. Rejects far own number link found free) e)
     user_did (In own message) e =
         looked (LiveAt own) s (Err NoLink)
         (λ number link. check (takes_messages link.port.phase) LinkState
-        (Ok (changed number (with_flow (flows.hands_in message link.flow) link) s))) (Ok left) e
+        (Ok (changed number (with_segments (book.hands_in message link.segments) link) s))) (Ok left) e
         (λ none e. absurd cc)
         (λ number link found e. let c = checked _ _ _ left e in did (In own message) _ (HandsIn own message number link found c.0) c.1)
     user_did (Up own message) e =
-        looked (HasAddress own) s (Err NoLink) (λ number link. delivered flows number link s (flows.delivers message link.flow)) (Ok left) e
+        looked (HasAddress own) s (Err NoLink) (λ number link. delivered book number link s (book.delivers message link.segments)) (Ok left) e
         (λ none e. absurd cc) (λ number link found e. delivered_did own message number link found _ refl e)
     user_did (Close own) e =
         looked (LiveAt own) s (Err NoLink)
@@ -182,92 +183,92 @@ module _ {D K : Type 0} (flows : Flows D K) where
 
   -- m is the message: what is sent of a link, or of none
   pub data SentDid (s : LinksOf D) (m : NspValue) : Sent D K → Type 0 where
-    OfNone : has_numbers m ≡ false → SentDid s m (of_no_link flows s)
+    OfNone : has_numbers m ≡ false → SentDid s m (of_no_link book s)
     Stays : (number : ℕ) (link : LinkOf D) → has_numbers m ≡ false → slice_get s.links number ≡ Some link →
-        SentDid s m (unchanged flows s number link)
+        SentDid s m (unchanged book s number link)
     EndsCalled : (far reason number : ℕ) (link : LinkOf D) → has_numbers m ≡ false → m ≡ DisconnectConfirm far 0 reason →
         IsFound (CalledBy far) s number link →
-        SentDid s m (ending flows s number link)
+        SentDid s m (ending book s number link)
     Segment : (segment : SegmentValue) (number : ℕ) (link : LinkOf D) (sent : Sending D K) → m ≡ DataSegment segment →
         IsFound (TheLink segment.srcaddr segment.dstaddr) s number link →
-        is_running link.port.phase ≡ true → flows.sends_segment link.segsize segment link.flow ≡ Ok sent →
-        SentDid s m (record { links = changed number (with_flow sent.flow link) s; truth = truth_of flows number link sent.known })
+        is_running link.port.phase ≡ true → book.sends_segment link.segsize segment link.segments ≡ Ok sent →
+        SentDid s m (record { links = changed number (with_segments sent.segments link) s; truth = truth_of book number link sent.known })
     Acks : (dst src : ℕ) (acks : List AckWord) (number : ℕ) (link : LinkOf D) (sent : Sending D K) → m ≡ DataAck dst src acks →
         IsFound (TheLink src dst) s number link →
-        is_running link.port.phase ≡ true → flows.sends_acks acks link.flow ≡ Ok sent →
-        SentDid s m (record { links = changed number (with_flow sent.flow link) s; truth = truth_of flows number link sent.known })
+        is_running link.port.phase ≡ true → book.sends_acks acks link.segments ≡ Ok sent →
+        SentDid s m (record { links = changed number (with_segments sent.segments link) s; truth = truth_of book number link sent.known })
 
   module _ (s : LinksOf D) (left : Sent D K) where
     did_send : (m : NspValue) (next : Sent D K) → SentDid s m next → ◌≡◌ {A = Result (Sent D K) LinkRefusal} (Ok next) (Ok left) → SentDid s m left
     did_send m next d e = subst (λ (x : Sent D K). SentDid s m x) (same_Ok next left e) d
 
     -- a message without numbers, in its phase
-    phase_did : (m : NspValue) (test : LinkTest) (is_right : Phase → Bool) → has_numbers m ≡ false → in_its_phase flows test is_right s ≡ Ok left →
+    phase_did : (m : NspValue) (test : LinkTest) (is_right : Phase → Bool) → has_numbers m ≡ false → in_its_phase book test is_right s ≡ Ok left →
         SentDid s m left
     phase_did m test is_right none e =
-        looked test s (Err NoLink) (λ number link. check (is_right link.port.phase) LinkState (Ok (unchanged flows s number link))) (Ok left) e
+        looked test s (Err NoLink) (λ number link. check (is_right link.port.phase) LinkState (Ok (unchanged book s number link))) (Ok left) e
         (λ missing e. absurd cc)
         (λ number link found e. let c = checked _ _ _ left e in did_send m _ (Stays number link none found.there) c.1)
 
     -- a message with numbers, of a link in RUN
     carries_did : (m : NspValue) (number : ℕ) (link : LinkOf D) (o : Result (Sending D K) LinkRefusal) →
         ((sent : Sending D K) → o ≡ Ok sent →
-        SentDid s m (record { links = changed number (with_flow sent.flow link) s; truth = truth_of flows number link sent.known })) →
-        carries flows s number link o ≡ Ok left → SentDid s m left
+        SentDid s m (record { links = changed number (with_segments sent.segments link) s; truth = truth_of book number link sent.known })) →
+        carries book s number link o ≡ Ok left → SentDid s m left
     carries_did m number link (Err refusal) d e = absurd cc
     carries_did m number link (Ok sent) d e = did_send m _ (d sent refl) e
 
     run_did : (m : NspValue) (src dst : ℕ) (sends : LinkOf D → Result (Sending D K) LinkRefusal) →
         ((number : ℕ) (link : LinkOf D) (sent : Sending D K) → IsFound (TheLink src dst) s number link → is_running link.port.phase ≡ true →
         sends link ≡ Ok sent →
-        SentDid s m (record { links = changed number (with_flow sent.flow link) s; truth = truth_of flows number link sent.known })) →
-        in_run flows src dst sends s ≡ Ok left → SentDid s m left
+        SentDid s m (record { links = changed number (with_segments sent.segments link) s; truth = truth_of book number link sent.known })) →
+        in_run book src dst sends s ≡ Ok left → SentDid s m left
     run_did m src dst sends d e =
         looked (TheLink src dst) s (Err NoLink)
-        (λ number link. check (is_running link.port.phase) LinkState (carries flows s number link (sends link))) (Ok left) e
+        (λ number link. check (is_running link.port.phase) LinkState (carries book s number link (sends link))) (Ok left) e
         (λ missing e. absurd cc)
         (λ number link found e. let c = checked _ _ _ left e in
         carries_did m number link (sends link) (λ sent is. d number link sent found c.0 is) c.1)
 
     called_ends : (dst src reason : ℕ) (r : Sent D K) → src ≡ 0 →
-        with_link (CalledBy dst) s (of_no_link flows s) (λ number link. ending flows s number link) ≡ r
+        with_link (CalledBy dst) s (of_no_link book s) (λ number link. ending book s number link) ≡ r
         → SentDid s (DisconnectConfirm dst src reason) r
     called_ends dst src reason r none e =
-        looked (CalledBy dst) s (of_no_link flows s) (λ number link. ending flows s number link) r e
+        looked (CalledBy dst) s (of_no_link book s) (λ number link. ending book s number link) r e
         (λ missing e. subst (λ (x : Sent D K). SentDid s (DisconnectConfirm dst src reason) x) e (OfNone refl))
         (λ number link found e. subst (λ (x : Sent D K). SentDid s (DisconnectConfirm dst src reason) x) e
         (EndsCalled dst reason number link refl (ap (λ (n : ℕ). DisconnectConfirm dst n reason) none) found))
 
-    end_did : (dst src reason : ℕ) → SentDid s (DisconnectConfirm dst src reason) (confirms_end flows s src dst)
+    end_did : (dst src reason : ℕ) → SentDid s (DisconnectConfirm dst src reason) (confirms_end book s src dst)
     end_did dst src reason = go (src == 0) refl
       where
         go : (b : Bool) → (src == 0) ≡ b → SentDid s (DisconnectConfirm dst src reason)
-            (cond b (with_link (CalledBy dst) s (of_no_link flows s) (λ number link. ending flows s number link)) (of_no_link flows s))
+            (cond b (with_link (CalledBy dst) s (of_no_link book s) (λ number link. ending book s number link)) (of_no_link book s))
         go true e = called_ends dst src reason _ (eqb-true src 0 e) refl
         go false e = OfNone refl
 
-    message_did : (m : NspValue) → message_sent flows s m ≡ Ok left → SentDid s m left
+    message_did : (m : NspValue) → message_sent book s m ≡ Ok left → SentDid s m left
     message_did (ConnectInitiate retransmitted src services info segsize user_data) e = phase_did _ (OpenedAt src) is_calling refl e
     message_did (ConnectAck dst) e =
-        looked (BegunBy dst) s (Err NoLink) (λ number link. Ok (unchanged flows s number link)) (Ok left) e (λ missing e. absurd cc)
+        looked (BegunBy dst) s (Err NoLink) (λ number link. Ok (unchanged book s number link)) (Ok left) e (λ missing e. absurd cc)
         (λ number link found e. did_send (ConnectAck dst) _ (Stays number link refl found.there) e)
     message_did (ConnectConfirm dst src services info segsize user_data) e = phase_did _ (TheLink src dst) is_confirming refl e
     message_did (DisconnectInitiate dst src reason user_data) e = phase_did _ (TheLink src dst) is_disconnecting refl e
     message_did (DisconnectConfirm dst src reason) e =
-        looked (TheLink src dst) s (Ok (confirms_end flows s src dst)) (λ number link. Err LinkState) (Ok left) e
+        looked (TheLink src dst) s (Ok (confirms_end book s src dst)) (λ number link. Err LinkState) (Ok left) e
         (λ missing e. did_send (DisconnectConfirm dst src reason) _ (end_did dst src reason) e)
         (λ number link found e. absurd cc)
     message_did (DataSegment segment) e =
-        run_did (DataSegment segment) segment.srcaddr segment.dstaddr (segment_of flows segment)
+        run_did (DataSegment segment) segment.srcaddr segment.dstaddr (segment_of book segment)
         (λ number link sent found running is. Segment segment number link sent refl found running is) e
     message_did (DataAck dst src acks) e =
-        run_did (DataAck dst src acks) src dst (λ link. flows.sends_acks acks link.flow)
+        run_did (DataAck dst src acks) src dst (λ link. book.sends_acks acks link.segments)
         (λ number link sent found running is. Acks dst src acks number link sent refl found running is) e
     message_did (LinkService interrupt dst src rest) e = phase_did _ (TheLink src dst) is_running refl e
     message_did (OtherDataAck dst src rest) e = phase_did _ (TheLink src dst) is_running refl e
     message_did (NoOperation rest) e = did_send (NoOperation rest) _ (OfNone refl) e
 
-    pub sent_did : (packet : Carried) → sent_step flows s packet ≡ Ok left → SentDid s packet.message left
+    pub sent_did : (packet : Carried) → sent_step book s packet ≡ Ok left → SentDid s packet.message left
     sent_did packet e = message_did packet.message (checked _ _ _ left e).1
 
   -- ---- a message that comes
@@ -275,23 +276,23 @@ module _ {D K : Type 0} (flows : Flows D K) where
   pub data ArrivedDid (rule : PartnerRule) (s : LinksOf D) (m : NspValue) (truth : LinkTruth K) : LinksOf D → Type 0 where
     Ignores : ArrivedDid rule s m truth s
     Begins : (far segsize : ℕ) → Connects m far segsize → number_of (LiveTo far) s ≡ None
-        → ArrivedDid rule s m truth (begun (called flows rule far segsize truth.tag) s)
+        → ArrivedDid rule s m truth (begun (called book rule far segsize truth.tag) s)
     Confirms : (own far segsize number : ℕ) (link : LinkOf D) → Connects m far segsize → IsFound (CallingAt own) s number link
         → rule (is_for number truth.tag) ≡ true →
-        ArrivedDid rule s m truth (changed number (confirmed flows rule far segsize truth.tag link) s)
+        ArrivedDid rule s m truth (changed number (confirmed book rule far segsize truth.tag link) s)
     Ends : (test : LinkTest) (number : ℕ) (link : LinkOf D) → IsFound test s number link →
-        ArrivedDid rule s m truth (changed number (ended flows link) s)
+        ArrivedDid rule s m truth (changed number (ended book link) s)
     TakesSegment : (own far : ℕ) (segment : SegmentValue) (number : ℕ) (link : LinkOf D) → m ≡ DataSegment segment →
         IsFound (ActedOn own far) s number link →
         rule (is_of_pair number link.partner truth.tag) ≡ true →
-        ArrivedDid rule s m truth (changed number (running flows rule (λ l. flows.takes_segment segment truth.known l.flow) link) s)
+        ArrivedDid rule s m truth (changed number (running book rule (λ l. book.takes_segment segment truth.known l.segments) link) s)
     TakesAcks : (own far dst src : ℕ) (acks : List AckWord) (number : ℕ) (link : LinkOf D) → m ≡ DataAck dst src acks →
         IsFound (ActedOn own far) s number link →
         rule (is_of_pair number link.partner truth.tag) ≡ true →
-        ArrivedDid rule s m truth (changed number (running flows rule (λ l. flows.takes_acks acks truth.known l.flow) link) s)
+        ArrivedDid rule s m truth (changed number (running book rule (λ l. book.takes_acks acks truth.known l.segments) link) s)
     TakesOther : (own far number : ℕ) (link : LinkOf D) → IsFound (ActedOn own far) s number link →
         rule (is_of_pair number link.partner truth.tag) ≡ true →
-        ArrivedDid rule s m truth (changed number (running flows rule (λ l. l.flow) link) s)
+        ArrivedDid rule s m truth (changed number (running book rule (λ l. l.segments) link) s)
 
   module _ (rule : PartnerRule) (s left : LinksOf D) (truth : LinkTruth K) where
     did_arrive : (m : NspValue) (next : LinksOf D) → ArrivedDid rule s m truth next → ◌≡◌ {A = Result (LinksOf D) LinkRefusal} (Ok next) (Ok left) →
@@ -300,52 +301,52 @@ module _ {D K : Type 0} (flows : Flows D K) where
 
     acts_did : (m : NspValue) (own far : ℕ) (takes : LinkOf D → D) →
         ((number : ℕ) (link : LinkOf D) → IsFound (ActedOn own far) s number link → rule (is_of_pair number link.partner truth.tag) ≡ true →
-        ArrivedDid rule s m truth (changed number (running flows rule takes link) s)) →
-        acted_on flows rule own far truth.tag takes s ≡ Ok left → ArrivedDid rule s m truth left
+        ArrivedDid rule s m truth (changed number (running book rule takes link) s)) →
+        acted_on book rule own far truth.tag takes s ≡ Ok left → ArrivedDid rule s m truth left
     acts_did m own far takes d e =
         looked (ActedOn own far) s (Ok s)
         (λ number link. check (rule (is_of_pair number link.partner truth.tag)) CrossedLink
-        (Ok (changed number (running flows rule takes link) s))) (Ok left) e
+        (Ok (changed number (running book rule takes link) s))) (Ok left) e
         (λ missing e. did_arrive m s Ignores e) (λ number link found e. let c = checked _ _ _ left e in did_arrive m _ (d number link found c.0) c.1)
 
-    calling_ends : (m : NspValue) (own : ℕ) (r : LinksOf D) → with_link (CallingAt own) s s (λ number link. changed number (ended flows link) s) ≡ r →
+    calling_ends : (m : NspValue) (own : ℕ) (r : LinksOf D) → with_link (CallingAt own) s s (λ number link. changed number (ended book link) s) ≡ r →
         ArrivedDid rule s m truth r
     calling_ends m own r e =
-        looked (CallingAt own) s s (λ number link. changed number (ended flows link) s) r e
+        looked (CallingAt own) s s (λ number link. changed number (ended book link) s) r e
         (λ missing e. subst (λ (x : LinksOf D). ArrivedDid rule s m truth x) e Ignores)
         (λ number link found e. subst (λ (x : LinksOf D). ArrivedDid rule s m truth x) e (Ends (CallingAt own) number link found))
 
-    ends_did : (m : NspValue) (own far : ℕ) (r : LinksOf D) → ends_link flows rule own far s ≡ r → ArrivedDid rule s m truth r
+    ends_did : (m : NspValue) (own far : ℕ) (r : LinksOf D) → ends_link book rule own far s ≡ r → ArrivedDid rule s m truth r
     ends_did m own far r e =
-        looked (TheLink own far) s (with_link (CallingAt own) s s (λ number link. changed number (ended flows link) s))
-        (λ number link. changed number (ended flows link) s) r e
+        looked (TheLink own far) s (with_link (CallingAt own) s s (λ number link. changed number (ended book link) s))
+        (λ number link. changed number (ended book link) s) r e
         (λ missing e. calling_ends m own r e)
         (λ number link found e. subst (λ (x : LinksOf D). ArrivedDid rule s m truth x) e (Ends (TheLink own far) number link found))
 
-    came_did : (m : NspValue) → message_arrived flows rule s m truth ≡ Ok left → ArrivedDid rule s m truth left
+    came_did : (m : NspValue) → message_arrived book rule s m truth ≡ Ok left → ArrivedDid rule s m truth left
     came_did (ConnectInitiate retransmitted src services info segsize user_data) e =
-        looked (LiveTo src) s (Ok (begun (called flows rule src segsize truth.tag) s)) (λ number link. Ok s) (Ok left) e
+        looked (LiveTo src) s (Ok (begun (called book rule src segsize truth.tag) s)) (λ number link. Ok s) (Ok left) e
         (λ missing e. did_arrive _ _ (Begins src segsize (refl, refl) missing) e) (λ number link found e. did_arrive _ _ Ignores e)
     came_did (ConnectAck dst) e = did_arrive _ _ Ignores e
     came_did (NoOperation rest) e = did_arrive _ _ Ignores e
     came_did (ConnectConfirm dst src services info segsize user_data) e =
         looked (CallingAt dst) s (Ok s)
         (λ number link. check (rule (is_for number truth.tag)) CrossedLink
-        (Ok (changed number (confirmed flows rule src segsize truth.tag link) s))) (Ok left) e
+        (Ok (changed number (confirmed book rule src segsize truth.tag link) s))) (Ok left) e
         (λ missing e. did_arrive _ _ Ignores e)
         (λ number link found e. let c = checked _ _ _ left e in did_arrive _ _ (Confirms dst src segsize number link (refl, refl) found c.0) c.1)
     came_did (DisconnectInitiate dst src reason user_data) e = did_arrive _ _ (ends_did _ dst src _ refl) e
     came_did (DisconnectConfirm dst src reason) e = did_arrive _ _ (ends_did _ dst src _ refl) e
     came_did (DataSegment segment) e =
-        acts_did (DataSegment segment) segment.dstaddr segment.srcaddr (λ link. flows.takes_segment segment truth.known link.flow)
+        acts_did (DataSegment segment) segment.dstaddr segment.srcaddr (λ link. book.takes_segment segment truth.known link.segments)
         (λ number link found of_pair. TakesSegment segment.dstaddr segment.srcaddr segment number link refl found of_pair) e
     came_did (DataAck dst src acks) e =
-        acts_did (DataAck dst src acks) dst src (λ link. flows.takes_acks acks truth.known link.flow)
+        acts_did (DataAck dst src acks) dst src (λ link. book.takes_acks acks truth.known link.segments)
         (λ number link found of_pair. TakesAcks dst src dst src acks number link refl found of_pair) e
     came_did (LinkService interrupt dst src rest) e =
-        acts_did _ dst src (λ link. link.flow) (λ number link found of_pair. TakesOther dst src number link found of_pair) e
+        acts_did _ dst src (λ link. link.segments) (λ number link found of_pair. TakesOther dst src number link found of_pair) e
     came_did (OtherDataAck dst src rest) e =
-        acts_did _ dst src (λ link. link.flow) (λ number link found of_pair. TakesOther dst src number link found of_pair) e
+        acts_did _ dst src (λ link. link.segments) (λ number link found of_pair. TakesOther dst src number link found of_pair) e
 
-    pub arrived_did : (packet : Carried) → arrived_step flows rule s packet truth ≡ Ok left → ArrivedDid rule s packet.message truth left
+    pub arrived_did : (packet : Carried) → arrived_step book rule s packet truth ≡ Ok left → ArrivedDid rule s packet.message truth left
     arrived_did packet e = came_did packet.message (checked _ _ _ left e).1

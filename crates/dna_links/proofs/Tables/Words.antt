@@ -3,8 +3,8 @@ use Rattle.std.proofs.Common.{◌≡◌, ℕ, ◌+◌, ◌-◌, ◌<◌, ◌≤�
 use Rattle.std.proofs.Common.{[], ◌∷◌, fold, refl, ap, ◌∙◌, subst, arith, leb-true, ltb-true}
 use Rattle.std.proofs.lemmas.Bool.{and_parts}
 use Rattle.dna_packet.specs.declared.ack_word.AckWord.{AckWord}
-use Rattle.dna_links.specs.Flow.{REACH, wire, distance, is_of_data}
-use Rattle.dna_links.specs.TrueFlow.{TrueFlow, highest_given, named, Named, with_number, with_first, all_named, acknowledged_through}
+use Rattle.dna_links.specs.SegmentBook.{REACH, wire, distance, is_of_data}
+use Rattle.dna_links.specs.TrueSegments.{TrueSegments, highest_given, named, Named, with_number, with_first, all_named, acknowledged_through}
 use Rattle.two_nodes.proofs.Numbered.{Limits, AcksFrom}
 
 -- at most 2,047 are outstanding; no repeat, and no acknowledgement in one, reaches further back
@@ -100,7 +100,7 @@ module _ (again : Bool) (highest : ℕ) where
 -- ---- acknowledgements that come
 
 -- the highest acknowledged then, if none of them lies above these two
-pub record Acknowledges (f : TrueFlow) (last received : ℕ) (after : TrueFlow) : Type 0 where
+pub record Acknowledges (f : TrueSegments) (last received : ℕ) (after : TrueSegments) : Type 0 where
   pub acknowledged : ℕ
   pub is : after ≡ record f { acknowledged = acknowledged }
   pub more : f.acknowledged ≤ acknowledged
@@ -108,7 +108,7 @@ pub record Acknowledges (f : TrueFlow) (last received : ℕ) (after : TrueFlow) 
   pub given : f.acknowledged ≤ highest_given f → acknowledged ≤ highest_given f
 
 module _ (last received : ℕ) where
-  one_through : (f : TrueFlow) (number : ℕ) → number ≤ last → number ≤ received → Acknowledges f last received (acknowledged_through f number)
+  one_through : (f : TrueSegments) (number : ℕ) → number ≤ last → number ≤ received → Acknowledges f last received (acknowledged_through f number)
   one_through f number l r = go _ refl
     where
       go : (b : Bool) → (nat_lt f.acknowledged number && nat_le number (highest_given f)) ≡ b →
@@ -118,13 +118,13 @@ module _ (last received : ℕ) where
           record { acknowledged = number; is = refl; more = omega arith; most = inr (l, r); given = λ g. high }
       go false e = record { acknowledged = f.acknowledged; is = refl; more = omega arith; most = inl refl; given = λ g. g }
 
-  two_through : (f g h : TrueFlow) → Acknowledges f last received g → Acknowledges g last received h → Acknowledges f last received h
+  two_through : (f g h : TrueSegments) → Acknowledges f last received g → Acknowledges g last received h → Acknowledges f last received h
   two_through f g h p q =
-      let e = ap (λ (x : TrueFlow). x.acknowledged) p.is in let n = ap highest_given p.is in
+      let e = ap (λ (x : TrueSegments). x.acknowledged) p.is in let n = ap highest_given p.is in
       let m = p.more in let k = q.more in
       record {
         acknowledged = q.acknowledged;
-        is = q.is ∙ ap (λ (x : TrueFlow). record x { acknowledged = q.acknowledged }) p.is;
+        is = q.is ∙ ap (λ (x : TrueSegments). record x { acknowledged = q.acknowledged }) p.is;
         more = omega arith;
         most = go p.most q.most;
         given = λ few. let b = p.given few in let c = q.given (omega arith) in omega arith;
@@ -133,11 +133,11 @@ module _ (last received : ℕ) where
       go : (p.acknowledged ≡ f.acknowledged) ⊎ ((p.acknowledged ≤ last) × (p.acknowledged ≤ received)) → (q.acknowledged ≡ g.acknowledged) ⊎
           ((q.acknowledged ≤ last) × (q.acknowledged ≤ received)) →
           (q.acknowledged ≡ f.acknowledged) ⊎ ((q.acknowledged ≤ last) × (q.acknowledged ≤ received))
-      go (inl a) (inl b) = inl (b ∙ ap (λ (x : TrueFlow). x.acknowledged) p.is ∙ a)
-      go (inr a) (inl b) = let e = ap (λ (x : TrueFlow). x.acknowledged) p.is in let x = a.0 in let y = a.1 in inr (omega arith, omega arith)
+      go (inl a) (inl b) = inl (b ∙ ap (λ (x : TrueSegments). x.acknowledged) p.is ∙ a)
+      go (inr a) (inl b) = let e = ap (λ (x : TrueSegments). x.acknowledged) p.is in let x = a.0 in let y = a.1 in inr (omega arith, omega arith)
       go c (inr b) = inr b
 
-  pub through : (acks : List ℕ) (f : TrueFlow) → AreAtMost last acks → AreAtMost received acks →
+  pub through : (acks : List ℕ) (f : TrueSegments) → AreAtMost last acks → AreAtMost received acks →
       Acknowledges f last received (fold acknowledged_through f acks)
   through [] f l r = record { acknowledged = f.acknowledged; is = refl; more = omega arith; most = inl refl; given = λ g. g }
   through (ack ∷ acks) f l r =

@@ -15,19 +15,19 @@ use Rattle.dna_links.specs.declared.port.LinkTest.{LinkTest}
 use Rattle.dna_links.specs.declared.port.LinkTest.TheVariants.{ActedOn}
 use Rattle.dna_links.specs.Pieces.{Piece}
 use Rattle.dna_links.specs.LookUps.{passes, is_connected, has_both}
-use Rattle.dna_links.specs.Flow.{REACH, wire, distance, is_of_data}
+use Rattle.dna_links.specs.SegmentBook.{REACH, wire, distance, is_of_data}
 use Rattle.dna_links.specs.Links.{LinkOf, Carried, LinkTruth, check, number_of, on_link, at_number, with_link, changed}
 use Rattle.dna_links.specs.Arriving.{of_partner, is_of_pair, running, acted_on, message_arrived}
-use Rattle.dna_links.specs.TrueFlow.{TrueFlow, Numbers, highest_given, acknowledged_through, numbers_of}
+use Rattle.dna_links.specs.TrueSegments.{TrueSegments, Numbers, highest_given, acknowledged_through, numbers_of}
 use Rattle.dna_links.specs.TrueLinks.{Links}
-use Rattle.dna_links.specs.WireFlow.{LinkVariables, WireFlow, acknowledged_by, acknowledged_to, wire_flows}
+use Rattle.dna_links.specs.WireSegments.{LinkVariables, WireSegments, acknowledged_by, acknowledged_to, wire_segments}
 use Rattle.dna_links.specs.WireLinks.{WireLinks, wire_links_arrived}
-use Rattle.dna_links.specs.CutFlow.{cut, IsOrdered, data_numbers, Spells, AckIsNear, AcksAreNear}
+use Rattle.dna_links.specs.CutSegments.{cut, IsOrdered, data_numbers, Spells, AckIsNear, AcksAreNear}
 use Rattle.dna_links.specs.CutLinks.{cut_link, cut_links, AreOrdered, ArrivesNear}
 use Rattle.dna_links.proofs.Tables.Numbers.{distance_ahead, wire-low}
-use Rattle.dna_links.proofs.Cut.FlowArriving.{takes_acks_same, all_ordered}
+use Rattle.dna_links.proofs.Cut.SegmentsArriving.{takes_acks_same, all_ordered}
 use Rattle.dna_links.proofs.Cut.LookUps.{with_link_same}
-use Rattle.dna_links.proofs.Cut.User.{live_if, live_flow}
+use Rattle.dna_links.proofs.Cut.User.{live_if, live_segments}
 use Rattle.dna_node.specs.Accusing.{may_acknowledge, may_acknowledge_all, wrong_words, wrong_acks, wrong_message}
 
 -- ---- one number
@@ -40,7 +40,7 @@ or_left : (a b : Bool) → a ≡ true → (a || b) ≡ true
 or_left true b e = refl
 or_left false b e = absurd cc
 
-module _ (f : TrueFlow) (ordered : IsOrdered f) where
+module _ (f : TrueSegments) (ordered : IsOrdered f) where
   module _ (n : ℕ) (near : AckIsNear f n) where
     -- it lies at or above the highest acknowledged
     ahead : f.acknowledged ≤ n → leb (distance (wire f.acknowledged) (wire n)) (length (drop f.acknowledged f.given)) ≡ true
@@ -70,10 +70,10 @@ module _ (f : TrueFlow) (ordered : IsOrdered f) where
               or_left (leb REACH (highest_given f)) (leb (distance (wire n) (wire f.acknowledged)) (wire f.acknowledged))
               (le-leb REACH (highest_given f) many)
 
-    pub may : may_acknowledge (cut f).gave_many (cut f).kept (wire n) ≡ true
+    pub may : may_acknowledge (cut f).gave_many (cut f).variables (wire n) ≡ true
     may = by_place (cases_lt n f.acknowledged)
       where
-        by_place : (n < f.acknowledged) ⊎ (f.acknowledged ≤ n) → may_acknowledge (cut f).gave_many (cut f).kept (wire n) ≡ true
+        by_place : (n < f.acknowledged) ⊎ (f.acknowledged ≤ n) → may_acknowledge (cut f).gave_many (cut f).variables (wire n) ≡ true
         by_place (inl l) =
             or_right (leb (distance (wire f.acknowledged) (wire n)) (length (drop f.acknowledged f.given)))
             (leb (distance (wire n) (wire f.acknowledged)) REACH &&
@@ -87,15 +87,15 @@ module _ (f : TrueFlow) (ordered : IsOrdered f) where
 
 -- ---- all words
 
-given_by : (b : Bool) (f : TrueFlow) (n : ℕ) → (cond b (record f { acknowledged = n }) f).given ≡ f.given
+given_by : (b : Bool) (f : TrueSegments) (n : ℕ) → (cond b (record f { acknowledged = n }) f).given ≡ f.given
 given_by true f n = refl
 given_by false f n = refl
 
-given_same : (f : TrueFlow) (n : ℕ) → (acknowledged_through f n).given ≡ f.given
+given_same : (f : TrueSegments) (n : ℕ) → (acknowledged_through f n).given ≡ f.given
 given_same f n = given_by (ltb f.acknowledged n && leb n (highest_given f)) f n
 
 -- this number alone
-abbrev alone : ℕ → TrueFlow → Numbers
+abbrev alone : ℕ → TrueSegments → Numbers
 alone n f = numbers_of 0 (record { numbers = n ∷ []; last = 0 }) f f
 
 first_of : {x y : ℕ} {xs ys : List ℕ} → x ∷ xs ≡ y ∷ ys → x ≡ y
@@ -110,20 +110,20 @@ behind_of e = ap (λ (l : List ℕ). drop 1 l) e
 
 module _ (word : AckWord) (words : List AckWord) where
   -- a word of this subchannel
-  module _ (f : TrueFlow) (ordered : IsOrdered f) (n : ℕ) (near : AckIsNear f n) (spelled : word.number ≡ wire n)
+  module _ (f : TrueSegments) (ordered : IsOrdered f) (n : ℕ) (near : AckIsNear f n) (spelled : word.number ≡ wire n)
       (of_data : is_of_data word.qualifier ≡ true) where
     of_one : data_numbers (word ∷ []) ≡ map wire (n ∷ [])
     of_one = ap (λ (b : Bool). cond b (word.number ∷ []) []) of_data ∙ ap (λ (k : ℕ). k ∷ []) spelled
 
-    left_by : (cut (acknowledged_through f n)).kept ≡ acknowledged_by (cut f).kept word
-    left_by = ap (λ (w : WireFlow). w.kept) (takes_acks_same (word ∷ []) (alone n f) f ordered of_one (near, tt))
+    left_by : (cut (acknowledged_through f n)).variables ≡ acknowledged_by (cut f).variables word
+    left_by = ap (λ (w : WireSegments). w.variables) (takes_acks_same (word ∷ []) (alone n f) f ordered of_one (near, tt))
 
-    word_right : (many : Bool) → many ≡ (cut f).gave_many → may_acknowledge_all many words (cut (acknowledged_through f n)).kept ≡ true →
-        may_acknowledge_all many (word ∷ words) (cut f).kept ≡ true
+    word_right : (many : Bool) → many ≡ (cut f).gave_many → may_acknowledge_all many words (cut (acknowledged_through f n)).variables ≡ true →
+        may_acknowledge_all many (word ∷ words) (cut f).variables ≡ true
     word_right many same others =
         ap₂ (λ (a b : Bool). a && b)
-        (or_right (not (is_of_data word.qualifier)) (may_acknowledge many (cut f).kept word.number)
-        (ap₂ (λ (m : Bool) (k : ℕ). may_acknowledge m (cut f).kept k) same spelled ∙ may f ordered n near))
+        (or_right (not (is_of_data word.qualifier)) (may_acknowledge many (cut f).variables word.number)
+        (ap₂ (λ (m : Bool) (k : ℕ). may_acknowledge m (cut f).variables k) same spelled ∙ may f ordered n near))
         (ap (may_acknowledge_all many words) (sym left_by) ∙ others)
 
   -- one of the other is passed over
@@ -136,20 +136,21 @@ module _ (word : AckWord) (words : List AckWord) where
       (acknowledged_to (b && leb (distance k.acknowledged word.number) (length k.outstanding)) k word.number)) other ∙ others)
 
 module _ (word : AckWord) (words : List AckWord) (many : Bool)
-    (later : (f : TrueFlow) (numbers : List ℕ) → IsOrdered f → Spells words numbers → AcksAreNear f numbers → many ≡ (cut f).gave_many →
-    may_acknowledge_all many words (cut f).kept ≡ true) (f : TrueFlow) (ordered : IsOrdered f) (same : many ≡ (cut f).gave_many) where
+    (later : (f : TrueSegments) (numbers : List ℕ) → IsOrdered f → Spells words numbers → AcksAreNear f numbers → many ≡ (cut f).gave_many →
+    may_acknowledge_all many words (cut f).variables ≡ true) (f : TrueSegments) (ordered : IsOrdered f) (same : many ≡ (cut f).gave_many) where
   by_word : (b : Bool) → is_of_data word.qualifier ≡ b → (numbers : List ℕ) →
       cond b (word.number ∷ data_numbers words) (data_numbers words) ≡ map wire numbers → AcksAreNear f numbers →
-      may_acknowledge_all many (word ∷ words) (cut f).kept ≡ true
+      may_acknowledge_all many (word ∷ words) (cut f).variables ≡ true
   by_word true e [] spells near = absurd cc
   by_word true e (n ∷ ns) spells near =
       word_right word words f ordered n near.0 (first_of spells) e many same
       (later (acknowledged_through f n) ns (all_ordered (n ∷ []) f ordered (near.0, tt)) (behind_of spells) near.1
       (same ∙ ap (λ (l : List Piece). leb REACH (length l)) (sym (given_same f n))))
-  by_word false e numbers spells near = word_passed word words many (cut f).kept e (later f numbers ordered spells near same)
+  by_word false e numbers spells near = word_passed word words many (cut f).variables e (later f numbers ordered spells near same)
 
-words_right : (many : Bool) (words : List AckWord) (f : TrueFlow) (numbers : List ℕ) → IsOrdered f → Spells words numbers → AcksAreNear f numbers →
-    many ≡ (cut f).gave_many → may_acknowledge_all many words (cut f).kept ≡ true
+words_right : (many : Bool) (words : List AckWord) (f : TrueSegments) (numbers : List ℕ) → IsOrdered f → Spells words numbers →
+    AcksAreNear f numbers →
+    many ≡ (cut f).gave_many → may_acknowledge_all many words (cut f).variables ≡ true
 words_right many [] f numbers ordered spells near same = refl
 words_right many (word ∷ words) f numbers ordered spells near same =
     by_word word words many (λ g ns o sp ne sa. words_right many words g ns o sp ne sa) f ordered same (is_of_data word.qualifier) refl
@@ -158,10 +159,10 @@ words_right many (word ∷ words) f numbers ordered spells near same =
 -- ---- the link that acts on them
 
 -- three ways to go on, which belong together at each link
-module _ {A B C : Type 0} (P : A → B → C → Type 0) (test : LinkTest) (s : WireLinks) (a : A) (b : B) (c : C) (f : ℕ → LinkOf WireFlow → A)
-    (g : ℕ → LinkOf WireFlow → B) (h : ℕ → LinkOf WireFlow → C) (none : P a b c)
-    (one : (n : ℕ) (l : LinkOf WireFlow) → P (f n l) (g n l) (h n l)) where
-  on_each : (n : ℕ) (o : Option (LinkOf WireFlow)) → P (on_link n o a f) (on_link n o b g) (on_link n o c h)
+module _ {A B C : Type 0} (P : A → B → C → Type 0) (test : LinkTest) (s : WireLinks) (a : A) (b : B) (c : C) (f : ℕ → LinkOf WireSegments → A)
+    (g : ℕ → LinkOf WireSegments → B) (h : ℕ → LinkOf WireSegments → C) (none : P a b c)
+    (one : (n : ℕ) (l : LinkOf WireSegments) → P (f n l) (g n l) (h n l)) where
+  on_each : (n : ℕ) (o : Option (LinkOf WireSegments)) → P (on_link n o a f) (on_link n o b g) (on_link n o c h)
   on_each n None = none
   on_each n (Some l) = one n l
 
@@ -181,8 +182,8 @@ module _ (s : Links) (ordered : AreOrdered s) (truth : LinkTruth Numbers) where
   tagged = record { tag = truth.tag; known = tt }
 
   -- what the words are asked where the rule on partners lets the message pass
-  abbrev asked : List AckWord → ℕ → LinkOf WireFlow → Option StepRefusal
-  asked acks n l = cond (is_of_pair n l.partner truth.tag) (wrong_words acks l.flow) None
+  abbrev asked : List AckWord → ℕ → LinkOf WireSegments → Option StepRefusal
+  asked acks n l = cond (is_of_pair n l.partner truth.tag) (wrong_words acks l.segments) None
 
   abbrev Same : Result WireLinks LinkRefusal → Option StepRefusal → Option StepRefusal → Type 0
   Same x y z = (links : WireLinks) → x ≡ Ok links → y ≡ z
@@ -198,38 +199,38 @@ module _ (s : Links) (ordered : AreOrdered s) (truth : LinkTruth Numbers) where
   abbrev none_if : Bool → Option StepRefusal
   none_if b = cond b None (Some (OfLinks WrongAck))
 
-  acks_right : (own far : ℕ) (acks : List AckWord) (takes : LinkOf WireFlow → WireFlow) →
-      ((n : ℕ) (l : LinkOf TrueFlow) → slice_get s.links n ≡ Some l → passes (ActedOn own far) l.port ≡ true →
-      is_of_pair n l.partner truth.tag ≡ true → Spells acks truth.known.acknowledgements × AcksAreNear l.flow truth.known.acknowledgements) →
-      Follows (acted_on wire_flows of_partner own far truth.tag takes (cut_links s)) (wrong_acks own far acks (cut_links s))
+  acks_right : (own far : ℕ) (acks : List AckWord) (takes : LinkOf WireSegments → WireSegments) →
+      ((n : ℕ) (l : LinkOf TrueSegments) → slice_get s.links n ≡ Some l → passes (ActedOn own far) l.port ≡ true →
+      is_of_pair n l.partner truth.tag ≡ true → Spells acks truth.known.acknowledgements × AcksAreNear l.segments truth.known.acknowledgements) →
+      Follows (acted_on wire_segments of_partner own far truth.tag takes (cut_links s)) (wrong_acks own far acks (cut_links s))
   acks_right own far acks takes near =
       λ links e. with_each Same (ActedOn own far) (cut_links s) (Ok (cut_links s)) None None
       (λ n l. check (of_partner (is_of_pair n l.partner truth.tag)) CrossedLink
-      (Ok (changed n (running wire_flows of_partner takes l) (cut_links s))))
-      (λ n l. wrong_words acks l.flow) (asked acks) (λ links e. refl)
-      (λ n l. by_partner (is_of_pair n l.partner truth.tag) (changed n (running wire_flows of_partner takes l) (cut_links s))
-      (wrong_words acks l.flow)) links e
+      (Ok (changed n (running wire_segments of_partner takes l) (cut_links s))))
+      (λ n l. wrong_words acks l.segments) (asked acks) (λ links e. refl)
+      (λ n l. by_partner (is_of_pair n l.partner truth.tag) (changed n (running wire_segments of_partner takes l) (cut_links s))
+      (wrong_words acks l.segments)) links e
       ∙ sym (with_link_same nobody (ActedOn own far) s tt None (λ n l. tt) (asked acks) (λ none. refl) all_right)
     where
       nobody : Unit {0} → Option StepRefusal
       nobody x = None
 
-      all_right : (n : ℕ) (l : LinkOf TrueFlow) → slice_get s.links n ≡ Some l → passes (ActedOn own far) l.port ≡ true →
+      all_right : (n : ℕ) (l : LinkOf TrueSegments) → slice_get s.links n ≡ Some l → passes (ActedOn own far) l.port ≡ true →
           None ≡ asked acks n (cut_link l)
       all_right n l there here =
           let live = live_if is_connected refl l.port.phase (and_parts (is_connected l.port.phase) (has_both l.port own far) here).0 in
-          none_asked (is_of_pair n l.partner truth.tag) (wrong_words acks (cut_link l).flow)
-          (λ e. ap (wrong_words acks) (live_flow l live)
-          ∙ ap none_if (words_right (cut l.flow).gave_many acks l.flow truth.known.acknowledgements (ordered n l there).flow
+          none_asked (is_of_pair n l.partner truth.tag) (wrong_words acks (cut_link l).segments)
+          (λ e. ap (wrong_words acks) (live_segments l live)
+          ∙ ap none_if (words_right (cut l.segments).gave_many acks l.segments truth.known.acknowledgements (ordered n l there).segments
           (near n l there here e).0 (near n l there here e).1 refl))
 
   message_right : (m : NspValue) → ArrivesNear of_partner s m truth →
-      Follows (message_arrived wire_flows of_partner (cut_links s) m tagged) (wrong_message (cut_links s) m)
+      Follows (message_arrived wire_segments of_partner (cut_links s) m tagged) (wrong_message (cut_links s) m)
   message_right (DataSegment segment) near =
-      acks_right segment.dstaddr segment.srcaddr segment.acks (λ l. wire_flows.takes_segment segment tt l.flow)
+      acks_right segment.dstaddr segment.srcaddr segment.acks (λ l. wire_segments.takes_segment segment tt l.segments)
       (λ n l there here e. let m = near n l there here e in (m.0, m.2))
   message_right (DataAck dst src acks) near =
-      acks_right dst src acks (λ l. wire_flows.takes_acks acks tt l.flow) (λ n l there here e. let m = near n l there here e in (m.0, m.1))
+      acks_right dst src acks (λ l. wire_segments.takes_acks acks tt l.segments) (λ n l there here e. let m = near n l there here e in (m.0, m.1))
   message_right m near = λ links e. refl
 
   goes_right : (b : Bool) (r : Result WireLinks LinkRefusal) (y : Option StepRefusal) → Follows r y → Follows (check b WrongNode r) y
@@ -240,5 +241,5 @@ module _ (s : Links) (ordered : AreOrdered s) (truth : LinkTruth Numbers) where
   pub packet_right : (packet : Carried) → ArrivesNear of_partner s packet.message truth →
       Follows (wire_links_arrived of_partner (cut_links s) packet truth.tag) (wrong_message (cut_links s) packet.message)
   packet_right packet near =
-      goes_right (eqb packet.src s.peer && eqb packet.dst s.node) (message_arrived wire_flows of_partner (cut_links s) packet.message tagged)
+      goes_right (eqb packet.src s.peer && eqb packet.dst s.node) (message_arrived wire_segments of_partner (cut_links s) packet.message tagged)
       (wrong_message (cut_links s) packet.message) (message_right packet.message near)

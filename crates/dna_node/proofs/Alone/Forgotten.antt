@@ -56,7 +56,8 @@ wrong_unit_along s other = refl
 
 wrong_acks_along : (own far : ℕ) (acks : List AckWord) (s : WireLinks) → wrong_acks own far acks (forget_links s) ≡ wrong_acks own far acks s
 wrong_acks_along own far acks s =
-    with_both (λ (x y : Option StepRefusal). y ≡ x) (ActedOn own far) s None None (λ n l. wrong_words acks l.flow) (λ n l. wrong_words acks l.flow)
+    with_both (λ (x y : Option StepRefusal). y ≡ x) (ActedOn own far) s None None (λ n l. wrong_words acks l.segments)
+    (λ n l. wrong_words acks l.segments)
     refl (λ n l. refl)
 
 wrong_message_along : (s : WireLinks) (m : NspValue) → wrong_message (forget_links s) m ≡ wrong_message s m

@@ -22,7 +22,7 @@ use Rattle.dna_links.specs.Links.{Carried}
 use Rattle.dna_links.specs.User.{LinkEventValue}
 use Rattle.dna_links.specs.Sending.{Sent}
 use Rattle.dna_links.specs.Arriving.{of_partner, of_anyone}
-use Rattle.dna_links.specs.WireFlow.{WireFlow, wire_flows}
+use Rattle.dna_links.specs.WireSegments.{WireSegments, wire_segments}
 use Rattle.dna_links.specs.WireLinks.{WireLinks, wire_links_user, wire_links_sent, wire_links_arrived}
 use Rattle.dna_node.proofs.Events.{by_event}
 use Rattle.dna_node.specs.Rules.{judged, by_bytes}
@@ -60,7 +60,7 @@ module _ (s : WireLayers) where
   link_along : (event : LinkEventValue) → with_wire_links (forget_layers s) (wire_links_user (forget_links s.links) event)
       ≡ forget_result forget_layers (with_wire_links s (wire_links_user s.links event))
   link_along event =
-      ap (with_wire_links (forget_layers s)) (sym (links_user_along wire_flows s.links event)) ∙ by_links (wire_links_user s.links event)
+      ap (with_wire_links (forget_layers s)) (sym (links_user_along wire_segments s.links event)) ∙ by_links (wire_links_user s.links event)
 
   pub user_along : (event : Event) → (wire_layers_machine by_bytes).user (forget_layers s) event
       ≡ forget_result forget_layers ((wire_layers_machine judged).user s event)
@@ -91,15 +91,16 @@ module _ (s : WireLayers) (m : MessageValue) where
       (ap (λ (w : WireStation LinkTag). wire_after_label w (forget_tag tag)) (sending_along forget_tag s.station m)
       ∙ label_along forget_tag (wire_after_sending s.station m) tag)
 
-  by_message : (o : Result (Sent WireFlow (Unit {0})) LinkRefusal) → GoAlong (with_tag after o) (with_tag after_alone (forget_sent wire_flows o))
+  by_message : (o : Result (Sent WireSegments (Unit {0})) LinkRefusal) →
+      GoAlong (with_tag after o) (with_tag after_alone (forget_sent wire_segments o))
   by_message (Ok made) = tagged_along made.links made.truth.tag
   by_message (Err refusal) = refl
 
   by_content : (r : Result (Option Carried) StepRefusal) →
       GoAlong (wire_sends_first s after r) (wire_sends_first (forget_layers s) after_alone r)
   by_content (Ok (Some packet)) =
-      ap (λ (o : Result (Sent WireFlow (Unit {0})) LinkRefusal). left_sent (with_tag after_alone o))
-      (sym (links_sent_along wire_flows s.links packet))
+      ap (λ (o : Result (Sent WireSegments (Unit {0})) LinkRefusal). left_sent (with_tag after_alone o))
+      (sym (links_sent_along wire_segments s.links packet))
       ∙ by_message (wire_links_sent s.links packet)
   by_content (Ok None) = tagged_along s.links of_no_link
   by_content (Err refusal) = refl
@@ -130,7 +131,7 @@ module _ (s : WireLayers) (m : MessageValue) where
 -- ---- an arrival
 
 module _ (s : WireLayers) where
-  by_links_result : (t : WireLayers) (o o' : Result WireLinks LinkRefusal) → of_links.Along wire_flows o o' →
+  by_links_result : (t : WireLayers) (o o' : Result WireLinks LinkRefusal) → of_links.Along wire_segments o o' →
       Along forget_layers (with_wire_links t o) (with_wire_links (forget_layers t) o')
   by_links_result t (Ok links) o' same = ap (with_wire_links (forget_layers t)) same
   by_links_result t (Err refusal) o' same = λ seen. ap (with_wire_links (forget_layers t)) (same seen)
@@ -139,7 +140,7 @@ module _ (s : WireLayers) where
       Along forget_layers (wire_keeps_packet judged t tag r) (wire_keeps_packet by_bytes (forget_layers t) of_no_link r)
   keeps_along t tag (Ok (Some packet)) =
       by_links_result t (wire_links_arrived of_partner t.links packet tag) (wire_links_arrived of_anyone (forget_links t.links) packet of_no_link)
-      (links_arrived_along wire_flows t.links (record { tag = tag; known = tt }) packet)
+      (links_arrived_along wire_segments t.links (record { tag = tag; known = tt }) packet)
   keeps_along t tag (Ok None) = refl
   keeps_along t tag (Err refusal) = λ seen. refl
 

@@ -17,9 +17,9 @@ use Rattle.dna_links.specs.declared.port.Phase.TheVariants.{Confirming, Running,
 use Rattle.dna_links.specs.declared.port.LinkTest.{LinkTest}
 use Rattle.dna_links.specs.declared.port.LinkTest.TheVariants.{HasAddress, LiveAt, TheLink, LiveTo, OpenedAt, CallingAt, CalledBy, BegunBy, ActedOn}
 use Rattle.dna_links.specs.LookUps.{passes, is_connected, takes_messages, is_calling, is_confirming, is_disconnecting, is_running}
-use Rattle.dna_links.specs.Flow.{Flows, Sending}
+use Rattle.dna_links.specs.SegmentBook.{SegmentBook, Sending}
 use Rattle.dna_links.specs.Links.{LinkOf, LinksOf, Carried, LinkTruth, check, number_of, on_link, at_number, with_link, begun, changed, in_phase}
-use Rattle.dna_links.specs.Links.{with_flow, ended, forgotten, freed}
+use Rattle.dna_links.specs.Links.{with_segments, ended, forgotten, freed}
 use Rattle.dna_links.specs.User.{LinkEventValue, Open, Accept, Reject, In, Up, Close, opened, answered, gives, answers, delivered, user_step}
 use Rattle.dna_links.specs.Sending.{Sent, of_no_link, unchanged, ending, in_its_phase, confirms_end, carries, in_run, segment_of, message_sent}
 use Rattle.dna_links.specs.Sending.{sent_step}
@@ -33,7 +33,7 @@ forget_tag tag = record { link = tag.link; partner = None }
 
 module _ {D : Type 0} where
   abbrev pub forget_link : LinkOf D → LinkOf D
-  forget_link l = record { port = l.port; partner = None; segsize = l.segsize; flow = l.flow }
+  forget_link l = record { port = l.port; partner = None; segsize = l.segsize; segments = l.segments }
 
   abbrev pub forget_links : LinksOf D → LinksOf D
   forget_links s = record { node = s.node; peer = s.peer; links = map forget_link s.links }
@@ -86,53 +86,55 @@ module _ {D : Type 0} where
   checked true refusal s s' same = ap Ok same
   checked false refusal s s' same = refl
 
-module _ {D K : Type 0} (flows : Flows D K) where
+module _ {D K : Type 0} (book : SegmentBook D K) where
   -- ---- the user
 
   module _ (s : LinksOf D) where
-    freed_along : (own : ℕ) → forget_links (freed flows own s) ≡ freed flows own (forget_links s)
+    freed_along : (own : ℕ) → forget_links (freed book own s) ≡ freed book own (forget_links s)
     freed_along own =
-        with_both (λ (x y : LinksOf D). forget_links x ≡ y) (HasAddress own) s s (forget_links s) (λ n l. changed n (forgotten flows l) s)
-        (λ n l. changed n (forgotten flows l) (forget_links s)) refl (λ n l. changed_along n (forgotten flows l) s)
+        with_both (λ (x y : LinksOf D). forget_links x ≡ y) (HasAddress own) s s (forget_links s) (λ n l. changed n (forgotten book l) s)
+        (λ n l. changed n (forgotten book l) (forget_links s)) refl (λ n l. changed_along n (forgotten book l) s)
 
     gives_along : (own : ℕ) (next next' : LinksOf D) → forget_links next ≡ next' →
-        forget_result (gives flows own s next) ≡ gives flows own (forget_links s) next'
+        forget_result (gives book own s next) ≡ gives book own (forget_links s) next'
     gives_along own next next' same =
         with_both (λ (x y : Result (LinksOf D) LinkRefusal). forget_result x ≡ y) (LiveAt own) s (Ok next) (Ok next') (λ n l. Err AddressInUse)
         (λ n l. Err AddressInUse) (ap Ok same) (λ n l. refl)
 
-    answers_along : (phase : Phase) (far own : ℕ) → forget_result (answers flows phase far own s) ≡ answers flows phase far own (forget_links s)
+    answers_along : (phase : Phase) (far own : ℕ) → forget_result (answers book phase far own s) ≡ answers book phase far own (forget_links s)
     answers_along phase far own =
         with_both (λ (x y : Result (LinksOf D) LinkRefusal). forget_result x ≡ y) (CalledBy far) s (Err NoLink) (Err NoLink)
-        (λ n l. gives flows own s (changed n (answered flows phase own l) (freed flows own s)))
-        (λ n l. gives flows own (forget_links s) (changed n (answered flows phase own l) (freed flows own (forget_links s)))) refl
-        (λ n l. gives_along own (changed n (answered flows phase own l) (freed flows own s))
-        (changed n (answered flows phase own (forget_link l)) (freed flows own (forget_links s)))
-        (changed_along n (answered flows phase own l) (freed flows own s)
-        ∙ ap (changed n (answered flows phase own (forget_link l))) (freed_along own)))
+        (λ n l. gives book own s (changed n (answered book phase own l) (freed book own s)))
+        (λ n l. gives book own (forget_links s) (changed n (answered book phase own l) (freed book own (forget_links s)))) refl
+        (λ n l. gives_along own (changed n (answered book phase own l) (freed book own s))
+        (changed n (answered book phase own (forget_link l)) (freed book own (forget_links s)))
+        (changed_along n (answered book phase own l) (freed book own s)
+        ∙ ap (changed n (answered book phase own (forget_link l))) (freed_along own)))
 
     delivered_along : (n : ℕ) (l : LinkOf D) (o : Option D) →
-        forget_result (delivered flows n l s o) ≡ delivered flows n (forget_link l) (forget_links s) o
+        forget_result (delivered book n l s o) ≡ delivered book n (forget_link l) (forget_links s) o
     delivered_along n l None = refl
-    delivered_along n l (Some flow) = ap Ok (changed_along n (with_flow flow l) s)
+    delivered_along n l (Some segments) = ap Ok (changed_along n (with_segments segments l) s)
 
-    pub user_along : (event : LinkEventValue) → forget_result (user_step flows s event) ≡ user_step flows (forget_links s) event
+    pub user_along : (event : LinkEventValue) → forget_result (user_step book s event) ≡ user_step book (forget_links s) event
     user_along (Open own) =
-        gives_along own (begun (opened flows own) (freed flows own s)) (begun (opened flows own) (freed flows own (forget_links s)))
-        (begun_along (opened flows own) (freed flows own s) ∙ ap (begun (opened flows own)) (freed_along own))
+        gives_along own (begun (opened book own) (freed book own s)) (begun (opened book own) (freed book own (forget_links s)))
+        (begun_along (opened book own) (freed book own s) ∙ ap (begun (opened book own)) (freed_along own))
     user_along (Accept far own) = answers_along Confirming far own
     user_along (Reject far own) = answers_along Disconnecting far own
     user_along (In own message) =
         with_both (λ (x y : Result (LinksOf D) LinkRefusal). forget_result x ≡ y) (LiveAt own) s (Err NoLink) (Err NoLink)
-        (λ n l. check (takes_messages l.port.phase) LinkState (Ok (changed n (with_flow (flows.hands_in message l.flow) l) s)))
-        (λ n l. check (takes_messages l.port.phase) LinkState (Ok (changed n (with_flow (flows.hands_in message l.flow) l) (forget_links s)))) refl
-        (λ n l. checked (takes_messages l.port.phase) LinkState (changed n (with_flow (flows.hands_in message l.flow) l) s)
-        (changed n (with_flow (flows.hands_in message l.flow) (forget_link l)) (forget_links s))
-        (changed_along n (with_flow (flows.hands_in message l.flow) l) s))
+        (λ n l. check (takes_messages l.port.phase) LinkState (Ok (changed n (with_segments (book.hands_in message l.segments) l) s)))
+        (λ n l. check (takes_messages l.port.phase) LinkState
+        (Ok (changed n (with_segments (book.hands_in message l.segments) l) (forget_links s)))) refl
+        (λ n l. checked (takes_messages l.port.phase) LinkState (changed n (with_segments (book.hands_in message l.segments) l) s)
+        (changed n (with_segments (book.hands_in message l.segments) (forget_link l)) (forget_links s))
+        (changed_along n (with_segments (book.hands_in message l.segments) l) s))
     user_along (Up own message) =
         with_both (λ (x y : Result (LinksOf D) LinkRefusal). forget_result x ≡ y) (HasAddress own) s (Err NoLink) (Err NoLink)
-        (λ n l. delivered flows n l s (flows.delivers message l.flow)) (λ n l. delivered flows n l (forget_links s) (flows.delivers message l.flow))
-        refl (λ n l. delivered_along n l (flows.delivers message l.flow))
+        (λ n l. delivered book n l s (book.delivers message l.segments))
+        (λ n l. delivered book n l (forget_links s) (book.delivers message l.segments))
+        refl (λ n l. delivered_along n l (book.delivers message l.segments))
     user_along (Close own) =
         with_both (λ (x y : Result (LinksOf D) LinkRefusal). forget_result x ≡ y) (LiveAt own) s (Err NoLink) (Err NoLink)
         (λ n l. check (is_connected l.port.phase) LinkState (Ok (changed n (in_phase Disconnecting l) s)))
@@ -159,67 +161,67 @@ module _ {D K : Type 0} (flows : Flows D K) where
     Goes x y = forget_sent x ≡ y
 
     in_its_phase_along : (test : LinkTest) (is_right : Phase → Bool) →
-        forget_sent (in_its_phase flows test is_right s) ≡ in_its_phase flows test is_right (forget_links s)
+        forget_sent (in_its_phase book test is_right s) ≡ in_its_phase book test is_right (forget_links s)
     in_its_phase_along test is_right =
-        with_both Goes test s (Err NoLink) (Err NoLink) (λ n l. check (is_right l.port.phase) LinkState (Ok (unchanged flows s n l)))
-        (λ n l. check (is_right l.port.phase) LinkState (Ok (unchanged flows (forget_links s) n l))) refl
-        (λ n l. checked_sent (is_right l.port.phase) LinkState (Ok (unchanged flows s n l)) (Ok (unchanged flows (forget_links s) n (forget_link l)))
+        with_both Goes test s (Err NoLink) (Err NoLink) (λ n l. check (is_right l.port.phase) LinkState (Ok (unchanged book s n l)))
+        (λ n l. check (is_right l.port.phase) LinkState (Ok (unchanged book (forget_links s) n l))) refl
+        (λ n l. checked_sent (is_right l.port.phase) LinkState (Ok (unchanged book s n l)) (Ok (unchanged book (forget_links s) n (forget_link l)))
         refl)
 
-    ending_along : (n : ℕ) (l : LinkOf D) → forget_one (ending flows s n l) ≡ ending flows (forget_links s) n (forget_link l)
+    ending_along : (n : ℕ) (l : LinkOf D) → forget_one (ending book s n l) ≡ ending book (forget_links s) n (forget_link l)
     ending_along n l =
-        ap (λ (all : LinksOf D). record (ending flows (forget_links s) n (forget_link l)) { links = all }) (changed_along n (ended flows l) s)
+        ap (λ (all : LinksOf D). record (ending book (forget_links s) n (forget_link l)) { links = all }) (changed_along n (ended book l) s)
 
-    confirms_along : (src dst : ℕ) → forget_one (confirms_end flows s src dst) ≡ confirms_end flows (forget_links s) src dst
+    confirms_along : (src dst : ℕ) → forget_one (confirms_end book s src dst) ≡ confirms_end book (forget_links s) src dst
     confirms_along src dst = by_address (eqb src 0)
       where
         by_address : (b : Bool) →
-            forget_one (cond b (with_link (CalledBy dst) s (of_no_link flows s) (λ n l. ending flows s n l)) (of_no_link flows s))
-            ≡ cond b (with_link (CalledBy dst) (forget_links s) (of_no_link flows (forget_links s)) (λ n l. ending flows (forget_links s) n l))
-            (of_no_link flows (forget_links s))
+            forget_one (cond b (with_link (CalledBy dst) s (of_no_link book s) (λ n l. ending book s n l)) (of_no_link book s))
+            ≡ cond b (with_link (CalledBy dst) (forget_links s) (of_no_link book (forget_links s)) (λ n l. ending book (forget_links s) n l))
+            (of_no_link book (forget_links s))
         by_address true =
-            with_both (λ (x y : Sent D K). forget_one x ≡ y) (CalledBy dst) s (of_no_link flows s) (of_no_link flows (forget_links s))
-            (λ n l. ending flows s n l) (λ n l. ending flows (forget_links s) n l) refl ending_along
+            with_both (λ (x y : Sent D K). forget_one x ≡ y) (CalledBy dst) s (of_no_link book s) (of_no_link book (forget_links s))
+            (λ n l. ending book s n l) (λ n l. ending book (forget_links s) n l) refl ending_along
         by_address false = refl
 
     carries_along : (n : ℕ) (l : LinkOf D) (r : Result (Sending D K) LinkRefusal) →
-        forget_sent (carries flows s n l r) ≡ carries flows (forget_links s) n (forget_link l) r
+        forget_sent (carries book s n l r) ≡ carries book (forget_links s) n (forget_link l) r
     carries_along n l (Err refusal) = refl
     carries_along n l (Ok sent) =
         ap (λ (all : LinksOf D). let result : Result (Sent D K) LinkRefusal =
         Ok (record { links = all; truth = record { tag = record { link = Some n; partner = None }; known = sent.known } }) in result)
-        (changed_along n (with_flow sent.flow l) s)
+        (changed_along n (with_segments sent.segments l) s)
 
     in_run_along : (src dst : ℕ) (sends : LinkOf D → Result (Sending D K) LinkRefusal) → ((l : LinkOf D) → sends (forget_link l) ≡ sends l) →
-        forget_sent (in_run flows src dst sends s) ≡ in_run flows src dst sends (forget_links s)
+        forget_sent (in_run book src dst sends s) ≡ in_run book src dst sends (forget_links s)
     in_run_along src dst sends same =
         with_both Goes (TheLink src dst) s (Err NoLink) (Err NoLink)
-        (λ n l. check (is_running l.port.phase) LinkState (carries flows s n l (sends l)))
-        (λ n l. check (is_running l.port.phase) LinkState (carries flows (forget_links s) n l (sends l))) refl
-        (λ n l. checked_sent (is_running l.port.phase) LinkState (carries flows s n l (sends l))
-        (carries flows (forget_links s) n (forget_link l) (sends (forget_link l)))
-        (carries_along n l (sends l) ∙ ap (carries flows (forget_links s) n (forget_link l)) (sym (same l))))
+        (λ n l. check (is_running l.port.phase) LinkState (carries book s n l (sends l)))
+        (λ n l. check (is_running l.port.phase) LinkState (carries book (forget_links s) n l (sends l))) refl
+        (λ n l. checked_sent (is_running l.port.phase) LinkState (carries book s n l (sends l))
+        (carries book (forget_links s) n (forget_link l) (sends (forget_link l)))
+        (carries_along n l (sends l) ∙ ap (carries book (forget_links s) n (forget_link l)) (sym (same l))))
 
-    message_along : (m : NspValue) → forget_sent (message_sent flows s m) ≡ message_sent flows (forget_links s) m
+    message_along : (m : NspValue) → forget_sent (message_sent book s m) ≡ message_sent book (forget_links s) m
     message_along (ConnectInitiate retransmitted src services info segsize user_data) = in_its_phase_along (OpenedAt src) is_calling
     message_along (ConnectAck dst) =
-        with_both Goes (BegunBy dst) s (Err NoLink) (Err NoLink) (λ n l. Ok (unchanged flows s n l))
-        (λ n l. Ok (unchanged flows (forget_links s) n l)) refl (λ n l. refl)
+        with_both Goes (BegunBy dst) s (Err NoLink) (Err NoLink) (λ n l. Ok (unchanged book s n l))
+        (λ n l. Ok (unchanged book (forget_links s) n l)) refl (λ n l. refl)
     message_along (ConnectConfirm dst src services info segsize user_data) = in_its_phase_along (TheLink src dst) is_confirming
     message_along (DisconnectInitiate dst src reason user_data) = in_its_phase_along (TheLink src dst) is_disconnecting
     message_along (DisconnectConfirm dst src reason) =
-        with_both Goes (TheLink src dst) s (Ok (confirms_end flows s src dst)) (Ok (confirms_end flows (forget_links s) src dst))
+        with_both Goes (TheLink src dst) s (Ok (confirms_end book s src dst)) (Ok (confirms_end book (forget_links s) src dst))
         (λ n l. Err LinkState) (λ n l. Err LinkState) (ap Ok (confirms_along src dst)) (λ n l. refl)
-    message_along (DataSegment segment) = in_run_along segment.srcaddr segment.dstaddr (segment_of flows segment) (λ l. refl)
-    message_along (DataAck dst src acks) = in_run_along src dst (λ l. flows.sends_acks acks l.flow) (λ l. refl)
+    message_along (DataSegment segment) = in_run_along segment.srcaddr segment.dstaddr (segment_of book segment) (λ l. refl)
+    message_along (DataAck dst src acks) = in_run_along src dst (λ l. book.sends_acks acks l.segments) (λ l. refl)
     message_along (LinkService interrupt dst src rest) = in_its_phase_along (TheLink src dst) is_running
     message_along (OtherDataAck dst src rest) = in_its_phase_along (TheLink src dst) is_running
     message_along (NoOperation rest) = refl
 
-    pub sent_along : (packet : Carried) → forget_sent (sent_step flows s packet) ≡ sent_step flows (forget_links s) packet
+    pub sent_along : (packet : Carried) → forget_sent (sent_step book s packet) ≡ sent_step book (forget_links s) packet
     sent_along packet =
-        checked_sent (eqb packet.src s.node && eqb packet.dst s.peer) WrongNode (message_sent flows s packet.message)
-        (message_sent flows (forget_links s) packet.message) (message_along packet.message)
+        checked_sent (eqb packet.src s.node && eqb packet.dst s.peer) WrongNode (message_sent book s packet.message)
+        (message_sent book (forget_links s) packet.message) (message_along packet.message)
 
   -- ---- an arrival
 
@@ -237,58 +239,58 @@ module _ {D K : Type 0} (flows : Flows D K) where
     abbrev pub truth_alone : LinkTruth K
     truth_alone = record { tag = layers.of_no_link; known = truth.known }
 
-    ends_along : (own far : ℕ) → forget_links (ends_link flows of_partner own far s) ≡ ends_link flows of_anyone own far (forget_links s)
+    ends_along : (own far : ℕ) → forget_links (ends_link book of_partner own far s) ≡ ends_link book of_anyone own far (forget_links s)
     ends_along own far =
         with_both (λ (x y : LinksOf D). forget_links x ≡ y) (TheLink own far) s
-        (with_link (CallingAt own) s s (λ n l. changed n (ended flows l) s))
-        (with_link (CallingAt own) (forget_links s) (forget_links s) (λ n l. changed n (ended flows l) (forget_links s)))
-        (λ n l. changed n (ended flows l) s) (λ n l. changed n (ended flows l) (forget_links s))
-        (with_both (λ (x y : LinksOf D). forget_links x ≡ y) (CallingAt own) s s (forget_links s) (λ n l. changed n (ended flows l) s)
-        (λ n l. changed n (ended flows l) (forget_links s)) refl (λ n l. changed_along n (ended flows l) s))
-        (λ n l. changed_along n (ended flows l) s)
+        (with_link (CallingAt own) s s (λ n l. changed n (ended book l) s))
+        (with_link (CallingAt own) (forget_links s) (forget_links s) (λ n l. changed n (ended book l) (forget_links s)))
+        (λ n l. changed n (ended book l) s) (λ n l. changed n (ended book l) (forget_links s))
+        (with_both (λ (x y : LinksOf D). forget_links x ≡ y) (CallingAt own) s s (forget_links s) (λ n l. changed n (ended book l) s)
+        (λ n l. changed n (ended book l) (forget_links s)) refl (λ n l. changed_along n (ended book l) s))
+        (λ n l. changed_along n (ended book l) s)
 
     acted_along : (own far : ℕ) (takes : LinkOf D → D) → ((l : LinkOf D) → takes (forget_link l) ≡ takes l) →
-        Along (acted_on flows of_partner own far truth.tag takes s) (acted_on flows of_anyone own far layers.of_no_link takes (forget_links s))
+        Along (acted_on book of_partner own far truth.tag takes s) (acted_on book of_anyone own far layers.of_no_link takes (forget_links s))
     acted_along own far takes same =
         with_both Along (ActedOn own far) s (Ok s) (Ok (forget_links s))
-        (λ n l. check (of_partner (is_of_pair n l.partner truth.tag)) CrossedLink (Ok (changed n (running flows of_partner takes l) s)))
+        (λ n l. check (of_partner (is_of_pair n l.partner truth.tag)) CrossedLink (Ok (changed n (running book of_partner takes l) s)))
         (λ n l. check (of_anyone (is_of_pair n l.partner layers.of_no_link)) CrossedLink
-        (Ok (changed n (running flows of_anyone takes l) (forget_links s)))) refl
-        (λ n l. crossed (is_of_pair n l.partner truth.tag) (changed n (running flows of_partner takes l) s)
-        (changed n (running flows of_anyone takes (forget_link l)) (forget_links s))
-        (changed_along n (running flows of_partner takes l) s
-        ∙ ap (λ (flow : D). changed n (with_flow flow (in_phase Running (forget_link l))) (forget_links s)) (sym (same l))))
+        (Ok (changed n (running book of_anyone takes l) (forget_links s)))) refl
+        (λ n l. crossed (is_of_pair n l.partner truth.tag) (changed n (running book of_partner takes l) s)
+        (changed n (running book of_anyone takes (forget_link l)) (forget_links s))
+        (changed_along n (running book of_partner takes l) s
+        ∙ ap (λ (segments : D). changed n (with_segments segments (in_phase Running (forget_link l))) (forget_links s)) (sym (same l))))
 
     message_arrives_along : (m : NspValue) →
-        Along (message_arrived flows of_partner s m truth) (message_arrived flows of_anyone (forget_links s) m truth_alone)
+        Along (message_arrived book of_partner s m truth) (message_arrived book of_anyone (forget_links s) m truth_alone)
     message_arrives_along (ConnectInitiate retransmitted src services info segsize user_data) =
-        with_both Along (LiveTo src) s (Ok (begun (called flows of_partner src segsize truth.tag) s))
-        (Ok (begun (called flows of_anyone src segsize layers.of_no_link) (forget_links s))) (λ n l. Ok s) (λ n l. Ok (forget_links s))
-        (ap Ok (sym (begun_along (called flows of_partner src segsize truth.tag) s))) (λ n l. refl)
+        with_both Along (LiveTo src) s (Ok (begun (called book of_partner src segsize truth.tag) s))
+        (Ok (begun (called book of_anyone src segsize layers.of_no_link) (forget_links s))) (λ n l. Ok s) (λ n l. Ok (forget_links s))
+        (ap Ok (sym (begun_along (called book of_partner src segsize truth.tag) s))) (λ n l. refl)
     message_arrives_along (ConnectAck dst) = refl
     message_arrives_along (NoOperation rest) = refl
     message_arrives_along (ConnectConfirm dst src services info segsize user_data) =
         with_both Along (CallingAt dst) s (Ok s) (Ok (forget_links s))
-        (λ n l. check (of_partner (is_for n truth.tag)) CrossedLink (Ok (changed n (confirmed flows of_partner src segsize truth.tag l) s)))
+        (λ n l. check (of_partner (is_for n truth.tag)) CrossedLink (Ok (changed n (confirmed book of_partner src segsize truth.tag l) s)))
         (λ n l. check (of_anyone (is_for n layers.of_no_link)) CrossedLink
-        (Ok (changed n (confirmed flows of_anyone src segsize layers.of_no_link l) (forget_links s)))) refl
-        (λ n l. crossed (is_for n truth.tag) (changed n (confirmed flows of_partner src segsize truth.tag l) s)
-        (changed n (confirmed flows of_anyone src segsize layers.of_no_link (forget_link l)) (forget_links s))
-        (changed_along n (confirmed flows of_partner src segsize truth.tag l) s))
+        (Ok (changed n (confirmed book of_anyone src segsize layers.of_no_link l) (forget_links s)))) refl
+        (λ n l. crossed (is_for n truth.tag) (changed n (confirmed book of_partner src segsize truth.tag l) s)
+        (changed n (confirmed book of_anyone src segsize layers.of_no_link (forget_link l)) (forget_links s))
+        (changed_along n (confirmed book of_partner src segsize truth.tag l) s))
     message_arrives_along (DisconnectInitiate dst src reason user_data) = ap Ok (sym (ends_along dst src))
     message_arrives_along (DisconnectConfirm dst src reason) = ap Ok (sym (ends_along dst src))
     message_arrives_along (DataSegment segment) =
-        acted_along segment.dstaddr segment.srcaddr (λ l. flows.takes_segment segment truth.known l.flow) (λ l. refl)
-    message_arrives_along (DataAck dst src acks) = acted_along dst src (λ l. flows.takes_acks acks truth.known l.flow) (λ l. refl)
-    message_arrives_along (LinkService interrupt dst src rest) = acted_along dst src (λ l. l.flow) (λ l. refl)
-    message_arrives_along (OtherDataAck dst src rest) = acted_along dst src (λ l. l.flow) (λ l. refl)
+        acted_along segment.dstaddr segment.srcaddr (λ l. book.takes_segment segment truth.known l.segments) (λ l. refl)
+    message_arrives_along (DataAck dst src acks) = acted_along dst src (λ l. book.takes_acks acks truth.known l.segments) (λ l. refl)
+    message_arrives_along (LinkService interrupt dst src rest) = acted_along dst src (λ l. l.segments) (λ l. refl)
+    message_arrives_along (OtherDataAck dst src rest) = acted_along dst src (λ l. l.segments) (λ l. refl)
 
     goes_along : (b : Bool) (r r' : Result (LinksOf D) LinkRefusal) → Along r r' → Along (check b WrongNode r) (check b WrongNode r')
     goes_along true r r' same = same
     goes_along false r r' same = λ seen. refl
 
     pub arrived_along : (packet : Carried) →
-        Along (arrived_step flows of_partner s packet truth) (arrived_step flows of_anyone (forget_links s) packet truth_alone)
+        Along (arrived_step book of_partner s packet truth) (arrived_step book of_anyone (forget_links s) packet truth_alone)
     arrived_along packet =
-        goes_along (eqb packet.src s.peer && eqb packet.dst s.node) (message_arrived flows of_partner s packet.message truth)
-        (message_arrived flows of_anyone (forget_links s) packet.message truth_alone) (message_arrives_along packet.message)
+        goes_along (eqb packet.src s.peer && eqb packet.dst s.node) (message_arrived book of_partner s packet.message truth)
+        (message_arrived book of_anyone (forget_links s) packet.message truth_alone) (message_arrives_along packet.message)

@@ -31,7 +31,7 @@ use Rattle.dna_station.specs.Line.{coming_by}
 use Rattle.dna_station.specs.Machine.{met, comes, receives, unless_refused}
 use Rattle.dna_links.specs.Links.{LinkOf, LinkTruth, check, on_link, at_number, number_of, with_link, Carried}
 use Rattle.dna_links.specs.Arriving.{of_anyone, message_arrived}
-use Rattle.dna_links.specs.TrueFlow.{TrueFlow, Numbers, true_flows}
+use Rattle.dna_links.specs.TrueSegments.{TrueSegments, Numbers, true_segments}
 use Rattle.dna_links.specs.TrueLinks.{Links, links_arrived}
 use Rattle.dna_links.specs.Runs.{SentMessage}
 use Rattle.dna_node.specs.Rules.{by_bytes}
@@ -64,11 +64,11 @@ abbrev pub Takes : Result Links LinkRefusal → Type 0
 Takes r = (left : Links) × (r ≡ Ok left)
 
 -- a look-up that refuses nothing
-found_takes : (test : LinkTest) (s otherwise : Links) (next : ℕ → LinkOf TrueFlow → Links) →
+found_takes : (test : LinkTest) (s otherwise : Links) (next : ℕ → LinkOf TrueSegments → Links) →
     Takes (with_link test s (Ok otherwise) (λ number link. Ok (next number link)))
 found_takes test s otherwise next = go (number_of test s)
   where
-    at_link : (number : ℕ) (o : Option (LinkOf TrueFlow)) → Takes (on_link number o (Ok otherwise) (λ number link. Ok (next number link)))
+    at_link : (number : ℕ) (o : Option (LinkOf TrueSegments)) → Takes (on_link number o (Ok otherwise) (λ number link. Ok (next number link)))
     at_link number None = (otherwise, refl)
     at_link number (Some link) = (next number link, refl)
 
@@ -76,7 +76,7 @@ found_takes test s otherwise next = go (number_of test s)
     go None = (otherwise, refl)
     go (Some number) = at_link number (slice_get s.links number)
 
-message_takes : (s : Links) (m : NspValue) (truth : LinkTruth Numbers) → Takes (message_arrived true_flows of_anyone s m truth)
+message_takes : (s : Links) (m : NspValue) (truth : LinkTruth Numbers) → Takes (message_arrived true_segments of_anyone s m truth)
 message_takes s (ConnectInitiate retransmitted src services info segsize user_data) truth = found_takes (LiveTo src) s _ _
 message_takes s (ConnectAck dst) truth = (s, refl)
 message_takes s (NoOperation rest) truth = (s, refl)
@@ -92,7 +92,7 @@ links_take : (s : Links) (u : SentMessage) → u.packet.src ≡ s.peer → u.pac
 links_take s u from to =
     let m = message_takes s u.packet.message u.truth in (
       m.0,
-      ap₂ (λ (b c : Bool). check (b && c) WrongNode (message_arrived true_flows of_anyone s u.packet.message u.truth)) (eq-eqb _ _ from)
+      ap₂ (λ (b c : Bool). check (b && c) WrongNode (message_arrived true_segments of_anyone s u.packet.message u.truth)) (eq-eqb _ _ from)
           (eq-eqb _ _ to) ∙ m.1,
     )
 

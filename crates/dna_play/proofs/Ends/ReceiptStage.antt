@@ -7,7 +7,7 @@ use Rattle.dna_station.specs.Book.{Sound}
 use Rattle.dna_station.specs.Bounds.{IsWithin}
 use Rattle.dna_station.specs.StationBook.{after_arrival}
 use Rattle.dna_links.specs.Arriving.{of_anyone}
-use Rattle.dna_links.specs.TrueFlow.{true_flows}
+use Rattle.dna_links.specs.TrueSegments.{true_segments}
 use Rattle.dna_links.specs.TrueLinks.{Links, links_arrived}
 use Rattle.dna_links.specs.Runs.{SentMessage}
 use Rattle.dna_node.specs.Layers.{LayersUnit}
@@ -55,7 +55,7 @@ module _ (own other : End) (h : Stage own) (theirs : Stage other) (known : Known
       let m = u.packet.message in
       debt_holds left.links own.addresses (left_links s.links left.links own.links_owed)
       (came_holds s own.addresses own.links_owed h.links (ordered_of s.links known.numbers) of_anyone m u.truth left plain
-      (arrived_did true_flows of_anyone s left u.truth u.packet does))
+      (arrived_did true_segments of_anyone s left u.truth u.packet does))
       (message_debt s m) (came_debt s own.addresses of_anyone u.truth left m (ends_hold m u.truth.tag told) (checked _ _ _ left does).1)
 
   module _ (unit : LayersUnit) (there : slice_get other.half.sent own.passed ≡ Some unit) (ahead : own.half.state.front ≤ own.passed) where

@@ -24,7 +24,7 @@ use Rattle.dna_station.specs.Machine.{sends, sent_step, unless_refused}
 use Rattle.dna_links.specs.Links.{Carried, check}
 use Rattle.dna_links.specs.Sending as links_sending
 use Rattle.dna_links.specs.Sending.{message_sent}
-use Rattle.dna_links.specs.TrueFlow.{TrueFlow, Numbers, true_flows}
+use Rattle.dna_links.specs.TrueSegments.{TrueSegments, Numbers, true_segments}
 use Rattle.dna_links.specs.TrueLinks.{links_sent}
 use Rattle.dna_node.specs.Rules.{by_bytes}
 use Rattle.dna_node.specs.Content.{content}
@@ -67,7 +67,7 @@ module _ (own other : PlayHalf) where
       ∙ ap (λ (b : Bool). cond b (sends_first s (sent_by own m) (content (body_of m))) (Ok (again_after m))) old
 
   -- a new packet with a message of the links that they may send
-  abbrev pub first_after : MessageValue → Carried → links_sending.Sent TrueFlow Numbers → Layers × LayersTruth
+  abbrev pub first_after : MessageValue → Carried → links_sending.Sent TrueSegments Numbers → Layers × LayersTruth
   first_after m packet made = first_sent s (sent_by own m) made.links (Some (record { packet = packet; truth = made.truth }))
 
   module _ (head : Head) (own_small : head.own < 2 ^ 16) (peer_small : head.peer < 2 ^ 16) (node : s.links.node ≡ head.own)
@@ -77,7 +77,7 @@ module _ (own other : PlayHalf) where
 
     pub packet_sent : (message : NspValue) (may : MaySendIt s.links message) → links_sent s.links (packet_of message) ≡ Ok may.0
     packet_sent message may =
-        ap₂ (λ (b c : Bool). check (b && c) WrongNode (message_sent true_flows s.links message)) (eq-eqb _ _ (sym node)) (eq-eqb _ _ (sym peer)) ∙
+        ap₂ (λ (b c : Bool). check (b && c) WrongNode (message_sent true_segments s.links message)) (eq-eqb _ _ (sym node)) (eq-eqb _ _ (sym peer)) ∙
         may.1
 
     pub sends_new : (m : MessageValue) → sending_refusal s.station m ≡ None → gives_number s.station m ≡ true → (message : NspValue) →

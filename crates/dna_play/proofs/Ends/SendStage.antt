@@ -6,9 +6,9 @@ use Rattle.ddcmp_msg.specs.Message.{MessageValue}
 use Rattle.dna_packet.specs.Nsp.{NspValue}
 use Rattle.dna_links.specs.Links.{LinkOf, Carried}
 use Rattle.dna_links.specs.Sending as links_sending
-use Rattle.dna_links.specs.TrueFlow.{TrueFlow, Numbers, true_flows}
+use Rattle.dna_links.specs.TrueSegments.{TrueSegments, Numbers, true_segments}
 use Rattle.dna_links.specs.TrueLinks.{Links, links_sent}
-use Rattle.dna_links.specs.CutFlow.{IsOrdered}
+use Rattle.dna_links.specs.CutSegments.{IsOrdered}
 use Rattle.dna_links.specs.Runs.{SentMessage}
 use Rattle.dna_play.specs.LinkOwed.{LinkOwed, Turn, SegmentTurn, variables_of, all_still_owed}
 use Rattle.dna_play.specs.NextSent.{LinkEnd, LinkChoice, Choice, SendNew, without_turn, after_link_choice}
@@ -37,7 +37,7 @@ module _ (own other : End) (h : Stage own) (known : Known own other) where
   abbrev ends : List LinkEnd
   ends = link_ends_of own
 
-  ordered : (i : ℕ) (l : LinkOf TrueFlow) → slice_get s.links i ≡ Some l → IsOrdered l.flow
+  ordered : (i : ℕ) (l : LinkOf TrueSegments) → slice_get s.links i ≡ Some l → IsOrdered l.segments
   ordered i l at = (known.numbers i l at).0
 
   -- ---- a unit without a new packet
@@ -54,12 +54,13 @@ module _ (own other : End) (h : Stage own) (known : Known own other) where
 
   -- a message that is asked is of the player
   message_plain : (c : LinkChoice) (message : NspValue) → IsAsked s.links own.links_owed c message → IsPlain message
-  message_plain c message (OfTurn number turn l o there owes due) = turn_plain l o turn (h.links.fit number l there).flow
+  message_plain c message (OfTurn number turn l o there owes due) = turn_plain l o turn (h.links.fit number l there).segments
   message_plain c message (OfConfirm confirm first) = tt
 
   -- what is sent is owed no more
-  asked_holds : (one : LinkChoice) (message : NspValue) → IsAsked s.links own.links_owed one message → (made : links_sending.Sent TrueFlow Numbers) →
-      SentDid true_flows s message made → LinkHolds made.links.links own.addresses (left_links s.links made.links.links own.links_owed) →
+  asked_holds : (one : LinkChoice) (message : NspValue) → IsAsked s.links own.links_owed one message →
+      (made : links_sending.Sent TrueSegments Numbers) →
+      SentDid true_segments s message made → LinkHolds made.links.links own.addresses (left_links s.links made.links.links own.links_owed) →
       LinkHolds made.links.links own.addresses (after_link_choice one (left_links s.links made.links.links own.links_owed))
   asked_holds one message (OfConfirm confirm first) made did holds =
       first_sent_holds made.links.links own.addresses (left_links s.links made.links.links own.links_owed) holds
@@ -70,7 +71,7 @@ module _ (own other : End) (h : Stage own) (known : Known own other) where
       (λ k left at then_owes. sent_turn_fits k left turn (λ seg. more t k left at then_owes seg) (holds.owes number k left at then_owes))
     where
       -- a segment that has gone is among those sent in this go
-      more : TurnMade s made number l o turn → (k : LinkOf TrueFlow) (left : LinkOwed) → slice_get made.links.links number ≡ Some k →
+      more : TurnMade s made number l o turn → (k : LinkOf TrueSegments) (left : LinkOwed) → slice_get made.links.links number ≡ Some k →
           slice_get (all_still_owed s.links made.links.links own.links_owed.links) number ≡ Some left → turn ≡ SegmentTurn →
           left.ahead + 1 ≤ length (variables_of k).outstanding
       more t k left at then_owes seg =
@@ -79,16 +80,16 @@ module _ (own other : End) (h : Stage own) (known : Known own other) where
           ∙ at) in
           let gone = gave_ahead l o (ordered number l there) (h.links.owes number l o there owes).ahead in
           let counted : length (variables_of k).outstanding ≡ length (gave_by SegmentTurn (end_of l o)).variables.outstanding =
-          ap (λ (x : LinkOf TrueFlow). length (variables_of x).outstanding) (sym is)
+          ap (λ (x : LinkOf TrueSegments). length (variables_of x).outstanding) (sym is)
           ∙ ap (λ (x : LinkEnd). length x.variables.outstanding) (t.is ∙ ap (λ (x : Turn). gave_by x (end_of l o)) seg) in
           let less = ahead_less s.links made.links.links own.links_owed.links number k o left at owes then_owes in
           omega arith
 
   module _ (one : LinkChoice) (message : NspValue) (asked : IsAsked s.links own.links_owed one message) (packet : Carried)
-      (made : links_sending.Sent TrueFlow Numbers) (of_it : packet.message ≡ message)
+      (made : links_sending.Sent TrueSegments Numbers) (of_it : packet.message ≡ message)
       (does_it : links_sent (links_of own.half) packet ≡ Ok made) where
-    did : SentDid true_flows s message made
-    did = subst (λ (x : NspValue). SentDid true_flows s x made) of_it (sent_did true_flows s made packet does_it)
+    did : SentDid true_segments s message made
+    did = subst (λ (x : NspValue). SentDid true_segments s x made) of_it (sent_did true_segments s made packet does_it)
 
     pub stage_first : (m : MessageValue) → message_of (SendNew one) own.half.state.head (player.variables_of own.half) ends ≡ Some m → IsOfBytes m →
         Stage (after_sending (SendNew one) (after_record own (sent_left own.half other.half m (first_after own.half other.half m packet made))))

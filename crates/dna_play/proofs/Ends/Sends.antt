@@ -16,7 +16,7 @@ use Rattle.dna_station.specs.WireBook.{wire_is_new}
 use Rattle.dna_station.specs.WireNode.{unlabelled}
 use Rattle.dna_links.specs.Links.{LinkOf, Carried}
 use Rattle.dna_links.specs.Sending as links_sending
-use Rattle.dna_links.specs.TrueFlow.{TrueFlow, Numbers}
+use Rattle.dna_links.specs.TrueSegments.{TrueSegments, Numbers}
 use Rattle.dna_links.specs.TrueLinks.{links_sent}
 use Rattle.dna_play.specs.NextSent.{LinkEnd, LinkChoice, Choice, SendStrt, SendStack, SendNak, SendRep, SendAgain, SendNew, SendAck, link_choice}
 use Rattle.dna_play.specs.NextSent.{choice}
@@ -64,12 +64,14 @@ module _ (own other : End) (h : Stage own) (theirs : Stage other) (known : Known
   -- ---- a message of the links
 
   -- the addresses that a link knows are words
-  own_small : (i : ℕ) (l : LinkOf TrueFlow) → slice_get (links_of own.half).links i ≡ Some l → (o : Option ℕ) → l.port.own ≡ o → address o < 2 ^ 16
+  own_small : (i : ℕ) (l : LinkOf TrueSegments) → slice_get (links_of own.half).links i ≡ Some l → (o : Option ℕ) → l.port.own ≡ o →
+      address o < 2 ^ 16
   own_small i l at None e = omega arith
   own_small i l at (Some a) e =
       let less = known.addressed.highest i a (record { link = l; there = at; owns = e }) in let few = h.few in omega arith
 
-  far_small : (i : ℕ) (l : LinkOf TrueFlow) → slice_get (links_of own.half).links i ≡ Some l → (o : Option ℕ) → l.port.far ≡ o → address o < 2 ^ 16
+  far_small : (i : ℕ) (l : LinkOf TrueSegments) → slice_get (links_of own.half).links i ≡ Some l → (o : Option ℕ) → l.port.far ≡ o →
+      address o < 2 ^ 16
   far_small i l at None e = omega arith
   far_small i l at (Some a) e =
       let o = known.addressed.far i l at a e in let less = known.others.highest o.number a o.owns in let few = theirs.few in omega arith
@@ -77,7 +79,7 @@ module _ (own other : End) (h : Stage own) (theirs : Stage other) (known : Known
   message_fits : (c : LinkChoice) (message : NspValue) → IsAsked (links_of own.half).links own.links_owed c message → MessageFits message
   message_fits c message (OfTurn number turn l o there owes due) =
       turn_message_fits l o (own_small number l there l.port.own refl) (far_small number l there l.port.far refl) turn
-      (turn_plain l o turn (h.links.fit number l there).flow)
+      (turn_plain l o turn (h.links.fit number l there).segments)
   message_fits c message (OfConfirm confirm first) =
       let small = (h.links.confirms 0 confirm first).small in confirm_fits confirm.dst confirm.src confirm.reason small.dst small.src small.reason
 
@@ -99,7 +101,7 @@ module _ (own other : End) (h : Stage own) (theirs : Stage other) (known : Known
         makes own.half other.half (Sent (spelling m)) ≡ Some (sent_left own.half other.half m (again_after own.half other.half m)) → Goes c
     GoesNew : (one : LinkChoice) (message : NspValue) → IsAsked (links_of own.half).links own.links_owed one message →
         (m : MessageValue) → message_of (SendNew one) head k ends ≡ Some m → IsOfBytes m → (packet : Carried)
-        (made : links_sending.Sent TrueFlow Numbers) → packet.message ≡ message → links_sent (links_of own.half) packet ≡ Ok made →
+        (made : links_sending.Sent TrueSegments Numbers) → packet.message ≡ message → links_sent (links_of own.half) packet ≡ Ok made →
         makes own.half other.half (Sent (spelling m)) ≡ Some (sent_left own.half other.half m (first_after own.half other.half m packet made)) →
         Goes (SendNew one)
 

@@ -16,9 +16,9 @@ use Rattle.dna_station.specs.Bounds as bounds
 use Rattle.dna_station.specs.Station.{Station, after_event}
 use Rattle.dna_links.specs.Links.{LinkOf}
 use Rattle.dna_links.specs.User.{LinkEventValue}
-use Rattle.dna_links.specs.TrueFlow.{TrueFlow, true_flows}
+use Rattle.dna_links.specs.TrueSegments.{TrueSegments, true_segments}
 use Rattle.dna_links.specs.TrueLinks.{Links, links_user}
-use Rattle.dna_links.specs.CutFlow.{IsOrdered, IsAnswered}
+use Rattle.dna_links.specs.CutSegments.{IsOrdered, IsAnswered}
 use Rattle.dna_links.specs.Captures.{given_address}
 use Rattle.dna_links.specs.Runs.{SentMessage}
 use Rattle.dna_node.specs.Layers.{stations, LayersUnit}
@@ -64,7 +64,7 @@ new_stage head = record {
 }
 
 abbrev pub HasNumbers : LinkList → Type 0
-HasNumbers links = (i : ℕ) (l : LinkOf TrueFlow) → slice_get links i ≡ Some l → IsOrdered l.flow × IsAnswered l.flow
+HasNumbers links = (i : ℕ) (l : LinkOf TrueSegments) → slice_get links i ≡ Some l → IsOrdered l.segments × IsAnswered l.segments
 
 pub record Known (own other : End) : Type 0 where
   pub ready : IsReady own.half other.half
@@ -77,7 +77,7 @@ pub record Known (own other : End) : Type 0 where
   pub node : (links_of own.half).node ≡ own.half.state.head.own
   pub peer : (links_of own.half).peer ≡ own.half.state.head.peer
 
-pub ordered_of : (links : LinkList) → HasNumbers links → (i : ℕ) (l : LinkOf TrueFlow) → slice_get links i ≡ Some l → IsOrdered l.flow
+pub ordered_of : (links : LinkList) → HasNumbers links → (i : ℕ) (l : LinkOf TrueSegments) → slice_get links i ≡ Some l → IsOrdered l.segments
 ordered_of links numbers i l at = (numbers i l at).0
 
 -- ---- the user of the links
@@ -95,7 +95,7 @@ module _ (e : End) (h : Stage e) (numbers : HasNumbers (links_of e.half).links) 
     pays = unchanged_stage (station_of e.half) e.owed h.pays;
     packets = h.packets;
     links = user_holds (links_of e.half) e.addresses e.links_owed h.links (ordered_of (links_of e.half).links numbers) others addressed event
-        left fits less (user_did true_flows (links_of e.half) left event does_it);
+        left fits less (user_did true_segments (links_of e.half) left event does_it);
     plain = h.plain;
     few = few;
     ahead = h.ahead;
@@ -144,7 +144,7 @@ module _ (e : End) (h : Stage e) where
   timer_stage debt is = subst (λ (o : Option Debt). Stage (owing_more o e)) is (owed_stage _ _
       (timer_pays (player.variables_of e.half) (station_of e.half).causes e.owed (player.variables_of e.half).state h.pays) h.links)
 
-  retried_fits : (l : LinkOf TrueFlow) (o : LinkOwed) (phase : Phase) → l.port.phase ≡ phase → (change : LinkOwed → LinkOwed) →
+  retried_fits : (l : LinkOf TrueSegments) (o : LinkOwed) (phase : Phase) → l.port.phase ≡ phase → (change : LinkOwed → LinkOwed) →
       retried phase ≡ Some change → OwedFits l o → OwedFits l (change o)
   retried_fits l o Calling is change e' f =
       subst (λ (c : LinkOwed → LinkOwed). OwedFits l (c o)) (same_Some _ change e') (turn_fits l o InitiateTurn is f)
@@ -156,11 +156,11 @@ module _ (e : End) (h : Stage e) where
       (record { turns = λ turn e. f.turns turn (ahead_owes turn 0 o e); ahead = omega arith })
   retried_fits l o phase is change e' f = absurd cc
 
-  pub retry_stage : (number : ℕ) (link : LinkOf TrueFlow) (change : LinkOwed → LinkOwed) → slice_get (links_of e.half).links number ≡ Some link →
+  pub retry_stage : (number : ℕ) (link : LinkOf TrueSegments) (change : LinkOwed → LinkOwed) → slice_get (links_of e.half).links number ≡ Some link →
       retried link.port.phase ≡ Some change → Stage (record e { links_owed = changed number change e.links_owed })
   retry_stage number link change there is = owed_stage _ _ h.pays (change_holds (links_of e.half).links e.addresses e.links_owed h.links number change
       (λ l o at owes. let same = same_Some link l (sym there ∙ at) in
-      retried_fits l o link.port.phase (ap (λ (x : LinkOf TrueFlow). x.port.phase) (sym same)) change is (h.links.owes number l o at owes)))
+      retried_fits l o link.port.phase (ap (λ (x : LinkOf TrueSegments). x.port.phase) (sym same)) change is (h.links.owes number l o at owes)))
 
   pub link_debt_stage : (debt : LinkDebt) → DebtHolds (links_of e.half).links e.addresses debt → Stage (links_owing_more debt e)
   link_debt_stage debt holds = owed_stage _ _ h.pays (debt_holds (links_of e.half).links e.addresses e.links_owed h.links debt holds)

@@ -21,7 +21,7 @@ use Rattle.capture.specs.declared.limit.TheConstants.{MAX_UNIT}
 use Rattle.dna_station.specs.declared.head.Head.{Head}
 use Rattle.dna_station.specs.Book.{resp_of, num_of, body_of}
 use Rattle.dna_links.specs.Links.{LinkOf}
-use Rattle.dna_links.specs.TrueFlow.{TrueFlow}
+use Rattle.dna_links.specs.TrueSegments.{TrueSegments}
 use Rattle.dna_node.specs.Content.{message_in, content_of, content}
 use Rattle.dna_play.specs.HasLine.{are_bytes, has_line}
 use Rattle.dna_play.specs.LinkOwed.{LinkOwed, Turn, ConnectAckTurn, InitiateTurn, ConfirmTurn, DisconnectTurn, DataAckTurn, SegmentTurn, variables_of}
@@ -159,7 +159,7 @@ confirm_fits dst src reason d s r = record {
   short = omega arith;
 }
 
-module _ (l : LinkOf TrueFlow) (owed : LinkOwed) (own_small : address l.port.own < 2 ^ 16) (far_small : address l.port.far < 2 ^ 16) where
+module _ (l : LinkOf TrueSegments) (owed : LinkOwed) (own_small : address l.port.own < 2 ^ 16) (far_small : address l.port.far < 2 ^ 16) where
   abbrev it : LinkEnd
   it = record { port = l.port; variables = variables_of l; owed = owed }
 

@@ -11,9 +11,9 @@ use Rattle.dna_station.specs.declared.link_refusal.LinkRefusal.TheVariants.{NoLi
 use Rattle.dna_links.specs.declared.port.LinkTest.TheVariants.{HasAddress, ActedOn}
 use Rattle.dna_links.specs.LookUps.{is_at}
 use Rattle.dna_links.specs.Pieces.{Piece, Whole, with_piece, next_message}
-use Rattle.dna_links.specs.Links.{LinkOf, changed, with_flow}
+use Rattle.dna_links.specs.Links.{LinkOf, changed, with_segments}
 use Rattle.dna_links.specs.User.{Up, delivered}
-use Rattle.dna_links.specs.TrueFlow.{TrueFlow, true_flows, delivered_as, delivers_whole, delivers}
+use Rattle.dna_links.specs.TrueSegments.{TrueSegments, true_segments, delivered_as, delivers_whole, delivers}
 use Rattle.dna_links.specs.TrueLinks.{Links, links_user}
 use Rattle.dna_play.specs.HasLine.{has_line}
 use Rattle.dna_play.specs.LinkOwed as owing
@@ -70,18 +70,18 @@ next_whole pieces message rest e = go (next_message pieces) refl (sym (complete_
     go None is e = absurd cc
     go (Some w) is e = record { w = w; is = is; message_is = cc; left = cc }
 
--- the flow after it is delivered, which came in so many pieces
-abbrev pub delivering : List ℕ → Whole → TrueFlow → TrueFlow
+-- the segments after it is delivered, which came in so many pieces
+abbrev pub delivering : List ℕ → Whole → TrueSegments → TrueSegments
 delivering message w f = record f { delivered = f.delivered ++ message ∷ []; passed = f.passed + w.pieces }
 
--- a flow whose first whole message this is delivers it
-pub record DeliversNext (f : TrueFlow) (message : List ℕ) (rest : List (List ℕ)) : Type 0 where
+-- segments whose first whole message this is deliver it
+pub record DeliversNext (f : TrueSegments) (message : List ℕ) (rest : List (List ℕ)) : Type 0 where
   pub w : Whole
   pub is : next_message (drop f.passed f.received) ≡ Some w
   pub does : delivers message f ≡ Some (delivering message w f)
   pub left : complete [] (drop (f.passed + w.pieces) f.received) ≡ rest
 
-pub delivers_next : (f : TrueFlow) (message : List ℕ) (rest : List (List ℕ)) → complete [] (drop f.passed f.received) ≡ message ∷ rest →
+pub delivers_next : (f : TrueSegments) (message : List ℕ) (rest : List (List ℕ)) → complete [] (drop f.passed f.received) ≡ message ∷ rest →
     DeliversNext f message rest
 delivers_next f message rest e =
     let n = next_whole (drop f.passed f.received) message rest e in
@@ -98,29 +98,29 @@ delivers_next f message rest e =
 
 -- the link with this number is the only one that has this address, and these messages of it are whole
 pub record IsWholeAt (s : Links) (address number : ℕ) (messages : List (List ℕ)) : Type 0 where
-  pub link : LinkOf TrueFlow
+  pub link : LinkOf TrueSegments
   pub there : slice_get s.links number ≡ Some link
   pub owns : is_at link.port.own address ≡ true
-  pub only : (j : ℕ) (m : LinkOf TrueFlow) → slice_get s.links j ≡ Some m → is_at m.port.own address ≡ true → j ≡ number
-  pub whole : complete [] (drop link.flow.passed link.flow.received) ≡ messages
+  pub only : (j : ℕ) (m : LinkOf TrueSegments) → slice_get s.links j ≡ Some m → is_at m.port.own address ≡ true → j ≡ number
+  pub whole : complete [] (drop link.segments.passed link.segments.received) ≡ messages
 
 -- one of this link that is delivered leaves the others
-pub record IsDelivered (s : Links) (address number : ℕ) (link : LinkOf TrueFlow) (message : List ℕ) (rest : List (List ℕ)) : Type 0 where
-  pub next : DeliversNext link.flow message rest
-  pub does : links_user s (Up address message) ≡ Ok (changed number (with_flow (delivering message next.w link.flow) link) s)
-  pub others : IsWholeAt (changed number (with_flow (delivering message next.w link.flow) link) s) address number rest
+pub record IsDelivered (s : Links) (address number : ℕ) (link : LinkOf TrueSegments) (message : List ℕ) (rest : List (List ℕ)) : Type 0 where
+  pub next : DeliversNext link.segments message rest
+  pub does : links_user s (Up address message) ≡ Ok (changed number (with_segments (delivering message next.w link.segments) link) s)
+  pub others : IsWholeAt (changed number (with_segments (delivering message next.w link.segments) link) s) address number rest
 
 pub one_delivered : (s : Links) (address number : ℕ) (message : List ℕ) (rest : List (List ℕ)) (h : IsWholeAt s address number (message ∷ rest)) →
     IsDelivered s address number h.link message rest
 one_delivered s address number message rest h =
-    let d = delivers_next h.link.flow message rest h.whole in
-    let k = with_flow (delivering message d.w h.link.flow) h.link in
+    let d = delivers_next h.link.segments message rest h.whole in
+    let k = with_segments (delivering message d.w h.link.segments) h.link in
     let found = found_at s (HasAddress address) number h.link h.there h.owns h.only in
     record {
       next = d;
       does = with_found s (HasAddress address) number h.link (Err NoLink)
-          (λ number link. delivered true_flows number link s (true_flows.delivers message link.flow)) found ∙
-          ap (delivered true_flows number h.link s) d.does;
+          (λ number link. delivered true_segments number link s (true_segments.delivers message link.segments)) found ∙
+          ap (delivered true_segments number h.link s) d.does;
       others = record {
         link = k;
         there = set_same s.links number h.link k h.there;
@@ -130,7 +130,7 @@ one_delivered s address number message rest h =
       };
     }
   where
-    go : {k : LinkOf TrueFlow} (j : ℕ) (m : LinkOf TrueFlow) → is_at m.port.own address ≡ true →
+    go : {k : LinkOf TrueSegments} (j : ℕ) (m : LinkOf TrueSegments) → is_at m.port.own address ≡ true →
         ((j ≡ number) × (k ≡ m)) ⊎ ((j ≡ number → ⊥) × (slice_get s.links j ≡ Some m)) → j ≡ number
     go j m e (inl is) = is.0
     go j m e (inr is) = h.only j m is.1 e
@@ -148,6 +148,6 @@ AreDistinct links = (i j a : ℕ) → OwnsIn links i a → OwnsIn links j a → 
 
 -- what is whole of the link that a segment is for has lines
 abbrev pub IsLined : Links → NspValue → Type 0
-IsLined s (DataSegment segment) = (number : ℕ) (link : LinkOf TrueFlow) → IsFound (ActedOn segment.dstaddr segment.srcaddr) s number link →
+IsLined s (DataSegment segment) = (number : ℕ) (link : LinkOf TrueSegments) → IsFound (ActedOn segment.dstaddr segment.srcaddr) s number link →
     AllLined segment.dstaddr (complete [] (owing.variables_of link).pieces)
 IsLined s m = Unit {0}

@@ -6,9 +6,9 @@ use Rattle.dna_packet.specs.Nsp.{NspValue, DisconnectConfirm}
 use Rattle.dna_links.specs.declared.port.LinkTest.TheVariants.{TheLink}
 use Rattle.dna_links.specs.LookUps.{passes}
 use Rattle.dna_links.specs.Links.{LinkOf}
-use Rattle.dna_links.specs.TrueFlow.{TrueFlow}
+use Rattle.dna_links.specs.TrueSegments.{TrueSegments}
 use Rattle.dna_links.specs.TrueLinks.{Links}
-use Rattle.dna_links.specs.CutFlow.{IsOrdered, IsAnswered}
+use Rattle.dna_links.specs.CutSegments.{IsOrdered, IsAnswered}
 use Rattle.dna_play.specs.LinkOwed.{LinkOwed, LinksOwed, EndConfirm, Turn, variables_of}
 use Rattle.dna_play.specs.NextSent.{LinkEnd, link_ends, LinkChoice, Confirms, OfLink, turn_of, turn_or_next, first_turn, link_choice}
 use Rattle.dna_play.specs.Compose.{turn_message, message_at, link_message}
@@ -16,12 +16,12 @@ use Rattle.dna_play.proofs.Once.Addresses.{LinkList, AreAddressed}
 use Rattle.dna_play.proofs.Links.Pays.{Fits, OwedFits, IsDue, turn_due, MaySendIt, confirm_may, due_may}
 
 -- one end of a link, with what it owes
-abbrev pub end_of : LinkOf TrueFlow → LinkOwed → LinkEnd
+abbrev pub end_of : LinkOf TrueSegments → LinkOwed → LinkEnd
 end_of l owed = record { port = l.port; variables = variables_of l; owed = owed }
 
 -- the link with this number, with what it owes
 pub record EndAt (links : LinkList) (owed : List LinkOwed) (number : ℕ) (e : LinkEnd) : Type 0 where
-  pub link : LinkOf TrueFlow
+  pub link : LinkOf TrueSegments
   pub owes : LinkOwed
   pub there : slice_get links number ≡ Some link
   pub owed_there : slice_get owed number ≡ Some owes
@@ -67,7 +67,8 @@ first_chosen from (first ∷ ends) c e = go (first_chosen (from + 1) ends c) (tu
 
 -- what is due at a link, or the oldest DC that is owed; and its message
 pub data IsAsked (links : LinkList) (owed : LinksOwed) : LinkChoice → NspValue → Type 0 where
-  OfTurn : (number : ℕ) (turn : Turn) (l : LinkOf TrueFlow) (o : LinkOwed) → slice_get links number ≡ Some l → slice_get owed.links number ≡ Some o →
+  OfTurn : (number : ℕ) (turn : Turn) (l : LinkOf TrueSegments) (o : LinkOwed) → slice_get links number ≡ Some l →
+      slice_get owed.links number ≡ Some o →
       IsDue (end_of l o) turn → IsAsked links owed (OfLink number turn) (turn_message turn (end_of l o))
   OfConfirm : (confirm : EndConfirm) → slice_get owed.confirms 0 ≡ Some confirm →
       IsAsked links owed (Confirms confirm) (DisconnectConfirm confirm.dst confirm.src confirm.reason)
@@ -108,16 +109,16 @@ module _ (links : LinkList) (owed : LinksOwed) where
 
 -- no live link has the two addresses that a DC names
 abbrev pub IsOver : Links → EndConfirm → Type 0
-IsOver s confirm = (j : ℕ) (m : LinkOf TrueFlow) → slice_get s.links j ≡ Some m → passes (TheLink confirm.src confirm.dst) m.port ≡ true → ⊥
+IsOver s confirm = (j : ℕ) (m : LinkOf TrueSegments) → slice_get s.links j ≡ Some m → passes (TheLink confirm.src confirm.dst) m.port ≡ true → ⊥
 
 -- of all links with what they owe: what lets each send what is due
 pub record LinksPay (s : Links) (owed : LinksOwed) : Type 0 where
-  pub fits : (i : ℕ) (l : LinkOf TrueFlow) → slice_get s.links i ≡ Some l → Fits l
-  pub owes : (i : ℕ) (l : LinkOf TrueFlow) (o : LinkOwed) → slice_get s.links i ≡ Some l → slice_get owed.links i ≡ Some o → OwedFits l o
+  pub fits : (i : ℕ) (l : LinkOf TrueSegments) → slice_get s.links i ≡ Some l → Fits l
+  pub owes : (i : ℕ) (l : LinkOf TrueSegments) (o : LinkOwed) → slice_get s.links i ≡ Some l → slice_get owed.links i ≡ Some o → OwedFits l o
   pub over : (i : ℕ) (confirm : EndConfirm) → slice_get owed.confirms i ≡ Some confirm → IsOver s confirm
 
 module _ (s : Links) (others : LinkList) (most : ℕ) (addressed : AreAddressed s.links others most) (owed : LinksOwed) (pays : LinksPay s owed)
-    (numbers : (i : ℕ) (l : LinkOf TrueFlow) → slice_get s.links i ≡ Some l → IsOrdered l.flow × IsAnswered l.flow) where
+    (numbers : (i : ℕ) (l : LinkOf TrueSegments) → slice_get s.links i ≡ Some l → IsOrdered l.segments × IsAnswered l.segments) where
   pub asked_may : (c : LinkChoice) (message : NspValue) → IsAsked s.links owed c message → MaySendIt s message
   asked_may c message (OfTurn number turn l o there owes due) =
       let n = numbers number l there in

@@ -9,7 +9,7 @@ use Rattle.dna_links.specs.declared.port.LinkTest.TheVariants.{TheLink, CallingA
 use Rattle.dna_links.specs.LookUps.{is_live, is_calling, is_connected, is_at, has_both, passes}
 use Rattle.dna_links.specs.Links.{LinkOf, number_of, with_link, changed, ended}
 use Rattle.dna_links.specs.Arriving.{PartnerRule, ends_link}
-use Rattle.dna_links.specs.TrueFlow.{TrueFlow, true_flows}
+use Rattle.dna_links.specs.TrueSegments.{TrueSegments, true_segments}
 use Rattle.dna_links.specs.TrueLinks.{Links}
 use Rattle.dna_play.specs.LinkOwed.{EndConfirm}
 use Rattle.dna_links.proofs.Tables.Outcomes.{looked, position_none}
@@ -23,13 +23,13 @@ abbrev pub may_be : (far : ℕ) → Port → Bool
 may_be far port = is_live port.phase && (is_calling port.phase || is_at port.far far)
 
 -- this link is none that a DC names, or it is over
-abbrev pub IsPast : EndConfirm → LinkOf TrueFlow → Type 0
+abbrev pub IsPast : EndConfirm → LinkOf TrueSegments → Type 0
 IsPast confirm m = m.port.own ≡ Some confirm.src → may_be confirm.dst m.port ≡ false
 
 -- of the link that a DC names: its address was given, and it is over
 pub record IsDone (links : LinkList) (most : ℕ) (confirm : EndConfirm) : Type 0 where
   pub given : confirm.src ≤ most
-  pub over : (j : ℕ) (m : LinkOf TrueFlow) → slice_get links j ≡ Some m → IsPast confirm m
+  pub over : (j : ℕ) (m : LinkOf TrueSegments) → slice_get links j ≡ Some m → IsPast confirm m
 
 or_last : (b c : Bool) → c ≡ true → (b || c) ≡ true
 or_last true c e = refl
@@ -56,17 +56,17 @@ module _ (s : Links) (others : LinkList) (most : ℕ) (addressed : AreAddressed 
   confirm = record { dst = far; src = own; reason = reason }
 
   -- the link with its address is ended
-  ended_is_done : (number : ℕ) (link : LinkOf TrueFlow) → slice_get s.links number ≡ Some link → is_at link.port.own own ≡ true →
-      IsDone (changed number (ended true_flows link) s).links most confirm
+  ended_is_done : (number : ℕ) (link : LinkOf TrueSegments) → slice_get s.links number ≡ Some link → is_at link.port.own own ≡ true →
+      IsDone (changed number (ended true_segments link) s).links most confirm
   ended_is_done number link there at = record {
     given = given;
     over = λ j m found e. go j m e
-        (at_set s.links number j (ended true_flows link) m found);
+        (at_set s.links number j (ended true_segments link) m found);
   }
     where
-      go : (j : ℕ) (m : LinkOf TrueFlow) → m.port.own ≡ Some own →
-          ((j ≡ number) × (ended true_flows link ≡ m)) ⊎ ((j ≡ number → ⊥) × (slice_get s.links j ≡ Some m)) → may_be far m.port ≡ false
-      go j m e (inl is) = ap (λ (x : LinkOf TrueFlow). may_be far x.port) (sym is.1)
+      go : (j : ℕ) (m : LinkOf TrueSegments) → m.port.own ≡ Some own →
+          ((j ≡ number) × (ended true_segments link ≡ m)) ⊎ ((j ≡ number → ⊥) × (slice_get s.links j ≡ Some m)) → may_be far m.port ≡ false
+      go j m e (inl is) = ap (λ (x : LinkOf TrueSegments). may_be far x.port) (sym is.1)
       go j m e (inr is) = absurd (is.0 (addressed.distinct j number own (record { link = m; there = is.1; owns = e })
           (record { link = link; there = there; owns = at_is link.port.own own at })))
 
@@ -76,8 +76,8 @@ module _ (s : Links) (others : LinkList) (most : ℕ) (addressed : AreAddressed 
     over = λ j m at e.
         past (is_live m.port.phase) (is_calling m.port.phase) (is_at m.port.own own) (is_at m.port.far far)
         (ap (λ (o : Option ℕ). is_at o own) e ∙ eq-eqb own own refl)
-        (position_none (λ (k : LinkOf TrueFlow). passes (TheLink own far) k.port) s.links j m no_link at)
-        (position_none (λ (k : LinkOf TrueFlow). passes (CallingAt own) k.port) s.links j m not_calling at);
+        (position_none (λ (k : LinkOf TrueSegments). passes (TheLink own far) k.port) s.links j m no_link at)
+        (position_none (λ (k : LinkOf TrueSegments). passes (CallingAt own) k.port) s.links j m not_calling at);
   }
     where
       past : (live calling at_own at_far : Bool) → at_own ≡ true → (live && (at_own && at_far)) ≡ false → (calling && at_own) ≡ false →
@@ -87,11 +87,11 @@ module _ (s : Links) (others : LinkList) (most : ℕ) (addressed : AreAddressed 
       past true true true at_far a b c = c
       past true calling false at_far a b c = absurd cc
 
-  pub end_done : IsDone (ends_link true_flows rule own far s).links most confirm
-  end_done = looked (TheLink own far) s (with_link (CallingAt own) s s (λ number link. changed number (ended true_flows link) s))
-      (λ number link. changed number (ended true_flows link) s) _ refl
+  pub end_done : IsDone (ends_link true_segments rule own far s).links most confirm
+  end_done = looked (TheLink own far) s (with_link (CallingAt own) s s (λ number link. changed number (ended true_segments link) s))
+      (λ number link. changed number (ended true_segments link) s) _ refl
       (λ none e. subst (λ (x : Links). IsDone x.links most confirm) e
-      (looked (CallingAt own) s s (λ number link. changed number (ended true_flows link) s) _ refl
+      (looked (CallingAt own) s s (λ number link. changed number (ended true_segments link) s) _ refl
       (λ not_calling f. subst (λ (x : Links). IsDone x.links most confirm) f (none_is_done none not_calling))
       (λ number link found f. subst (λ (x : Links). IsDone x.links most confirm) f
       (ended_is_done number link found.there (and_parts (is_calling link.port.phase) _ found.passed).1))))

@@ -12,7 +12,7 @@ use Rattle.dna_links.specs.declared.port.LinkTest.TheVariants.{TheLink, LiveTo, 
 use Rattle.dna_links.specs.LookUps.{is_running}
 use Rattle.dna_links.specs.Links.{LinkOf, LinkTruth, check, with_link, begun, changed}
 use Rattle.dna_links.specs.Arriving.{PartnerRule, is_for, is_of_pair, called, confirmed, running, message_arrived, ends_link}
-use Rattle.dna_links.specs.TrueFlow.{TrueFlow, Numbers, true_flows}
+use Rattle.dna_links.specs.TrueSegments.{TrueSegments, Numbers, true_segments}
 use Rattle.dna_links.specs.TrueLinks.{Links}
 use Rattle.dna_play.specs.LinkOwed.{LinkDebt, NoDebt, Owes, ConnectAckTurn, DataAckTurn, repeated_call_debt, confirm_debt, message_debt}
 use Rattle.dna_links.proofs.Tables.Outcomes.{looked, checked}
@@ -25,25 +25,25 @@ use Rattle.dna_play.proofs.Links.Stage.{ConfirmHolds, InPhase, DebtHolds}
 -- ---- what is newly owed
 
 module _ (s : Links) where
-  pub as_it_is : (number : ℕ) (link : LinkOf TrueFlow) → slice_get s.links number ≡ Some link → InPhase number link.port.phase s.links
-  as_it_is number link there k at = ap (λ (x : LinkOf TrueFlow). x.port.phase) (same_Some k link (sym at ∙ there))
+  pub as_it_is : (number : ℕ) (link : LinkOf TrueSegments) → slice_get s.links number ≡ Some link → InPhase number link.port.phase s.links
+  as_it_is number link there k at = ap (λ (x : LinkOf TrueSegments). x.port.phase) (same_Some k link (sym at ∙ there))
 
-  pub when_set : (number : ℕ) (link next : LinkOf TrueFlow) → slice_get s.links number ≡ Some link →
+  pub when_set : (number : ℕ) (link next : LinkOf TrueSegments) → slice_get s.links number ≡ Some link →
       InPhase number next.port.phase (changed number next s).links
   when_set number link next there k at =
-      ap (λ (x : LinkOf TrueFlow). x.port.phase) (same_Some k next (sym at ∙ set_same s.links number link next there))
+      ap (λ (x : LinkOf TrueSegments). x.port.phase) (same_Some k next (sym at ∙ set_same s.links number link next there))
 
-  pub when_pushed : (next : LinkOf TrueFlow) → InPhase (length s.links) next.port.phase (begun next s).links
+  pub when_pushed : (next : LinkOf TrueSegments) → InPhase (length s.links) next.port.phase (begun next s).links
   when_pushed next k at = go (at_pushed s.links next k (length s.links) at)
     where
       go : (slice_get s.links (length s.links) ≡ Some k) ⊎ ((length s.links ≡ length s.links) × (next ≡ k)) → k.port.phase ≡ next.port.phase
       go (inl there) = let w = slice_get_within s.links (length s.links) k there in absurd (omega arith)
-      go (inr e) = ap (λ (x : LinkOf TrueFlow). x.port.phase) (sym e.1)
+      go (inr e) = ap (λ (x : LinkOf TrueSegments). x.port.phase) (sym e.1)
 
 -- the DC for a DI that has come names a link that is over then
 abbrev pub EndsHold : Links → (most : ℕ) → PartnerRule → NspValue → Type 0
 EndsHold s most rule m = (dst src reason : ℕ) (user_data : List ℕ) → m ≡ DisconnectInitiate dst src reason user_data → (code : ℕ) → code < 2 ^ 16 →
-    ConfirmHolds (ends_link true_flows rule dst src s).links most (record { dst = src; src = dst; reason = code })
+    ConfirmHolds (ends_link true_segments rule dst src s).links most (record { dst = src; src = dst; reason = code })
 
 module _ (s : Links) (most : ℕ) (rule : PartnerRule) (truth : LinkTruth Numbers) (left : Links) where
   abbrev Leaves : LinkDebt → Type 0
@@ -76,27 +76,27 @@ module _ (s : Links) (most : ℕ) (rule : PartnerRule) (truth : LinkTruth Number
       (again_fits number link.port.phase (left_as (InPhase number link.port.phase) s (as_it_is s number link found.there) e)
       (is_running link.port.phase) refl))
 
-  pub came_debt : (m : NspValue) → EndsHold s most rule m → message_arrived true_flows rule s m truth ≡ Ok left → Leaves (message_debt s m)
+  pub came_debt : (m : NspValue) → EndsHold s most rule m → message_arrived true_segments rule s m truth ≡ Ok left → Leaves (message_debt s m)
   came_debt (ConnectInitiate retransmitted src services info segsize user_data) ends e =
-      looked (LiveTo src) s (Ok (begun (called true_flows rule src segsize truth.tag) s)) (λ number link. Ok s) (Ok left) e
+      looked (LiveTo src) s (Ok (begun (called true_segments rule src segsize truth.tag) s)) (λ number link. Ok s) (Ok left) e
       (λ none e. subst Leaves (sym (without_found s (LiveTo src) (Owes (length s.links) ConnectAckTurn)
       (λ number link. repeated_call_debt number link.port.phase) none))
-      (left_as (InPhase (length s.links) Called) (begun (called true_flows rule src segsize truth.tag) s)
-      (when_pushed s (called true_flows rule src segsize truth.tag)) e))
+      (left_as (InPhase (length s.links) Called) (begun (called true_segments rule src segsize truth.tag) s)
+      (when_pushed s (called true_segments rule src segsize truth.tag)) e))
       (λ number link found e. subst Leaves (sym
       (with_found s (LiveTo src) number link (Owes (length s.links) ConnectAckTurn)
       (λ number link. repeated_call_debt number link.port.phase) found))
       (repeated_fits number link.port.phase (left_as (InPhase number link.port.phase) s (as_it_is s number link found.there) e)))
   came_debt (ConnectConfirm dst src services info segsize user_data) ends e =
       looked (CallingAt dst) s (Ok s) (λ number link. check (rule (is_for number truth.tag)) CrossedLink
-      (Ok (changed number (confirmed true_flows rule src segsize truth.tag link) s))) (Ok left) e
+      (Ok (changed number (confirmed true_segments rule src segsize truth.tag link) s))) (Ok left) e
       (λ none e. subst Leaves (sym (without_found s (CallingAt dst) (again_debt dst src) (λ number link. Owes number DataAckTurn) none))
       (running_fits dst src e))
       (λ number link found e.
       let c = checked _ _ _ left e in
       subst Leaves (sym (with_found s (CallingAt dst) number link (again_debt dst src) (λ number link. Owes number DataAckTurn) found))
-      (left_as (InPhase number Running) (changed number (confirmed true_flows rule src segsize truth.tag link) s)
-      (when_set s number link (confirmed true_flows rule src segsize truth.tag link) found.there) c.1))
+      (left_as (InPhase number Running) (changed number (confirmed true_segments rule src segsize truth.tag link) s)
+      (when_set s number link (confirmed true_segments rule src segsize truth.tag link) found.there) c.1))
   came_debt (DisconnectInitiate dst src reason user_data) ends e =
       looked (TheLink dst src) s (with_link (CallingAt dst) s (confirm_debt src dst 41) (λ number link. confirm_debt src dst 42))
       (λ number link. confirm_debt src dst 42) _ refl
@@ -106,16 +106,17 @@ module _ (s : Links) (most : ℕ) (rule : PartnerRule) (truth : LinkTruth Number
     where
       owes : (code : ℕ) → code < 2 ^ 16 → Leaves (confirm_debt src dst code)
       owes code small = left_as (λ (links : LinkList). ConfirmHolds links most (record { dst = src; src = dst; reason = code }))
-          (ends_link true_flows rule dst src s) (ends dst src reason user_data refl code small) e
+          (ends_link true_segments rule dst src s) (ends dst src reason user_data refl code small) e
   came_debt (DataSegment segment) ends e =
       looked (ActedOn segment.dstaddr segment.srcaddr) s (Ok s)
       (λ number link. check (rule (is_of_pair number link.partner truth.tag)) CrossedLink
-      (Ok (changed number (running true_flows rule (λ l. true_flows.takes_segment segment truth.known l.flow) link) s))) (Ok left) e
+      (Ok (changed number (running true_segments rule (λ l. true_segments.takes_segment segment truth.known l.segments) link) s))) (Ok left) e
       (λ none e. subst Leaves
       (sym (without_found s (ActedOn segment.dstaddr segment.srcaddr) NoDebt (λ number link. Owes number DataAckTurn) none)) tt)
       (λ number link found e.
       let c = checked _ _ _ left e in
       subst Leaves (sym (with_found s (ActedOn segment.dstaddr segment.srcaddr) number link NoDebt (λ number link. Owes number DataAckTurn) found))
-      (left_as (InPhase number Running) (changed number (running true_flows rule (λ l. true_flows.takes_segment segment truth.known l.flow) link) s)
-      (when_set s number link (running true_flows rule (λ l. true_flows.takes_segment segment truth.known l.flow) link) found.there) c.1))
+      (left_as (InPhase number Running)
+      (changed number (running true_segments rule (λ l. true_segments.takes_segment segment truth.known l.segments) link) s)
+      (when_set s number link (running true_segments rule (λ l. true_segments.takes_segment segment truth.known l.segments) link) found.there) c.1))
   came_debt m ends e = tt

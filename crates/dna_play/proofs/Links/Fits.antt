@@ -11,7 +11,7 @@ use Rattle.dna_links.specs.LookUps.{is_called, is_calling, is_connected}
 use Rattle.dna_links.specs.Pieces.{Piece, piece_of, Unsent, left_of, SEGSIZE, piece_with, next_piece_of, next_piece}
 use Rattle.dna_links.specs.Links.{LinkOf}
 use Rattle.dna_links.specs.User.{LinkEventValue, In}
-use Rattle.dna_links.specs.TrueFlow.{TrueFlow, true_flows}
+use Rattle.dna_links.specs.TrueSegments.{TrueSegments, true_segments}
 use Rattle.dna_play.specs.HasLine.{are_bytes}
 use Rattle.dna_play.specs.LinkOwed.{LinkOwed, Turn, ConnectAckTurn, InitiateTurn, ConfirmTurn, DisconnectTurn, DataAckTurn, SegmentTurn, variables_of}
 use Rattle.dna_play.specs.Compose.{piece_to_send, turn_message}
@@ -64,20 +64,20 @@ next_fits u all = go u.messages all
     go [] all = at [] refl
     go (rest ∷ later) all = at rest all.0
 
--- ---- a flow
+-- ---- the segments of a link
 
-pub record FlowFits (f : TrueFlow) : Type 0 where
+pub record SegmentsFit (f : TrueSegments) : Type 0 where
   pub unsent : AllBytes f.unsent.messages
   pub given : (i : ℕ) (p : Piece) → slice_get f.given i ≡ Some p → PieceFits p
 
-pub empty_fits : FlowFits true_flows.empty
+pub empty_fits : SegmentsFit true_segments.empty
 empty_fits = record { unsent = tt; given = λ i p at. absurd cc }
 
 -- ---- a link
 
-pub record LinkFits (l : LinkOf TrueFlow) : Type 0 where
+pub record LinkFits (l : LinkOf TrueSegments) : Type 0 where
   pub shape : Fits l
-  pub flow : FlowFits l.flow
+  pub segments : SegmentsFit l.segments
 
 -- what an end of the player sends: pieces that fit, and this SEGSIZE
 abbrev pub IsPlain : NspValue → Type 0
@@ -96,7 +96,7 @@ abbrev pub EventFits : LinkEventValue → Type 0
 EventFits (In link message) = are_bytes message ≡ true
 EventFits event = Unit {0}
 
-pub turn_plain : (l : LinkOf TrueFlow) (owed : LinkOwed) (turn : Turn) → FlowFits l.flow →
+pub turn_plain : (l : LinkOf TrueSegments) (owed : LinkOwed) (turn : Turn) → SegmentsFit l.segments →
     IsPlain (turn_message turn (record { port = l.port; variables = variables_of l; owed = owed }))
 turn_plain l owed ConnectAckTurn h = tt
 turn_plain l owed InitiateTurn h = refl
@@ -105,25 +105,25 @@ turn_plain l owed DisconnectTurn h = tt
 turn_plain l owed DataAckTurn h = tt
 turn_plain l owed SegmentTurn h = go (slice_get (variables_of l).outstanding owed.ahead) refl
   where
-    go : (o : Option Piece) → slice_get (variables_of l).outstanding owed.ahead ≡ o → PieceFits (piece_to_send o l.flow.unsent)
-    go None at = next_fits l.flow.unsent h.unsent
-    go (Some p) at = h.given (l.flow.acknowledged + owed.ahead) p (sym (slice_get-drop l.flow.acknowledged owed.ahead l.flow.given) ∙ at)
+    go : (o : Option Piece) → slice_get (variables_of l).outstanding owed.ahead ≡ o → PieceFits (piece_to_send o l.segments.unsent)
+    go None at = next_fits l.segments.unsent h.unsent
+    go (Some p) at = h.given (l.segments.acknowledged + owed.ahead) p (sym (slice_get-drop l.segments.acknowledged owed.ahead l.segments.given) ∙ at)
 
 abbrev pub AllFit : LinkList → Type 0
-AllFit links = (i : ℕ) (l : LinkOf TrueFlow) → slice_get links i ≡ Some l → LinkFits l
+AllFit links = (i : ℕ) (l : LinkOf TrueSegments) → slice_get links i ≡ Some l → LinkFits l
 
 -- a link in Confirming or RUN knows both addresses
-pub connected_fits : (phase : Phase) (l : LinkOf TrueFlow) → is_connected phase ≡ true → fits_in phase l ≡ true →
+pub connected_fits : (phase : Phase) (l : LinkOf TrueSegments) → is_connected phase ≡ true → fits_in phase l ≡ true →
     (is_some l.port.own && (is_some l.port.far && eqb l.segsize SEGSIZE)) ≡ true
 connected_fits Confirming l c f = f
 connected_fits Running l c f = f
 connected_fits phase l c f = absurd cc
 
-pub called_fits : (phase : Phase) (l : LinkOf TrueFlow) → is_called phase ≡ true → fits_in phase l ≡ true →
+pub called_fits : (phase : Phase) (l : LinkOf TrueSegments) → is_called phase ≡ true → fits_in phase l ≡ true →
     (is_some l.port.far && eqb l.segsize SEGSIZE) ≡ true
 called_fits Called l c f = (and_parts (not l.port.opened) _ f).1
 called_fits phase l c f = absurd cc
 
-pub calling_fits : (phase : Phase) (l : LinkOf TrueFlow) → is_calling phase ≡ true → fits_in phase l ≡ true → is_some l.port.own ≡ true
+pub calling_fits : (phase : Phase) (l : LinkOf TrueSegments) → is_calling phase ≡ true → fits_in phase l ≡ true → is_some l.port.own ≡ true
 calling_fits Calling l c f = (and_parts l.port.opened _ f).1
 calling_fits phase l c f = absurd cc

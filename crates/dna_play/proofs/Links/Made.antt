@@ -13,10 +13,10 @@ use Rattle.dna_links.specs.declared.port.Phase.{Phase}
 use Rattle.dna_links.specs.declared.port.Phase.TheVariants.{Confirming, Disconnecting}
 use Rattle.dna_links.specs.declared.port.LinkTest.TheVariants.{LiveAt, CalledBy}
 use Rattle.dna_links.specs.LookUps.{is_live, is_at, is_connected, takes_messages}
-use Rattle.dna_links.specs.Links.{LinkOf, check, at_number, number_of, begun, changed, in_phase, with_flow, freed}
+use Rattle.dna_links.specs.Links.{LinkOf, check, at_number, number_of, begun, changed, in_phase, with_segments, freed}
 use Rattle.dna_links.specs.User.{LinkEventValue, Open, Accept, Reject, In, Close, opened, gives, answers}
 use Rattle.dna_links.specs.User as users
-use Rattle.dna_links.specs.TrueFlow.{TrueFlow, true_flows}
+use Rattle.dna_links.specs.TrueSegments.{TrueSegments, true_segments}
 use Rattle.dna_links.specs.TrueLinks.{Links, links_user}
 use Rattle.dna_station.specs.Machine.{does}
 use Rattle.dna_node.specs.Rules.{by_bytes}
@@ -73,7 +73,7 @@ is_there known number e = ap (λ (o : Option ℕ). is_at o number) e ∙ eq-eqb 
 
 module _ (s : Links) (others : LinkList) (most : ℕ) (addressed : AreAddressed s.links others most) where
   -- a live link is the only one with its own address
-  pub live_found : (address number : ℕ) (link : LinkOf TrueFlow) → slice_get s.links number ≡ Some link → link.port.own ≡ Some address →
+  pub live_found : (address number : ℕ) (link : LinkOf TrueSegments) → slice_get s.links number ≡ Some link → link.port.own ≡ Some address →
       is_live link.port.phase ≡ true →
       IsFound (LiveAt address) s number link
   live_found address number link there owns live = found_at s (LiveAt address) number link there
@@ -92,39 +92,40 @@ module _ (s : Links) (others : LinkList) (most : ℕ) (addressed : AreAddressed 
             at_is m.port.own address (and_parts (is_live m.port.phase) (is_at m.port.own address) e).1;
       }) in absurd (omega arith))
 
-  with_free : (address : ℕ) (next : Links) → most < address → gives true_flows address s next ≡ Ok next
+  with_free : (address : ℕ) (next : Links) → most < address → gives true_segments address s next ≡ Ok next
   with_free address next less = ap (λ (o : Option ℕ). at_number s.links o (Ok next) (λ number link. Err AddressInUse)) (free address less)
 
-  pub open_goes : (address : ℕ) → most < address → links_user s (Open address) ≡ Ok (begun (opened true_flows address) s)
+  pub open_goes : (address : ℕ) → most < address → links_user s (Open address) ≡ Ok (begun (opened true_segments address) s)
   open_goes address less =
-      with_free address (begun (opened true_flows address) (freed true_flows address s)) less
-      ∙ ap (λ (x : Links). Ok (begun (opened true_flows address) x)) (freed_same s others most addressed address less)
+      with_free address (begun (opened true_segments address) (freed true_segments address s)) less
+      ∙ ap (λ (x : Links). Ok (begun (opened true_segments address) x)) (freed_same s others most addressed address less)
 
-  answer_goes : (phase : Phase) (partner address number : ℕ) (link : LinkOf TrueFlow) → IsFound (CalledBy partner) s number link → most < address →
-      answers true_flows phase partner address s ≡ Ok (changed number (users.answered true_flows phase address link) s)
+  answer_goes : (phase : Phase) (partner address number : ℕ) (link : LinkOf TrueSegments) → IsFound (CalledBy partner) s number link →
+      most < address →
+      answers true_segments phase partner address s ≡ Ok (changed number (users.answered true_segments phase address link) s)
   answer_goes phase partner address number link found less =
-      with_found s (CalledBy partner) number link (Err NoLink) (λ number link. gives true_flows address s
-      (changed number (users.answered true_flows phase address link) (freed true_flows address s))) found
-      ∙ with_free address (changed number (users.answered true_flows phase address link) (freed true_flows address s)) less
-      ∙ ap (λ (x : Links). Ok (changed number (users.answered true_flows phase address link) x)) (freed_same s others most addressed address less)
+      with_found s (CalledBy partner) number link (Err NoLink) (λ number link. gives true_segments address s
+      (changed number (users.answered true_segments phase address link) (freed true_segments address s))) found
+      ∙ with_free address (changed number (users.answered true_segments phase address link) (freed true_segments address s)) less
+      ∙ ap (λ (x : Links). Ok (changed number (users.answered true_segments phase address link) x)) (freed_same s others most addressed address less)
 
-  pub accept_goes : (partner address number : ℕ) (link : LinkOf TrueFlow) → IsFound (CalledBy partner) s number link → most < address →
-      links_user s (Accept partner address) ≡ Ok (changed number (users.answered true_flows Confirming address link) s)
+  pub accept_goes : (partner address number : ℕ) (link : LinkOf TrueSegments) → IsFound (CalledBy partner) s number link → most < address →
+      links_user s (Accept partner address) ≡ Ok (changed number (users.answered true_segments Confirming address link) s)
   accept_goes = answer_goes Confirming
 
-  pub reject_goes : (partner address number : ℕ) (link : LinkOf TrueFlow) → IsFound (CalledBy partner) s number link → most < address →
-      links_user s (Reject partner address) ≡ Ok (changed number (users.answered true_flows Disconnecting address link) s)
+  pub reject_goes : (partner address number : ℕ) (link : LinkOf TrueSegments) → IsFound (CalledBy partner) s number link → most < address →
+      links_user s (Reject partner address) ≡ Ok (changed number (users.answered true_segments Disconnecting address link) s)
   reject_goes = answer_goes Disconnecting
 
-pub in_goes : (s : Links) (address : ℕ) (message : List ℕ) (number : ℕ) (link : LinkOf TrueFlow) → IsFound (LiveAt address) s number link →
+pub in_goes : (s : Links) (address : ℕ) (message : List ℕ) (number : ℕ) (link : LinkOf TrueSegments) → IsFound (LiveAt address) s number link →
     takes_messages link.port.phase ≡ true →
-    links_user s (In address message) ≡ Ok (changed number (with_flow (true_flows.hands_in message link.flow) link) s)
+    links_user s (In address message) ≡ Ok (changed number (with_segments (true_segments.hands_in message link.segments) link) s)
 in_goes s address message number link found may =
     with_found s (LiveAt address) number link (Err NoLink) (λ number link. check (takes_messages link.port.phase) LinkState
-    (Ok (changed number (with_flow (true_flows.hands_in message link.flow) link) s))) found
-    ∙ ap (λ (b : Bool). check b LinkState (Ok (changed number (with_flow (true_flows.hands_in message link.flow) link) s))) may
+    (Ok (changed number (with_segments (true_segments.hands_in message link.segments) link) s))) found
+    ∙ ap (λ (b : Bool). check b LinkState (Ok (changed number (with_segments (true_segments.hands_in message link.segments) link) s))) may
 
-pub close_goes : (s : Links) (address number : ℕ) (link : LinkOf TrueFlow) → IsFound (LiveAt address) s number link →
+pub close_goes : (s : Links) (address number : ℕ) (link : LinkOf TrueSegments) → IsFound (LiveAt address) s number link →
     is_connected link.port.phase ≡ true → links_user s (Close address) ≡ Ok (changed number (in_phase Disconnecting link) s)
 close_goes s address number link found may =
     with_found s (LiveAt address) number link (Err NoLink) (λ number link. check (is_connected link.port.phase) LinkState

@@ -7,10 +7,10 @@ use Rattle.two_nodes.proofs.Order.{slice_get-append}
 use Rattle.dna_links.specs.declared.port.Phase.{Phase}
 use Rattle.dna_links.specs.declared.port.Phase.TheVariants.{Calling, Called, Confirming, Running, Disconnecting, Ended}
 use Rattle.dna_links.specs.Links.{LinkOf, begun, changed}
-use Rattle.dna_links.specs.Flow.{distance}
-use Rattle.dna_links.specs.TrueFlow.{TrueFlow, highest_given}
+use Rattle.dna_links.specs.SegmentBook.{distance}
+use Rattle.dna_links.specs.TrueSegments.{TrueSegments, highest_given}
 use Rattle.dna_links.specs.TrueLinks.{Links}
-use Rattle.dna_links.specs.CutFlow.{IsOrdered}
+use Rattle.dna_links.specs.CutSegments.{IsOrdered}
 use Rattle.dna_play.specs.LinkOwed.{LinkOwed, LinksOwed, nothing, Turn, ConnectAckTurn, InitiateTurn, ConfirmTurn, DisconnectTurn, DataAckTurn}
 use Rattle.dna_play.specs.LinkOwed.{SegmentTurn, with_turn, changed_at, same_phase, unless_left, variables_of, still_owed, all_still_owed}
 use Rattle.dna_play.specs.LinkOwed as owing
@@ -23,7 +23,7 @@ use Rattle.dna_play.proofs.Links.Pays.{is_owed, phase_of, OwedFits}
 -- ---- one link
 
 -- more is given, and what is acknowledged more was given before
-pub record FlowMoves (f g : TrueFlow) : Type 0 where
+pub record SegmentsMove (f g : TrueSegments) : Type 0 where
   pub given : highest_given f ≤ highest_given g
   pub least : f.acknowledged ≤ g.acknowledged
   pub most : g.acknowledged ≤ highest_given f
@@ -41,7 +41,7 @@ owes_nothing : (turn : Turn) → is_owed turn nothing ≡ true → ⊥
 owes_nothing ConnectAckTurn e = cc
 owes_nothing turn e = cc
 
-nothing_fits : (l : LinkOf TrueFlow) → OwedFits l nothing
+nothing_fits : (l : LinkOf TrueSegments) → OwedFits l nothing
 nothing_fits l = record { turns = λ turn e. absurd (owes_nothing turn e); ahead = omega arith }
 
 -- how many are sent in this go is no flag
@@ -49,28 +49,29 @@ pub ahead_owes : (turn : Turn) (n : ℕ) (o : LinkOwed) → is_owed turn (record
 ahead_owes ConnectAckTurn n o e = e
 ahead_owes turn n o e = e
 
-still_fits : (l k : LinkOf TrueFlow) (o : LinkOwed) → IsOrdered l.flow → FlowMoves l.flow k.flow → OwedFits l o → OwedFits k (still_owed l k o)
+still_fits : (l k : LinkOf TrueSegments) (o : LinkOwed) → IsOrdered l.segments → SegmentsMove l.segments k.segments → OwedFits l o →
+    OwedFits k (still_owed l k o)
 still_fits l k o ordered moves fits = go (same_phase l.port.phase k.port.phase) refl
   where
     lowered_by : ℕ
     lowered_by = distance (variables_of l).acknowledged (variables_of k).acknowledged
 
-    left : distance (variables_of l).acknowledged (variables_of k).acknowledged ≡ k.flow.acknowledged - l.flow.acknowledged
+    left : distance (variables_of l).acknowledged (variables_of k).acknowledged ≡ k.segments.acknowledged - l.segments.acknowledged
     left = let few = ordered.few in let least = moves.least in let most = moves.most in
-        distance_ahead l.flow.acknowledged k.flow.acknowledged least (omega arith)
+        distance_ahead l.segments.acknowledged k.segments.acknowledged least (omega arith)
 
     go : (b : Bool) → same_phase l.port.phase k.port.phase ≡ b →
         OwedFits k (owing.lowered (distance (variables_of l).acknowledged (variables_of k).acknowledged) (unless_left b o))
     go true same =
         let is = sym (same_is l.port.phase k.port.phase same) in
-        let d = left in let ahead = fits.ahead in let before = length-drop l.flow.acknowledged l.flow.given in
-        let after = length-drop k.flow.acknowledged k.flow.given in
+        let d = left in let ahead = fits.ahead in let before = length-drop l.segments.acknowledged l.segments.given in
+        let after = length-drop k.segments.acknowledged k.segments.given in
         let least = moves.least in let given = moves.given in
         record { turns = λ turn e. is ∙ fits.turns turn (ahead_owes turn (o.ahead - lowered_by) o e); ahead = omega arith }
     go false same = record { turns = λ turn e. absurd (owes_nothing turn (ahead_owes turn (0 - lowered_by) nothing e)); ahead = omega arith }
 
 -- a flag is raised, or a turn is sent: the others stay
-raised_owes : (l : LinkOf TrueFlow) (o : LinkOwed) (turn other : Turn) → l.port.phase ≡ phase_of turn → OwedFits l o →
+raised_owes : (l : LinkOf TrueSegments) (o : LinkOwed) (turn other : Turn) → l.port.phase ≡ phase_of turn → OwedFits l o →
     is_owed other (with_turn turn true o) ≡ true → l.port.phase ≡ phase_of other
 raised_owes l o ConnectAckTurn ConnectAckTurn is f e = is
 raised_owes l o InitiateTurn InitiateTurn is f e = is
@@ -88,12 +89,14 @@ sent_owes o DataAckTurn DataAckTurn e = absurd cc
 sent_owes o SegmentTurn other e = ahead_owes other (o.ahead + 1) o e
 sent_owes o turn other e = e
 
-pub turn_fits : (l : LinkOf TrueFlow) (o : LinkOwed) (turn : Turn) → l.port.phase ≡ phase_of turn → OwedFits l o → OwedFits l (with_turn turn true o)
+pub turn_fits : (l : LinkOf TrueSegments) (o : LinkOwed) (turn : Turn) → l.port.phase ≡ phase_of turn → OwedFits l o →
+    OwedFits l (with_turn turn true o)
 turn_fits l o SegmentTurn is f = f
 turn_fits l o turn is f = record { turns = λ other e. raised_owes l o turn other is f e; ahead = f.ahead }
 
 -- what is sent is owed no more
-pub sent_turn_fits : (l : LinkOf TrueFlow) (o : LinkOwed) (turn : Turn) → (turn ≡ SegmentTurn → o.ahead + 1 ≤ length (variables_of l).outstanding) →
+pub sent_turn_fits : (l : LinkOf TrueSegments) (o : LinkOwed) (turn : Turn) →
+    (turn ≡ SegmentTurn → o.ahead + 1 ≤ length (variables_of l).outstanding) →
     OwedFits l o → OwedFits l (without_turn turn o)
 sent_turn_fits l o SegmentTurn more f = record { turns = λ other e. f.turns other (sent_owes o SegmentTurn other e); ahead = more refl }
 sent_turn_fits l o turn more f = record { turns = λ other e. f.turns other (sent_owes o turn other e); ahead = f.ahead }
@@ -101,26 +104,27 @@ sent_turn_fits l o turn more f = record { turns = λ other e. f.turns other (sen
 -- ---- all links
 
 abbrev pub AllOwed : LinkList → List LinkOwed → Type 0
-AllOwed links owed = (i : ℕ) (l : LinkOf TrueFlow) (o : LinkOwed) → slice_get links i ≡ Some l → slice_get owed i ≡ Some o → OwedFits l o
+AllOwed links owed = (i : ℕ) (l : LinkOf TrueSegments) (o : LinkOwed) → slice_get links i ≡ Some l → slice_get owed i ≡ Some o → OwedFits l o
 
 -- what became of each link that was there
 abbrev pub AllMove : LinkList → LinkList → Type 0
-AllMove links left = (i : ℕ) (l k : LinkOf TrueFlow) → slice_get links i ≡ Some l → slice_get left i ≡ Some k →
-    IsOrdered l.flow × FlowMoves l.flow k.flow
+AllMove links left = (i : ℕ) (l k : LinkOf TrueSegments) → slice_get links i ≡ Some l → slice_get left i ≡ Some k →
+    IsOrdered l.segments × SegmentsMove l.segments k.segments
 
 -- what a link owes still: nothing, if it owed nothing before
-data StillAt (before : LinkList) (owed : List LinkOwed) (i : ℕ) (k : LinkOf TrueFlow) : LinkOwed → Type 0 where
+data StillAt (before : LinkList) (owed : List LinkOwed) (i : ℕ) (k : LinkOf TrueSegments) : LinkOwed → Type 0 where
   NoneOwed : StillAt before owed i k nothing
-  Still : (l : LinkOf TrueFlow) (o : LinkOwed) → slice_get before i ≡ Some l → slice_get owed i ≡ Some o → StillAt before owed i k (still_owed l k o)
+  Still : (l : LinkOf TrueSegments) (o : LinkOwed) → slice_get before i ≡ Some l → slice_get owed i ≡ Some o →
+      StillAt before owed i k (still_owed l k o)
 
 -- with one more link in front
-one_later : (before further : LinkList) (owed more : List LinkOwed) (i : ℕ) (k : LinkOf TrueFlow) (o : LinkOwed) →
-    ((l : LinkOf TrueFlow) → slice_get before i ≡ Some l → slice_get further (suc i) ≡ Some l) →
+one_later : (before further : LinkList) (owed more : List LinkOwed) (i : ℕ) (k : LinkOf TrueSegments) (o : LinkOwed) →
+    ((l : LinkOf TrueSegments) → slice_get before i ≡ Some l → slice_get further (suc i) ≡ Some l) →
     ((x : LinkOwed) → slice_get owed i ≡ Some x → slice_get more (suc i) ≡ Some x) → StillAt before owed i k o → StillAt further more (suc i) k o
 one_later before further owed more i k o links owes NoneOwed = NoneOwed
 one_later before further owed more i k o links owes (Still l x at there) = Still l x (links l at) (owes x there)
 
-still_at : (before after : LinkList) (owed : List LinkOwed) (i : ℕ) (k : LinkOf TrueFlow) (o : LinkOwed) → slice_get after i ≡ Some k →
+still_at : (before after : LinkList) (owed : List LinkOwed) (i : ℕ) (k : LinkOf TrueSegments) (o : LinkOwed) → slice_get after i ≡ Some k →
     slice_get (all_still_owed before after owed) i ≡ Some o → StillAt before owed i k o
 still_at before [] owed i k o at owes = absurd cc
 still_at [] (link ∷ later) owed zero k o at owes = subst (StillAt [] owed 0 k) (same_Some nothing o owes) NoneOwed
@@ -131,7 +135,7 @@ still_at (was ∷ before) (link ∷ later) [] (suc i) k o at owes =
     one_later before (was ∷ before) [] [] i k o (λ l there. there) (λ x there. absurd cc) (still_at before later [] i k o at owes)
 still_at (was ∷ before) (link ∷ later) (first ∷ owed) zero k o at owes =
     subst (StillAt (was ∷ before) (first ∷ owed) 0 k)
-    (ap (λ (x : LinkOf TrueFlow). still_owed was x first) (sym (same_Some link k at)) ∙ same_Some (still_owed was link first) o owes)
+    (ap (λ (x : LinkOf TrueSegments). still_owed was x first) (sym (same_Some link k at)) ∙ same_Some (still_owed was link first) o owes)
     (Still was first refl refl)
 still_at (was ∷ before) (link ∷ later) (first ∷ owed) (suc i) k o at owes =
     one_later before (was ∷ before) owed (first ∷ owed) i k o (λ l there. there) (λ x there. there) (still_at before later owed i k o at owes)
@@ -145,7 +149,7 @@ all_still before after owed all move i k o at owes = go o (still_at before after
     go o (Still l x there was) = let m = move i l k there at in still_fits l k x m.0 m.1 (all i l x there was)
 
 -- no more of a link's segments are sent in the go than before
-pub ahead_less : (before after : LinkList) (owed : List LinkOwed) (i : ℕ) (k : LinkOf TrueFlow) (o left : LinkOwed) → slice_get after i ≡ Some k →
+pub ahead_less : (before after : LinkList) (owed : List LinkOwed) (i : ℕ) (k : LinkOf TrueSegments) (o left : LinkOwed) → slice_get after i ≡ Some k →
     slice_get owed i ≡ Some o → slice_get (all_still_owed before after owed) i ≡ Some left → left.ahead ≤ o.ahead
 ahead_less before after owed i k o left at there owes = go left (still_at before after owed i k left at owes)
   where
@@ -168,11 +172,12 @@ still_counted (was ∷ before) (link ∷ later) (first ∷ owed) = let e = still
 
 -- one of them changes
 pub one_changed : (links : LinkList) (number : ℕ) (change : LinkOwed → LinkOwed) (owed : LinksOwed) →
-    ((l : LinkOf TrueFlow) (o : LinkOwed) → slice_get links number ≡ Some l → slice_get owed.links number ≡ Some o → OwedFits l (change o)) →
+    ((l : LinkOf TrueSegments) (o : LinkOwed) → slice_get links number ≡ Some l → slice_get owed.links number ≡ Some o → OwedFits l (change o)) →
     AllOwed links owed.links → AllOwed links (owing.changed number change owed).links
 one_changed links number change owed here all = go (slice_get owed.links number) refl
   where
-    go : (found : Option LinkOwed) → slice_get owed.links number ≡ found → (i : ℕ) (l : LinkOf TrueFlow) (o : LinkOwed) → slice_get links i ≡ Some l →
+    go : (found : Option LinkOwed) → slice_get owed.links number ≡ found → (i : ℕ) (l : LinkOf TrueSegments) (o : LinkOwed) →
+        slice_get links i ≡ Some l →
         slice_get (changed_at number change found owed.links) i ≡ Some o → OwedFits l o
     go None none i l o at owes = all i l o at owes
     go (Some first) there i l o at owes = by_place (at_set owed.links number i (change first) o owes)
@@ -183,28 +188,28 @@ one_changed links number change owed here all = go (slice_get owed.links number)
 
 -- ---- one link changes, or a new one begins
 
-pub stays : (f : TrueFlow) → IsOrdered f → FlowMoves f f
+pub stays : (f : TrueSegments) → IsOrdered f → SegmentsMove f f
 stays f o = let g = o.given in record { given = omega arith; least = omega arith; most = g }
 
-module _ (s : Links) (ordered : (i : ℕ) (l : LinkOf TrueFlow) → slice_get s.links i ≡ Some l → IsOrdered l.flow) where
+module _ (s : Links) (ordered : (i : ℕ) (l : LinkOf TrueSegments) → slice_get s.links i ≡ Some l → IsOrdered l.segments) where
   abbrev pub Moves : Links → Type 0
   Moves left = AllMove s.links left.links
 
   pub same_move : Moves s
   same_move i l k at then_at = let o = ordered i l at in
-      (o, subst (λ (x : LinkOf TrueFlow). FlowMoves l.flow x.flow) (same_Some l k (sym at ∙ then_at)) (stays l.flow o))
+      (o, subst (λ (x : LinkOf TrueSegments). SegmentsMove l.segments x.segments) (same_Some l k (sym at ∙ then_at)) (stays l.segments o))
 
-  pub set_move : (n : ℕ) (l k : LinkOf TrueFlow) → slice_get s.links n ≡ Some l → FlowMoves l.flow k.flow → Moves (changed n k s)
+  pub set_move : (n : ℕ) (l k : LinkOf TrueSegments) → slice_get s.links n ≡ Some l → SegmentsMove l.segments k.segments → Moves (changed n k s)
   set_move n l k there m i x y at then_at = go (at_set s.links n i k y then_at)
     where
-      go : ((i ≡ n) × (k ≡ y)) ⊎ ((i ≡ n → ⊥) × (slice_get s.links i ≡ Some y)) → IsOrdered x.flow × FlowMoves x.flow y.flow
+      go : ((i ≡ n) × (k ≡ y)) ⊎ ((i ≡ n → ⊥) × (slice_get s.links i ≡ Some y)) → IsOrdered x.segments × SegmentsMove x.segments y.segments
       go (inl e) =
           let was : l ≡ x = same_Some l x (sym there ∙ ap (slice_get s.links) (sym e.0) ∙ at) in (
             ordered i x at,
-            subst (λ (z : LinkOf TrueFlow). FlowMoves z.flow y.flow) was
-                (subst (λ (z : LinkOf TrueFlow). FlowMoves l.flow z.flow) e.1 m),
+            subst (λ (z : LinkOf TrueSegments). SegmentsMove z.segments y.segments) was
+                (subst (λ (z : LinkOf TrueSegments). SegmentsMove l.segments z.segments) e.1 m),
           )
       go (inr e) = same_move i x y at e.1
 
-  pub push_move : (k : LinkOf TrueFlow) → Moves (begun k s)
+  pub push_move : (k : LinkOf TrueSegments) → Moves (begun k s)
   push_move k i x y at then_at = same_move i x y at (at ∙ sym (slice_get-append s.links (k ∷ []) i x at) ∙ then_at)

@@ -13,12 +13,12 @@ use Rattle.dna_links.specs.declared.port.Phase.TheVariants.{Calling, Called, Con
 use Rattle.dna_links.specs.declared.port.LinkTest.{LinkTest}
 use Rattle.dna_links.specs.declared.port.LinkTest.TheVariants.{TheLink, OpenedAt, BegunBy}
 use Rattle.dna_links.specs.LookUps.{is_live, is_calling, is_confirming, is_running, is_disconnecting, is_at, passes}
-use Rattle.dna_links.specs.Flow.{Sending, REACH}
-use Rattle.dna_links.specs.Links.{LinkOf, check, number_of, on_link, at_number, with_link, changed, with_flow}
+use Rattle.dna_links.specs.SegmentBook.{Sending, REACH}
+use Rattle.dna_links.specs.Links.{LinkOf, check, number_of, on_link, at_number, with_link, changed, with_segments}
 use Rattle.dna_links.specs.Sending.{Sent, unchanged, in_its_phase, carries, in_run, truth_of, segment_of, confirms_end, message_sent}
-use Rattle.dna_links.specs.TrueFlow.{TrueFlow, Numbers, true_flows, sends_segment}
+use Rattle.dna_links.specs.TrueSegments.{TrueSegments, Numbers, true_segments, sends_segment}
 use Rattle.dna_links.specs.TrueLinks.{Links}
-use Rattle.dna_links.specs.CutFlow.{IsOrdered, IsAnswered}
+use Rattle.dna_links.specs.CutSegments.{IsOrdered, IsAnswered}
 use Rattle.dna_play.specs.LinkOwed.{LinkOwed, Turn, ConnectAckTurn, InitiateTurn, ConfirmTurn, DisconnectTurn, DataAckTurn, SegmentTurn, variables_of}
 use Rattle.dna_play.specs.NextSent.{LinkEnd, has_new, has_repeat, has_segment, turn_of}
 use Rattle.dna_links.specs.Pieces.{has_more, SEGSIZE, Piece}
@@ -26,17 +26,17 @@ use Rattle.dna_play.specs.Compose.{ack_of, address, piece_to_send, segment_with,
 use Rattle.dna_links.proofs.Runs.Reads.{at_is}
 use Rattle.dna_links.proofs.Tables.Outcomes.{IsFound, looked, position_none}
 use Rattle.dna_play.proofs.Once.Addresses.{LinkList, AreAddressed}
-use Rattle.dna_play.proofs.Links.FlowPays.{data_ack_may, again_may, new_may}
+use Rattle.dna_play.proofs.Links.SegmentsPay.{data_ack_may, again_may, new_may}
 
 -- ---- what a link of the player is, by its phase
 
-abbrev pub fits_in : Phase → LinkOf TrueFlow → Bool
+abbrev pub fits_in : Phase → LinkOf TrueSegments → Bool
 fits_in Calling l = l.port.opened && is_some l.port.own
 fits_in Called l = not l.port.opened && (is_some l.port.far && eqb l.segsize SEGSIZE)
 fits_in Ended l = true
 fits_in phase l = is_some l.port.own && (is_some l.port.far && eqb l.segsize SEGSIZE)
 
-abbrev pub Fits : LinkOf TrueFlow → Type 0
+abbrev pub Fits : LinkOf TrueSegments → Type 0
 Fits l = fits_in l.port.phase l ≡ true
 
 -- whether a turn is owed by its flag; segments never are
@@ -58,7 +58,7 @@ phase_of DataAckTurn = Running
 phase_of SegmentTurn = Running
 
 -- what a link owes is what its phase lets it send, and no more segments are sent in a go than are outstanding
-pub record OwedFits (l : LinkOf TrueFlow) (owed : LinkOwed) : Type 0 where
+pub record OwedFits (l : LinkOf TrueSegments) (owed : LinkOwed) : Type 0 where
   pub turns : (turn : Turn) → is_owed turn owed ≡ true → l.port.phase ≡ phase_of turn
   pub ahead : owed.ahead ≤ length (variables_of l).outstanding
 
@@ -99,67 +99,68 @@ module _ (s : Links) where
   abbrev tried : LinkTest → ℕ
   tried test = with_link test s 0 (λ number link. 0)
 
-  pub found_at : (test : LinkTest) (n : ℕ) (l : LinkOf TrueFlow) → slice_get s.links n ≡ Some l → passes test l.port ≡ true →
-      ((j : ℕ) (m : LinkOf TrueFlow) → slice_get s.links j ≡ Some m → passes test m.port ≡ true → j ≡ n) → IsFound test s n l
+  pub found_at : (test : LinkTest) (n : ℕ) (l : LinkOf TrueSegments) → slice_get s.links n ≡ Some l → passes test l.port ≡ true →
+      ((j : ℕ) (m : LinkOf TrueSegments) → slice_get s.links j ≡ Some m → passes test m.port ≡ true → j ≡ n) → IsFound test s n l
   found_at test n l there passed only = looked test s 0 (λ number link. 0) (tried test) refl
-      (λ none e. let f = position_none (λ (k : LinkOf TrueFlow). passes test k.port) s.links n l none there in absurd cc)
+      (λ none e. let f = position_none (λ (k : LinkOf TrueSegments). passes test k.port) s.links n l none there in absurd cc)
       (λ number link found e. record { found = found.found ∙ ap Some (only number link found.there found.passed); there = there; passed = passed })
 
-  pub some_found : {P : Type 0} (test : LinkTest) (n : ℕ) (l : LinkOf TrueFlow) → slice_get s.links n ≡ Some l → passes test l.port ≡ true →
-      ((number : ℕ) (link : LinkOf TrueFlow) → IsFound test s number link → P) → P
+  pub some_found : {P : Type 0} (test : LinkTest) (n : ℕ) (l : LinkOf TrueSegments) → slice_get s.links n ≡ Some l → passes test l.port ≡ true →
+      ((number : ℕ) (link : LinkOf TrueSegments) → IsFound test s number link → P) → P
   some_found test n l there passed go = looked test s 0 (λ number link. 0) (tried test) refl
-      (λ none e. let f = position_none (λ (k : LinkOf TrueFlow). passes test k.port) s.links n l none there in absurd cc)
+      (λ none e. let f = position_none (λ (k : LinkOf TrueSegments). passes test k.port) s.links n l none there in absurd cc)
       (λ number link found e. go number link found)
 
-  pub none_found : (test : LinkTest) → ((j : ℕ) (m : LinkOf TrueFlow) → slice_get s.links j ≡ Some m → passes test m.port ≡ true → ⊥) →
+  pub none_found : (test : LinkTest) → ((j : ℕ) (m : LinkOf TrueSegments) → slice_get s.links j ≡ Some m → passes test m.port ≡ true → ⊥) →
       number_of test s ≡ None
   none_found test never =
       looked test s 0 (λ number link. 0) (tried test) refl (λ none e. none)
       (λ number link found e. absurd (never number link found.there found.passed))
 
-  pub without_found : {R : Type 0} (test : LinkTest) (otherwise : R) (next : ℕ → LinkOf TrueFlow → R) → number_of test s ≡ None →
+  pub without_found : {R : Type 0} (test : LinkTest) (otherwise : R) (next : ℕ → LinkOf TrueSegments → R) → number_of test s ≡ None →
       with_link test s otherwise next ≡ otherwise
   without_found test otherwise next none = ap (λ (o : Option ℕ). at_number s.links o otherwise next) none
 
-  pub with_found : {R : Type 0} (test : LinkTest) (n : ℕ) (l : LinkOf TrueFlow) (otherwise : R) (next : ℕ → LinkOf TrueFlow → R) →
+  pub with_found : {R : Type 0} (test : LinkTest) (n : ℕ) (l : LinkOf TrueSegments) (otherwise : R) (next : ℕ → LinkOf TrueSegments → R) →
       IsFound test s n l → with_link test s otherwise next ≡ next n l
   with_found test n l otherwise next found =
-      ap (λ (o : Option ℕ). at_number s.links o otherwise next) found.found ∙ ap (λ (o : Option (LinkOf TrueFlow)). on_link n o otherwise next)
+      ap (λ (o : Option ℕ). at_number s.links o otherwise next) found.found ∙ ap (λ (o : Option (LinkOf TrueSegments)). on_link n o otherwise next)
       found.there
 
   -- ---- it may be sent
 
   abbrev pub MaySendIt : NspValue → Type 0
-  MaySendIt m = (made : Sent TrueFlow Numbers) × (message_sent true_flows s m ≡ Ok made)
+  MaySendIt m = (made : Sent TrueSegments Numbers) × (message_sent true_segments s m ≡ Ok made)
 
-  phase_may : (test : LinkTest) (is_right : Phase → Bool) (n : ℕ) (l : LinkOf TrueFlow) → IsFound test s n l → is_right l.port.phase ≡ true →
-      in_its_phase true_flows test is_right s ≡ Ok (unchanged true_flows s n l)
+  phase_may : (test : LinkTest) (is_right : Phase → Bool) (n : ℕ) (l : LinkOf TrueSegments) → IsFound test s n l → is_right l.port.phase ≡ true →
+      in_its_phase true_segments test is_right s ≡ Ok (unchanged true_segments s n l)
   phase_may test is_right n l found right =
-      with_found test n l (Err NoLink) (λ number link. check (is_right link.port.phase) LinkState (Ok (unchanged true_flows s number link))) found
-      ∙ ap (λ (b : Bool). check b LinkState (Ok (unchanged true_flows s n l))) right
+      with_found test n l (Err NoLink) (λ number link. check (is_right link.port.phase) LinkState (Ok (unchanged true_segments s number link))) found
+      ∙ ap (λ (b : Bool). check b LinkState (Ok (unchanged true_segments s n l))) right
 
-  run_may : (src dst n : ℕ) (l : LinkOf TrueFlow) (sends : LinkOf TrueFlow → Result (Sending TrueFlow Numbers) LinkRefusal) →
+  run_may : (src dst n : ℕ) (l : LinkOf TrueSegments) (sends : LinkOf TrueSegments → Result (Sending TrueSegments Numbers) LinkRefusal) →
       IsFound (TheLink src dst) s n l → is_running l.port.phase ≡ true →
-      (sent : Sending TrueFlow Numbers) → sends l ≡ Ok sent →
-      in_run true_flows src dst sends s ≡ Ok (record { links = changed n (with_flow sent.flow l) s; truth = truth_of true_flows n l sent.known })
+      (sent : Sending TrueSegments Numbers) → sends l ≡ Ok sent →
+      in_run true_segments src dst sends s
+      ≡ Ok (record { links = changed n (with_segments sent.segments l) s; truth = truth_of true_segments n l sent.known })
   run_may src dst n l sends found running sent is =
       with_found (TheLink src dst) n l (Err NoLink)
-      (λ number link. check (is_running link.port.phase) LinkState (carries true_flows s number link (sends link))) found
-      ∙ ap (λ (b : Bool). check b LinkState (carries true_flows s n l (sends l))) running ∙ ap (carries true_flows s n l) is
+      (λ number link. check (is_running link.port.phase) LinkState (carries true_segments s number link (sends link))) found
+      ∙ ap (λ (b : Bool). check b LinkState (carries true_segments s n l (sends l))) running ∙ ap (carries true_segments s n l) is
 
   -- a DC where no live link has the two addresses
   pub confirm_may : (dst src reason : ℕ) →
-      ((j : ℕ) (m : LinkOf TrueFlow) → slice_get s.links j ≡ Some m → passes (TheLink src dst) m.port ≡ true → ⊥) →
+      ((j : ℕ) (m : LinkOf TrueSegments) → slice_get s.links j ≡ Some m → passes (TheLink src dst) m.port ≡ true → ⊥) →
       MaySendIt (DisconnectConfirm dst src reason)
   confirm_may dst src reason never = (
-    confirms_end true_flows s src dst,
-    ap (λ (o : Option ℕ). at_number s.links o (Ok (confirms_end true_flows s src dst)) (λ number link. Err LinkState))
+    confirms_end true_segments s src dst,
+    ap (λ (o : Option ℕ). at_number s.links o (Ok (confirms_end true_segments s src dst)) (λ number link. Err LinkState))
         (none_found (TheLink src dst) never),
   )
 
-  module _ (others : LinkList) (most : ℕ) (addressed : AreAddressed s.links others most) (n : ℕ) (l : LinkOf TrueFlow)
+  module _ (others : LinkList) (most : ℕ) (addressed : AreAddressed s.links others most) (n : ℕ) (l : LinkOf TrueSegments)
       (there : slice_get s.links n ≡ Some l) (fits : Fits l) (owed : LinkOwed) (pays : OwedFits l owed)
-      (ordered : IsOrdered l.flow) (answered : IsAnswered l.flow) where
+      (ordered : IsOrdered l.segments) (answered : IsAnswered l.segments) where
     abbrev own : ℕ
     own = address l.port.own
 
@@ -171,7 +172,7 @@ module _ (s : Links) where
     at_it (Some number) e = eq-eqb number number refl
 
     -- no other link has its own address
-    only : is_some l.port.own ≡ true → (j : ℕ) (m : LinkOf TrueFlow) → slice_get s.links j ≡ Some m → is_at m.port.own own ≡ true → j ≡ n
+    only : is_some l.port.own ≡ true → (j : ℕ) (m : LinkOf TrueSegments) → slice_get s.links j ≡ Some m → is_at m.port.own own ≡ true → j ≡ n
     only is j m at e = addressed.distinct j n own (record { link = m; there = at; owns = at_is m.port.own own e })
         (record { link = l; there = there; owns = known_at l.port.own is })
 
@@ -204,9 +205,9 @@ module _ (s : Links) where
         let wide = eqb-true l.segsize SEGSIZE q.1 in
         go found (ap is_running is) (omega arith) (slice_get it.variables.outstanding owed.ahead) refl
       where
-        sent_may : (p : Piece) → IsFound (TheLink own far) s n l → is_running l.port.phase ≡ true → (sent : Sending TrueFlow Numbers) →
-            sends_segment l.segsize (segment_with it p) l.flow ≡ Ok sent → MaySendIt (DataSegment (segment_with it p))
-        sent_may p found running sent e = (_, run_may own far n l (segment_of true_flows (segment_with it p)) found running sent e)
+        sent_may : (p : Piece) → IsFound (TheLink own far) s n l → is_running l.port.phase ≡ true → (sent : Sending TrueSegments Numbers) →
+            sends_segment l.segsize (segment_with it p) l.segments ≡ Ok sent → MaySendIt (DataSegment (segment_with it p))
+        sent_may p found running sent e = (_, run_may own far n l (segment_of true_segments (segment_with it p)) found running sent e)
 
         is_new : (b c : Bool) → (b || c) ≡ true → b ≡ false → c ≡ true
         is_new true c e f = absurd cc
@@ -214,12 +215,13 @@ module _ (s : Links) where
 
         go : IsFound (TheLink own far) s n l → is_running l.port.phase ≡ true → SEGSIZE ≤ l.segsize → (o : Option Piece) →
             slice_get it.variables.outstanding owed.ahead ≡ o → MaySendIt (DataSegment (segment_with it (piece_to_send o it.variables.unsent)))
-        go found running wide (Some p) at = let m = again_may l.flow ordered answered l.port owed l.segsize p at in sent_may p found running m.0 m.1
+        go found running wide (Some p) at = let m = again_may l.segments ordered answered l.port owed l.segsize p at in
+            sent_may p found running m.0 m.1
         go found running wide None at =
             let beyond = slice_get_none it.variables.outstanding owed.ahead at in let within = pays.ahead in
             let new = is_new (has_repeat it) (has_new it) due (le-ltb owed.ahead (length it.variables.outstanding) beyond) in
             let parts = and_parts (nat_lt (length it.variables.outstanding) REACH) (has_more it.variables.unsent.messages) new in
-            let m = new_may l.flow ordered answered l.port owed l.segsize wide (ltb-true _ _ parts.0) (omega arith) parts.1 in
+            let m = new_may l.segments ordered answered l.port owed l.segsize wide (ltb-true _ _ parts.0) (omega arith) parts.1 in
             sent_may _ found running m.0 m.1
 
     -- what is due may be sent
@@ -230,9 +232,9 @@ module _ (s : Links) where
         some_found (BegunBy far) n l there
         (ap₂ (λ (b c : Bool). b && c) (ap is_live phase) (ap₂ (λ (b c : Bool). b && c) p.0 (at_it l.port.far (and_parts _ _ p.1).0)))
         (λ number link found. (
-          unchanged true_flows s number link,
+          unchanged true_segments s number link,
           with_found (BegunBy far) number link (Err NoLink)
-              (λ number link. Ok (unchanged true_flows s number link)) found,
+              (λ number link. Ok (unchanged true_segments s number link)) found,
         ))
     due_may InitiateTurn (DueFlag is) =
         let phase = pays.turns InitiateTurn is in
@@ -249,9 +251,9 @@ module _ (s : Links) where
     due_may DataAckTurn (DueFlag is) =
         let phase = pays.turns DataAckTurn is in
         let p = and_parts (is_some l.port.own) _ (in_it Running phase) in
-        let m = data_ack_may l.flow ordered answered in (
+        let m = data_ack_may l.segments ordered answered in (
           _,
-          run_may own far n l (λ link. true_flows.sends_acks (ack_of it.variables.received ∷ []) link.flow) (both Running phase refl p.0 p.1)
+          run_may own far n l (λ link. true_segments.sends_acks (ack_of it.variables.received ∷ []) link.segments) (both Running phase refl p.0 p.1)
               (ap is_running phase) m.0 m.1,
         )
     due_may SegmentTurn (DueFlag is) = absurd cc

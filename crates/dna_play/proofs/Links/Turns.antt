@@ -12,18 +12,18 @@ use Rattle.dna_links.specs.declared.port.Phase.{Phase}
 use Rattle.dna_links.specs.declared.port.Phase.TheVariants.{Running}
 use Rattle.dna_links.specs.declared.port.LinkTest.TheVariants.{TheLink}
 use Rattle.dna_links.specs.LookUps.{is_live, is_at, has_both}
-use Rattle.dna_links.specs.Flow.{Sending}
+use Rattle.dna_links.specs.SegmentBook.{Sending}
 use Rattle.dna_links.specs.Pieces.{Piece, without_piece, next_piece}
-use Rattle.dna_links.specs.Links.{LinkOf, changed, with_flow}
+use Rattle.dna_links.specs.Links.{LinkOf, changed, with_segments}
 use Rattle.dna_links.specs.Sending.{Sent, segment_of}
-use Rattle.dna_links.specs.TrueFlow.{TrueFlow, Numbers, true_flows, is_new, sends_segment, sends_acks}
+use Rattle.dna_links.specs.TrueSegments.{TrueSegments, Numbers, true_segments, is_new, sends_segment, sends_acks}
 use Rattle.dna_links.specs.TrueLinks.{Links}
-use Rattle.dna_links.specs.CutFlow.{IsOrdered}
+use Rattle.dna_links.specs.CutSegments.{IsOrdered}
 use Rattle.dna_play.specs.LinkOwed.{LinkOwed, Turn, ConnectAckTurn, InitiateTurn, ConfirmTurn, DisconnectTurn, DataAckTurn, SegmentTurn, variables_of}
 use Rattle.dna_play.specs.NextSent.{LinkEnd}
 use Rattle.dna_play.specs.Compose.{ack_of, address, piece_to_send, segment_with, turn_message}
 use Rattle.dna_play.specs.KeptLinks.{gave, gave_by}
-use Rattle.dna_play.proofs.Links.FlowDid.{SegmentDid, GivesIt, GivesAgain, segment_did, acks_did}
+use Rattle.dna_play.proofs.Links.SegmentsDid.{SegmentDid, GivesIt, GivesAgain, segment_did, acks_did}
 use Rattle.dna_links.proofs.Tables.Outcomes.{has_numbers, IsFound, SentDid, OfNone, Stays, EndsCalled, Segment, Acks}
 use Rattle.dna_links.proofs.Runs.Reads.{at_is}
 use Rattle.dna_play.proofs.Links.Pays.{fits_in, Fits, OwedFits, IsDue, DueFlag, DueSegment, known_at, running_is}
@@ -35,23 +35,25 @@ use Rattle.dna_play.proofs.Links.Choices.{end_of}
 -- ---- a segment
 
 -- what a link of these makes of the segment that it has put together
-module _ (l : LinkOf TrueFlow) (o : LinkOwed) (ordered : IsOrdered l.flow) (within : o.ahead ≤ length (variables_of l).outstanding) where
+module _ (l : LinkOf TrueSegments) (o : LinkOwed) (ordered : IsOrdered l.segments) (within : o.ahead ≤ length (variables_of l).outstanding) where
   abbrev it : LinkEnd
   it = end_of l o
 
-  abbrev f : TrueFlow
-  f = l.flow
+  abbrev f : TrueSegments
+  f = l.segments
 
   abbrev segment_by : Option Piece → SegmentValue
-  segment_by again = segment_with (end_of l o) (piece_to_send again l.flow.unsent)
+  segment_by again = segment_with (end_of l o) (piece_to_send again l.segments.unsent)
 
   -- it is new where none is to be sent again
-  pub segment_gave : (segsize : ℕ) (sent : Sending TrueFlow Numbers) (again : Option Piece) → slice_get (variables_of l).outstanding o.ahead ≡ again →
-      sends_segment segsize (segment_by again) l.flow ≡ Ok sent → end_of (with_flow sent.flow l) o ≡ gave again (end_of l o)
-  segment_gave segsize sent again at e = go again at sent.flow (segment_did l.flow segsize (segment_by again) sent e)
+  pub segment_gave : (segsize : ℕ) (sent : Sending TrueSegments Numbers) (again : Option Piece) →
+      slice_get (variables_of l).outstanding o.ahead ≡ again →
+      sends_segment segsize (segment_by again) l.segments ≡ Ok sent → end_of (with_segments sent.segments l) o ≡ gave again (end_of l o)
+  segment_gave segsize sent again at e = go again at sent.segments (segment_did l.segments segsize (segment_by again) sent e)
     where
-      go : (again : Option Piece) → slice_get (variables_of l).outstanding o.ahead ≡ again → (g : TrueFlow) → SegmentDid l.flow (segment_by again) g →
-          end_of (with_flow g l) o ≡ gave again (end_of l o)
+      go : (again : Option Piece) → slice_get (variables_of l).outstanding o.ahead ≡ again → (g : TrueSegments) →
+          SegmentDid l.segments (segment_by again) g →
+          end_of (with_segments g l) o ≡ gave again (end_of l o)
       go None at g (GivesIt last new) =
           let p = next_piece f.unsent in
           ap (λ (pieces : List Piece). record it { variables = record it.variables { unsent = without_piece p f.unsent; outstanding = pieces } })
@@ -85,7 +87,7 @@ module _ (s : Links) (m : NspValue) (none : has_numbers m ≡ false)
   numbered : (x : NspValue) → has_numbers x ≡ true → m ≡ x → ⊥
   numbered x has is = let e = sym none ∙ ap has_numbers is ∙ has in cc
 
-  pub links_stay : (made : Sent TrueFlow Numbers) → SentDid true_flows s m made → made.links ≡ s
+  pub links_stay : (made : Sent TrueSegments Numbers) → SentDid true_segments s m made → made.links ≡ s
   links_stay made (OfNone none) = refl
   links_stay made (Stays number link none there) = refl
   links_stay made (EndsCalled far reason number link none is found) = absurd (sourced far reason is)
@@ -93,16 +95,16 @@ module _ (s : Links) (m : NspValue) (none : has_numbers m ≡ false)
   links_stay made (Acks dst src acks number link sent is found run does) = absurd (numbered (DataAck dst src acks) refl is)
 
 -- one with numbers is sent by the link with its source
-module _ (s : Links) (distinct : (i j a : ℕ) → OwnsIn s.links i a → OwnsIn s.links j a → i ≡ j) (n : ℕ) (l : LinkOf TrueFlow)
+module _ (s : Links) (distinct : (i j a : ℕ) → OwnsIn s.links i a → OwnsIn s.links j a → i ≡ j) (n : ℕ) (l : LinkOf TrueSegments)
     (there : slice_get s.links n ≡ Some l) (src : ℕ) (owns : l.port.own ≡ Some src) where
-  pub record RunMade (sends : LinkOf TrueFlow → Result (Sending TrueFlow Numbers) LinkRefusal) (left : Links) : Type 0 where
-    pub sent : Sending TrueFlow Numbers
+  pub record RunMade (sends : LinkOf TrueSegments → Result (Sending TrueSegments Numbers) LinkRefusal) (left : Links) : Type 0 where
+    pub sent : Sending TrueSegments Numbers
     pub is : sends l ≡ Ok sent
-    pub links : left ≡ changed n (with_flow sent.flow l) s
+    pub links : left ≡ changed n (with_segments sent.segments l) s
 
-  by_source : (sends : LinkOf TrueFlow → Result (Sending TrueFlow Numbers) LinkRefusal) (dst number : ℕ) (link : LinkOf TrueFlow) →
-      IsFound (TheLink src dst) s number link → (sent : Sending TrueFlow Numbers) → sends link ≡ Ok sent →
-      RunMade sends (changed number (with_flow sent.flow link) s)
+  by_source : (sends : LinkOf TrueSegments → Result (Sending TrueSegments Numbers) LinkRefusal) (dst number : ℕ) (link : LinkOf TrueSegments) →
+      IsFound (TheLink src dst) s number link → (sent : Sending TrueSegments Numbers) → sends link ≡ Ok sent →
+      RunMade sends (changed number (with_segments sent.segments link) s)
   by_source sends dst number link found sent is =
       let both = (and_parts (is_live link.port.phase) (has_both link.port src dst) found.passed).1 in
       let at = at_is link.port.own src (and_parts (is_at link.port.own src) (is_at link.port.far dst) both).0 in
@@ -111,28 +113,28 @@ module _ (s : Links) (distinct : (i j a : ℕ) → OwnsIn s.links i a → OwnsIn
       record {
         sent = sent;
         is = ap sends (sym one) ∙ is;
-        links = ap₂ (λ (i : ℕ) (k : LinkOf TrueFlow). changed i (with_flow sent.flow k) s) same one;
+        links = ap₂ (λ (i : ℕ) (k : LinkOf TrueSegments). changed i (with_segments sent.segments k) s) same one;
       }
 
-  pub segment_run : (segment : SegmentValue) → src ≡ segment.srcaddr → (made : Sent TrueFlow Numbers) →
-      SentDid true_flows s (DataSegment segment) made → RunMade (segment_of true_flows segment) made.links
+  pub segment_run : (segment : SegmentValue) → src ≡ segment.srcaddr → (made : Sent TrueSegments Numbers) →
+      SentDid true_segments s (DataSegment segment) made → RunMade (segment_of true_segments segment) made.links
   segment_run segment of_it made (Segment other number link sent is found run does) =
       let same : segment ≡ other = cc in
-      by_source (segment_of true_flows segment) other.dstaddr number link
+      by_source (segment_of true_segments segment) other.dstaddr number link
       (subst (λ (a : ℕ). IsFound (TheLink a other.dstaddr) s number link) (ap (λ (x : SegmentValue). x.srcaddr) (sym same) ∙ sym of_it) found) sent
-      (ap (λ (x : SegmentValue). segment_of true_flows x link) same ∙ does)
+      (ap (λ (x : SegmentValue). segment_of true_segments x link) same ∙ does)
   segment_run segment of_it made (OfNone none) = absurd cc
   segment_run segment of_it made (Stays number link none at) = absurd cc
   segment_run segment of_it made (EndsCalled far reason number link none is found) = absurd cc
   segment_run segment of_it made (Acks dst from acks number link sent is found run does) = absurd cc
 
-  pub acks_run : (dst : ℕ) (acks : List AckWord) (made : Sent TrueFlow Numbers) → SentDid true_flows s (DataAck dst src acks) made →
-      RunMade (λ link. sends_acks acks link.flow) made.links
+  pub acks_run : (dst : ℕ) (acks : List AckWord) (made : Sent TrueSegments Numbers) → SentDid true_segments s (DataAck dst src acks) made →
+      RunMade (λ link. sends_acks acks link.segments) made.links
   acks_run dst acks made (Acks to from words number link sent is found run does) =
       let from_is : from ≡ src = cc in let same : acks ≡ words = cc in
-      by_source (λ link. sends_acks acks link.flow) to number link
+      by_source (λ link. sends_acks acks link.segments) to number link
       (subst (λ (a : ℕ). IsFound (TheLink a to) s number link) from_is found) sent
-      (ap (λ (w : List AckWord). sends_acks w link.flow) same ∙ does)
+      (ap (λ (w : List AckWord). sends_acks w link.segments) same ∙ does)
   acks_run dst acks made (OfNone none) = absurd cc
   acks_run dst acks made (Stays number link none at) = absurd cc
   acks_run dst acks made (EndsCalled far reason number link none is found) = absurd cc
@@ -140,14 +142,14 @@ module _ (s : Links) (distinct : (i j a : ℕ) → OwnsIn s.links i a → OwnsIn
 
 -- ---- what each turn makes of its link
 
-pub record TurnMade (s : Links) (made : Sent TrueFlow Numbers) (n : ℕ) (l : LinkOf TrueFlow) (o : LinkOwed) (turn : Turn) : Type 0 where
-  pub left : LinkOf TrueFlow
+pub record TurnMade (s : Links) (made : Sent TrueSegments Numbers) (n : ℕ) (l : LinkOf TrueSegments) (o : LinkOwed) (turn : Turn) : Type 0 where
+  pub left : LinkOf TrueSegments
   pub links : made.links ≡ changed n left s
   pub port : left.port ≡ l.port
-  pub acknowledged : left.flow.acknowledged ≡ l.flow.acknowledged
+  pub acknowledged : left.segments.acknowledged ≡ l.segments.acknowledged
   pub is : end_of left o ≡ gave_by turn (end_of l o)
 
-module _ (s : Links) (made : Sent TrueFlow Numbers) (n : ℕ) (l : LinkOf TrueFlow) (o : LinkOwed) (there : slice_get s.links n ≡ Some l) where
+module _ (s : Links) (made : Sent TrueSegments Numbers) (n : ℕ) (l : LinkOf TrueSegments) (o : LinkOwed) (there : slice_get s.links n ≡ Some l) where
   -- one that leaves its link as it is
   unmoved : (turn : Turn) → gave_by turn (end_of l o) ≡ end_of l o → made.links ≡ s → TurnMade s made n l o turn
   unmoved turn none same = record {
@@ -162,13 +164,13 @@ module _ (s : Links) (made : Sent TrueFlow Numbers) (n : ℕ) (l : LinkOf TrueFl
   run_owns : Fits l → l.port.phase ≡ Running → l.port.own ≡ Some (address l.port.own)
   run_owns shape run = known_at l.port.own (and_parts (is_some l.port.own) _ (subst (λ (phase : Phase). fits_in phase l ≡ true) run shape)).0
 
-  acknowledged_still : (s : SegmentValue) (g : TrueFlow) → SegmentDid l.flow s g → g.acknowledged ≡ l.flow.acknowledged
+  acknowledged_still : (s : SegmentValue) (g : TrueSegments) → SegmentDid l.segments s g → g.acknowledged ≡ l.segments.acknowledged
   acknowledged_still s g (GivesIt last new) = refl
   acknowledged_still s g (GivesAgain last old) = refl
 
-  module _ (ordered : IsOrdered l.flow) (shape : Fits l) (owes : OwedFits l o)
+  module _ (ordered : IsOrdered l.segments) (shape : Fits l) (owes : OwedFits l o)
       (distinct : (i j a : ℕ) → OwnsIn s.links i a → OwnsIn s.links j a → i ≡ j) where
-    pub turn_made : (turn : Turn) → IsDue (end_of l o) turn → SentDid true_flows s (turn_message turn (end_of l o)) made →
+    pub turn_made : (turn : Turn) → IsDue (end_of l o) turn → SentDid true_segments s (turn_message turn (end_of l o)) made →
         TurnMade s made n l o turn
     turn_made ConnectAckTurn due did =
         unmoved ConnectAckTurn refl (links_stay s (turn_message ConnectAckTurn (end_of l o)) refl (λ dst reason e. cc) made did)
@@ -181,23 +183,23 @@ module _ (s : Links) (made : Sent TrueFlow Numbers) (n : ℕ) (l : LinkOf TrueFl
         let words = ack_of (variables_of l).received ∷ [] in
         let r = acks_run s distinct n l there (address l.port.own) (run_owns shape (owes.turns DataAckTurn owed)) (address l.port.far)
         words made did in
-        let d = acks_did l.flow words r.sent r.is in
+        let d = acks_did l.segments words r.sent r.is in
         record {
-          left = with_flow r.sent.flow l;
+          left = with_segments r.sent.segments l;
           links = r.links;
           port = refl;
-          acknowledged = ap (λ (g : TrueFlow). g.acknowledged) d.1;
-          is = ap (λ (g : TrueFlow). end_of (with_flow g l) o) d.1;
+          acknowledged = ap (λ (g : TrueSegments). g.acknowledged) d.1;
+          is = ap (λ (g : TrueSegments). end_of (with_segments g l) o) d.1;
         }
     turn_made SegmentTurn (DueFlag owed) did = absurd cc
     turn_made SegmentTurn (DueSegment running due) did =
         let again = slice_get (variables_of l).outstanding o.ahead in
-        let segment = segment_with (end_of l o) (piece_to_send again l.flow.unsent) in
+        let segment = segment_with (end_of l o) (piece_to_send again l.segments.unsent) in
         let r = segment_run s distinct n l there (address l.port.own) (run_owns shape (running_is l.port.phase running)) segment refl made did in
         record {
-          left = with_flow r.sent.flow l;
+          left = with_segments r.sent.segments l;
           links = r.links;
           port = refl;
-          acknowledged = acknowledged_still segment r.sent.flow (segment_did l.flow l.segsize segment r.sent r.is);
+          acknowledged = acknowledged_still segment r.sent.segments (segment_did l.segments l.segsize segment r.sent r.is);
           is = segment_gave l o ordered owes.ahead l.segsize r.sent again refl r.is;
         }

@@ -10,16 +10,16 @@ use Rattle.dna_links.specs.declared.port.Phase.{Phase}
 use Rattle.dna_links.specs.declared.port.Phase.TheVariants.{Confirming, Disconnecting, Running}
 use Rattle.dna_links.specs.declared.port.LinkTest.TheVariants.{HasAddress}
 use Rattle.dna_links.specs.Pieces.{Piece, piece_of, hold, Whole, with_piece, next_message}
-use Rattle.dna_links.specs.Links.{LinkOf, LinkTruth, changed, in_phase, with_flow, ended, forgotten, freed}
+use Rattle.dna_links.specs.Links.{LinkOf, LinkTruth, changed, in_phase, with_segments, ended, forgotten, freed}
 use Rattle.dna_links.specs.User.{LinkEventValue, opened, answered}
 use Rattle.dna_links.specs.Sending.{Sent}
 use Rattle.dna_links.specs.Arriving.{of_anyone, called, confirmed}
-use Rattle.dna_links.specs.TrueFlow.{TrueFlow, Numbers, true_flows}
-use Rattle.dna_links.specs.TrueFlow as flow
+use Rattle.dna_links.specs.TrueSegments.{TrueSegments, Numbers, true_segments}
+use Rattle.dna_links.specs.TrueSegments as segments
 use Rattle.dna_links.specs.TrueLinks.{Links}
 use Rattle.dna_links.specs.Captures.{delivery_count}
 use Rattle.dna_play.proofs.Ends.UpsFollow.{drop_more}
-use Rattle.dna_play.proofs.Links.FlowDid.{SegmentDid, GivesIt, GivesAgain, segment_did, acks_did}
+use Rattle.dna_play.proofs.Links.SegmentsDid.{SegmentDid, GivesIt, GivesAgain, segment_did, acks_did}
 use Rattle.dna_links.proofs.Runs.Pieces.{delivered_is}
 use Rattle.dna_links.proofs.Runs.Sides.{set_same, set_other}
 use Rattle.dna_links.proofs.Tables.Outcomes.{looked, UserDid, Opens, Accepts, Rejects, HandsIn, Delivers, Closes, SentDid, OfNone, Stays, EndsCalled}
@@ -76,10 +76,10 @@ message_fills (Some p ∷ later) w e = go p.ends (next_message later) refl (mess
         subst (λ (n : ℕ). filled (drop n (Some p ∷ later)) + 1 ≤ filled (Some p ∷ later)) many (omega arith)
 
 -- how many wait at a link
-abbrev waiting_in : TrueFlow → ℕ
+abbrev waiting_in : TrueSegments → ℕ
 waiting_in f = filled (drop f.passed f.received)
 
-delivery_takes : (message : List ℕ) (f g : TrueFlow) → flow.delivers message f ≡ Some g → waiting_in g + 1 ≤ waiting_in f
+delivery_takes : (message : List ℕ) (f g : TrueSegments) → segments.delivers message f ≡ Some g → waiting_in g + 1 ≤ waiting_in f
 delivery_takes message f g e =
     let d = delivered_is message f g e in
     let fills = message_fills (drop f.passed f.received) d.w d.next in
@@ -88,120 +88,125 @@ delivery_takes message f g e =
     omega arith
 
 -- acknowledgements change nothing of it
-acks_wait : (acks : List ℕ) (f : TrueFlow) → waiting_in (fold flow.acknowledged_through f acks) ≡ waiting_in f
+acks_wait : (acks : List ℕ) (f : TrueSegments) → waiting_in (fold segments.acknowledged_through f acks) ≡ waiting_in f
 acks_wait [] f = refl
-acks_wait (ack ∷ acks) f = acks_wait acks (flow.acknowledged_through f ack) ∙ one _
+acks_wait (ack ∷ acks) f = acks_wait acks (segments.acknowledged_through f ack) ∙ one _
   where
     one : (b : Bool) → waiting_in (cond b (record f { acknowledged = ack }) f) ≡ waiting_in f
     one true = refl
     one false = refl
 
-segment_adds : (s : SegmentValue) (known : Numbers) (f : TrueFlow) → waiting_in (flow.takes_segment s known f) ≤ waiting_in f + 1
+segment_adds : (s : SegmentValue) (known : Numbers) (f : TrueSegments) → waiting_in (segments.takes_segment s known f) ≤ waiting_in f + 1
 segment_adds s known f =
-    let g = fold flow.acknowledged_through f known.acknowledgements in
+    let g = fold segments.acknowledged_through f known.acknowledgements in
     let same = acks_wait known.acknowledgements f in
     let h = held_behind g.passed (known.segment - 1) (piece_of s) g.received in
     omega arith
 
-segment_waits : (f : TrueFlow) (s : SegmentValue) (g : TrueFlow) → SegmentDid f s g → waiting_in g ≡ waiting_in f
+segment_waits : (f : TrueSegments) (s : SegmentValue) (g : TrueSegments) → SegmentDid f s g → waiting_in g ≡ waiting_in f
 segment_waits f s g (GivesIt last new) = refl
 segment_waits f s g (GivesAgain last old) = refl
 
 -- ---- all links
 
-abbrev pub waiting : List (LinkOf TrueFlow) → ℕ
+abbrev pub waiting : List (LinkOf TrueSegments) → ℕ
 waiting [] = 0
-waiting (link ∷ links) = waiting_in link.flow + waiting links
+waiting (link ∷ links) = waiting_in link.segments + waiting links
 
-set_waits : (links : List (LinkOf TrueFlow)) (number : ℕ) (link left : LinkOf TrueFlow) → slice_get links number ≡ Some link →
-    waiting (slice_set links number left) + waiting_in link.flow ≡ waiting links + waiting_in left.flow
+set_waits : (links : List (LinkOf TrueSegments)) (number : ℕ) (link left : LinkOf TrueSegments) → slice_get links number ≡ Some link →
+    waiting (slice_set links number left) + waiting_in link.segments ≡ waiting links + waiting_in left.segments
 set_waits [] number link left at = absurd cc
 set_waits (x ∷ links) zero link left at =
-    let e : waiting_in x.flow ≡ waiting_in link.flow = ap (λ (l : LinkOf TrueFlow). waiting_in l.flow) (same_Some x link at) in omega arith
+    let e : waiting_in x.segments ≡ waiting_in link.segments = ap (λ (l : LinkOf TrueSegments). waiting_in l.segments) (same_Some x link at) in
+    omega arith
 set_waits (x ∷ links) (suc number) link left at = let e = set_waits links number link left at in omega arith
 
 -- a link changes, and as many wait there
-set_same_waits : (links : List (LinkOf TrueFlow)) (number : ℕ) (link left : LinkOf TrueFlow) → slice_get links number ≡ Some link →
-    waiting_in left.flow ≡ waiting_in link.flow → waiting (slice_set links number left) ≡ waiting links
+set_same_waits : (links : List (LinkOf TrueSegments)) (number : ℕ) (link left : LinkOf TrueSegments) → slice_get links number ≡ Some link →
+    waiting_in left.segments ≡ waiting_in link.segments → waiting (slice_set links number left) ≡ waiting links
 set_same_waits links number link left at same = let e = set_waits links number link left at in omega arith
 
-begun_waits : (links : List (LinkOf TrueFlow)) (link : LinkOf TrueFlow) → waiting_in link.flow ≡ 0 → waiting (links ++ link ∷ []) ≡ waiting links
+begun_waits : (links : List (LinkOf TrueSegments)) (link : LinkOf TrueSegments) → waiting_in link.segments ≡ 0 →
+    waiting (links ++ link ∷ []) ≡ waiting links
 begun_waits [] link none = omega arith
 begun_waits (x ∷ links) link none = let e = begun_waits links link none in omega arith
 
 -- as many wait at the link with this number
-abbrev AsMany : ℕ → LinkOf TrueFlow → Links → Type 0
-AsMany number link x = (there : LinkOf TrueFlow) × (slice_get x.links number ≡ Some there) × (waiting_in there.flow ≡ waiting_in link.flow)
+abbrev AsMany : ℕ → LinkOf TrueSegments → Links → Type 0
+AsMany number link x =
+    (there : LinkOf TrueSegments) × (slice_get x.links number ≡ Some there) × (waiting_in there.segments ≡ waiting_in link.segments)
 
 module _ (s : Links) where
-  freed_waits : (own : ℕ) → waiting (freed true_flows own s).links ≡ waiting s.links
-  freed_waits own = looked (HasAddress own) s s (λ number link. changed number (forgotten true_flows link) s) (freed true_flows own s) refl
+  freed_waits : (own : ℕ) → waiting (freed true_segments own s).links ≡ waiting s.links
+  freed_waits own = looked (HasAddress own) s s (λ number link. changed number (forgotten true_segments link) s) (freed true_segments own s) refl
       (λ none e. ap (λ (x : Links). waiting x.links) (sym e))
       (λ number link found e. ap (λ (x : Links). waiting x.links) (sym e)
-      ∙ set_same_waits s.links number link (forgotten true_flows link) found.there refl)
+      ∙ set_same_waits s.links number link (forgotten true_segments link) found.there refl)
 
-  freed_at : (own number : ℕ) (link : LinkOf TrueFlow) → slice_get s.links number ≡ Some link → AsMany number link (freed true_flows own s)
-  freed_at own number link at = looked (HasAddress own) s s (λ n l. changed n (forgotten true_flows l) s) (freed true_flows own s) refl
+  freed_at : (own number : ℕ) (link : LinkOf TrueSegments) → slice_get s.links number ≡ Some link → AsMany number link (freed true_segments own s)
+  freed_at own number link at = looked (HasAddress own) s s (λ n l. changed n (forgotten true_segments l) s) (freed true_segments own s) refl
       (λ none e. subst (AsMany number link) e (link, at, refl))
       (λ n l found e. subst (AsMany number link) e (go n l found.there (cases_eq number n)))
     where
-      go : (n : ℕ) (l : LinkOf TrueFlow) → slice_get s.links n ≡ Some l → (number ≡ n) ⊎ (number ≡ n → ⊥) →
-          AsMany number link (changed n (forgotten true_flows l) s)
+      go : (n : ℕ) (l : LinkOf TrueSegments) → slice_get s.links n ≡ Some l → (number ≡ n) ⊎ (number ≡ n → ⊥) →
+          AsMany number link (changed n (forgotten true_segments l) s)
       go n l there (inl e) = (
-        forgotten true_flows l,
-        ap (slice_get (slice_set s.links n (forgotten true_flows l))) e ∙ set_same s.links n l (forgotten true_flows l) there,
-        ap (λ (x : LinkOf TrueFlow). waiting_in x.flow) (same_Some l link (sym there ∙ ap (slice_get s.links) (sym e) ∙ at)),
+        forgotten true_segments l,
+        ap (slice_get (slice_set s.links n (forgotten true_segments l))) e ∙ set_same s.links n l (forgotten true_segments l) there,
+        ap (λ (x : LinkOf TrueSegments). waiting_in x.segments) (same_Some l link (sym there ∙ ap (slice_get s.links) (sym e) ∙ at)),
       )
-      go n l there (inr d) = (link, set_other s.links n number (forgotten true_flows l) d ∙ at, refl)
+      go n l there (inr d) = (link, set_other s.links n number (forgotten true_segments l) d ∙ at, refl)
 
-  answered_waits : (phase : Phase) (own number : ℕ) (link : LinkOf TrueFlow) → slice_get s.links number ≡ Some link →
-      waiting (changed number (answered true_flows phase own link) (freed true_flows own s)).links ≡ waiting s.links
+  answered_waits : (phase : Phase) (own number : ℕ) (link : LinkOf TrueSegments) → slice_get s.links number ≡ Some link →
+      waiting (changed number (answered true_segments phase own link) (freed true_segments own s)).links ≡ waiting s.links
   answered_waits phase own number link at =
       let f = freed_at own number link at in
-      set_same_waits (freed true_flows own s).links number f.0 (answered true_flows phase own link) f.1 (sym f.2) ∙ freed_waits own
+      set_same_waits (freed true_segments own s).links number f.0 (answered true_segments phase own link) f.1 (sym f.2) ∙ freed_waits own
 
   -- each delivery takes one
-  pub user_waits : (event : LinkEventValue) (left : Links) → UserDid true_flows s event left →
+  pub user_waits : (event : LinkEventValue) (left : Links) → UserDid true_segments s event left →
       waiting left.links + delivery_count event ≤ waiting s.links
   user_waits event left (Opens own free) =
-      let e = begun_waits (freed true_flows own s).links (opened true_flows own) refl in let f = freed_waits own in omega arith
+      let e = begun_waits (freed true_segments own s).links (opened true_segments own) refl in let f = freed_waits own in omega arith
   user_waits event left (Accepts far own number link found free) = let e = answered_waits Confirming own number link found.there in omega arith
   user_waits event left (Rejects far own number link found free) = let e = answered_waits Disconnecting own number link found.there in omega arith
   user_waits event left (HandsIn own message number link found may) =
-      let e = set_same_waits s.links number link (with_flow (flow.hands_in message link.flow) link) found.there refl in omega arith
+      let e = set_same_waits s.links number link (with_segments (segments.hands_in message link.segments) link) found.there refl in omega arith
   user_waits event left (Delivers own message number link next found delivers) =
-      let e = set_waits s.links number link (with_flow next link) found.there in
-      let t = delivery_takes message link.flow next delivers in
+      let e = set_waits s.links number link (with_segments next link) found.there in
+      let t = delivery_takes message link.segments next delivers in
       omega arith
   user_waits event left (Closes own number link found connected) =
       let e = set_same_waits s.links number link (in_phase Disconnecting link) found.there refl in omega arith
 
-  pub sent_waits : (m : NspValue) (made : Sent TrueFlow Numbers) → SentDid true_flows s m made → waiting made.links.links ≡ waiting s.links
+  pub sent_waits : (m : NspValue) (made : Sent TrueSegments Numbers) → SentDid true_segments s m made → waiting made.links.links ≡ waiting s.links
   sent_waits m made (OfNone none) = refl
   sent_waits m made (Stays number link none there) = refl
-  sent_waits m made (EndsCalled far reason number link none is found) = set_same_waits s.links number link (ended true_flows link) found.there refl
+  sent_waits m made (EndsCalled far reason number link none is found) = set_same_waits s.links number link (ended true_segments link) found.there refl
   sent_waits m made (Segment segment number link sent is found run does) =
-      set_same_waits s.links number link (with_flow sent.flow link) found.there
-      (segment_waits link.flow segment sent.flow (segment_did link.flow link.segsize segment sent does))
+      set_same_waits s.links number link (with_segments sent.segments link) found.there
+      (segment_waits link.segments segment sent.segments (segment_did link.segments link.segsize segment sent does))
   sent_waits m made (Acks dst src acks number link sent is found run does) =
-      set_same_waits s.links number link (with_flow sent.flow link) found.there (ap waiting_in (acks_did link.flow acks sent does).1)
+      set_same_waits s.links number link (with_segments sent.segments link) found.there (ap waiting_in (acks_did link.segments acks sent does).1)
 
   -- what comes adds at most one
-  pub arrived_waits : (m : NspValue) (truth : LinkTruth Numbers) (left : Links) → ArrivedDid true_flows of_anyone s m truth left →
+  pub arrived_waits : (m : NspValue) (truth : LinkTruth Numbers) (left : Links) → ArrivedDid true_segments of_anyone s m truth left →
       waiting left.links ≤ waiting s.links + 1
   arrived_waits m truth left Ignores = omega arith
   arrived_waits m truth left (Begins far segsize is none) =
-      let e = begun_waits s.links (called true_flows of_anyone far segsize truth.tag) refl in omega arith
+      let e = begun_waits s.links (called true_segments of_anyone far segsize truth.tag) refl in omega arith
   arrived_waits m truth left (Confirms own far segsize number link is found for) =
-      let e = set_same_waits s.links number link (confirmed true_flows of_anyone far segsize truth.tag link) found.there refl in omega arith
+      let e = set_same_waits s.links number link (confirmed true_segments of_anyone far segsize truth.tag link) found.there refl in omega arith
   arrived_waits m truth left (Ends test number link found) =
-      let e = set_same_waits s.links number link (ended true_flows link) found.there refl in omega arith
+      let e = set_same_waits s.links number link (ended true_segments link) found.there refl in omega arith
   arrived_waits m truth left (TakesSegment own far segment number link is found pair) =
-      let e = set_waits s.links number link (with_flow (flow.takes_segment segment truth.known link.flow) (in_phase Running link)) found.there in
-      let a = segment_adds segment truth.known link.flow in
+      let e = set_waits s.links number link
+      (with_segments (segments.takes_segment segment truth.known link.segments) (in_phase Running link)) found.there in
+      let a = segment_adds segment truth.known link.segments in
       omega arith
   arrived_waits m truth left (TakesAcks own far dst src acks number link is found pair) =
-      let e = set_same_waits s.links number link (with_flow (flow.takes_acks acks truth.known link.flow) (in_phase Running link)) found.there
-      (acks_wait truth.known.acknowledgements link.flow) in omega arith
+      let e = set_same_waits s.links number link
+      (with_segments (segments.takes_acks acks truth.known link.segments) (in_phase Running link)) found.there
+      (acks_wait truth.known.acknowledgements link.segments) in omega arith
   arrived_waits m truth left (TakesOther own far number link found pair) =
       let e = set_same_waits s.links number link (in_phase Running link) found.there refl in omega arith

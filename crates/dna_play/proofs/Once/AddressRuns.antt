@@ -13,7 +13,7 @@ use Rattle.dna_links.specs.LookUps.{is_at, is_calling, is_connected, has_both}
 use Rattle.dna_links.specs.Links.{LinkOf, on_link, at_number, check, with_link, changed}
 use Rattle.dna_links.specs.User.{LinkEventValue}
 use Rattle.dna_links.specs.Arriving.{of_partner, of_anyone, are_same, is_for, is_of_pair, confirmed, running, acted_on, message_arrived}
-use Rattle.dna_links.specs.TrueFlow.{TrueFlow, true_flows}
+use Rattle.dna_links.specs.TrueSegments.{TrueSegments, true_segments}
 use Rattle.dna_links.specs.TrueLinks.{Links, links_arrived}
 use Rattle.dna_links.specs.Captures.{given_address}
 use Rattle.dna_links.specs.Runs.{SentMessage, LinkSide, LinkWorld, LinkStep, ByUser, Sends, SendsNone, Keeps, KeepsNone, Reached, Start, ByA, ByB}
@@ -86,9 +86,10 @@ module _ (own other : LinkSide) (most others : ℕ) (h : IsAddressedSide own oth
   step_left : (left : LinkSide) (events : List LinkEventValue) → AddressesRise most events → LinkStep own other events left →
       StaysAddressed own left other (highest most events) others
   step_left left events rise (ByUser event links does) = side_left left (higher most (given_address event))
-      (user_addressed own.links other.links.links most h.links event links rise.0 (user_did true_flows own.links links event does)) (λ k u at. inl at)
+      (user_addressed own.links other.links.links most h.links event links rise.0 (user_did true_segments own.links links event does))
+      (λ k u at. inl at)
   step_left left events rise (Sends packet made does) =
-      let l = sent_stays own.links other.links.links most h.links packet.message made (sent_did true_flows own.links made packet does) in
+      let l = sent_stays own.links other.links.links most h.links packet.message made (sent_did true_segments own.links made packet does) in
       let c = checked _ _ _ made does in
       let m = sent_from own.links other.links.links most h.links packet.message made c.1 in
       let p = and_parts (eqb packet.src own.links.node) (eqb packet.dst own.links.peer) c.0 in
@@ -101,7 +102,7 @@ module _ (own other : LinkSide) (most others : ℕ) (h : IsAddressedSide own oth
       sends_left own.links None (same_links own.links other.links.links most h.links) (λ u e. absurd cc)
   step_left left events rise (Keeps place unit links ahead there does) = side_left left most
       (came_stays own.links other.links.links most h.links unit.truth unit.packet.message links (theirs.told place unit there).from
-      (arrived_did true_flows of_partner own.links links unit.truth unit.packet does)) (λ k u at. inl at)
+      (arrived_did true_segments of_partner own.links links unit.truth unit.packet does)) (λ k u at. inl at)
   step_left left events rise (KeepsNone place ahead there) =
       side_left left most (same_links own.links other.links.links most h.links) (λ k u at. inl at)
 
@@ -154,14 +155,14 @@ reached_addressed node_a peer_a node_b peer_b (ByB {w} {of_a} {of_b} {events} {l
 -- ---- the rule on partners asks nothing
 
 -- a look-up goes on in the same way
-with_same : {R : Type 0} (test : LinkTest) (s : Links) (otherwise : R) (next later : ℕ → LinkOf TrueFlow → R) →
-    ((number : ℕ) (link : LinkOf TrueFlow) → IsFound test s number link → next number link ≡ later number link) →
+with_same : {R : Type 0} (test : LinkTest) (s : Links) (otherwise : R) (next later : ℕ → LinkOf TrueSegments → R) →
+    ((number : ℕ) (link : LinkOf TrueSegments) → IsFound test s number link → next number link ≡ later number link) →
     with_link test s otherwise next ≡ with_link test s otherwise later
 with_same {R} test s otherwise next later same = looked test s otherwise next (with_link test s otherwise next) refl
     (λ none e. sym e ∙ sym (ap (λ (o : Option ℕ). at_number s.links o otherwise later) none))
     (λ number link found e. sym e ∙ same number link found ∙
     sym (ap (λ (o : Option ℕ). at_number s.links o otherwise later) found.found ∙
-    ap (λ (o : Option (LinkOf TrueFlow)). on_link number o otherwise later) found.there))
+    ap (λ (o : Option (LinkOf TrueSegments)). on_link number o otherwise later) found.there))
 
 module _ (own other : LinkSide) (most others : ℕ) (h : IsAddressedSide own other most) (theirs : IsAddressedSide other own others) (u : SentMessage)
     (told : IsAddressed other.links.links own.links.links u.packet.message u.truth.tag) where
@@ -172,20 +173,20 @@ module _ (own other : LinkSide) (most others : ℕ) (h : IsAddressedSide own oth
   at_same known number e = ap (λ (o : Option ℕ). is_at o number) e ∙ eq-eqb number number refl
 
   -- the message is for the link with its target address
-  partner_is : (dst number : ℕ) (link : LinkOf TrueFlow) → target u.packet.message ≡ Some dst → slice_get own.links.links number ≡ Some link →
+  partner_is : (dst number : ℕ) (link : LinkOf TrueSegments) → target u.packet.message ≡ Some dst → slice_get own.links.links number ≡ Some link →
       link.port.own ≡ Some dst → is_at tag.partner number ≡ true
   partner_is dst number link is there owns =
       let o = told.to dst is in
       at_same tag.partner number (o.is ∙ ap Some (h.links.distinct o.number number dst o.owns (record { link = link; there = there; owns = owns })))
 
-  for_it : (src dst number : ℕ) (link : LinkOf TrueFlow) → source u.packet.message ≡ Some src → target u.packet.message ≡ Some dst →
+  for_it : (src dst number : ℕ) (link : LinkOf TrueSegments) → source u.packet.message ≡ Some src → target u.packet.message ≡ Some dst →
       IsFound (CallingAt dst) own.links number link → is_for number tag ≡ true
   for_it src dst number link from is found =
       let o = told.from src from in
       let at = at_is link.port.own dst (and_parts (is_calling link.port.phase) (is_at link.port.own dst) found.passed).1 in
       ap₂ (λ (x y : Bool). x && y) (ap is_some o.is) (partner_is dst number link is found.there at)
 
-  of_it : (src dst number : ℕ) (link : LinkOf TrueFlow) → source u.packet.message ≡ Some src → target u.packet.message ≡ Some dst →
+  of_it : (src dst number : ℕ) (link : LinkOf TrueSegments) → source u.packet.message ≡ Some src → target u.packet.message ≡ Some dst →
       IsFound (ActedOn dst src) own.links number link → is_of_pair number link.partner tag ≡ true
   of_it src dst number link from is found =
       let both = and_parts (is_at link.port.own dst) (is_at link.port.far src)
@@ -196,17 +197,17 @@ module _ (own other : LinkSide) (most others : ℕ) (h : IsAddressedSide own oth
       ap₂ (λ (x y : Bool). x && y) (ap₂ are_same partner.is sender.is ∙ at_same (Some sender.number) partner.number (ap Some (sym same)))
       (partner_is dst number link is found.there (at_is link.port.own dst both.0))
 
-  acted_same : (src dst : ℕ) (takes : LinkOf TrueFlow → TrueFlow) → source u.packet.message ≡ Some src → target u.packet.message ≡ Some dst →
-      acted_on true_flows of_anyone dst src tag takes own.links ≡ acted_on true_flows of_partner dst src tag takes own.links
+  acted_same : (src dst : ℕ) (takes : LinkOf TrueSegments → TrueSegments) → source u.packet.message ≡ Some src → target u.packet.message ≡ Some dst →
+      acted_on true_segments of_anyone dst src tag takes own.links ≡ acted_on true_segments of_partner dst src tag takes own.links
   acted_same src dst takes from is = with_same (ActedOn dst src) own.links (Ok own.links) _ _
-      (λ number link found. ap (λ (b : Bool). check b CrossedLink (Ok (changed number (running true_flows of_anyone takes link) own.links)))
+      (λ number link found. ap (λ (b : Bool). check b CrossedLink (Ok (changed number (running true_segments of_anyone takes link) own.links)))
       (sym (of_it src dst number link from is found)))
 
-  message_same : (m : NspValue) → u.packet.message ≡ m → message_arrived true_flows of_anyone own.links m u.truth ≡ message_arrived true_flows
+  message_same : (m : NspValue) → u.packet.message ≡ m → message_arrived true_segments of_anyone own.links m u.truth ≡ message_arrived true_segments
       of_partner own.links m u.truth
   message_same (ConnectConfirm dst src services info segsize user_data) is = with_same (CallingAt dst) own.links (Ok own.links) _ _
       (λ number link found. ap
-      (λ (b : Bool). check b CrossedLink (Ok (changed number (confirmed true_flows of_anyone src segsize tag link) own.links)))
+      (λ (b : Bool). check b CrossedLink (Ok (changed number (confirmed true_segments of_anyone src segsize tag link) own.links)))
       (sym (for_it src dst number link (ap source is) (ap target is) found)))
   message_same (DataSegment segment) is = acted_same segment.srcaddr segment.dstaddr _ (ap source is) (ap target is)
   message_same (DataAck dst src acks) is = acted_same src dst _ (ap source is) (ap target is)

@@ -10,9 +10,9 @@ use Rattle.dna_links.specs.declared.port.Phase.{Phase}
 use Rattle.dna_links.specs.declared.port.Phase.TheVariants.{Confirming, Disconnecting}
 use Rattle.dna_links.specs.declared.port.LinkTest.TheVariants.{HasAddress}
 use Rattle.dna_links.specs.LookUps.{is_at, is_called}
-use Rattle.dna_links.specs.Links.{LinkOf, changed, begun, in_phase, with_flow, forgotten, freed}
+use Rattle.dna_links.specs.Links.{LinkOf, changed, begun, in_phase, with_segments, forgotten, freed}
 use Rattle.dna_links.specs.User.{LinkEventValue, opened, answered}
-use Rattle.dna_links.specs.TrueFlow.{TrueFlow, true_flows}
+use Rattle.dna_links.specs.TrueSegments.{TrueSegments, true_segments}
 use Rattle.dna_links.specs.TrueLinks.{Links}
 use Rattle.dna_links.specs.Captures.{given_address}
 use Rattle.dna_play.proofs.Once.Orderly.{IsHigher, higher}
@@ -22,11 +22,11 @@ use Rattle.dna_links.proofs.Tables.Outcomes.{looked, UserDid, Opens, Accepts, Re
 use Rattle.dna_links.proofs.Runs.Sides.{set_same, set_other, at_set, all_set, all_pushed}
 
 abbrev pub LinkList : Type 0
-LinkList = List (LinkOf TrueFlow)
+LinkList = List (LinkOf TrueSegments)
 
 -- the link with this number has this own address
 pub record OwnsIn (links : LinkList) (number address : ℕ) : Type 0 where
-  pub link : LinkOf TrueFlow
+  pub link : LinkOf TrueSegments
   pub there : slice_get links number ≡ Some link
   pub owns : link.port.own ≡ Some address
 
@@ -43,11 +43,11 @@ pub owner_kept : (old new : LinkList) (known : Option ℕ) (address : ℕ) → K
 owner_kept old new known address keeps o = record { number = o.number; is = o.is; owns = keeps o.number address o.owns }
 
 -- a far address is the partner's own
-abbrev pub HasFar : LinkList → LinkOf TrueFlow → Type 0
+abbrev pub HasFar : LinkList → LinkOf TrueSegments → Type 0
 HasFar others l = (far : ℕ) → l.port.far ≡ Some far → Owner others l.partner far
 
 -- a link that was called has no own address
-abbrev pub IsNamed : LinkOf TrueFlow → Type 0
+abbrev pub IsNamed : LinkOf TrueSegments → Type 0
 IsNamed l = is_called l.port.phase ≡ true → l.port.own ≡ None
 
 -- of all links of a side beside those of the other, where this is the highest address that was given; addresses are from 1
@@ -55,8 +55,8 @@ pub record AreAddressed (links others : LinkList) (most : ℕ) : Type 0 where
   pub distinct : (i j a : ℕ) → OwnsIn links i a → OwnsIn links j a → i ≡ j
   pub highest : (i a : ℕ) → OwnsIn links i a → a ≤ most
   pub least : (i a : ℕ) → OwnsIn links i a → 1 ≤ a
-  pub far : (i : ℕ) (l : LinkOf TrueFlow) → slice_get links i ≡ Some l → HasFar others l
-  pub named : (i : ℕ) (l : LinkOf TrueFlow) → slice_get links i ≡ Some l → IsNamed l
+  pub far : (i : ℕ) (l : LinkOf TrueSegments) → slice_get links i ≡ Some l → HasFar others l
+  pub named : (i : ℕ) (l : LinkOf TrueSegments) → slice_get links i ≡ Some l → IsNamed l
 
 pub none_addressed : (others : LinkList) (most : ℕ) → AreAddressed [] others most
 none_addressed others most =
@@ -109,7 +109,7 @@ module _ (old new others : LinkList) (most n : ℕ) (given : Option ℕ) (less :
   above i a (inl x) = h.least i a x
   above i a (inr e) = let f = is_new a e.1 in omega arith
 
-  left_addressed : ((i : ℕ) (l : LinkOf TrueFlow) → slice_get new i ≡ Some l → HasFar others l × IsNamed l) →
+  left_addressed : ((i : ℕ) (l : LinkOf TrueSegments) → slice_get new i ≡ Some l → HasFar others l × IsNamed l) →
       AreAddressed new others (higher most given)
   left_addressed each = record {
     distinct = λ i j a x y. same i j a (back i a x) (back j a y);
@@ -120,13 +120,14 @@ module _ (old new others : LinkList) (most n : ℕ) (given : Option ℕ) (less :
   }
 
 -- its own address stays, or it had none and is given this
-abbrev pub OwnLeft : Option ℕ → LinkOf TrueFlow → LinkOf TrueFlow → Type 0
+abbrev pub OwnLeft : Option ℕ → LinkOf TrueSegments → LinkOf TrueSegments → Type 0
 OwnLeft given l k = (k.port.own ≡ l.port.own) ⊎ ((l.port.own ≡ None) × (k.port.own ≡ given))
 
-abbrev own_of : LinkOf TrueFlow → Option ℕ
+abbrev own_of : LinkOf TrueSegments → Option ℕ
 own_of l = l.port.own
 
-module _ (links : LinkList) (n : ℕ) (l k : LinkOf TrueFlow) (there : slice_get links n ≡ Some l) (given : Option ℕ) (own : OwnLeft given l k) where
+module _ (links : LinkList) (n : ℕ) (l k : LinkOf TrueSegments) (there : slice_get links n ≡ Some l) (given : Option ℕ)
+    (own : OwnLeft given l k) where
   set_back : (i a : ℕ) → OwnsIn (slice_set links n k) i a → OwnsIn links i a ⊎ ((i ≡ n) × (given ≡ Some a))
   set_back i a o = go (at_set links n i k o.link o.there) own
     where
@@ -150,7 +151,7 @@ module _ (links : LinkList) (n : ℕ) (l k : LinkOf TrueFlow) (there : slice_get
       go (inl e) = record { link = k; there = ap (slice_get (slice_set links n k)) e ∙ set_same links n l k there; owns = owns own (was e) }
       go (inr differs) = record { link = o.link; there = set_other links n i k differs ∙ o.there; owns = o.owns }
 
-push_back : (links : LinkList) (k : LinkOf TrueFlow) (i a : ℕ) → OwnsIn (links ++ k ∷ []) i a → OwnsIn links i a ⊎ ((i ≡ length links) ×
+push_back : (links : LinkList) (k : LinkOf TrueSegments) (i a : ℕ) → OwnsIn (links ++ k ∷ []) i a → OwnsIn links i a ⊎ ((i ≡ length links) ×
     (k.port.own ≡ Some a))
 push_back links k i a o = go (at_pushed links k o.link i o.there)
   where
@@ -169,7 +170,7 @@ pub record LeavesAddressed (old : Links) (others : LinkList) (left : Links) (mos
   pub nodes : AtNodes left old.node old.peer
 
 -- what a change of one link leaves of its port
-pub record PortKept (l k : LinkOf TrueFlow) : Type 0 where
+pub record PortKept (l k : LinkOf TrueSegments) : Type 0 where
   pub own : k.port.own ≡ l.port.own
   pub far : k.port.far ≡ l.port.far
   pub partner : k.partner ≡ l.partner
@@ -179,14 +180,14 @@ module _ (s : Links) (others : LinkList) (most : ℕ) (h : AreAddressed s.links 
   abbrev Leaves : Links → ℕ → Type 0
   Leaves left top = LeavesAddressed s others left top
 
-  abbrev IsRight : LinkOf TrueFlow → Type 0
+  abbrev IsRight : LinkOf TrueSegments → Type 0
   IsRight l = HasFar others l × IsNamed l
 
-  are_right : (i : ℕ) (l : LinkOf TrueFlow) → slice_get s.links i ≡ Some l → IsRight l
+  are_right : (i : ℕ) (l : LinkOf TrueSegments) → slice_get s.links i ≡ Some l → IsRight l
   are_right i l at = (h.far i l at, h.named i l at)
 
   -- one that is another then
-  pub one_left : (given : Option ℕ) → IsHigher most given → (number : ℕ) (link left : LinkOf TrueFlow) → slice_get s.links number ≡ Some link →
+  pub one_left : (given : Option ℕ) → IsHigher most given → (number : ℕ) (link left : LinkOf TrueSegments) → slice_get s.links number ≡ Some link →
       OwnLeft given link left → IsRight left → Leaves (changed number left s) (higher most given)
   one_left given less number link left there own right = record {
     addressed = left_addressed s.links (slice_set s.links number left) others most number given less
@@ -196,7 +197,7 @@ module _ (s : Links) (others : LinkList) (most : ℕ) (h : AreAddressed s.links 
   }
 
   -- and one that keeps its port's addresses
-  pub one_kept : (number : ℕ) (link left : LinkOf TrueFlow) → slice_get s.links number ≡ Some link → PortKept link left →
+  pub one_kept : (number : ℕ) (link left : LinkOf TrueSegments) → slice_get s.links number ≡ Some link → PortKept link left →
       Leaves (changed number left s) most
   one_kept number link left there p = one_left None tt number link left there (inl p.own) (
     λ far e. subst (λ (x : Option ℕ). Owner others x far) (sym p.partner) (h.far number link there far (sym p.far ∙ e)),
@@ -204,7 +205,7 @@ module _ (s : Links) (others : LinkList) (most : ℕ) (h : AreAddressed s.links 
   )
 
   -- one more
-  pub one_more : (left : LinkOf TrueFlow) → IsHigher most left.port.own → IsRight left → Leaves (begun left s) (higher most left.port.own)
+  pub one_more : (left : LinkOf TrueSegments) → IsHigher most left.port.own → IsRight left → Leaves (begun left s) (higher most left.port.own)
   one_more left less right = record {
     addressed = left_addressed s.links (s.links ++ left ∷ []) others most (length s.links) left.port.own less (push_back s.links left) h
         (all_pushed (λ i l. IsRight l) s.links left right are_right);
@@ -215,27 +216,27 @@ module _ (s : Links) (others : LinkList) (most : ℕ) (h : AreAddressed s.links 
   -- ---- the user
 
   -- nobody has it
-  pub freed_same : (address : ℕ) → most < address → freed true_flows address s ≡ s
+  pub freed_same : (address : ℕ) → most < address → freed true_segments address s ≡ s
   freed_same address less =
-      looked (HasAddress address) s s (λ number link. changed number (forgotten true_flows link) s) (freed true_flows address s) refl
+      looked (HasAddress address) s s (λ number link. changed number (forgotten true_segments link) s) (freed true_segments address s) refl
       (λ none e. sym e)
       (λ number link found e.
       let l = h.highest number address (record { link = link; there = found.there; owns = at_is link.port.own address found.passed }) in
       absurd (omega arith))
 
-  answers : (phase : Phase) (far address number : ℕ) (link : LinkOf TrueFlow) → is_called phase ≡ false → slice_get s.links number ≡ Some link →
+  answers : (phase : Phase) (far address number : ℕ) (link : LinkOf TrueSegments) → is_called phase ≡ false → slice_get s.links number ≡ Some link →
       is_called link.port.phase ≡ true → most < address →
-      Leaves (changed number (answered true_flows phase address link) (freed true_flows address s)) address
+      Leaves (changed number (answered true_segments phase address link) (freed true_segments address s)) address
   answers phase far address number link differs there called less =
-      subst (λ (x : Links). Leaves (changed number (answered true_flows phase address link) x) address) (sym (freed_same address less))
-      (one_left (Some address) less number link (answered true_flows phase address link) there (inr (h.named number link there called, refl))
+      subst (λ (x : Links). Leaves (changed number (answered true_segments phase address link) x) address) (sym (freed_same address less))
+      (one_left (Some address) less number link (answered true_segments phase address link) there (inr (h.named number link there called, refl))
       (h.far number link there, λ c. absurd cc))
 
-  pub user_addressed : (event : LinkEventValue) (left : Links) → IsHigher most (given_address event) → UserDid true_flows s event left →
+  pub user_addressed : (event : LinkEventValue) (left : Links) → IsHigher most (given_address event) → UserDid true_segments s event left →
       Leaves left (higher most (given_address event))
   user_addressed event left less (Opens address free) =
-      subst (λ (x : Links). Leaves (begun (opened true_flows address) x) address) (sym (freed_same address less))
-      (one_more (opened true_flows address) less (λ far e. absurd cc, λ c. absurd cc))
+      subst (λ (x : Links). Leaves (begun (opened true_segments address) x) address) (sym (freed_same address less))
+      (one_more (opened true_segments address) less (λ far e. absurd cc, λ c. absurd cc))
   user_addressed event left less (Accepts far address number link found free) =
       answers Confirming far address number link refl found.there (and_parts (is_called link.port.phase) (is_at link.port.far far) found.passed).0
       less
@@ -243,9 +244,9 @@ module _ (s : Links) (others : LinkList) (most : ℕ) (h : AreAddressed s.links 
       answers Disconnecting far address number link refl found.there (and_parts (is_called link.port.phase) (is_at link.port.far far) found.passed).0
       less
   user_addressed event left less (HandsIn address message number link found may) =
-      one_kept number link (with_flow (true_flows.hands_in message link.flow) link) found.there
+      one_kept number link (with_segments (true_segments.hands_in message link.segments) link) found.there
       (record { own = refl; far = refl; partner = refl; called = λ c. c })
-  user_addressed event left less (Delivers address message number link flow found is) =
-      one_kept number link (with_flow flow link) found.there (record { own = refl; far = refl; partner = refl; called = λ c. c })
+  user_addressed event left less (Delivers address message number link segments found is) =
+      one_kept number link (with_segments segments link) found.there (record { own = refl; far = refl; partner = refl; called = λ c. c })
   user_addressed event left less (Closes address number link found connected) =
       one_kept number link (in_phase Disconnecting link) found.there (record { own = refl; far = refl; partner = refl; called = λ c. absurd cc })

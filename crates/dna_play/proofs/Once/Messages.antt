@@ -11,11 +11,11 @@ use Rattle.dna_links.specs.declared.port.Phase.{Phase}
 use Rattle.dna_links.specs.declared.port.LinkTest.{LinkTest}
 use Rattle.dna_links.specs.declared.port.LinkTest.TheVariants.{TheLink, OpenedAt, ActedOn}
 use Rattle.dna_links.specs.LookUps.{is_live, is_at, is_calling, is_confirming, is_running, is_disconnecting, has_both, passes}
-use Rattle.dna_links.specs.Flow.{Sending}
-use Rattle.dna_links.specs.Links.{LinkOf, LinkTruth, check, changed, with_flow, ended, in_phase}
+use Rattle.dna_links.specs.SegmentBook.{Sending}
+use Rattle.dna_links.specs.Links.{LinkOf, LinkTruth, check, changed, with_segments, ended, in_phase}
 use Rattle.dna_links.specs.Sending.{Sent, truth_of, unchanged, in_its_phase, carries, in_run, segment_of, message_sent}
 use Rattle.dna_links.specs.Arriving.{of_partner, called, confirmed}
-use Rattle.dna_links.specs.TrueFlow.{TrueFlow, Numbers, true_flows}
+use Rattle.dna_links.specs.TrueSegments.{TrueSegments, Numbers, true_segments}
 use Rattle.dna_links.specs.TrueLinks.{Links}
 use Rattle.dna_links.proofs.Runs.Reads.{at_is}
 use Rattle.dna_links.proofs.Tables.Outcomes.{looked, checked, SentDid, OfNone, Stays, EndsCalled, Segment, Acks, IsFound, Connects, ArrivedDid}
@@ -69,7 +69,7 @@ message_kept own others further theirs m tag mine more a = record {
 
 module _ (s : Links) (others : LinkList) (most : ℕ) (h : AreAddressed s.links others most) where
   -- of a link with these addresses
-  of_link : (m : NspValue) (number : ℕ) (link : LinkOf TrueFlow) (src : ℕ) → slice_get s.links number ≡ Some link → link.port.own ≡ Some src →
+  of_link : (m : NspValue) (number : ℕ) (link : LinkOf TrueSegments) (src : ℕ) → slice_get s.links number ≡ Some link → link.port.own ≡ Some src →
       source m ≡ Some src → ((a : ℕ) → target m ≡ Some a → link.port.far ≡ Some a) →
       IsAddressed s.links others m (record { link = Some number; partner = link.partner })
   of_link m number link src there owns is far = record {
@@ -77,50 +77,52 @@ module _ (s : Links) (others : LinkList) (most : ℕ) (h : AreAddressed s.links 
     to = λ a e. h.far number link there a (far a e);
   }
 
-  abbrev SentFrom : NspValue → Sent TrueFlow Numbers → Type 0
+  abbrev SentFrom : NspValue → Sent TrueSegments Numbers → Type 0
   SentFrom m made = IsAddressed s.links others m made.truth.tag
 
-  abbrev OfThis : NspValue → LinkOf TrueFlow → Type 0
+  abbrev OfThis : NspValue → LinkOf TrueSegments → Type 0
   OfThis m link = (src : ℕ) × (link.port.own ≡ Some src) × (source m ≡ Some src) × ((a : ℕ) → target m ≡ Some a → link.port.far ≡ Some a)
 
   -- the test tells both
-  the_link : (m : NspValue) (src dst : ℕ) (link : LinkOf TrueFlow) → source m ≡ Some src → target m ≡ Some dst →
+  the_link : (m : NspValue) (src dst : ℕ) (link : LinkOf TrueSegments) → source m ≡ Some src → target m ≡ Some dst →
       passes (TheLink src dst) link.port ≡ true → OfThis m link
   the_link m src dst link is for passed =
       let both = and_parts (is_at link.port.own src) (is_at link.port.far dst)
       (and_parts (is_live link.port.phase) (has_both link.port src dst) passed).1 in
       (src, at_is link.port.own src both.0, is, λ a e. at_is link.port.far dst both.1 ∙ sym for ∙ e)
 
-  same_sent : (x y : Sent TrueFlow Numbers) → ◌≡◌ {A = Result (Sent TrueFlow Numbers) LinkRefusal} (Ok x) (Ok y) → x ≡ y
+  same_sent : (x y : Sent TrueSegments Numbers) → ◌≡◌ {A = Result (Sent TrueSegments Numbers) LinkRefusal} (Ok x) (Ok y) → x ≡ y
   same_sent x y e = cc
 
-  in_phase_from : (m : NspValue) (test : LinkTest) (is_right : Phase → Bool) (made : Sent TrueFlow Numbers) →
-      ((link : LinkOf TrueFlow) → passes test link.port ≡ true → OfThis m link) → in_its_phase true_flows test is_right s ≡ Ok made → SentFrom m made
+  in_phase_from : (m : NspValue) (test : LinkTest) (is_right : Phase → Bool) (made : Sent TrueSegments Numbers) →
+      ((link : LinkOf TrueSegments) → passes test link.port ≡ true → OfThis m link) → in_its_phase true_segments test is_right s ≡ Ok made →
+      SentFrom m made
   in_phase_from m test is_right made tells e =
-      looked test s (Err NoLink) (λ number link. check (is_right link.port.phase) LinkState (Ok (unchanged true_flows s number link))) (Ok made) e
+      looked test s (Err NoLink) (λ number link. check (is_right link.port.phase) LinkState (Ok (unchanged true_segments s number link))) (Ok made) e
       (λ missing e. absurd cc)
       (λ number link found e.
       let c = checked _ _ _ made e in let t = tells link found.passed in
-      subst (SentFrom m) (same_sent (unchanged true_flows s number link) made c.1) (of_link m number link t.0 found.there t.1 t.2 t.3))
+      subst (SentFrom m) (same_sent (unchanged true_segments s number link) made c.1) (of_link m number link t.0 found.there t.1 t.2 t.3))
 
-  run_from : (m : NspValue) (src dst : ℕ) (sends : LinkOf TrueFlow → Result (Sending TrueFlow Numbers) LinkRefusal) (made : Sent TrueFlow Numbers) →
-      source m ≡ Some src → target m ≡ Some dst → in_run true_flows src dst sends s ≡ Ok made → SentFrom m made
+  run_from : (m : NspValue) (src dst : ℕ) (sends : LinkOf TrueSegments → Result (Sending TrueSegments Numbers) LinkRefusal)
+      (made : Sent TrueSegments Numbers) →
+      source m ≡ Some src → target m ≡ Some dst → in_run true_segments src dst sends s ≡ Ok made → SentFrom m made
   run_from m src dst sends made is for e =
       looked (TheLink src dst) s (Err NoLink)
-      (λ number link. check (is_running link.port.phase) LinkState (carries true_flows s number link (sends link))) (Ok made) e
+      (λ number link. check (is_running link.port.phase) LinkState (carries true_segments s number link (sends link))) (Ok made) e
       (λ missing e. absurd cc)
       (λ number link found e. let c = checked _ _ _ made e in let t = the_link m src dst link is for found.passed in
       carried number link (sends link) (of_link m number link t.0 found.there t.1 t.2 t.3) c.1)
     where
-      carried : (number : ℕ) (link : LinkOf TrueFlow) (o : Result (Sending TrueFlow Numbers) LinkRefusal) →
-          IsAddressed s.links others m (record { link = Some number; partner = link.partner }) → carries true_flows s number link o ≡ Ok made →
+      carried : (number : ℕ) (link : LinkOf TrueSegments) (o : Result (Sending TrueSegments Numbers) LinkRefusal) →
+          IsAddressed s.links others m (record { link = Some number; partner = link.partner }) → carries true_segments s number link o ≡ Ok made →
           SentFrom m made
       carried number link (Err refusal) a e = absurd cc
       carried number link (Ok sent) a e =
           subst (SentFrom m) (same_sent (record
-          { links = changed number (with_flow sent.flow link) s; truth = truth_of true_flows number link sent.known }) made e) a
+          { links = changed number (with_segments sent.segments link) s; truth = truth_of true_segments number link sent.known }) made e) a
 
-  pub sent_from : (m : NspValue) (made : Sent TrueFlow Numbers) → message_sent true_flows s m ≡ Ok made → SentFrom m made
+  pub sent_from : (m : NspValue) (made : Sent TrueSegments Numbers) → message_sent true_segments s m ≡ Ok made → SentFrom m made
   sent_from (ConnectInitiate retransmitted src services info segsize user_data) made e =
       in_phase_from _ (OpenedAt src) is_calling made
       (λ link passed. (
@@ -139,8 +141,9 @@ module _ (s : Links) (others : LinkList) (most : ℕ) (h : AreAddressed s.links 
       (λ link passed. the_link (DisconnectInitiate dst src reason user_data) src dst link refl refl passed) e
   sent_from (DisconnectConfirm dst src reason) made e = record { from = λ a e. absurd cc; to = λ a e. absurd cc }
   sent_from (DataSegment segment) made e =
-      run_from (DataSegment segment) segment.srcaddr segment.dstaddr (segment_of true_flows segment) made refl refl e
-  sent_from (DataAck dst src acks) made e = run_from (DataAck dst src acks) src dst (λ link. true_flows.sends_acks acks link.flow) made refl refl e
+      run_from (DataSegment segment) segment.srcaddr segment.dstaddr (segment_of true_segments segment) made refl refl e
+  sent_from (DataAck dst src acks) made e =
+      run_from (DataAck dst src acks) src dst (λ link. true_segments.sends_acks acks link.segments) made refl refl e
   sent_from (LinkService interrupt dst src rest) made e =
       in_phase_from (LinkService interrupt dst src rest) (TheLink src dst) is_running made
       (λ link passed. the_link (LinkService interrupt dst src rest) src dst link refl refl passed) e
@@ -156,38 +159,39 @@ module _ (s : Links) (others : LinkList) (most : ℕ) (h : AreAddressed s.links 
   pub same_links : Stays' s
   same_links = record { addressed = h; keeps = λ i a o. o; nodes = record { node_is = refl; peer_is = refl } }
 
-  with_flow_kept : (number : ℕ) (link : LinkOf TrueFlow) (f : TrueFlow) → slice_get s.links number ≡ Some link →
-      Stays' (changed number (with_flow f link) s)
-  with_flow_kept number link f there =
-      one_kept s others most h number link (with_flow f link) there (record { own = refl; far = refl; partner = refl; called = λ c. c })
+  with_segments_kept : (number : ℕ) (link : LinkOf TrueSegments) (f : TrueSegments) → slice_get s.links number ≡ Some link →
+      Stays' (changed number (with_segments f link) s)
+  with_segments_kept number link f there =
+      one_kept s others most h number link (with_segments f link) there (record { own = refl; far = refl; partner = refl; called = λ c. c })
 
-  ended_kept : (number : ℕ) (link : LinkOf TrueFlow) → slice_get s.links number ≡ Some link → Stays' (changed number (ended true_flows link) s)
+  ended_kept : (number : ℕ) (link : LinkOf TrueSegments) → slice_get s.links number ≡ Some link → Stays' (changed number (ended true_segments link) s)
   ended_kept number link there =
-      one_kept s others most h number link (ended true_flows link) there (record { own = refl; far = refl; partner = refl; called = λ c. absurd cc })
+      one_kept s others most h number link (ended true_segments link) there
+      (record { own = refl; far = refl; partner = refl; called = λ c. absurd cc })
 
-  pub sent_stays : (m : NspValue) (made : Sent TrueFlow Numbers) → SentDid true_flows s m made → Stays' made.links
+  pub sent_stays : (m : NspValue) (made : Sent TrueSegments Numbers) → SentDid true_segments s m made → Stays' made.links
   sent_stays m made (OfNone none) = same_links
   sent_stays m made (Stays number link none there) = same_links
   sent_stays m made (EndsCalled far reason number link none is found) = ended_kept number link found.there
-  sent_stays m made (Segment segment number link sent is found run does) = with_flow_kept number link sent.flow found.there
-  sent_stays m made (Acks dst src acks number link sent is found run does) = with_flow_kept number link sent.flow found.there
+  sent_stays m made (Segment segment number link sent is found run does) = with_segments_kept number link sent.segments found.there
+  sent_stays m made (Acks dst src acks number link sent is found run does) = with_segments_kept number link sent.segments found.there
 
   -- ---- what comes
 
   module _ (truth : LinkTruth Numbers) where
-    acted_kept : (own far number : ℕ) (link : LinkOf TrueFlow) (f : TrueFlow) → IsFound (ActedOn own far) s number link →
-        Stays' (changed number (with_flow f (in_phase Running link)) s)
-    acted_kept own far number link f found = one_kept s others most h number link (with_flow f (in_phase Running link)) found.there
+    acted_kept : (own far number : ℕ) (link : LinkOf TrueSegments) (f : TrueSegments) → IsFound (ActedOn own far) s number link →
+        Stays' (changed number (with_segments f (in_phase Running link)) s)
+    acted_kept own far number link f found = one_kept s others most h number link (with_segments f (in_phase Running link)) found.there
         (record { own = refl; far = refl; partner = refl; called = λ c. absurd cc })
 
     pub came_stays : (m : NspValue) (left : Links) → ((a : ℕ) → source m ≡ Some a → Owner others truth.tag.link a) →
-        ArrivedDid true_flows of_partner s m truth left → Stays' left
+        ArrivedDid true_segments of_partner s m truth left → Stays' left
     came_stays m left from Ignores = same_links
     came_stays m left from (Begins far segsize is none) =
-        one_more s others most h (called true_flows of_partner far segsize truth.tag) tt
+        one_more s others most h (called true_segments of_partner far segsize truth.tag) tt
         (λ a e. subst (Owner others truth.tag.link) (same_Some far a e) (from far (connects_from m far segsize is)), λ c. refl)
     came_stays m left from (Confirms own far segsize number link is found may) =
-        one_left s others most h None tt number link (confirmed true_flows of_partner far segsize truth.tag link) found.there (inl refl)
+        one_left s others most h None tt number link (confirmed true_segments of_partner far segsize truth.tag link) found.there (inl refl)
         (λ a e. subst (Owner others truth.tag.link) (same_Some far a e) (from far (connects_from m far segsize is)), λ c. absurd cc)
     came_stays m left from (Ends test number link found) = ended_kept number link found.there
     came_stays m left from (TakesSegment own far segment number link is found may) = acted_kept own far number link _ found

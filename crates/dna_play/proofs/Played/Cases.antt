@@ -10,7 +10,7 @@ use Rattle.capture.specs.declared.record.Record.{Record}
 use Rattle.capture.specs.declared.record.Record.TheVariants.{User}
 use Rattle.dna_links.specs.declared.port.LinkTest.{LinkTest}
 use Rattle.dna_links.specs.Links.{LinkOf, number_of, with_link}
-use Rattle.dna_links.specs.TrueFlow.{TrueFlow}
+use Rattle.dna_links.specs.TrueSegments.{TrueSegments}
 use Rattle.dna_links.specs.TrueLinks.{Links}
 use Rattle.dna_node.specs.Layers.{LayersUnit}
 use Rattle.dna_play.specs.Player.{End, makes, links_of, after_record}
@@ -29,8 +29,8 @@ module _ (P : Result Stepped Stop → Type 0) where
   made_case e r more (Some half) none some = some half refl
 
   -- a link is found, or not
-  pub link_case : (test : LinkTest) (s : Links) (next : ℕ → LinkOf TrueFlow → Result Stepped Stop) → (number_of test s ≡ None → P (Err BadStep)) →
-      ((number : ℕ) (link : LinkOf TrueFlow) → IsFound test s number link → P (next number link)) → P (with_link test s (Err BadStep) next)
+  pub link_case : (test : LinkTest) (s : Links) (next : ℕ → LinkOf TrueSegments → Result Stepped Stop) → (number_of test s ≡ None → P (Err BadStep)) →
+      ((number : ℕ) (link : LinkOf TrueSegments) → IsFound test s number link → P (next number link)) → P (with_link test s (Err BadStep) next)
   link_case test s next none some = looked test s (Err BadStep) next (with_link test s (Err BadStep) next) refl
       (λ missing e. subst P e (none missing)) (λ number link found e. subst P e (some number link found))
 

@@ -17,7 +17,7 @@ use Rattle.two_nodes.specs.Beginning.{BeginsWith}
 use Rattle.dna_links.specs.Pieces.{Piece}
 use Rattle.dna_links.specs.Links.{LinkOf}
 use Rattle.dna_links.specs.User.{LinkEventValue, Open, Accept, Reject, In}
-use Rattle.dna_links.specs.TrueFlow.{TrueFlow}
+use Rattle.dna_links.specs.TrueSegments.{TrueSegments}
 use Rattle.dna_links.specs.Captures.{given_address, gives_address, message_in, handed_in, behind, IsRead}
 use Rattle.dna_links.specs.Delivery.{IsCut, HeldFrom}
 use Rattle.dna_node.specs.LayersPair.{link_event_in, link_events}
@@ -109,8 +109,8 @@ handed_lined own (event ∷ list) h = go (handed_lined own list h.1) (gives_addr
     go later false = all_of_both IsMessage (message_in own event) (handed_in own list) (message_lined own event h.0) later
 
 -- all that was handed in at a link can stand in a line
-pub link_handed_lined : (list : List LinkEventValue) (link : LinkOf TrueFlow) (place : Option ℕ) → IsRead list link place → EventsLined list →
-    AreMessages link.flow.handed
+pub link_handed_lined : (list : List LinkEventValue) (link : LinkOf TrueSegments) (place : Option ℕ) → IsRead list link place → EventsLined list →
+    AreMessages link.segments.handed
 link_handed_lined list link None r h = subst AreMessages (sym r.handed) tt
 link_handed_lined list link (Some place) r h = subst AreMessages (sym r.handed) (handed_lined r.own (behind place list) (behind_lined place list h))
 
@@ -136,11 +136,12 @@ address_lined list own held (Some place) h e lined = go h.holds
 
 -- ---- what is whole
 
-abbrev IsHeldIn : TrueFlow → TrueFlow → Type 0
+abbrev IsHeldIn : TrueSegments → TrueSegments → Type 0
 IsHeldIn f g = (n : ℕ) (p : Piece) → slice_get f.received n ≡ Some (Some p) → slice_get g.given n ≡ Some p
 
 -- what was delivered, with all that is whole, is a beginning of what was handed in
-whole_begins : (messages : List (List ℕ)) (f g : TrueFlow) → IsPassed f → IsCut g → IsHeldIn f g → complete [] (drop f.passed f.received) ≡ messages →
+whole_begins : (messages : List (List ℕ)) (f g : TrueSegments) → IsPassed f → IsCut g → IsHeldIn f g →
+    complete [] (drop f.passed f.received) ≡ messages →
     BeginsWith g.handed (f.delivered ++ messages)
 whole_begins [] f g p cut held e = subst (BeginsWith g.handed) (sym (append-nil f.delivered)) (passed_begins f g p cut held)
 whole_begins (message ∷ later) f g p cut held e =
@@ -150,7 +151,7 @@ whole_begins (message ∷ later) f g p cut held e =
     (whole_begins later next g (passed_delivered message f next p (delivered_is message f next d.does)) cut held d.left)
 
 -- without a piece nothing is whole
-none_whole : (f : TrueFlow) → f.received ≡ [] → complete [] (drop f.passed f.received) ≡ []
+none_whole : (f : TrueSegments) → f.received ≡ [] → complete [] (drop f.passed f.received) ≡ []
 none_whole f none = ap (λ (l : List (Option Piece)). complete [] (drop f.passed l)) none ∙ ap (complete []) (nothing f.passed)
   where
     nothing : (n : ℕ) → ◌≡◌ {A = List (Option Piece)} (drop n []) []
@@ -158,14 +159,14 @@ none_whole f none = ap (λ (l : List (Option Piece)). complete [] (drop f.passed
     nothing (suc n) = refl
 
 -- what is whole of a link can stand in a line, where all that was handed in at the other side can
-pub whole_lined : (f : TrueFlow) (partner : Option ℕ) (others : List (LinkOf TrueFlow)) → IsPassed f → HeldFrom partner f.received others →
-    ((i : ℕ) (l : LinkOf TrueFlow) → slice_get others i ≡ Some l → IsCut l.flow × AreMessages l.flow.handed) →
+pub whole_lined : (f : TrueSegments) (partner : Option ℕ) (others : List (LinkOf TrueSegments)) → IsPassed f → HeldFrom partner f.received others →
+    ((i : ℕ) (l : LinkOf TrueSegments) → slice_get others i ≡ Some l → IsCut l.segments × AreMessages l.segments.handed) →
     AreMessages (complete [] (drop f.passed f.received))
 whole_lined f None others p held all = subst AreMessages (sym (none_whole f held)) tt
 whole_lined f (Some partner) others p held all =
     let theirs = all partner held.0 held.1 in
     let messages = complete [] (drop f.passed f.received) in
-    let b = whole_begins messages f (held.0).flow p theirs.0 held.2 refl in
+    let b = whole_begins messages f (held.0).segments p theirs.0 held.2 refl in
     All-behind IsMessage f.delivered messages (all_of_first IsMessage (f.delivered ++ messages) b.rest (subst AreMessages b.whole theirs.1))
 
 -- ---- the deliveries

@@ -27,4 +27,4 @@ heads_stay {w} (OfB {h = h} {r = r} made rest) = let e = heads_stay rest in
 -- ---- the numbers of its links
 
 pub numbers_of : (own other : LinkSide) → AreLinksBounded own other → HasNumbers own.links.links
-numbers_of own other b i l at = ((b.ordered i l at).flow, b.answered i l at)
+numbers_of own other b i l at = ((b.ordered i l at).segments, b.answered i l at)

@@ -7,7 +7,7 @@ use Rattle.dna_links.specs.declared.port.LinkTest.TheVariants.{ActedOn}
 use Rattle.dna_links.specs.LookUps.{is_at, is_connected, has_both}
 use Rattle.dna_links.specs.Links.{LinkOf}
 use Rattle.dna_links.specs.User.{LinkEventValue}
-use Rattle.dna_links.specs.TrueFlow.{TrueFlow}
+use Rattle.dna_links.specs.TrueSegments.{TrueSegments}
 use Rattle.dna_links.specs.Delivery.{IsCut}
 use Rattle.dna_play.specs.LinkOwed as owing
 use Rattle.dna_links.specs.Runs.{LinkSide}
@@ -22,16 +22,16 @@ use Rattle.dna_play.proofs.Played.HandedLined.{AreMessages, EventsLined, link_ha
 module _ (own other : LinkSide) (events further : List LinkEventValue) (h : IsSoundSide own other) (theirs : IsSoundSide other own)
     (owned : AreOwned events own.links.links) (others : AreOwned further other.links.links) (lined : EventsLined events)
     (others_lined : EventsLined further) where
-  theirs_lined : (i : ℕ) (l : LinkOf TrueFlow) → slice_get other.links.links i ≡ Some l → IsCut l.flow × AreMessages l.flow.handed
-  theirs_lined i l at = ((theirs.ends i l at).flow.cut, link_handed_lined further l (others.place_of i) (others.owned i l at).read others_lined)
+  theirs_lined : (i : ℕ) (l : LinkOf TrueSegments) → slice_get other.links.links i ≡ Some l → IsCut l.segments × AreMessages l.segments.handed
+  theirs_lined i l at = ((theirs.ends i l at).segments.cut, link_handed_lined further l (others.place_of i) (others.owned i l at).read others_lined)
 
-  link_lined : (address i : ℕ) (l : LinkOf TrueFlow) → slice_get own.links.links i ≡ Some l → l.port.own ≡ Some address →
+  link_lined : (address i : ℕ) (l : LinkOf TrueSegments) → slice_get own.links.links i ≡ Some l → l.port.own ≡ Some address →
       AllLined address (complete [] (owing.variables_of l).pieces)
-  link_lined address i l at owns = all_lined address (complete [] (drop l.flow.passed l.flow.received))
+  link_lined address i l at owns = all_lined address (complete [] (drop l.segments.passed l.segments.received))
       (address_lined events address l.port.own (owned.place_of i) (owned.owned i l at).holds owns lined)
-      (whole_lined l.flow l.partner other.links.links (h.ends i l at).flow.passed (h.ends i l at).held theirs_lined)
+      (whole_lined l.segments l.partner other.links.links (h.ends i l at).segments.passed (h.ends i l at).held theirs_lined)
 
-  segment_lined : (address far number : ℕ) (link : LinkOf TrueFlow) → IsFound (ActedOn address far) own.links number link →
+  segment_lined : (address far number : ℕ) (link : LinkOf TrueSegments) → IsFound (ActedOn address far) own.links number link →
       AllLined address (complete [] (owing.variables_of link).pieces)
   segment_lined address far number link found =
       let both = (and_parts (is_connected link.port.phase) (has_both link.port address far) found.passed).1 in

@@ -6,7 +6,7 @@ use Rattle.capture.specs.declared.record.Record.TheVariants.{User}
 use Rattle.dna_links.specs.User as of_links
 use Rattle.dna_links.specs.Arriving.{of_anyone}
 use Rattle.dna_links.specs.Runs.{SentMessage}
-use Rattle.dna_links.specs.TrueFlow.{true_flows}
+use Rattle.dna_links.specs.TrueSegments.{true_segments}
 use Rattle.dna_links.specs.TrueLinks.{Links}
 use Rattle.dna_node.specs.Rules.{by_bytes}
 use Rattle.dna_play.specs.Player.{makes, links_of}
@@ -26,7 +26,7 @@ waiting_at half = waiting (links_of half).links
 -- as many wait where a message is first sent
 first_waits : (s left : Links) (body : List ℕ) (sent : Option SentMessage) → FirstSent s body left sent → waiting left.links ≡ waiting s.links
 first_waits s left body sent (NoMessage none) = refl
-first_waits s left body sent (Message packet made read done) = sent_waits s packet.message made (sent_did true_flows s made packet done)
+first_waits s left body sent (Message packet made read done) = sent_waits s packet.message made (sent_did true_segments s made packet done)
 
 -- and at most one more where a packet was kept
 met_waits : (s left : Links) (carried : Option SentMessage) (kept : Bool) → IsMet by_bytes s carried kept left →
@@ -34,12 +34,12 @@ met_waits : (s left : Links) (carried : Option SentMessage) (kept : Bool) → Is
 met_waits s left carried false NotKept = omega arith
 met_waits s left carried true (KeptNone none) = omega arith
 met_waits s left carried true (KeptOne message links is done) =
-    arrived_waits s message.packet.message message.truth links (arrived_did true_flows of_anyone s links message.truth message.packet done)
+    arrived_waits s message.packet.message message.truth links (arrived_did true_segments of_anyone s links message.truth message.packet done)
 
 left_waits : (own other half : PlayHalf) (r : Record) → OnTop by_bytes own other r half → waiting_at half ≤ waiting_at own + 1
 left_waits own other half r (ByStation event) = omega arith
 left_waits own other half r (ByLinks event of_links left is done) =
-    let w = user_waits (links_of own) of_links left (user_did true_flows (links_of own) left of_links done) in omega arith
+    let w = user_waits (links_of own) of_links left (user_did true_segments (links_of own) left of_links done) in omega arith
 left_waits own other half r (Again bytes m old) = omega arith
 left_waits own other half r (First bytes m new left sent is) = let w = first_waits (links_of own) left _ sent is in omega arith
 left_waits own other half r (Receipt hint kept bytes unit arrival there left met) = met_waits (links_of own) left unit.known.carried kept met
@@ -57,6 +57,6 @@ module _ (own other half : PlayHalf) where
   delivery_waits address message e =
       let up = of_links.Up address message in
       let m = link_event_made own other half (events.Up address message) up refl e in
-      let w = user_waits (links_of own) up m.left (user_did true_flows (links_of own) m.left up m.does_it) in
+      let w = user_waits (links_of own) up m.left (user_did true_segments (links_of own) m.left up m.does_it) in
       let same : waiting_at (with_left own m.left) ≡ waiting_at half = ap waiting_at m.is in
       omega arith

@@ -1,4 +1,4 @@
--- All that is whole of a link goes to the user at once: what the deliveries make of an end of the player. They change the flow of that link, and
+-- All that is whole of a link goes to the user at once: what the deliveries make of an end of the player. They change the segments of that link, and
 -- nothing else.
 use Rattle.std.proofs.Common.{◌≡◌, ℕ, ◌+◌, true, false, Option, Some, None, List, [], ◌∷◌, ◌++◌, map, drop, Ok, refl, sym, ap, ap₂, ◌∙◌, arith}
 use Rattle.std.proofs.Common.{append-nil, append_assoc, length-set}
@@ -9,9 +9,9 @@ use Rattle.capture.specs.declared.record.Record.{Record}
 use Rattle.capture.specs.declared.record.Record.TheVariants.{User}
 use Rattle.dna_links.specs.LookUps.{is_at}
 use Rattle.dna_links.specs.Pieces.{Piece, Whole, next_message, in_whole_messages}
-use Rattle.dna_links.specs.Links.{LinkOf, changed, with_flow}
+use Rattle.dna_links.specs.Links.{LinkOf, changed, with_segments}
 use Rattle.dna_links.specs.User as of_links
-use Rattle.dna_links.specs.TrueFlow.{TrueFlow}
+use Rattle.dna_links.specs.TrueSegments.{TrueSegments}
 use Rattle.dna_links.specs.TrueLinks.{Links}
 use Rattle.dna_play.specs.Owed.{Owed, all_acknowledged}
 use Rattle.dna_play.specs.LinkOwed.{LinkOwed, LinksOwed}
@@ -28,7 +28,7 @@ use Rattle.dna_play.proofs.Ends.Stage.{with_left, Stage}
 use Rattle.dna_play.proofs.Stored.LiveLists.{set_back}
 use Rattle.dna_play.proofs.Stored.LiveEnds.{Counted, with_owed, still_same, left_set}
 use Rattle.dna_play.proofs.Stored.Made.{owed_same}
-use Rattle.dna_play.proofs.Links.Stage.{flow_holds}
+use Rattle.dna_play.proofs.Links.Stage.{segments_hold}
 use Rattle.dna_play.proofs.Links.Goes.{same_numbers}
 
 -- ---- how many pieces are delivered
@@ -45,41 +45,42 @@ split_some pieces (Some v) w split is = split.1 ∙ ap (λ (x : Whole). x.pieces
     same : (v w : Whole) → ◌≡◌ {A = Option Whole} (Some v) (Some w) → v ≡ w
     same v w e = cc
 
--- ---- the flow
+-- ---- the segments
 
 -- after all that is whole is delivered
-abbrev pub flow_got : TrueFlow → List (List ℕ) → TrueFlow
-flow_got f messages = record f { delivered = f.delivered ++ messages; passed = f.passed + in_whole_messages (drop f.passed f.received) }
+abbrev pub segments_got : TrueSegments → List (List ℕ) → TrueSegments
+segments_got f messages = record f { delivered = f.delivered ++ messages; passed = f.passed + in_whole_messages (drop f.passed f.received) }
 
-abbrev flow_at : TrueFlow → List (List ℕ) → ℕ → TrueFlow
-flow_at f delivered passed = record f { delivered = delivered; passed = passed }
+abbrev segments_at : TrueSegments → List (List ℕ) → ℕ → TrueSegments
+segments_at f delivered passed = record f { delivered = delivered; passed = passed }
 
-none_got : (f : TrueFlow) → complete [] (drop f.passed f.received) ≡ [] → flow_got f [] ≡ f
+none_got : (f : TrueSegments) → complete [] (drop f.passed f.received) ≡ [] → segments_got f [] ≡ f
 none_got f none =
     let pieces = drop f.passed f.received in
     let zero = split_none pieces (next_message pieces) (splits pieces) (none_next pieces none) in
     let passed : f.passed + in_whole_messages pieces ≡ f.passed = omega arith in
-    ap₂ (flow_at f) (append-nil f.delivered) passed
+    ap₂ (segments_at f) (append-nil f.delivered) passed
 
-more_got : (f : TrueFlow) (message : List ℕ) (later : List (List ℕ)) (w : Whole) → next_message (drop f.passed f.received) ≡ Some w →
-    flow_got (delivering message w f) later ≡ flow_got f (message ∷ later)
+more_got : (f : TrueSegments) (message : List ℕ) (later : List (List ℕ)) (w : Whole) → next_message (drop f.passed f.received) ≡ Some w →
+    segments_got (delivering message w f) later ≡ segments_got f (message ∷ later)
 more_got f message later w is =
     let pieces = drop f.passed f.received in
     let whole = split_some pieces (next_message pieces) w (splits pieces) is in
     let behind = ap in_whole_messages (drop-drop w.pieces f.passed f.received) in
     let passed : f.passed + w.pieces + in_whole_messages (drop (f.passed + w.pieces) f.received) ≡ f.passed + in_whole_messages pieces =
     omega arith in
-    ap₂ (flow_at f) (append_assoc f.delivered (message ∷ []) later) passed
+    ap₂ (segments_at f) (append_assoc f.delivered (message ∷ []) later) passed
 
 -- ---- one delivery
 
 abbrev pub with_links : End → Links → End
 with_links e links = record e { half = with_left e.half links }
 
--- nothing but the flow changes
-up_end : (e : End) (number : ℕ) (l k : LinkOf TrueFlow) (o : LinkOwed) → slice_get (links_of e.half).links number ≡ Some l →
+-- nothing but the segments change
+up_end : (e : End) (number : ℕ) (l k : LinkOf TrueSegments) (o : LinkOwed) → slice_get (links_of e.half).links number ≡ Some l →
     slice_get e.links_owed.links number ≡ Some o → Counted (links_of e.half).links e.links_owed →
-    (e.owed.rep ≡ true → all_acknowledged (variables_of e.half) ≡ false) → k.port.phase ≡ l.port.phase → k.flow.acknowledged ≡ l.flow.acknowledged →
+    (e.owed.rep ≡ true → all_acknowledged (variables_of e.half) ≡ false) → k.port.phase ≡ l.port.phase →
+    k.segments.acknowledged ≡ l.segments.acknowledged →
     after_record e (with_left e.half (changed number k (links_of e.half))) ≡ with_links e (changed number k (links_of e.half))
 up_end e number l k o there owes counted rep phase acknowledged =
     let left = changed number k (links_of e.half) in
@@ -90,13 +91,13 @@ up_end e number l k o there owes counted rep phase acknowledged =
     (ap (slice_set e.links_owed.links number) (still_same l k o phase acknowledged) ∙ set_back e.links_owed.links number o owes))
 
 -- and that keeps what holds of the end
-pub got_stage : (e : End) (number : ℕ) (l : LinkOf TrueFlow) (messages : List (List ℕ)) → slice_get (links_of e.half).links number ≡ Some l →
-    Stage e → Stage (with_links e (changed number (with_flow (flow_got l.flow messages) l) (links_of e.half)))
+pub got_stage : (e : End) (number : ℕ) (l : LinkOf TrueSegments) (messages : List (List ℕ)) → slice_get (links_of e.half).links number ≡ Some l →
+    Stage e → Stage (with_links e (changed number (with_segments (segments_got l.segments messages) l) (links_of e.half)))
 got_stage e number l messages there h = record {
   pays = h.pays;
   packets = h.packets;
-  links = flow_holds (links_of e.half).links e.addresses e.links_owed h.links number l (flow_got l.flow messages) there
-      (same_numbers l.flow (flow_got l.flow messages) refl refl refl) (λ o fits. record { turns = fits.turns; ahead = fits.ahead });
+  links = segments_hold (links_of e.half).links e.addresses e.links_owed h.links number l (segments_got l.segments messages) there
+      (same_numbers l.segments (segments_got l.segments messages) refl refl refl) (λ o fits. record { turns = fits.turns; ahead = fits.ahead });
   plain = h.plain;
   few = h.few;
   ahead = h.ahead;
@@ -110,24 +111,24 @@ up_record address message = User (events.Up address message)
 abbrev got_with : List Record → End → Links → Stepped
 got_with records e links = record { end = with_links e links; records = records }
 
-pub gets_made : (other : PlayHalf) (address number : ℕ) (messages : List (List ℕ)) (e : End) (records : List Record) (l : LinkOf TrueFlow)
+pub gets_made : (other : PlayHalf) (address number : ℕ) (messages : List (List ℕ)) (e : End) (records : List Record) (l : LinkOf TrueSegments)
     (o : LinkOwed) →
     AllLined address messages → slice_get (links_of e.half).links number ≡ Some l → is_at l.port.own address ≡ true →
-    ((j : ℕ) (m : LinkOf TrueFlow) → slice_get (links_of e.half).links j ≡ Some m → is_at m.port.own address ≡ true → j ≡ number) →
-    complete [] (drop l.flow.passed l.flow.received) ≡ messages → slice_get e.links_owed.links number ≡ Some o →
+    ((j : ℕ) (m : LinkOf TrueSegments) → slice_get (links_of e.half).links j ≡ Some m → is_at m.port.own address ≡ true → j ≡ number) →
+    complete [] (drop l.segments.passed l.segments.received) ≡ messages → slice_get e.links_owed.links number ≡ Some o →
     Counted (links_of e.half).links e.links_owed → (e.owed.rep ≡ true → all_acknowledged (variables_of e.half) ≡ false) →
     gets_all (map (λ (message : List ℕ). events.Up address message) messages) other (record { end = e; records = records })
-    ≡ Ok (got_with (records ++ ups address messages) e (changed number (with_flow (flow_got l.flow messages) l) (links_of e.half)))
+    ≡ Ok (got_with (records ++ ups address messages) e (changed number (with_segments (segments_got l.segments messages) l) (links_of e.half)))
 gets_made other address number [] e records l o lined there owns only whole owes counted rep =
     let s = links_of e.half in
-    let back : s ≡ changed number (with_flow (flow_got l.flow []) l) s =
-    sym (ap (λ (f : TrueFlow). changed number (with_flow f l) s) (none_got l.flow whole)
-    ∙ ap (λ (all : List (LinkOf TrueFlow)). record s { links = all }) (set_back s.links number l there)) in
+    let back : s ≡ changed number (with_segments (segments_got l.segments []) l) s =
+    sym (ap (λ (f : TrueSegments). changed number (with_segments f l) s) (none_got l.segments whole)
+    ∙ ap (λ (all : List (LinkOf TrueSegments)). record s { links = all }) (set_back s.links number l there)) in
     ap₂ (λ (all : List Record) (links : Links). Ok (got_with all e links)) (sym (append-nil records)) back
 gets_made other address number (message ∷ later) e records l o lined there owns only whole owes counted rep =
     let s = links_of e.half in
     let d = one_delivered s address number message later (record { link = l; there = there; owns = owns; only = only; whole = whole }) in
-    let k = with_flow (delivering message d.next.w l.flow) l in
+    let k = with_segments (delivering message d.next.w l.segments) l in
     let left : Links = changed number k s in
     let more = records ++ up_record address message ∷ [] in
     let still : Counted left.links e.links_owed = counted ∙ sym (length-set s.links number k) in
@@ -140,5 +141,5 @@ gets_made other address number (message ∷ later) e records l o lined there own
     d.others.only d.next.left owes still rep
     ∙ ap₂ (λ (all : List Record) (links : Links). Ok (got_with all e links))
     (append_assoc records (up_record address message ∷ []) (ups address later))
-    (ap (λ (all : List (LinkOf TrueFlow)). record s { links = all }) (set-set s.links number k (with_flow (flow_got k.flow later) k))
-    ∙ ap (λ (f : TrueFlow). changed number (with_flow f l) s) (more_got l.flow message later d.next.w d.next.is))
+    (ap (λ (all : List (LinkOf TrueSegments)). record s { links = all }) (set-set s.links number k (with_segments (segments_got k.segments later) k))
+    ∙ ap (λ (f : TrueSegments). changed number (with_segments f l) s) (more_got l.segments message later d.next.w d.next.is))

@@ -10,9 +10,9 @@ use Rattle.capture.specs.declared.limit.TheConstants.{MAX_MESSAGE}
 use Rattle.capture.specs.declared.record.Record.TheVariants.{User}
 use Rattle.dna_links.proofs.Runs.Reads.{at_is}
 use Rattle.dna_links.proofs.Tables.Outcomes.{IsFound, UserDid, HandsIn, Closes}
-use Rattle.dna_links.specs.Links.{LinkOf, number_of, changed, in_phase, with_flow}
+use Rattle.dna_links.specs.Links.{LinkOf, number_of, changed, in_phase, with_segments}
 use Rattle.dna_links.specs.LookUps.{is_connected, takes_messages, is_live, is_at}
-use Rattle.dna_links.specs.TrueFlow.{TrueFlow, true_flows}
+use Rattle.dna_links.specs.TrueSegments.{TrueSegments, true_segments}
 use Rattle.dna_links.specs.TrueLinks.{Links}
 use Rattle.dna_links.specs.declared.port.LinkTest.TheVariants.{LiveAt}
 use Rattle.dna_links.specs.declared.port.Phase.TheVariants.{Disconnecting}
@@ -49,7 +49,7 @@ module _ (own other : End) (now : KeptNow own other) where
 
   -- ---- a link with an address
 
-  has_link : (address number : ℕ) (link : LinkOf TrueFlow) (phases : List Phase) → IsFound (LiveAt address) links number link →
+  has_link : (address number : ℕ) (link : LinkOf TrueSegments) (phases : List Phase) → IsFound (LiveAt address) links number link →
       IsOneOf phases link.port.phase → HasLink own address phases
   has_link address number link phases found phase = record {
     number = number;
@@ -70,14 +70,14 @@ module _ (own other : End) (now : KeptNow own other) where
   none_live address phases live none l = let f = found_live address phases live l in let e = sym none ∙ f.found in cc
 
   -- the link that is found is the only one
-  same_found : (address n m : ℕ) (l k : LinkOf TrueFlow) → IsFound (LiveAt address) links n l → IsFound (LiveAt address) links m k → l ≡ k
+  same_found : (address n m : ℕ) (l k : LinkOf TrueSegments) → IsFound (LiveAt address) links n l → IsFound (LiveAt address) links m k → l ≡ k
   same_found address n m l k one too =
       same_Some l k (sym one.there ∙ ap (slice_get links.links) (same_Some n m (sym one.found ∙ too.found)) ∙ too.there)
 
-  its_phase : (address n : ℕ) (l : LinkOf TrueFlow) (phases : List Phase) → ((phase : Phase) → IsOneOf phases phase → is_live phase ≡ true) →
+  its_phase : (address n : ℕ) (l : LinkOf TrueSegments) (phases : List Phase) → ((phase : Phase) → IsOneOf phases phase → is_live phase ≡ true) →
       IsFound (LiveAt address) links n l → HasLink own address phases → IsOneOf phases l.port.phase
   its_phase address n l phases live found h =
-      subst (λ (x : LinkOf TrueFlow). IsOneOf phases x.port.phase)
+      subst (λ (x : LinkOf TrueSegments). IsOneOf phases x.port.phase)
       (same_found address h.number n h.link l (found_live address phases live h) found) h.phase
 
   -- a phase that a test refuses is none of these
@@ -92,16 +92,16 @@ module _ (own other : End) (now : KeptNow own other) where
   module _ (address : ℕ) (message : List ℕ) (lined : has_line (User (events.In address message)) ≡ true) (short : length message ≤ MAX_MESSAGE)
       (bytes : are_bytes message ≡ true) where
     -- no link takes it
-    nobody_takes : (left : Links) → number_of (LiveAt address) links ≡ None → UserDid true_flows links (of_links.In address message) left → ⊥
+    nobody_takes : (left : Links) → number_of (LiveAt address) links ≡ None → UserDid true_segments links (of_links.In address message) left → ⊥
     nobody_takes left none (HandsIn own message number link found may) = let e = sym none ∙ found.found in cc
 
-    never_takes : (n : ℕ) (l : LinkOf TrueFlow) → IsFound (LiveAt address) links n l → takes_messages l.port.phase ≡ false → (left : Links) →
-        UserDid true_flows links (of_links.In address message) left → ⊥
+    never_takes : (n : ℕ) (l : LinkOf TrueSegments) → IsFound (LiveAt address) links n l → takes_messages l.port.phase ≡ false → (left : Links) →
+        UserDid true_segments links (of_links.In address message) left → ⊥
     never_takes n l found no_more left (HandsIn own message number link here may) =
         differ (takes_messages l.port.phase)
-        (ap (λ (x : LinkOf TrueFlow). takes_messages x.port.phase) (same_found address n number l link found here) ∙ may) no_more
+        (ap (λ (x : LinkOf TrueSegments). takes_messages x.port.phase) (same_found address n number l link found here) ∙ may) no_more
 
-    by_phase : (n : ℕ) (l : LinkOf TrueFlow) (o : LinkOwed) → IsFound (LiveAt address) links n l → slice_get own.links_owed.links n ≡ Some o →
+    by_phase : (n : ℕ) (l : LinkOf TrueSegments) (o : LinkOwed) → IsFound (LiveAt address) links n l → slice_get own.links_owed.links n ≡ Some o →
         (b : Bool) → takes_messages l.port.phase ≡ b → IsRight own other (In address message)
         (if_so (b && nat_le (length message) MAX_MESSAGE) (keeping.made (events.In address message)
         (with_links (kept_link.changed (place own other now n) (kept_link.handed message (end_of l o)) (kept own).links) (kept own))))
@@ -110,7 +110,7 @@ module _ (own other : End) (now : KeptNow own other) where
         (of_links.In address message) refl no_more (λ left did. never_takes n l found may left did)
         (λ asks. differ (takes_messages l.port.phase) (takes_when l.port.phase (its_phase address n l Takes takes_live found asks)).0 may)
     by_phase n l o found owes true may =
-        let left = with_flow (true_flows.hands_in message l.flow) l in
+        let left = with_segments (true_segments.hands_in message l.segments) l in
         let kept_left = kept_link.changed (place own other now n) (kept_link.handed message (end_of l o)) (kept own).links in
         subst (λ (b : Bool). IsRight own other (In address message)
         (if_so b (keeping.made (events.In address message) (with_links kept_left (kept own))))
@@ -139,13 +139,13 @@ module _ (own other : End) (now : KeptNow own other) where
   connected_live phase one = (connected_when phase one).1
 
   module _ (address : ℕ) (linked : IsLink address) where
-    never_closes : (n : ℕ) (l : LinkOf TrueFlow) → IsFound (LiveAt address) links n l → is_connected l.port.phase ≡ false → (left : Links) →
-        UserDid true_flows links (of_links.Close address) left → ⊥
+    never_closes : (n : ℕ) (l : LinkOf TrueSegments) → IsFound (LiveAt address) links n l → is_connected l.port.phase ≡ false → (left : Links) →
+        UserDid true_segments links (of_links.Close address) left → ⊥
     never_closes n l found never left (Closes own number link here may) =
         differ (is_connected l.port.phase)
-        (ap (λ (x : LinkOf TrueFlow). is_connected x.port.phase) (same_found address n number l link found here) ∙ may) never
+        (ap (λ (x : LinkOf TrueSegments). is_connected x.port.phase) (same_found address n number l link found here) ∙ may) never
 
-    closes_by : (n : ℕ) (l : LinkOf TrueFlow) (o : LinkOwed) → IsFound (LiveAt address) links n l → slice_get own.links_owed.links n ≡ Some o →
+    closes_by : (n : ℕ) (l : LinkOf TrueSegments) (o : LinkOwed) → IsFound (LiveAt address) links n l → slice_get own.links_owed.links n ≡ Some o →
         (b : Bool) → is_connected l.port.phase ≡ b → IsRight own other (Close address)
         (if_so b (keeping.made (events.Close address)
         (with_links (kept_link.changed (place own other now n) (kept_link.closed (end_of l o)) (kept own).links) (kept own))))
@@ -181,7 +181,7 @@ module _ (own other : End) (now : KeptNow own other) where
       (λ at link. keeping.retrying (kept own) at link (retried link.port.phase)) (none_live address Retried retries_live)
       (λ n l o found owes. go n l o found owes (retried l.port.phase) refl (retried_is l.port.phase))
     where
-      go : (n : ℕ) (l : LinkOf TrueFlow) (o : LinkOwed) → IsFound (LiveAt address) links n l → slice_get own.links_owed.links n ≡ Some o →
+      go : (n : ℕ) (l : LinkOf TrueSegments) (o : LinkOwed) → IsFound (LiveAt address) links n l → slice_get own.links_owed.links n ≡ Some o →
           (change : Option (LinkOwed → LinkOwed)) → retried l.port.phase ≡ change → IsRetried l.port.phase change →
           IsRight own other (Retry address) (keeping.retrying (kept own) (place own other now n) (end_of l o) change) (retrying own n change)
       go n l o found owes None is never = (λ asks. never (its_phase address n l Retried retries_live found asks), refl)

@@ -10,19 +10,19 @@ use Rattle.dna_links.specs.declared.port.Phase.TheVariants.{Called, Confirming, 
 use Rattle.dna_links.specs.declared.port.LinkTest.{LinkTest}
 use Rattle.dna_links.specs.declared.port.LinkTest.TheVariants.{TheLink, LiveTo, CallingAt, ActedOn}
 use Rattle.dna_links.specs.LookUps.{is_running}
-use Rattle.dna_links.specs.Links.{LinkOf, LinkTruth, check, with_link, begun, changed, in_phase, with_flow, ended}
+use Rattle.dna_links.specs.Links.{LinkOf, LinkTruth, check, with_link, begun, changed, in_phase, with_segments, ended}
 use Rattle.dna_links.specs.Arriving.{PartnerRule, is_for, is_of_pair, called, confirmed, ends_link, running, acted_on, message_arrived}
-use Rattle.dna_links.specs.TrueFlow.{TrueFlow, Numbers, takes_acks, true_flows}
-use Rattle.dna_links.specs.WireFlow.{LinkVariables, WireFlow, acknowledged_by_all}
+use Rattle.dna_links.specs.TrueSegments.{TrueSegments, Numbers, takes_acks, true_segments}
+use Rattle.dna_links.specs.WireSegments.{LinkVariables, WireSegments, acknowledged_by_all}
 use Rattle.dna_links.specs.TrueLinks.{Links}
-use Rattle.dna_links.specs.CutFlow.{cut, IsOrdered}
+use Rattle.dna_links.specs.CutSegments.{cut, IsOrdered}
 use Rattle.dna_links.specs.CutLinks.{ArrivesNear}
 use Rattle.dna_play.specs.LinkOwed.{LinkOwed, LinksOwed, LinkDebt, NoDebt, Owes, ConnectAckTurn, ConfirmTurn, DataAckTurn, Turn, with_turn, with_debt}
 use Rattle.dna_play.specs.LinkOwed.{repeated_call_debt, confirm_debt, message_debt, still_owed}
 use Rattle.dna_play.specs.NextSent.{LinkEnd}
 use Rattle.dna_play.specs.Kept.{KeptLinks}
 use Rattle.dna_play.specs.KeptLinks as keeping
-use Rattle.dna_links.proofs.Cut.FlowArriving.{takes_acks_same}
+use Rattle.dna_links.proofs.Cut.SegmentsArriving.{takes_acks_same}
 use Rattle.dna_links.proofs.Tables.Outcomes.{IsFound, looked, checked}
 use Rattle.dna_play.proofs.Once.Addresses.{LinkList}
 use Rattle.dna_play.proofs.Links.Pays.{with_found, without_found}
@@ -39,12 +39,13 @@ NoSegment (DataSegment segment) = ⊥
 NoSegment m = Unit {0}
 
 -- a link that acts on something, with what it still owes
-pub acted_end : (l : LinkOf TrueFlow) (g : TrueFlow) (o : LinkOwed) (v : LinkVariables) → (cut g).kept ≡ v →
-    end_of (with_flow g (in_phase Running l)) (still_owed l (with_flow g (in_phase Running l)) o) ≡ keeping.acted_on v (end_of l o)
+pub acted_end : (l : LinkOf TrueSegments) (g : TrueSegments) (o : LinkOwed) (v : LinkVariables) → (cut g).variables ≡ v →
+    end_of (with_segments g (in_phase Running l)) (still_owed l (with_segments g (in_phase Running l)) o) ≡ keeping.acted_on v (end_of l o)
 acted_end l g o v same = ap (λ (after : LinkVariables). keeping.acted_on after (end_of l o)) same
 
 module _ (rule : PartnerRule) (s : Links) (owed : LinksOwed) (counted : Counted s.links owed)
-    (ordered : (i : ℕ) (l : LinkOf TrueFlow) → slice_get s.links i ≡ Some l → IsOrdered l.flow) (truth : LinkTruth Numbers) (left : Links) where
+    (ordered : (i : ℕ) (l : LinkOf TrueSegments) → slice_get s.links i ≡ Some l → IsOrdered l.segments) (truth : LinkTruth Numbers)
+    (left : Links) where
   abbrev live : KeptLinks
   live = kept_links s.links owed
 
@@ -75,7 +76,7 @@ module _ (rule : PartnerRule) (s : Links) (owed : LinksOwed) (counted : Counted 
   stay : after_all s NoDebt ≡ live
   stay = record_same s.links owed counted
 
-  module _ (n : ℕ) (l : LinkOf TrueFlow) (o : LinkOwed) (test : LinkTest) (needs : NeedsLife test) (found : IsFound test s n l)
+  module _ (n : ℕ) (l : LinkOf TrueSegments) (o : LinkOwed) (test : LinkTest) (needs : NeedsLife test) (found : IsFound test s n l)
       (owes : slice_get owed.links n ≡ Some o) where
     -- but this link owes more
     owes_more : (turn : Turn) → after_all s (Owes n turn) ≡ keeping.changed (place n) (keeping.owes turn (end_of l o)) live
@@ -90,12 +91,12 @@ module _ (rule : PartnerRule) (s : Links) (owed : LinksOwed) (counted : Counted 
         (set_back live.links (place n) (end_of l o) (live_there s.links owed n l o found.there owes (needs l.port found.passed))))
 
     -- it ends
-    ends : after_all (changed n (ended true_flows l) s) NoDebt ≡ keeping.ended (place n) live
-    ends = record_dropped s.links owed n l o found.there owes (needs l.port found.passed) counted (ended true_flows l) refl
+    ends : after_all (changed n (ended true_segments l) s) NoDebt ≡ keeping.ended (place n) live
+    ends = record_dropped s.links owed n l o found.there owes (needs l.port found.passed) counted (ended true_segments l) refl
 
   -- ---- CI
 
-  call_again : (n : ℕ) (l : LinkOf TrueFlow) (o : LinkOwed) (far : ℕ) → IsFound (LiveTo far) s n l →
+  call_again : (n : ℕ) (l : LinkOf TrueSegments) (o : LinkOwed) (far : ℕ) → IsFound (LiveTo far) s n l →
       slice_get owed.links n ≡ Some o → (phase : Phase) →
       after_all s (repeated_call_debt n phase) ≡ keeping.changed (place n) (keeping.called_again phase (end_of l o)) live
   call_again n l o far found owes Called = owes_more n l o (LiveTo far) (live_to_lives far) found owes ConnectAckTurn
@@ -103,13 +104,13 @@ module _ (rule : PartnerRule) (s : Links) (owed : LinksOwed) (counted : Counted 
   call_again n l o far found owes phase = stays n l o (LiveTo far) (live_to_lives far) found owes
 
   call_kept : (src segsize : ℕ) →
-      with_link {R = Result Links LinkRefusal} (LiveTo src) s (Ok (begun (called true_flows rule src segsize truth.tag) s)) (λ number link. Ok s)
+      with_link {R = Result Links LinkRefusal} (LiveTo src) s (Ok (begun (called true_segments rule src segsize truth.tag) s)) (λ number link. Ok s)
       ≡ Ok left →
       after (with_link (LiveTo src) s (Owes (length s.links) ConnectAckTurn) (λ number link. repeated_call_debt number link.port.phase))
       ≡ keeping.with_end (LiveTo src) live (keeping.begun (keeping.called src) live)
       (λ at link. keeping.changed at (keeping.called_again link.port.phase link) live)
   call_kept src segsize e =
-      let new = called true_flows rule src segsize truth.tag in
+      let new = called true_segments rule src segsize truth.tag in
       look_kept (LiveTo src) (live_to_lives src) s owed counted after (Owes (length s.links) ConnectAckTurn)
       (λ number link. repeated_call_debt number link.port.phase) (keeping.begun (keeping.called src) live)
       (λ at link. keeping.changed at (keeping.called_again link.port.phase link) live)
@@ -133,14 +134,14 @@ module _ (rule : PartnerRule) (s : Links) (owed : LinksOwed) (counted : Counted 
       (keeping.changed (place n) (keeping.confirmed_again (is_running l.port.phase) (end_of l o)) live) e
       (go n l o found owes (is_running l.port.phase)))
     where
-      go : (n : ℕ) (l : LinkOf TrueFlow) (o : LinkOwed) → IsFound (TheLink dst src) s n l → slice_get owed.links n ≡ Some o → (b : Bool) →
+      go : (n : ℕ) (l : LinkOf TrueSegments) (o : LinkOwed) → IsFound (TheLink dst src) s n l → slice_get owed.links n ≡ Some o → (b : Bool) →
           after_all s (cond b (Owes n DataAckTurn) NoDebt) ≡ keeping.changed (place n) (keeping.confirmed_again b (end_of l o)) live
       go n l o found owes true = owes_more n l o (TheLink dst src) (the_link_lives dst src) found owes DataAckTurn
       go n l o found owes false = stays n l o (TheLink dst src) (the_link_lives dst src) found owes
 
   confirm_kept : (dst src segsize : ℕ) →
       with_link (CallingAt dst) s (Ok s) (λ number link. check (rule (is_for number truth.tag)) CrossedLink
-      (Ok (changed number (confirmed true_flows rule src segsize truth.tag link) s))) ≡ Ok left →
+      (Ok (changed number (confirmed true_segments rule src segsize truth.tag link) s))) ≡ Ok left →
       after (with_link (CallingAt dst) s
       (with_link (TheLink dst src) s NoDebt (λ number link. cond (is_running link.port.phase) (Owes number DataAckTurn) NoDebt))
       (λ number link. Owes number DataAckTurn)) ≡ keeping.confirm_came dst src live
@@ -151,14 +152,14 @@ module _ (rule : PartnerRule) (s : Links) (owed : LinksOwed) (counted : Counted 
       (λ at link. keeping.changed at (keeping.confirmed src link) live)
       (λ none. again_kept dst src (sym (without_found s (CallingAt dst) (Ok s) goes_on none) ∙ e)) acted
     where
-      goes_on : ℕ → LinkOf TrueFlow → Result Links LinkRefusal
+      goes_on : ℕ → LinkOf TrueSegments → Result Links LinkRefusal
       goes_on number link = check (rule (is_for number truth.tag)) CrossedLink
-          (Ok (changed number (confirmed true_flows rule src segsize truth.tag link) s))
+          (Ok (changed number (confirmed true_segments rule src segsize truth.tag link) s))
 
-      acted : (n : ℕ) (l : LinkOf TrueFlow) (o : LinkOwed) → IsFound (CallingAt dst) s n l → slice_get owed.links n ≡ Some o →
+      acted : (n : ℕ) (l : LinkOf TrueSegments) (o : LinkOwed) → IsFound (CallingAt dst) s n l → slice_get owed.links n ≡ Some o →
           after (Owes n DataAckTurn) ≡ keeping.changed (place n) (keeping.confirmed src (end_of l o)) live
       acted n l o found owes =
-          let k = confirmed true_flows rule src segsize truth.tag l in
+          let k = confirmed true_segments rule src segsize truth.tag l in
           let c = checked (rule (is_for n truth.tag)) CrossedLink (Ok (changed n k s)) left
           (sym (with_found s (CallingAt dst) n l (Ok s) goes_on found) ∙ e) in
           leaves (changed n k s) (Owes n DataAckTurn) (keeping.changed (place n) (keeping.confirmed src (end_of l o)) live) c.1
@@ -171,16 +172,16 @@ module _ (rule : PartnerRule) (s : Links) (owed : LinksOwed) (counted : Counted 
   module _ (dst src : ℕ) (none_owes owes_then : LinkDebt) (none_kept : KeptLinks) (then_owes : KeptLinks → KeptLinks)
       (same_then : (links : LinkList) (w : LinksOwed) → kept_links links (with_debt owes_then w) ≡ then_owes (kept_links links w))
       (same_none : after_all s none_owes ≡ none_kept) where
-    one_ends : (n : ℕ) (l : LinkOf TrueFlow) (o : LinkOwed) (test : LinkTest) → NeedsLife test → IsFound test s n l →
+    one_ends : (n : ℕ) (l : LinkOf TrueSegments) (o : LinkOwed) (test : LinkTest) → NeedsLife test → IsFound test s n l →
         slice_get owed.links n ≡ Some o →
-        ◌≡◌ {A = Result Links LinkRefusal} (Ok (changed n (ended true_flows l) s)) (Ok left) →
+        ◌≡◌ {A = Result Links LinkRefusal} (Ok (changed n (ended true_segments l) s)) (Ok left) →
         after owes_then ≡ then_owes (keeping.ended (place n) live)
     one_ends n l o test needs found owes e =
-        let all = changed n (ended true_flows l) s in
+        let all = changed n (ended true_segments l) s in
         leaves all owes_then (then_owes (keeping.ended (place n) live)) e
         (same_then all.links (left_links s.links all.links owed) ∙ ap then_owes (ends n l o test needs found owes))
 
-    end_kept : ◌≡◌ {A = Result Links LinkRefusal} (Ok (ends_link true_flows rule dst src s)) (Ok left) →
+    end_kept : ◌≡◌ {A = Result Links LinkRefusal} (Ok (ends_link true_segments rule dst src s)) (Ok left) →
         after (with_link (TheLink dst src) s (with_link (CallingAt dst) s none_owes (λ number link. owes_then)) (λ number link. owes_then))
         ≡ keeping.ends_link dst src none_kept then_owes live
     end_kept e = look_kept (TheLink dst src) (the_link_lives dst src) s owed counted after
@@ -191,8 +192,8 @@ module _ (rule : PartnerRule) (s : Links) (owed : LinksOwed) (counted : Counted 
         (λ n l o found owes. one_ends n l o (TheLink dst src) (the_link_lives dst src) found owes
         (ap Ok (sym (with_found s (TheLink dst src) n l calling over found)) ∙ e))
       where
-        over : ℕ → LinkOf TrueFlow → Links
-        over number link = changed number (ended true_flows link) s
+        over : ℕ → LinkOf TrueSegments → Links
+        over number link = changed number (ended true_segments link) s
 
         calling : Links
         calling = with_link (CallingAt dst) s s over
@@ -208,38 +209,38 @@ module _ (rule : PartnerRule) (s : Links) (owed : LinksOwed) (counted : Counted 
 
   -- ---- what is acted on
 
-  acts_kept : (own far : ℕ) (takes : LinkOf TrueFlow → TrueFlow) (change : LinkEnd → LinkEnd) →
-      ((n : ℕ) (l : LinkOf TrueFlow) (o : LinkOwed) → IsFound (ActedOn own far) s n l → rule (is_of_pair n l.partner truth.tag) ≡ true →
-      end_of (running true_flows rule takes l) (still_owed l (running true_flows rule takes l) o) ≡ change (end_of l o)) →
-      acted_on true_flows rule own far truth.tag takes s ≡ Ok left → after NoDebt ≡ keeping.acts own far change live
+  acts_kept : (own far : ℕ) (takes : LinkOf TrueSegments → TrueSegments) (change : LinkEnd → LinkEnd) →
+      ((n : ℕ) (l : LinkOf TrueSegments) (o : LinkOwed) → IsFound (ActedOn own far) s n l → rule (is_of_pair n l.partner truth.tag) ≡ true →
+      end_of (running true_segments rule takes l) (still_owed l (running true_segments rule takes l) o) ≡ change (end_of l o)) →
+      acted_on true_segments rule own far truth.tag takes s ≡ Ok left → after NoDebt ≡ keeping.acts own far change live
   acts_kept own far takes change same e =
       ap after (either_way (ActedOn own far) NoDebt)
       ∙ look_kept (ActedOn own far) (acted_on_lives own far) s owed counted after NoDebt (λ number link. NoDebt) live
       (λ at link. keeping.changed at (change link) live)
       (λ none. leaves s NoDebt live (sym (without_found s (ActedOn own far) (Ok s) goes_on none) ∙ e) stay) acted
     where
-      goes_on : ℕ → LinkOf TrueFlow → Result Links LinkRefusal
+      goes_on : ℕ → LinkOf TrueSegments → Result Links LinkRefusal
       goes_on number link = check (rule (is_of_pair number link.partner truth.tag)) CrossedLink
-          (Ok (changed number (running true_flows rule takes link) s))
+          (Ok (changed number (running true_segments rule takes link) s))
 
-      acted : (n : ℕ) (l : LinkOf TrueFlow) (o : LinkOwed) → IsFound (ActedOn own far) s n l → slice_get owed.links n ≡ Some o →
+      acted : (n : ℕ) (l : LinkOf TrueSegments) (o : LinkOwed) → IsFound (ActedOn own far) s n l → slice_get owed.links n ≡ Some o →
           after NoDebt ≡ keeping.changed (place n) (change (end_of l o)) live
       acted n l o found owes =
-          let k = running true_flows rule takes l in
+          let k = running true_segments rule takes l in
           let c = checked (rule (is_of_pair n l.partner truth.tag)) CrossedLink (Ok (changed n k s)) left
           (sym (with_found s (ActedOn own far) n l (Ok s) goes_on found) ∙ e) in
           leaves (changed n k s) NoDebt (keeping.changed (place n) (change (end_of l o)) live) c.1
           (record_set s.links owed n l o found.there owes (acted_on_lives own far l.port found.passed) counted k refl
           ∙ ap (λ (x : LinkEnd). keeping.changed (place n) x live) (same n l o found c.0))
 
-  other_kept : (own far : ℕ) → acted_on true_flows rule own far truth.tag (λ link. link.flow) s ≡ Ok left →
+  other_kept : (own far : ℕ) → acted_on true_segments rule own far truth.tag (λ link. link.segments) s ≡ Ok left →
       after NoDebt ≡ keeping.acts own far (λ link. keeping.acted_on link.variables link) live
-  other_kept own far e = acts_kept own far (λ link. link.flow) (λ link. keeping.acted_on link.variables link)
-      (λ n l o found pair. acted_end l l.flow o (cut l.flow).kept refl) e
+  other_kept own far e = acts_kept own far (λ link. link.segments) (λ link. keeping.acted_on link.variables link)
+      (λ n l o found pair. acted_end l l.segments o (cut l.segments).variables refl) e
 
   -- ---- by message
 
-  pub message_kept : (m : NspValue) → NoSegment m → ArrivesNear rule s m truth → message_arrived true_flows rule s m truth ≡ Ok left →
+  pub message_kept : (m : NspValue) → NoSegment m → ArrivesNear rule s m truth → message_arrived true_segments rule s m truth ≡ Ok left →
       kept_links left.links (with_debt (message_debt s m) (left_links s.links left.links owed)) ≡ keeping.message_came m (kept_links s.links owed)
   message_kept (ConnectInitiate retransmitted src services info segsize user_data) is near e = call_kept src segsize e
   message_kept (ConnectAck dst) is near e = leaves s NoDebt live e stay
@@ -252,11 +253,11 @@ module _ (rule : PartnerRule) (s : Links) (owed : LinksOwed) (counted : Counted 
       ap after (either_way (TheLink dst src) NoDebt
       ∙ ap (λ (debt : LinkDebt). with_link (TheLink dst src) s debt (λ number link. NoDebt)) (either_way (CallingAt dst) NoDebt))
       ∙ end_kept dst src NoDebt NoDebt live keeping.no_more (λ links w. refl) stay e
-  message_kept (DataAck dst src acks) is near e = acts_kept dst src (λ link. takes_acks acks truth.known link.flow) (keeping.took_acks acks)
+  message_kept (DataAck dst src acks) is near e = acts_kept dst src (λ link. takes_acks acks truth.known link.segments) (keeping.took_acks acks)
       (λ n l o found pair.
       let m = near n l found.there found.passed pair in
-      acted_end l (takes_acks acks truth.known l.flow) o (acknowledged_by_all acks (cut l.flow).kept)
-      (ap (λ (w : WireFlow). w.kept) (takes_acks_same acks truth.known l.flow (ordered n l found.there) m.0 m.1))) e
+      acted_end l (takes_acks acks truth.known l.segments) o (acknowledged_by_all acks (cut l.segments).variables)
+      (ap (λ (w : WireSegments). w.variables) (takes_acks_same acks truth.known l.segments (ordered n l found.there) m.0 m.1))) e
   message_kept (LinkService interrupt dst src rest) is near e = other_kept dst src e
   message_kept (OtherDataAck dst src rest) is near e = other_kept dst src e
   message_kept (DataSegment segment) is near e = absurd is

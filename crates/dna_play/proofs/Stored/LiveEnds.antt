@@ -8,9 +8,9 @@ use Rattle.dna_links.specs.declared.port.Phase.{Phase}
 use Rattle.dna_links.specs.declared.port.Phase.TheVariants.{Calling}
 use Rattle.dna_links.specs.declared.port.LinkTest.{LinkTest}
 use Rattle.dna_links.specs.LookUps.{passes}
-use Rattle.dna_links.specs.Flow.{wire, distance}
+use Rattle.dna_links.specs.SegmentBook.{wire, distance}
 use Rattle.dna_links.specs.Links.{LinkOf}
-use Rattle.dna_links.specs.TrueFlow.{TrueFlow}
+use Rattle.dna_links.specs.TrueSegments.{TrueSegments}
 use Rattle.dna_play.specs.LinkOwed.{LinkOwed, LinksOwed, nothing, same_phase, unless_left, lowered, variables_of, still_owed, all_still_owed}
 use Rattle.dna_play.specs.LinkOwed.{changed_at}
 use Rattle.dna_play.specs.LinkOwed as owing
@@ -30,22 +30,22 @@ Counted links owed = AreCounted links owed.links
 
 -- ---- all ends
 
-pub owed_beside : (links : LinkList) (owed : List LinkOwed) (n : ℕ) (l : LinkOf TrueFlow) → AreCounted links owed → slice_get links n ≡ Some l →
+pub owed_beside : (links : LinkList) (owed : List LinkOwed) (n : ℕ) (l : LinkOf TrueSegments) → AreCounted links owed → slice_get links n ≡ Some l →
     (o : LinkOwed) × (slice_get owed n ≡ Some o)
 owed_beside [] owed n l counted at = absurd cc
 owed_beside (link ∷ links) [] n l counted at = absurd (omega arith)
 owed_beside (link ∷ links) (first ∷ owed) zero l counted at = (first, refl)
 owed_beside (link ∷ links) (first ∷ owed) (suc n) l counted at = owed_beside links owed n l (omega arith) at
 
-pub ends_get : (links : LinkList) (owed : List LinkOwed) (n : ℕ) (l : LinkOf TrueFlow) (o : LinkOwed) → slice_get links n ≡ Some l →
+pub ends_get : (links : LinkList) (owed : List LinkOwed) (n : ℕ) (l : LinkOf TrueSegments) (o : LinkOwed) → slice_get links n ≡ Some l →
     slice_get owed n ≡ Some o → slice_get (link_ends links owed) n ≡ Some (end_of l o)
 ends_get [] owed n l o at owes = absurd cc
 ends_get (link ∷ links) [] n l o at owes = absurd cc
 ends_get (link ∷ links) (first ∷ owed) zero l o at owes =
-    ap₂ (λ (x : LinkOf TrueFlow) (y : LinkOwed). Some (end_of x y)) (same_Some link l at) (same_Some first o owes)
+    ap₂ (λ (x : LinkOf TrueSegments) (y : LinkOwed). Some (end_of x y)) (same_Some link l at) (same_Some first o owes)
 ends_get (link ∷ links) (first ∷ owed) (suc n) l o at owes = ends_get links owed n l o at owes
 
-pub ends_set : (links : LinkList) (owed : List LinkOwed) (n : ℕ) (k : LinkOf TrueFlow) (o : LinkOwed) →
+pub ends_set : (links : LinkList) (owed : List LinkOwed) (n : ℕ) (k : LinkOf TrueSegments) (o : LinkOwed) →
     link_ends (slice_set links n k) (slice_set owed n o) ≡ slice_set (link_ends links owed) n (end_of k o)
 ends_set [] owed n k o = refl
 ends_set (link ∷ links) [] zero k o = refl
@@ -53,7 +53,7 @@ ends_set (link ∷ links) [] (suc n) k o = refl
 ends_set (link ∷ links) (first ∷ owed) zero k o = refl
 ends_set (link ∷ links) (first ∷ owed) (suc n) k o = ap (λ (ends : List LinkEnd). end_of link first ∷ ends) (ends_set links owed n k o)
 
-pub ends_push : (links : LinkList) (owed : List LinkOwed) (k : LinkOf TrueFlow) (o : LinkOwed) → AreCounted links owed →
+pub ends_push : (links : LinkList) (owed : List LinkOwed) (k : LinkOf TrueSegments) (o : LinkOwed) → AreCounted links owed →
     link_ends (links ++ k ∷ []) (owed ++ o ∷ []) ≡ link_ends links owed ++ end_of k o ∷ []
 ends_push [] [] k o counted = refl
 ends_push [] (first ∷ owed) k o counted = absurd (omega arith)
@@ -66,10 +66,10 @@ module _ (test : LinkTest) where
   abbrev of_end : LinkEnd → Bool
   of_end l = passes test l.port
 
-  abbrev of_link : LinkOf TrueFlow → Bool
+  abbrev of_link : LinkOf TrueSegments → Bool
   of_link l = passes test l.port
 
-  one_more : (link : LinkOf TrueFlow) (links : LinkList) (first : LinkOwed) (owed : List LinkOwed) (b : Bool) → passes test link.port ≡ b →
+  one_more : (link : LinkOf TrueSegments) (links : LinkList) (first : LinkOwed) (owed : List LinkOwed) (b : Bool) → passes test link.port ≡ b →
       position of_end (link_ends links owed) ≡ position of_link links →
       position of_end (end_of link first ∷ link_ends links owed) ≡ position of_link (link ∷ links)
   one_more link links first owed true e rest =
@@ -100,15 +100,15 @@ lowered_none owed = ap (λ (ahead : ℕ). record owed { ahead = ahead }) (same o
     same n = omega arith
 
 -- with the same number acknowledged, by its phase
-pub still_in_phase : (l k : LinkOf TrueFlow) (owed : LinkOwed) → k.flow.acknowledged ≡ l.flow.acknowledged →
+pub still_in_phase : (l k : LinkOf TrueSegments) (owed : LinkOwed) → k.segments.acknowledged ≡ l.segments.acknowledged →
     still_owed l k owed ≡ unless_left (same_phase l.port.phase k.port.phase) owed
 still_in_phase l k owed number =
     ap (λ (to : ℕ). lowered (distance (variables_of l).acknowledged (wire to)) (unless_left (same_phase l.port.phase k.port.phase) owed)) number
-    ∙ ap (λ (n : ℕ). lowered n (unless_left (same_phase l.port.phase k.port.phase) owed)) (none_more l.flow.acknowledged)
+    ∙ ap (λ (n : ℕ). lowered n (unless_left (same_phase l.port.phase k.port.phase) owed)) (none_more l.segments.acknowledged)
     ∙ lowered_none (unless_left (same_phase l.port.phase k.port.phase) owed)
 
 -- and in the same phase, a link owes what it owed
-pub still_same : (l k : LinkOf TrueFlow) (owed : LinkOwed) → k.port.phase ≡ l.port.phase → k.flow.acknowledged ≡ l.flow.acknowledged →
+pub still_same : (l k : LinkOf TrueSegments) (owed : LinkOwed) → k.port.phase ≡ l.port.phase → k.segments.acknowledged ≡ l.segments.acknowledged →
     still_owed l k owed ≡ owed
 still_same l k owed phase number =
     still_in_phase l k owed number ∙ ap (λ (to : Phase). unless_left (same_phase l.port.phase to) owed) phase
@@ -121,19 +121,19 @@ all_same (link ∷ links) [] counted = absurd (omega arith)
 all_same (link ∷ links) (first ∷ owed) counted =
     ap₂ (λ (o : LinkOwed) (later : List LinkOwed). o ∷ later) (still_same link link first refl refl) (all_same links owed (omega arith))
 
-pub all_set : (links : LinkList) (owed : List LinkOwed) (n : ℕ) (l k : LinkOf TrueFlow) (o : LinkOwed) → AreCounted links owed →
+pub all_set : (links : LinkList) (owed : List LinkOwed) (n : ℕ) (l k : LinkOf TrueSegments) (o : LinkOwed) → AreCounted links owed →
     slice_get links n ≡ Some l → slice_get owed n ≡ Some o → all_still_owed links (slice_set links n k) owed ≡ slice_set owed n (still_owed l k o)
 all_set [] owed n l k o counted at owes = absurd cc
 all_set (link ∷ links) [] n l k o counted at owes = absurd cc
 all_set (link ∷ links) (first ∷ owed) zero l k o counted at owes =
     ap₂ (λ (o : LinkOwed) (later : List LinkOwed). o ∷ later)
-    (ap₂ (λ (was : LinkOf TrueFlow) (x : LinkOwed). still_owed was k x) (same_Some link l at) (same_Some first o owes))
+    (ap₂ (λ (was : LinkOf TrueSegments) (x : LinkOwed). still_owed was k x) (same_Some link l at) (same_Some first o owes))
     (all_same links owed (omega arith))
 all_set (link ∷ links) (first ∷ owed) (suc n) l k o counted at owes =
     ap₂ (λ (o : LinkOwed) (later : List LinkOwed). o ∷ later) (still_same link link first refl refl)
     (all_set links owed n l k o (omega arith) at owes)
 
-pub all_push : (links : LinkList) (owed : List LinkOwed) (k : LinkOf TrueFlow) → AreCounted links owed →
+pub all_push : (links : LinkList) (owed : List LinkOwed) (k : LinkOf TrueSegments) → AreCounted links owed →
     all_still_owed links (links ++ k ∷ []) owed ≡ owed ++ nothing ∷ []
 all_push [] [] k counted = refl
 all_push [] (first ∷ owed) k counted = absurd (omega arith)
@@ -157,7 +157,7 @@ module _ (links : LinkList) (owed : LinksOwed) (counted : Counted links owed) wh
   pub left_same : left_links links links owed ≡ owed
   left_same = ap (λ (all : List LinkOwed). with_owed all owed) (all_same links owed.links counted)
 
-  module _ (n : ℕ) (l k : LinkOf TrueFlow) (o : LinkOwed) (there : slice_get links n ≡ Some l) (owes : slice_get owed.links n ≡ Some o) where
+  module _ (n : ℕ) (l k : LinkOf TrueSegments) (o : LinkOwed) (there : slice_get links n ≡ Some l) (owes : slice_get owed.links n ≡ Some o) where
     -- one does
     pub left_set : left_links links (slice_set links n k) owed ≡ with_owed (slice_set owed.links n (still_owed l k o)) owed
     left_set = ap (λ (all : List LinkOwed). with_owed all owed) (all_set links owed.links n l k o counted there owes)
@@ -172,11 +172,11 @@ module _ (links : LinkList) (owed : LinksOwed) (counted : Counted links owed) wh
         ∙ ap (λ (all : List LinkOwed). with_owed all owed) (set-set owed.links n still (change still))
 
   -- a new one owes nothing
-  pub left_pushed : (k : LinkOf TrueFlow) → left_links links (links ++ k ∷ []) owed ≡ with_owed (owed.links ++ nothing ∷ []) owed
+  pub left_pushed : (k : LinkOf TrueSegments) → left_links links (links ++ k ∷ []) owed ≡ with_owed (owed.links ++ nothing ∷ []) owed
   left_pushed k = ap (λ (all : List LinkOwed). with_owed all owed) (all_push links owed.links k counted)
 
   -- and then what it owes changes
-  pub left_begun : (k : LinkOf TrueFlow) (change : LinkOwed → LinkOwed) →
+  pub left_begun : (k : LinkOf TrueSegments) (change : LinkOwed → LinkOwed) →
       owing.changed (length links) change (left_links links (links ++ k ∷ []) owed) ≡
       with_owed (owed.links ++ change nothing ∷ []) owed
   left_begun k change =

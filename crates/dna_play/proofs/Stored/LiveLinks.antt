@@ -9,7 +9,7 @@ use Rattle.dna_links.specs.declared.port.LinkTest.{LinkTest}
 use Rattle.dna_links.specs.declared.port.LinkTest.TheVariants.{LiveAt, TheLink, LiveTo, CallingAt, CalledBy, ActedOn}
 use Rattle.dna_links.specs.LookUps.{is_live, is_calling, is_called, is_connected, is_at, has_both, passes}
 use Rattle.dna_links.specs.Links.{LinkOf, number_of, with_link}
-use Rattle.dna_links.specs.TrueFlow.{TrueFlow}
+use Rattle.dna_links.specs.TrueSegments.{TrueSegments}
 use Rattle.dna_links.specs.TrueLinks.{Links}
 use Rattle.dna_play.specs.LinkOwed.{LinkOwed, LinksOwed, nothing, still_owed}
 use Rattle.dna_play.specs.LinkOwed as owing
@@ -66,7 +66,7 @@ module _ (links : LinkList) (owed : LinksOwed) where
 
   -- ---- one link
 
-  module _ (n : ℕ) (l : LinkOf TrueFlow) (o : LinkOwed) (there : slice_get links n ≡ Some l) (owes : slice_get owed.links n ≡ Some o)
+  module _ (n : ℕ) (l : LinkOf TrueSegments) (o : LinkOwed) (there : slice_get links n ≡ Some l) (owes : slice_get owed.links n ≡ Some o)
       (lives : is_live l.port.phase ≡ true) where
     stands : slice_get (link_ends links owed.links) n ≡ Some (end_of l o)
     stands = ends_get links owed.links n l o there owes
@@ -76,7 +76,7 @@ module _ (links : LinkList) (owed : LinksOwed) where
     live_there = filter_get is_live_end (link_ends links owed.links) n (end_of l o) stands lives
 
     -- it changes
-    pub live_set : (k : LinkOf TrueFlow) (left : LinkOwed) → is_live k.port.phase ≡ true →
+    pub live_set : (k : LinkOf TrueSegments) (left : LinkOwed) → is_live k.port.phase ≡ true →
         kept_links (slice_set links n k) (with_owed (slice_set owed.links n left) owed)
         ≡ keeping.changed (place_among n) (end_of k left) (kept_links links owed)
     live_set k left still = ap (λ (all : List LinkEnd). record { links = all; confirms = owed.confirms })
@@ -84,7 +84,7 @@ module _ (links : LinkList) (owed : LinksOwed) where
         ∙ filter_set is_live_end (link_ends links owed.links) n (end_of l o) (end_of k left) stands lives still)
 
     -- it ends
-    pub live_dropped : (k : LinkOf TrueFlow) (left : LinkOwed) → is_live k.port.phase ≡ false →
+    pub live_dropped : (k : LinkOf TrueSegments) (left : LinkOwed) → is_live k.port.phase ≡ false →
         kept_links (slice_set links n k) (with_owed (slice_set owed.links n left) owed) ≡ keeping.ended (place_among n) (kept_links links owed)
     live_dropped k left over = ap (λ (all : List LinkEnd). record { links = all; confirms = owed.confirms })
         (ap live_ends (ends_set links owed.links n k left)
@@ -102,14 +102,14 @@ module _ (links : LinkList) (owed : LinksOwed) where
 
     module _ (counted : Counted links owed) where
       -- it changes, and what it still owes
-      pub record_set : (k : LinkOf TrueFlow) → is_live k.port.phase ≡ true →
+      pub record_set : (k : LinkOf TrueSegments) → is_live k.port.phase ≡ true →
           kept_links (slice_set links n k) (left_links links (slice_set links n k) owed)
           ≡ keeping.changed (place_among n) (end_of k (still_owed l k o)) (kept_links links owed)
       record_set k still = ap (kept_links (slice_set links n k)) (left_set links owed counted n l k o there owes)
           ∙ live_set k (still_owed l k o) still
 
       -- and then what it owes, as by a turn that it owes more, or that was sent
-      pub record_changed : (k : LinkOf TrueFlow) (change : LinkOwed → LinkOwed) → is_live k.port.phase ≡ true →
+      pub record_changed : (k : LinkOf TrueSegments) (change : LinkOwed → LinkOwed) → is_live k.port.phase ≡ true →
           kept_links (slice_set links n k) (owing.changed n change (left_links links (slice_set links n k) owed))
           ≡ keeping.changed (place_among n) (end_of k (change (still_owed l k o))) (kept_links links owed)
       record_changed k change still =
@@ -117,7 +117,7 @@ module _ (links : LinkList) (owed : LinksOwed) where
           ∙ live_set k (change (still_owed l k o)) still
 
       -- it ends
-      pub record_dropped : (k : LinkOf TrueFlow) → is_live k.port.phase ≡ false →
+      pub record_dropped : (k : LinkOf TrueSegments) → is_live k.port.phase ≡ false →
           kept_links (slice_set links n k) (left_links links (slice_set links n k) owed) ≡ keeping.ended (place_among n) (kept_links links owed)
       record_dropped k over = ap (kept_links (slice_set links n k)) (left_set links owed counted n l k o there owes)
           ∙ live_dropped k (still_owed l k o) over
@@ -129,13 +129,13 @@ module _ (links : LinkList) (owed : LinksOwed) where
     pub record_same : kept_links links (left_links links links owed) ≡ kept_links links owed
     record_same = ap (kept_links links) (left_same links owed counted)
 
-    begun_with : (k : LinkOf TrueFlow) (o : LinkOwed) → is_live k.port.phase ≡ true →
+    begun_with : (k : LinkOf TrueSegments) (o : LinkOwed) → is_live k.port.phase ≡ true →
         kept_links (links ++ k ∷ []) (with_owed (owed.links ++ o ∷ []) owed) ≡ keeping.begun (end_of k o) (kept_links links owed)
     begun_with k o lives = ap (λ (all : List LinkEnd). record { links = all; confirms = owed.confirms })
         (ap live_ends (ends_push links owed.links k o counted) ∙ filter_push is_live_end (link_ends links owed.links) (end_of k o) lives)
 
     -- a new one, and what it owes
-    pub record_begun : (k : LinkOf TrueFlow) (change : LinkOwed → LinkOwed) → is_live k.port.phase ≡ true →
+    pub record_begun : (k : LinkOf TrueSegments) (change : LinkOwed → LinkOwed) → is_live k.port.phase ≡ true →
         kept_links (links ++ k ∷ []) (owing.changed (length links) change (left_links links (links ++ k ∷ []) owed))
         ≡ keeping.begun (end_of k (change nothing)) (kept_links links owed)
     record_begun k change lives = ap (kept_links (links ++ k ∷ [])) (left_begun links owed counted k change) ∙ begun_with k (change nothing) lives
@@ -156,7 +156,7 @@ module _ (test : LinkTest) (needs : NeedsLife test) (s : Links) (owed : LinksOwe
     pub end_missing : number_of test s ≡ None → with_end test live otherwise next ≡ otherwise
     end_missing none = ap (λ (o : Option ℕ). at_place live.links o otherwise next) (place_found ∙ ap (option_map (place_among s.links owed)) none)
 
-    pub end_found : (n : ℕ) (l : LinkOf TrueFlow) (o : LinkOwed) → IsFound test s n l → slice_get owed.links n ≡ Some o →
+    pub end_found : (n : ℕ) (l : LinkOf TrueSegments) (o : LinkOwed) → IsFound test s n l → slice_get owed.links n ≡ Some o →
         with_end test live otherwise next ≡ next (place_among s.links owed n) (end_of l o)
     end_found n l o found owes =
         ap (λ (p : Option ℕ). at_place live.links p otherwise next) (place_found ∙ ap (option_map (place_among s.links owed)) found.found)
@@ -164,9 +164,9 @@ module _ (test : LinkTest) (needs : NeedsLife test) (s : Links) (owed : LinksOwe
         (live_there s.links owed n l o found.there owes (needs l.port found.passed))
 
   -- what a look-up goes on with goes along
-  pub look_kept : {R T : Type 0} (g : R → T) (otherwise : R) (next : ℕ → LinkOf TrueFlow → R) (instead : T) (then_next : ℕ → LinkEnd → T) →
+  pub look_kept : {R T : Type 0} (g : R → T) (otherwise : R) (next : ℕ → LinkOf TrueSegments → R) (instead : T) (then_next : ℕ → LinkEnd → T) →
       (number_of test s ≡ None → g otherwise ≡ instead) →
-      ((n : ℕ) (l : LinkOf TrueFlow) (o : LinkOwed) → IsFound test s n l → slice_get owed.links n ≡ Some o →
+      ((n : ℕ) (l : LinkOf TrueSegments) (o : LinkOwed) → IsFound test s n l → slice_get owed.links n ≡ Some o →
       g (next n l) ≡ then_next (place_among s.links owed n) (end_of l o)) →
       g (with_link test s otherwise next) ≡ with_end test live instead then_next
   look_kept g otherwise next instead then_next missing along = looked test s otherwise next (with_link test s otherwise next) refl

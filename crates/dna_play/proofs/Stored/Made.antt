@@ -12,7 +12,7 @@ use Rattle.capture.specs.declared.limit.TheConstants.{MAX_LINK}
 use Rattle.capture.specs.declared.record.Record.TheVariants.{User}
 use Rattle.dna_links.proofs.Tables.Outcomes.{UserDid, user_did}
 use Rattle.dna_links.specs.Captures.{given_address}
-use Rattle.dna_links.specs.TrueFlow.{true_flows}
+use Rattle.dna_links.specs.TrueSegments.{true_segments}
 use Rattle.dna_links.specs.TrueLinks.{Links, links_user}
 use Rattle.dna_links.specs.User.{LinkEventValue}
 use Rattle.dna_node.specs.Content.{link_event}
@@ -168,9 +168,9 @@ module _ (own other : End) (now : KeptNow own other) where
         })
 
     -- it can't be made
-    pub refused_right : (more : End → End) → ((left : Links) → UserDid true_flows s value left → ⊥) → ¬ (Asks own other.half step) →
+    pub refused_right : (more : End → End) → ((left : Links) → UserDid true_segments s value left → ⊥) → ¬ (Asks own other.half step) →
         IsRight own other step (Err BadStep) (by_user own other.half event more)
     refused_right more never bad =
         made_case (IsRight own other step (Err BadStep)) own (User event) more (makes own.half other.half (User event)) (λ none. (bad, refl))
         (λ half e. let m = link_event_made own.half other.half half event value is e in
-        absurd (never m.left (user_did true_flows s m.left value m.does_it)))
+        absurd (never m.left (user_did true_segments s m.left value m.does_it)))

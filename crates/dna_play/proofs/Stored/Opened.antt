@@ -13,7 +13,7 @@ use Rattle.dna_links.proofs.Tables.Outcomes.{IsFound}
 use Rattle.dna_links.specs.Captures.{given_address}
 use Rattle.dna_links.specs.Links.{LinkOf, number_of, with_link, changed, begun}
 use Rattle.dna_links.specs.LookUps.{is_live, is_called, is_at}
-use Rattle.dna_links.specs.TrueFlow.{TrueFlow, true_flows}
+use Rattle.dna_links.specs.TrueSegments.{TrueSegments, true_segments}
 use Rattle.dna_links.specs.TrueLinks.{Links, links_user}
 use Rattle.dna_links.specs.User.{LinkEventValue}
 use Rattle.dna_links.specs.declared.port.LinkTest.TheVariants.{CalledBy}
@@ -69,7 +69,7 @@ module _ (own other : End) (now : KeptNow own other) where
       (λ end address. by_user end other.half (events.Open address) (links_owing_more (Owes (length links.links) InitiateTurn)))
       (λ end address. keeping.made (events.Open address) (with_links (kept_link.begun (kept_link.opened address) (kept own).links) end)) refl tt
       (λ less.
-      let left = of_links.opened true_flows next in
+      let left = of_links.opened true_segments next in
       event_right own other now Open (events.Open next) (of_links.Open next) refl (begun left links) (Owes (length links.links) InitiateTurn)
       (kept_link.begun (kept_link.opened next) (kept own).links) (open_line next (next_address less)) tt (omega arith) (omega arith)
       (open_goes links others own.addresses (known own other now).addressed next (omega arith)) (when_pushed links left)
@@ -78,7 +78,7 @@ module _ (own other : End) (now : KeptNow own other) where
   -- ---- a call is answered
 
   -- a call comes from this address just where a link is found
-  called_from : (partner number : ℕ) (link : LinkOf TrueFlow) → IsFound (CalledBy partner) links number link → IsCalled own partner
+  called_from : (partner number : ℕ) (link : LinkOf TrueSegments) → IsFound (CalledBy partner) links number link → IsCalled own partner
   called_from partner number link found =
       let p = and_parts (is_called link.port.phase) (is_at link.port.far partner) found.passed in
       record { number = number; link = link; there = found.there; far = at_is link.port.far partner p.1; phase = called_is link.port.phase p.0 }
@@ -95,9 +95,10 @@ module _ (own other : End) (now : KeptNow own other) where
       (asked : Asks own other.half step → IsCalled own partner) (is : (address : ℕ) → link_event (event address) ≡ Some (value address))
       (given : given_address (value next) ≡ Some next) (fits : EventFits (value next)) (lives : is_live phase ≡ true) (of : phase ≡ phase_of turn)
       (lined : IsLink next → has_line (User (event next)) ≡ true)
-      (goes : (number : ℕ) (link : LinkOf TrueFlow) → IsFound (CalledBy partner) links number link → own.addresses < next →
-      links_user links (value next) ≡ Ok (changed number (of_links.answered true_flows phase next link) links)) where
-    one_answered : (n : ℕ) (l : LinkOf TrueFlow) (o : LinkOwed) → IsFound (CalledBy partner) links n l → slice_get own.links_owed.links n ≡ Some o →
+      (goes : (number : ℕ) (link : LinkOf TrueSegments) → IsFound (CalledBy partner) links number link → own.addresses < next →
+      links_user links (value next) ≡ Ok (changed number (of_links.answered true_segments phase next link) links)) where
+    one_answered : (n : ℕ) (l : LinkOf TrueSegments) (o : LinkOwed) → IsFound (CalledBy partner) links n l →
+        slice_get own.links_owed.links n ≡ Some o →
         IsRight own other step (keeping.giving (kept own) (λ end address. keeping.made (event address)
         (with_links (kept_link.changed (place own other now n) (kept_link.answered phase turn address (end_of l o)) (kept own).links) end)))
         (giving own (λ end address. by_user end other.half (event address) (links_owing_more (Owes n turn))))
@@ -106,7 +107,7 @@ module _ (own other : End) (now : KeptNow own other) where
         (λ end address. keeping.made (event address)
         (with_links (kept_link.changed (place own other now n) (kept_link.answered phase turn address (end_of l o)) (kept own).links) end))
         gives (may (called_from partner n l found)) (λ less.
-        let left = of_links.answered true_flows phase next l in
+        let left = of_links.answered true_segments phase next l in
         let given_next : higher own.addresses (given_address (value next)) ≡ next = ap (higher own.addresses) given in
         let kept_left = kept_link.changed (place own other now n) (kept_link.answered phase turn next (end_of l o)) (kept own).links in
         subst (λ (top : ℕ). IsRight own other step (keeping.made (event next) (KeptBy own other now top kept_left))

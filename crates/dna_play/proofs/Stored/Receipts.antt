@@ -18,9 +18,9 @@ use Rattle.dna_station.specs.StationBook.{arrival_refusal, after_arrival}
 use Rattle.dna_station.specs.WireStation.{StationVariables}
 use Rattle.dna_station.specs.WireNode.{unlabelled}
 use Rattle.dna_links.specs.Links.{LinkOf}
-use Rattle.dna_links.specs.TrueFlow.{TrueFlow}
+use Rattle.dna_links.specs.TrueSegments.{TrueSegments}
 use Rattle.dna_links.specs.TrueLinks.{Links}
-use Rattle.dna_links.specs.CutFlow.{IsOrdered}
+use Rattle.dna_links.specs.CutSegments.{IsOrdered}
 use Rattle.dna_links.specs.Runs.{SentMessage}
 use Rattle.dna_node.specs.LayersPair.{side_of}
 use Rattle.dna_node.specs.Layers.{LayersUnit}
@@ -82,7 +82,7 @@ module _ (own other : End) (now : KeptNow own other) where
   facts : Facts own other
   facts = facts_of now
 
-  ordered : (i : ℕ) (l : LinkOf TrueFlow) → slice_get s.links i ≡ Some l → IsOrdered l.flow
+  ordered : (i : ℕ) (l : LinkOf TrueSegments) → slice_get s.links i ≡ Some l → IsOrdered l.segments
   ordered i l at = (facts.known.numbers i l at).0
 
   -- ---- a receipt that is made, with what the user gets

@@ -6,7 +6,7 @@ use Rattle.std.proofs.Common.{cond, nat_lt, ltb-true, ltb-false, ℕ, List}
 use Rattle.capture.specs.declared.limit.TheConstants.{MAX_LINK}
 use Rattle.dna_links.proofs.Tables.Outcomes.{IsFound, looked}
 use Rattle.dna_links.specs.Links.{LinkOf, number_of, with_link}
-use Rattle.dna_links.specs.TrueFlow.{TrueFlow}
+use Rattle.dna_links.specs.TrueSegments.{TrueSegments}
 use Rattle.dna_links.specs.TrueLinks.{Links}
 use Rattle.dna_node.specs.Layers.{LayersUnit}
 use Rattle.dna_play.proofs.Ends.Stage.{Stage, Staged}
@@ -90,7 +90,7 @@ module _ (own other : End) (now : KeptNow own other) (step : StepValue) where
 
   -- a link is looked up among those that live
   pub end_case : (P : Result KeptStepped Stop → Type 0) (test : LinkTest) → NeedsLife test → (next : ℕ → LinkEnd → Result KeptStepped Stop) →
-      (number_of test s ≡ None → P (Err BadStep)) → ((n : ℕ) (l : LinkOf TrueFlow) (o : LinkOwed) → IsFound test s n l →
+      (number_of test s ≡ None → P (Err BadStep)) → ((n : ℕ) (l : LinkOf TrueSegments) (o : LinkOwed) → IsFound test s n l →
       slice_get own.links_owed.links n ≡ Some o → P (next (place_among s.links own.links_owed n) (end_of l o))) →
       P (with_end test (kept own).links (Err BadStep) next)
   end_case P test needs next none some = looked {R = ℕ} test s 0 (λ number link. 0) (with_link test s 0 (λ number link. 0)) refl
@@ -100,9 +100,9 @@ module _ (own other : End) (now : KeptNow own other) (step : StepValue) where
       subst P (sym (end_found test needs s own.links_owed now.counted (Err BadStep) next n l b.0 found b.1)) (some n l b.0 found b.1))
 
   -- and among all, beside
-  pub look_right : (test : LinkTest) → NeedsLife test → (next : ℕ → LinkOf TrueFlow → Result Stepped Stop)
+  pub look_right : (test : LinkTest) → NeedsLife test → (next : ℕ → LinkOf TrueSegments → Result Stepped Stop)
       (then_next : ℕ → LinkEnd → Result KeptStepped Stop) → (number_of test s ≡ None → ¬ (Asks own other.half step)) →
-      ((n : ℕ) (l : LinkOf TrueFlow) (o : LinkOwed) → IsFound test s n l → slice_get own.links_owed.links n ≡ Some o →
+      ((n : ℕ) (l : LinkOf TrueSegments) (o : LinkOwed) → IsFound test s n l → slice_get own.links_owed.links n ≡ Some o →
       IsRight own other step (then_next (place_among s.links own.links_owed n) (end_of l o)) (next n l)) →
       IsRight own other step (with_end test (kept own).links (Err BadStep) then_next) (with_link test s (Err BadStep) next)
   look_right test needs next then_next none some =

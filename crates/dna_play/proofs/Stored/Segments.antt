@@ -17,12 +17,12 @@ use Rattle.dna_links.specs.declared.port.LinkTest.{LinkTest}
 use Rattle.dna_links.specs.declared.port.LinkTest.TheVariants.{ActedOn}
 use Rattle.dna_links.specs.LookUps.{is_connected, is_at, has_both}
 use Rattle.dna_links.specs.Pieces.{Piece, in_whole_messages}
-use Rattle.dna_links.specs.Links.{LinkOf, LinkTruth, check, number_of, at_number, changed, in_phase, with_flow}
+use Rattle.dna_links.specs.Links.{LinkOf, LinkTruth, check, number_of, at_number, changed, in_phase, with_segments}
 use Rattle.dna_links.specs.Arriving.{of_partner, is_of_pair, running, message_arrived}
-use Rattle.dna_links.specs.TrueFlow.{TrueFlow, Numbers, takes_segment, true_flows}
+use Rattle.dna_links.specs.TrueSegments.{TrueSegments, Numbers, takes_segment, true_segments}
 use Rattle.dna_links.specs.TrueLinks.{Links}
-use Rattle.dna_links.specs.WireFlow.{WireFlow, acknowledged_by_all, segment_taken}
-use Rattle.dna_links.specs.CutFlow.{cut, IsOrdered}
+use Rattle.dna_links.specs.WireSegments.{WireSegments, acknowledged_by_all, segment_taken}
+use Rattle.dna_links.specs.CutSegments.{cut, IsOrdered}
 use Rattle.dna_links.specs.CutLinks.{ArrivesNear}
 use Rattle.dna_station.specs.Station.{Station}
 use Rattle.dna_play.specs.HasLine.{numbers_fit, are_bytes}
@@ -38,7 +38,7 @@ use Rattle.dna_play.specs.KeptLinks.{Delivering, delivering_none, delivering_at,
 use Rattle.dna_play.specs.KeptLinks as of_links
 use Rattle.dna_play.specs.KeptPlay.{arrived, up_address, ups, all_short}
 use Rattle.dna_play.proofs.Played.Steps.{PlayHalf}
-use Rattle.dna_links.proofs.Cut.FlowArriving.{takes_segment_same}
+use Rattle.dna_links.proofs.Cut.SegmentsArriving.{takes_segment_same}
 use Rattle.dna_links.proofs.Runs.Reads.{at_is}
 use Rattle.dna_links.proofs.Tables.Outcomes.{IsFound, looked, checked}
 use Rattle.dna_links.proofs.Runs.Sides.{set_same}
@@ -48,7 +48,7 @@ use Rattle.dna_play.proofs.Ends.UpsFollow.{AllLined, AreDistinct, IsLined}
 use Rattle.dna_play.proofs.Stored.LiveEnds.{Counted, with_owed, owed_beside, left_changed}
 use Rattle.dna_play.proofs.Stored.LiveLinks.{kept_links, place_among, acted_on_lives, live_set, record_same, end_missing, end_found}
 use Rattle.dna_play.proofs.Stored.LinkComes.{NoSegment, message_kept, acted_end}
-use Rattle.dna_play.proofs.Stored.Deliveries.{flow_got, with_links, gets_made, got_stage}
+use Rattle.dna_play.proofs.Stored.Deliveries.{segments_got, with_links, gets_made, got_stage}
 use Rattle.dna_play.proofs.Links.Choices.{end_of}
 use Rattle.dna_play.proofs.Ends.Stage.{Stage}
 
@@ -73,7 +73,7 @@ left_end own station debt message links =
     passing (links_owing_more (carried_debt (links_of own.half) message) (owing_more debt (after_record own (left_half own station links))))
 
 module _ (own : End) (other : PlayHalf) (counted : Counted (links_of own.half).links own.links_owed)
-    (ordered : (i : ℕ) (l : LinkOf TrueFlow) → slice_get (links_of own.half).links i ≡ Some l → IsOrdered l.flow)
+    (ordered : (i : ℕ) (l : LinkOf TrueSegments) → slice_get (links_of own.half).links i ≡ Some l → IsOrdered l.segments)
     (records : List Record) (station : Station) (debt : Option Debt) where
   abbrev s : Links
   s = links_of own.half
@@ -112,13 +112,13 @@ module _ (own : End) (other : PlayHalf) (counted : Counted (links_of own.half).l
     abbrev test : LinkTest
     test = ActedOn segment.dstaddr segment.srcaddr
 
-    abbrev up_events : ℕ → LinkOf TrueFlow → List Event
+    abbrev up_events : ℕ → LinkOf TrueSegments → List Event
     up_events number link = map (λ (message : List ℕ). events.Up segment.dstaddr message) (complete [] (variables_of link).pieces)
 
     abbrev take_kept : ℕ → LinkEnd → Delivering
     take_kept place link = delivering_at place (took_segment segment link) live
 
-    abbrev owes_ack : ℕ → LinkOf TrueFlow → LinkDebt
+    abbrev owes_ack : ℕ → LinkOf TrueSegments → LinkDebt
     owes_ack number link = Owes number DataAckTurn
 
     abbrev after : Links → End
@@ -131,11 +131,12 @@ module _ (own : End) (other : PlayHalf) (counted : Counted (links_of own.half).l
         (ap (λ (o : Option ℕ). kept_links s.links (with_debt (at_number s.links o NoDebt owes_ack) (left_links s.links s.links owed))) none
         ∙ record_same s.links owed counted)
 
-    module _ (n : ℕ) (l : LinkOf TrueFlow) (o : LinkOwed) (found : IsFound test s n l) (owes : slice_get owed.links n ≡ Some o)
-        (same : (cut (takes_segment segment truth.known l.flow)).kept ≡ segment_taken segment (acknowledged_by_all segment.acks (variables_of l)))
+    module _ (n : ℕ) (l : LinkOf TrueSegments) (o : LinkOwed) (found : IsFound test s n l) (owes : slice_get owed.links n ≡ Some o)
+        (same : (cut (takes_segment segment truth.known l.segments)).variables
+        ≡ segment_taken segment (acknowledged_by_all segment.acks (variables_of l)))
       where
-        abbrev k : LinkOf TrueFlow
-        k = with_flow (takes_segment segment truth.known l.flow) (in_phase Running l)
+        abbrev k : LinkOf TrueSegments
+        k = with_segments (takes_segment segment truth.known l.segments) (in_phase Running l)
 
         abbrev x : Links
         x = changed n k s
@@ -159,7 +160,7 @@ module _ (own : End) (other : PlayHalf) (counted : Counted (links_of own.half).l
 
         took : end_of k left_owes ≡ took_segment segment (end_of l o)
         took = ap (of_links.owes DataAckTurn)
-            (acted_end l (takes_segment segment truth.known l.flow) o (segment_taken segment (acknowledged_by_all segment.acks (variables_of l)))
+            (acted_end l (takes_segment segment truth.known l.segments) o (segment_taken segment (acknowledged_by_all segment.acks (variables_of l)))
             same)
 
         as_kept : arrived (Some (DataSegment segment)) live ≡ delivering_at (place_among s.links owed n) (end_of k left_owes) live
@@ -169,7 +170,7 @@ module _ (own : End) (other : PlayHalf) (counted : Counted (links_of own.half).l
 
         module _ (distinct : AreDistinct x.links) (lined : IsLined x (DataSegment segment))
             (rep : (after x).owed.rep ≡ true → all_acknowledged (player.variables_of (after x).half) ≡ false) where
-          only : (j : ℕ) (m : LinkOf TrueFlow) → slice_get x.links j ≡ Some m → is_at m.port.own segment.dstaddr ≡ true → j ≡ n
+          only : (j : ℕ) (m : LinkOf TrueSegments) → slice_get x.links j ≡ Some m → is_at m.port.own segment.dstaddr ≡ true → j ≡ n
           only j m here e = distinct j n segment.dstaddr (record { link = m; there = here; owns = at_is m.port.own segment.dstaddr e })
               (record { link = k; there = there; owns = at_is l.port.own segment.dstaddr at_own })
 
@@ -181,8 +182,8 @@ module _ (own : End) (other : PlayHalf) (counted : Counted (links_of own.half).l
           abbrev messages : List (List ℕ)
           messages = complete [] (variables_of k).pieces
 
-          abbrev got : LinkOf TrueFlow
-          got = with_flow (flow_got k.flow (complete [] (variables_of k).pieces)) k
+          abbrev got : LinkOf TrueSegments
+          got = with_segments (segments_got k.segments (complete [] (variables_of k).pieces)) k
 
           got_links : kept_links (slice_set x.links n got) (after x).links_owed ≡ (arrived (Some (DataSegment segment)) live).links
           got_links =
@@ -190,7 +191,7 @@ module _ (own : End) (other : PlayHalf) (counted : Counted (links_of own.half).l
               ∙ live_set s.links owed n l o found.there owes (acted_on_lives segment.dstaddr segment.srcaddr l.port found.passed) got left_owes refl
               ∙ ap (λ (pieces : List (Option Piece)). of_links.changed (place_among s.links owed n)
               (record (end_of k left_owes) { variables = record (variables_of k) { pieces = pieces } }) live)
-              (sym (drop-drop (in_whole_messages (variables_of k).pieces) k.flow.passed k.flow.received))
+              (sym (drop-drop (in_whole_messages (variables_of k).pieces) k.segments.passed k.segments.received))
               ∙ sym (ap (λ (d : Delivering). d.links) as_kept)
 
           segment_found : Got (after x) (Some (DataSegment segment))
@@ -220,33 +221,35 @@ module _ (own : End) (other : PlayHalf) (counted : Counted (links_of own.half).l
     same_links x e = cc
 
     segment_got : (segment : SegmentValue) → ArrivesNear of_partner s (DataSegment segment) truth →
-        message_arrived true_flows of_partner s (DataSegment segment) truth ≡ Ok left → AreDistinct left.links → IsLined left (DataSegment segment) →
+        message_arrived true_segments of_partner s (DataSegment segment) truth ≡ Ok left → AreDistinct left.links →
+        IsLined left (DataSegment segment) →
         ((after_message (DataSegment segment)).owed.rep ≡ true →
         all_acknowledged (player.variables_of (after_message (DataSegment segment)).half) ≡ false) →
         Got (after_message (DataSegment segment)) (Some (DataSegment segment))
     segment_got segment near does distinct lined rep =
-        let takes : LinkOf TrueFlow → TrueFlow = λ (link : LinkOf TrueFlow). takes_segment segment truth.known link.flow in
+        let takes : LinkOf TrueSegments → TrueSegments = λ (link : LinkOf TrueSegments). takes_segment segment truth.known link.segments in
         looked (ActedOn segment.dstaddr segment.srcaddr) s (Ok s)
         (λ number link. check (of_partner (is_of_pair number link.partner truth.tag)) CrossedLink
-        (Ok (changed number (running true_flows of_partner takes link) s))) (Ok left) does
+        (Ok (changed number (running true_segments of_partner takes link) s))) (Ok left) does
         (λ none e. subst (λ (x : Links). Got (after segment truth x) (Some (DataSegment segment))) (same_links s e) (not_found segment truth none))
         (λ n l found e.
         let b = owed_beside s.links owed.links n l counted found.there in
-        let c = checked (of_partner (is_of_pair n l.partner truth.tag)) CrossedLink (Ok (changed n (running true_flows of_partner takes l) s)) left
+        let c = checked (of_partner (is_of_pair n l.partner truth.tag)) CrossedLink (Ok (changed n (running true_segments of_partner takes l) s)) left
         e in
         let m = near n l found.there found.passed c.0 in
-        let is = takes_segment_same segment truth.known l.flow (ordered n l found.there) m.0 m.1 m.2 m.3 in
+        let is = takes_segment_same segment truth.known l.segments (ordered n l found.there) m.0 m.1 m.2 m.3 in
         subst (λ (x : Links). AreDistinct x.links → IsLined x (DataSegment segment) → Got (after segment truth x) (Some (DataSegment segment)))
-        (same_links (changed n (running true_flows of_partner takes l) s) c.1)
-        (λ distinct lined. segment_found segment truth n l b.0 found b.1 (ap (λ (w : WireFlow). w.kept) is) distinct lined rep) distinct lined)
+        (same_links (changed n (running true_segments of_partner takes l) s) c.1)
+        (λ distinct lined. segment_found segment truth n l b.0 found b.1
+        (ap (λ (w : WireSegments). w.variables) is) distinct lined rep) distinct lined)
 
     plain : (m : NspValue) → NoSegment m → delivered_by left m ≡ [] → arrives m live ≡ delivering_none (message_came m live) →
         ArrivesNear of_partner s m truth →
-        message_arrived true_flows of_partner s m truth ≡ Ok left → Got (after_message m) (Some m)
+        message_arrived true_segments of_partner s m truth ≡ Ok left → Got (after_message m) (Some m)
     plain m other_kind none as_kept near does = nothing_got (after_message m) (Some m) (message_came m live) none as_kept
         (message_kept of_partner s owed counted ordered truth left m other_kind near does)
 
-    pub message_got : (m : NspValue) → ArrivesNear of_partner s m truth → message_arrived true_flows of_partner s m truth ≡ Ok left →
+    pub message_got : (m : NspValue) → ArrivesNear of_partner s m truth → message_arrived true_segments of_partner s m truth ≡ Ok left →
         AreDistinct left.links → IsLined left m →
         ((after_message m).owed.rep ≡ true → all_acknowledged (player.variables_of (after_message m).half) ≡ false) → Got (after_message m) (Some m)
     message_got (DataSegment segment) near does distinct lined rep = segment_got segment near does distinct lined rep

@@ -11,7 +11,7 @@ use Rattle.dna_links.specs.declared.port.Port.{Port}
 use Rattle.dna_links.specs.LookUps.{is_live}
 use Rattle.dna_links.specs.Links.{LinkOf}
 use Rattle.dna_links.specs.Sending as links_sending
-use Rattle.dna_links.specs.TrueFlow.{TrueFlow, Numbers, true_flows}
+use Rattle.dna_links.specs.TrueSegments.{TrueSegments, Numbers, true_segments}
 use Rattle.dna_links.specs.TrueLinks.{Links}
 use Rattle.dna_station.specs.WireStation.{StationVariables}
 use Rattle.dna_node.specs.Layers.{LayersUnit, LayersTruth}
@@ -57,7 +57,7 @@ phase_lives ConnectAckTurn = refl
 phase_lives turn = refl
 
 -- only a link that lives has one
-due_lives : (l : LinkOf TrueFlow) (o : LinkOwed) → OwedFits l o → (turn : Turn) → IsDue (end_of l o) turn → is_live l.port.phase ≡ true
+due_lives : (l : LinkOf TrueSegments) (o : LinkOwed) → OwedFits l o → (turn : Turn) → IsDue (end_of l o) turn → is_live l.port.phase ≡ true
 due_lives l o fits turn (DueFlag owed) = ap is_live (fits.turns turn owed) ∙ phase_lives turn
 due_lives l o fits turn (DueSegment running due) = ap is_live (running_is l.port.phase running)
 
@@ -108,12 +108,12 @@ module _ (own other : End) (now : KeptNow own other) where
 
   -- ---- the links
 
-  module _ (sent : links_sending.Sent TrueFlow Numbers) where
+  module _ (sent : links_sending.Sent TrueSegments Numbers) where
     abbrev left : LinksOwed
     left = left_links s.links sent.links.links owed
 
     -- the link that has a turn
-    of_link : (number : ℕ) (turn : Turn) (l : LinkOf TrueFlow) (o : LinkOwed) → slice_get s.links number ≡ Some l →
+    of_link : (number : ℕ) (turn : Turn) (l : LinkOf TrueSegments) (o : LinkOwed) → slice_get s.links number ≡ Some l →
         slice_get owed.links number ≡ Some o →
         is_live l.port.phase ≡ true → TurnMade s sent number l o turn →
         kept_links sent.links.links (after_link_choice (OfLink number turn) left) ≡ of_links.after_sent
@@ -130,7 +130,7 @@ module _ (own other : End) (now : KeptNow own other) where
 
     -- the oldest DC
     confirm_kept : (confirm : EndConfirm) → slice_get owed.confirms 0 ≡ Some confirm →
-        SentDid true_flows s (DisconnectConfirm confirm.dst confirm.src confirm.reason) sent →
+        SentDid true_segments s (DisconnectConfirm confirm.dst confirm.src confirm.reason) sent →
         kept_links sent.links.links (after_link_choice (Confirms confirm) left) ≡ of_links.after_sent (Confirms confirm) (kept own).links
     confirm_kept confirm first did =
         let some = (now.stage.links.confirms 0 confirm first).some in
@@ -143,7 +143,7 @@ module _ (own other : End) (now : KeptNow own other) where
       pub named : NamesLive (link_ends_of own) one
       pub links : kept_links sent.links.links (after_link_choice one left) ≡ of_links.after_sent (among_live (link_ends_of own) one) (kept own).links
 
-    one_kept : (one : LinkChoice) (message : NspValue) → IsAsked s.links owed one message → SentDid true_flows s message sent → OneKept one
+    one_kept : (one : LinkChoice) (message : NspValue) → IsAsked s.links owed one message → SentDid true_segments s message sent → OneKept one
     one_kept one message (OfConfirm confirm first) did = record { named = tt; links = confirm_kept confirm first did }
     one_kept one message (OfTurn number turn l o there owes due) did =
         let fits = now.stage.links.owes number l o there owes in
@@ -228,7 +228,7 @@ module _ (own other : End) (now : KeptNow own other) where
       sent_right c m is put _ makes_it (stage_again own other now.stage facts.known c old m put b)
       (all_kept c m is put s (again_after own.half other.half m).1 (λ one e. absurd (old one e)) (old_same c old))
   by_goes c is (GoesNew one message asked m put b packet sent of_it does_it makes_it) =
-      let did = subst (λ (x : NspValue). SentDid true_flows s x sent) of_it (sent_did true_flows s sent packet does_it) in
+      let did = subst (λ (x : NspValue). SentDid true_segments s x sent) of_it (sent_did true_segments s sent packet does_it) in
       let h = one_kept sent one message asked did in
       sent_right (SendNew one) m is put _ makes_it
       (stage_first own other now.stage facts.known one message asked packet sent of_it does_it m put b)

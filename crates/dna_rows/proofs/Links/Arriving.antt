@@ -1,4 +1,4 @@
--- Each row of the table of what an arrival does, and each reason that may refuse it, computed on both flows.
+-- Each row of the table of what an arrival does, and each reason that may refuse it, computed by both books.
 use Rattle.std.proofs.Common.{◌≡◌, true, false, ℕ, List, [], ◌∷◌, ◌++◌, Some, None}
 use Rattle.wire_base.specs.declared.side.Side.TheVariants.{A, B}
 use Rattle.dna_links.specs.declared.tag.LinkTag.{LinkTag}

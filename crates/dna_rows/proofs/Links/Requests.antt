@@ -1,4 +1,4 @@
--- The rows of one node whose links meet every kind of message, computed on both flows.
+-- The rows of one node whose links meet every kind of message, computed by both books.
 use Rattle.std.proofs.Common.{ℕ, List, [], ◌∷◌, ◌++◌, Some}
 use Rattle.wire_base.specs.declared.side.Side.TheVariants.{A, B}
 use Rattle.dna_station.specs.declared.link_refusal.LinkRefusal.TheVariants.{WrongNode, NoLink, LinkState, WrongAck, CrossedLink, AddressInUse}

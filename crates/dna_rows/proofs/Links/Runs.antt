@@ -11,7 +11,7 @@ use Rattle.dna_links.specs.Links.{LinkOf, Carried}
 use Rattle.dna_links.specs.User.{LinkEventValue, Open, Accept, In, Up, Close}
 use Rattle.dna_links.specs.Sending.{Sent}
 use Rattle.dna_links.specs.Arriving.{of_partner}
-use Rattle.dna_links.specs.TrueFlow.{TrueFlow, Numbers}
+use Rattle.dna_links.specs.TrueSegments.{TrueSegments, Numbers}
 use Rattle.dna_links.specs.TrueLinks.{Links, links_user, links_sent, links_arrived}
 use Rattle.dna_links.specs.Runs.{SentMessage, LinkSide, LinkWorld, LinkStep, ByUser, Sends, SendsNone, Keeps, KeepsNone, Reached, Start, ByA, ByB}
 use Rattle.dna_links.specs.Runs.{new_world}
@@ -36,7 +36,8 @@ module _ (own other : LinkSide) where
   does_made event (Ok links) e = Some (record { events = event ∷ []; left = _; step = ByUser event links e })
   does_made event (Err reason) e = None
 
-  abbrev sends_made : (packet : Carried) (r : Result (Sent TrueFlow Numbers) LinkRefusal) → links_sent own.links packet ≡ r → Option (Made own other)
+  abbrev sends_made : (packet : Carried) (r : Result (Sent TrueSegments Numbers) LinkRefusal) → links_sent own.links packet ≡ r →
+      Option (Made own other)
   sends_made packet (Ok made) e = Some (record { events = []; left = _; step = Sends packet made e })
   sends_made packet (Err reason) e = None
 
@@ -114,7 +115,7 @@ abbrev shown : (place_a place_b : ℕ) → Option (Ran new) → Option Shown
 shown place_a place_b None = None
 shown place_a place_b (Some r) =
     Some (record {
-      up = map (λ (l : LinkOf TrueFlow). l.flow.delivered) r.world.b.links.links;
+      up = map (λ (l : LinkOf TrueSegments). l.segments.delivered) r.world.b.links.links;
       in_at_a = handed_in 1 (behind place_a r.of_a);
       up_at_b = delivered_up 2 (behind place_b r.of_b);
     })

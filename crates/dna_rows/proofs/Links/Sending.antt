@@ -1,4 +1,4 @@
--- Each row of the table of what may be sent, each reason that may refuse it but those on numbers, and the tags, computed on both flows.
+-- Each row of the table of what may be sent, each reason that may refuse it but those on numbers, and the tags, computed by both books.
 use Rattle.std.proofs.Common.{ℕ, List, [], ◌∷◌, ◌++◌, Some, None}
 use Rattle.wire_base.specs.declared.side.Side.TheVariants.{A, B}
 use Rattle.dna_station.specs.declared.link_refusal.LinkRefusal.TheVariants.{WrongNode, NoLink, LinkState}

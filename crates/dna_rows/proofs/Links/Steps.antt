@@ -10,13 +10,13 @@ use Rattle.dna_packet.specs.Nsp.{NspValue}
 use Rattle.dna_packet.specs.ReadingNsp.{nsp_at}
 use Rattle.dna_station.specs.declared.link_refusal.LinkRefusal.{LinkRefusal}
 use Rattle.dna_links.specs.declared.tag.LinkTag.{LinkTag}
-use Rattle.dna_links.specs.Flow.{Flows}
+use Rattle.dna_links.specs.SegmentBook.{SegmentBook}
 use Rattle.dna_links.specs.Links.{LinksOf, Carried, LinkTruth, no_links}
 use Rattle.dna_links.specs.User.{LinkEventValue, user_step}
 use Rattle.dna_links.specs.Sending.{Sent, sent_step}
 use Rattle.dna_links.specs.Arriving.{of_partner, arrived_step}
-use Rattle.dna_links.specs.TrueFlow.{true_flows}
-use Rattle.dna_links.specs.WireFlow.{wire_flows}
+use Rattle.dna_links.specs.TrueSegments.{true_segments}
+use Rattle.dna_links.specs.WireSegments.{wire_segments}
 
 -- the addresses of the two nodes, 1.1 and 1.2
 abbrev pub NODE_A : ℕ
@@ -79,7 +79,7 @@ abbrev node : Side → ℕ
 node A = NODE_A
 node B = NODE_B
 
-module _ {D K : Type 0} (flows : Flows D K) where
+module _ {D K : Type 0} (book : SegmentBook D K) where
   abbrev end : Side → Both D K → OneEnd D K
   end A w = w.a
   end B w = w.b
@@ -91,15 +91,15 @@ module _ {D K : Type 0} (flows : Flows D K) where
   -- ---- what one end makes
 
   abbrev does : OneEnd D K → LinkEventValue → Becomes (OneEnd D K)
-  does own event = of_result (λ (next : LinksOf D). record own { state = next }) (user_step flows own.state event)
+  does own event = of_result (λ (next : LinksOf D). record own { state = next }) (user_step book own.state event)
 
   abbrev sends : OneEnd D K → Carried → Becomes (OneEnd D K)
   sends own packet =
       of_result (λ (made : Sent D K). record { state = made.links; sent = own.sent ++ record { packet = packet; truth = made.truth } ∷ [] })
-      (sent_step flows own.state packet)
+      (sent_step book own.state packet)
 
   abbrev arrives : OneEnd D K → Carried → LinkTruth K → Becomes (OneEnd D K)
-  arrives own packet truth = of_result (λ (next : LinksOf D). record own { state = next }) (arrived_step flows of_partner own.state packet truth)
+  arrives own packet truth = of_result (λ (next : LinksOf D). record own { state = next }) (arrived_step book of_partner own.state packet truth)
 
   -- ---- what both make
 
@@ -120,7 +120,7 @@ module _ {D K : Type 0} (flows : Flows D K) where
   act w (ComesAs to k tag) =
       lands to w (into (sent_by (other_side to) w k) (λ (one : SentOne K). arrives (end to w) one.packet (record one.truth { tag = tag })))
   act w (Gets to src dst bytes tag) = lands to w (into (read src dst (nsp_at bytes))
-      (λ (packet : Carried). arrives (end to w) packet (record { tag = tag; known = flows.sends_other flows.empty })))
+      (λ (packet : Carried). arrives (end to w) packet (record { tag = tag; known = book.sends_other book.empty })))
 
   abbrev pub acts : Becomes (Both D K) → List Act → Becomes (Both D K)
   acts w [] = w
@@ -145,21 +145,22 @@ module _ {D K : Type 0} (flows : Flows D K) where
   abbrev pub tag_in : Side → ℕ → Becomes (Both D K) → Becomes LinkTag
   tag_in from k w = into w (λ (made : Both D K). into (sent_by from made k) (λ (one : SentOne K). Makes one.truth.tag))
 
--- All is made, of both flows; or the last act is refused, of both
+-- All is made, by both books; or the last act is refused, of both
 abbrev pub AllMade : List Act → Type 0
-AllMade list = (end_of true_flows (after true_flows list) ≡ Makes tt) × (end_of wire_flows (after wire_flows list) ≡ Makes tt)
+AllMade list = (end_of true_segments (after true_segments list) ≡ Makes tt) × (end_of wire_segments (after wire_segments list) ≡ Makes tt)
 
 abbrev pub LastRefused : LinkRefusal → List Act → Type 0
-LastRefused reason list = (end_of true_flows (after true_flows list) ≡ Refuses reason) × (end_of wire_flows (after wire_flows list) ≡ Refuses reason)
+LastRefused reason list =
+    (end_of true_segments (after true_segments list) ≡ Refuses reason) × (end_of wire_segments (after wire_segments list) ≡ Refuses reason)
 
 -- What comes after these acts is made, and changes nothing at this node
 abbrev pub ChangesNothing : Side → List Act → List Act → Type 0
 ChangesNothing at list more =
-    (links_of true_flows at (after true_flows (list ++ more)) ≡ links_of true_flows at (after true_flows list))
-    × (links_of wire_flows at (after wire_flows (list ++ more)) ≡ links_of wire_flows at (after wire_flows list))
+    (links_of true_segments at (after true_segments (list ++ more)) ≡ links_of true_segments at (after true_segments list))
+    × (links_of wire_segments at (after wire_segments (list ++ more)) ≡ links_of wire_segments at (after wire_segments list))
     × AllMade (list ++ more)
 
 -- Message k of this node has this tag
 abbrev pub HasTag : Side → ℕ → LinkTag → List Act → Type 0
 HasTag from k tag list =
-    (tag_in true_flows from k (after true_flows list) ≡ Makes tag) × (tag_in wire_flows from k (after wire_flows list) ≡ Makes tag)
+    (tag_in true_segments from k (after true_segments list) ≡ Makes tag) × (tag_in wire_segments from k (after wire_segments list) ≡ Makes tag)

@@ -1,4 +1,4 @@
--- Each row of the table of what the user does, and each reason that may refuse it, computed on both flows.
+-- Each row of the table of what the user does, and each reason that may refuse it, computed by both books.
 use Rattle.std.proofs.Common.{ℕ, List, [], ◌∷◌, ◌++◌}
 use Rattle.wire_base.specs.declared.side.Side.TheVariants.{A, B}
 use Rattle.dna_station.specs.declared.link_refusal.LinkRefusal.TheVariants.{NoLink, LinkState, WrongDelivery, AddressInUse}

@@ -1,4 +1,4 @@
--- Numbers beyond one window and beyond 4,095, on flows that are written out: the full window, how far back a repeat and a word in one
+-- Numbers beyond one window and beyond 4,095, on segments that are written out: the full window, how far back a repeat and a word in one
 -- reach, and how far ahead a segment may come.
 use Rattle.std.proofs.Common.{◌≡◌, ℕ, ◌-◌, Bool, true, false, Option, Some, None, List, [], ◌∷◌, replicate, length, Result, Ok, Err}
 use Rattle.dna_packet.specs.declared.ack_word.AckQualifier.TheVariants.{Ack}
@@ -7,11 +7,11 @@ use Rattle.dna_packet.specs.Nsp.{SegmentValue}
 use Rattle.dna_station.specs.declared.link_refusal.LinkRefusal.{LinkRefusal}
 use Rattle.dna_station.specs.declared.link_refusal.LinkRefusal.TheVariants.{WrongSegment, WrongAck, LinkWindowFull}
 use Rattle.dna_links.specs.Pieces.{Piece}
-use Rattle.dna_links.specs.Flow.{Sending, wire}
-use Rattle.dna_links.specs.TrueFlow.{TrueFlow, Numbers}
-use Rattle.dna_links.specs.TrueFlow as true_flow
-use Rattle.dna_links.specs.WireFlow.{LinkVariables, WireFlow}
-use Rattle.dna_links.specs.WireFlow as wire_flow
+use Rattle.dna_links.specs.SegmentBook.{Sending, wire}
+use Rattle.dna_links.specs.TrueSegments.{TrueSegments, Numbers}
+use Rattle.dna_links.specs.TrueSegments as on_true
+use Rattle.dna_links.specs.WireSegments.{LinkVariables, WireSegments}
+use Rattle.dna_links.specs.WireSegments as on_wire
 
 -- a message of one byte, in one piece
 abbrev byte : Piece
@@ -28,7 +28,7 @@ long_segment number = record (segment number []) { ends = false; body = 5 ∷ 5 
 abbrev word : ℕ → AckWord
 word number = record { qualifier = Ack; number = number }
 
--- The numbers of a flow without a bound: so many given and acknowledged, the last acknowledgement sent, so many received
+-- The numbers of a link's segments without a bound: so many given and acknowledged, the last acknowledgement sent, so many received
 pub record Reached : Type 0 where
   pub given : ℕ
   pub acknowledged : ℕ
@@ -36,7 +36,7 @@ pub record Reached : Type 0 where
   pub received : ℕ
 
 -- messages of one byte: two more are handed in, and all that came are delivered
-abbrev of_true : Reached → TrueFlow
+abbrev of_true : Reached → TrueSegments
 of_true r = record {
   handed = [];
   unsent = record { begun = false; messages = (5 ∷ []) ∷ (5 ∷ []) ∷ [] };
@@ -49,9 +49,9 @@ of_true r = record {
 }
 
 -- the same as a node keeps it; `gave_many` and `last_is_high` are whether the highest given and the last have reached 2,047
-abbrev of_wire : (gave_many last_is_high : Bool) → Reached → WireFlow
+abbrev of_wire : (gave_many last_is_high : Bool) → Reached → WireSegments
 of_wire gave_many last_is_high r = record {
-  kept = record {
+  variables = record {
     unsent = record { begun = false; messages = (5 ∷ []) ∷ (5 ∷ []) ∷ [] };
     acknowledged = wire r.acknowledged;
     outstanding = replicate (r.given - r.acknowledged) byte;
@@ -70,7 +70,7 @@ refusal (Err reason) = Some reason
 -- A segment that is sent is refused so, or goes, on both
 abbrev Sends : (gave_many last_is_high : Bool) → Reached → SegmentValue → Option LinkRefusal → Type 0
 Sends gave_many last_is_high r s reason =
-    (refusal (true_flow.sends_segment 1 s (of_true r)) ≡ reason) × (refusal (wire_flow.sends_segment 1 s (of_wire gave_many last_is_high r)) ≡ reason)
+    (refusal (on_true.sends_segment 1 s (of_true r)) ≡ reason) × (refusal (on_wire.sends_segment 1 s (of_wire gave_many last_is_high r)) ≡ reason)
 
 abbrev before_the_wrap : Reached
 before_the_wrap = record { given = 4095; acknowledged = 2049; last = 0; received = 0 }
@@ -85,12 +85,12 @@ abbrev answered : (last : ℕ) → Reached
 answered last = record { given = 1; acknowledged = 0; last = last; received = 5000 }
 
 -- whether the highest given and the last acknowledgement have reached 2,047, once this is sent
-abbrev remembered : Result (Sending WireFlow (Unit {0})) LinkRefusal → Option (Bool × Bool)
-remembered (Ok sent) = Some (sent.flow.gave_many, sent.flow.last_is_high)
+abbrev remembered : Result (Sending WireSegments (Unit {0})) LinkRefusal → Option (Bool × Bool)
+remembered (Ok sent) = Some (sent.segments.gave_many, sent.segments.last_is_high)
 remembered (Err reason) = None
 
 abbrev near_the_wrap : LinkVariables
-near_the_wrap = (of_wire true true (record { given = 4100; acknowledged = 4090; last = 0; received = 4090 })).kept
+near_the_wrap = (of_wire true true (record { given = 4100; acknowledged = 4090; last = 0; received = 4090 })).variables
 
 abbrev begun : Piece
 begun = record { begins = true; ends = false; body = 6 ∷ [] }
@@ -98,8 +98,8 @@ begun = record { begins = true; ends = false; body = 6 ∷ [] }
 abbrev ending : Piece
 ending = record { begins = false; ends = true; body = 7 ∷ [] }
 
-abbrev with_pieces : List (Option Piece) → WireFlow
-with_pieces pieces = record (of_wire true true window_filled) { kept = record near_the_wrap { pieces = pieces } }
+abbrev with_pieces : List (Option Piece) → WireSegments
+with_pieces pieces = record (of_wire true true window_filled) { variables = record near_the_wrap { pieces = pieces } }
 
 record Rows : Type 0 where
   -- ---- the full window: 4,095 are given, 2,049 acknowledged, and number 4,096 is given too
@@ -131,38 +131,38 @@ record Rows : Type 0 where
   word_across_the_wrap : Sends false true (record (answered 4090) { received = 4100 }) (segment 1 (word 4 ∷ word 3 ∷ [])) None
   word_beyond_the_wrap : Sends false true (record (answered 4090) { received = 4100 }) (segment 1 (word 5 ∷ [])) (Some WrongAck)
   -- ---- what a node remembers of them
-  gave_2046 : remembered (wire_flow.sends_segment 1 (segment 2046 []) (of_wire false false (all_acknowledged 2045))) ≡ Some (false, false)
-  gave_2047 : remembered (wire_flow.sends_segment 1 (segment 2047 []) (of_wire false false (all_acknowledged 2046))) ≡ Some (true, false)
-  gave_4096 : remembered (wire_flow.sends_segment 1 (segment 0 []) (of_wire true false (all_acknowledged 4095))) ≡ Some (true, false)
-  acknowledged_2046 : remembered (wire_flow.sends_acks (word 2046 ∷ []) (of_wire false false (record (answered 2000) { received = 2050 }))) ≡ Some
+  gave_2046 : remembered (on_wire.sends_segment 1 (segment 2046 []) (of_wire false false (all_acknowledged 2045))) ≡ Some (false, false)
+  gave_2047 : remembered (on_wire.sends_segment 1 (segment 2047 []) (of_wire false false (all_acknowledged 2046))) ≡ Some (true, false)
+  gave_4096 : remembered (on_wire.sends_segment 1 (segment 0 []) (of_wire true false (all_acknowledged 4095))) ≡ Some (true, false)
+  acknowledged_2046 : remembered (on_wire.sends_acks (word 2046 ∷ []) (of_wire false false (record (answered 2000) { received = 2050 }))) ≡ Some
       (false, false)
-  acknowledged_2047 : remembered (wire_flow.sends_acks (word 2047 ∷ []) (of_wire false false (record (answered 2000) { received = 2050 }))) ≡ Some
+  acknowledged_2047 : remembered (on_wire.sends_acks (word 2047 ∷ []) (of_wire false false (record (answered 2000) { received = 2050 }))) ≡ Some
       (false, true)
-  acknowledged_4096 : remembered (wire_flow.sends_acks (word 0 ∷ []) (of_wire false true (record (answered 4000) { received = 4100 }))) ≡ Some
+  acknowledged_4096 : remembered (on_wire.sends_acks (word 0 ∷ []) (of_wire false true (record (answered 4000) { received = 4100 }))) ≡ Some
       (false, true)
   -- ---- what comes, by its bytes: a node that has acknowledged numbers through 4,090 of 4,100, and has received 4,090
   -- through 4,099, through 4,100, and one more, which was not given
-  acknowledged_across_the_wrap : wire_flow.acknowledged_by near_the_wrap (word 3) ≡ record near_the_wrap { acknowledged = 3; outstanding = byte ∷ [] }
-  acknowledged_to_the_end : wire_flow.acknowledged_by near_the_wrap (word 4) ≡ record near_the_wrap { acknowledged = 4; outstanding = [] }
-  acknowledged_beyond : wire_flow.acknowledged_by near_the_wrap (word 5) ≡ near_the_wrap
-  acknowledged_before : wire_flow.acknowledged_by near_the_wrap (word 4089) ≡ near_the_wrap
+  acknowledged_across_the_wrap : on_wire.acknowledged_by near_the_wrap (word 3) ≡ record near_the_wrap { acknowledged = 3; outstanding = byte ∷ [] }
+  acknowledged_to_the_end : on_wire.acknowledged_by near_the_wrap (word 4) ≡ record near_the_wrap { acknowledged = 4; outstanding = [] }
+  acknowledged_beyond : on_wire.acknowledged_by near_the_wrap (word 5) ≡ near_the_wrap
+  acknowledged_before : on_wire.acknowledged_by near_the_wrap (word 4089) ≡ near_the_wrap
   -- 4,091 is the next; 4,100 is held; 2,047 ahead is held, and 2,048 ahead counts as received
-  next_number : wire_flow.segment_taken (segment 4091 []) near_the_wrap ≡ record near_the_wrap { received = 4091; pieces = Some byte ∷ [] }
-  held_across_the_wrap : wire_flow.segment_taken (segment 0 []) near_the_wrap ≡ record near_the_wrap
+  next_number : on_wire.segment_taken (segment 4091 []) near_the_wrap ≡ record near_the_wrap { received = 4091; pieces = Some byte ∷ [] }
+  held_across_the_wrap : on_wire.segment_taken (segment 0 []) near_the_wrap ≡ record near_the_wrap
       { pieces = None ∷ None ∷ None ∷ None ∷ None ∷ Some byte ∷ [] }
   -- once it is held, those before it come: the highest received rises over it
-  received_over_the_wrap : wire_flow.segment_taken (segment 4095 [])
+  received_over_the_wrap : on_wire.segment_taken (segment 4095 [])
       (record near_the_wrap { received = 4094; pieces = Some byte ∷ None ∷ Some byte ∷ [] }) ≡ record near_the_wrap
       { received = 0; pieces = Some byte ∷ Some byte ∷ Some byte ∷ [] }
-  held_2047_ahead : length (wire_flow.segment_taken (segment 2041 []) near_the_wrap).pieces ≡ 2047
-  passed_2048_ahead : wire_flow.segment_taken (segment 2042 []) near_the_wrap ≡ near_the_wrap
-  passed_as_received : wire_flow.segment_taken (segment 4090 []) near_the_wrap ≡ near_the_wrap
-  passed_as_received_before : wire_flow.segment_taken (segment 4089 []) near_the_wrap ≡ near_the_wrap
-  -- ---- what is left of a flow when its link ends: the whole messages that came, and nothing of the one that did not
-  whole_messages_stay : wire_flow.ends (with_pieces (Some byte ∷ Some begun ∷ Some ending ∷ Some begun ∷ Some begun ∷ [])) ≡
-      wire_flow.with_pieces_alone (Some byte ∷ Some begun ∷ Some ending ∷ [])
-  nothing_behind_a_gap_stays : wire_flow.ends (with_pieces (Some begun ∷ None ∷ Some ending ∷ Some byte ∷ [])) ≡ wire_flow.empty
-  nothing_stays_once_the_address_is_given_again : wire_flow.forgets (with_pieces (Some byte ∷ [])) ≡ wire_flow.empty
+  held_2047_ahead : length (on_wire.segment_taken (segment 2041 []) near_the_wrap).pieces ≡ 2047
+  passed_2048_ahead : on_wire.segment_taken (segment 2042 []) near_the_wrap ≡ near_the_wrap
+  passed_as_received : on_wire.segment_taken (segment 4090 []) near_the_wrap ≡ near_the_wrap
+  passed_as_received_before : on_wire.segment_taken (segment 4089 []) near_the_wrap ≡ near_the_wrap
+  -- ---- what is left of a link's segments when it ends: the whole messages that came, and nothing of the one that did not
+  whole_messages_stay : on_wire.ends (with_pieces (Some byte ∷ Some begun ∷ Some ending ∷ Some begun ∷ Some begun ∷ [])) ≡
+      on_wire.with_pieces_alone (Some byte ∷ Some begun ∷ Some ending ∷ [])
+  nothing_behind_a_gap_stays : on_wire.ends (with_pieces (Some begun ∷ None ∷ Some ending ∷ Some byte ∷ [])) ≡ on_wire.empty
+  nothing_stays_once_the_address_is_given_again : on_wire.forgets (with_pieces (Some byte ∷ [])) ≡ on_wire.empty
 
 computed : Rows
 computed = search

@@ -1,5 +1,5 @@
--- Numbers, acknowledgement words and pieces: each check of a segment and of a word, and what they do where they come, computed on both
--- flows.
+-- Numbers, acknowledgement words and pieces: each check of a segment and of a word, and what they do where they come, computed by both
+-- books.
 use Rattle.std.proofs.Common.{ℕ, List, [], ◌∷◌, ◌++◌}
 use Rattle.wire_base.specs.declared.side.Side.TheVariants.{A, B}
 use Rattle.dna_station.specs.declared.link_refusal.LinkRefusal.TheVariants.{WrongSegment, WrongAck, SegmentTooLong, WrongDelivery}

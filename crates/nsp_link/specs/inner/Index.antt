@@ -7,7 +7,7 @@ use Rattle.dna_links.specs.declared.port.LinkTest.{LinkTest}
 use Rattle.dna_links.specs.declared.port.LinkTest.TheVariants.{HasAddress, LiveAt, TheLink, LiveTo, OpenedAt, CallingAt, CalledBy, BegunBy, ActedOn}
 use Rattle.dna_links.specs.LookUps.{is_live, is_called, is_calling, passes}
 use Rattle.dna_links.specs.Links.{LinkOf, forgotten}
-use Rattle.dna_links.specs.WireFlow.{WireFlow, wire_flows}
+use Rattle.dna_links.specs.WireSegments.{WireSegments, wire_segments}
 
 -- ---- a number that is looked at
 
@@ -102,10 +102,10 @@ module _ {D : Type 0} where
 
 -- ---- an own address that is given again: the holder, which has ended, loses it
 
-abbrev pub forgotten_found : ℕ → Option (LinkOf WireFlow) → List (LinkOf WireFlow) → List (LinkOf WireFlow)
+abbrev pub forgotten_found : ℕ → Option (LinkOf WireSegments) → List (LinkOf WireSegments) → List (LinkOf WireSegments)
 forgotten_found number None links = links
-forgotten_found number (Some link) links = slice_set links number (forgotten wire_flows link)
+forgotten_found number (Some link) links = slice_set links number (forgotten wire_segments link)
 
-abbrev pub forgotten_at : (holder : Option ℕ) → List (LinkOf WireFlow) → List (LinkOf WireFlow)
+abbrev pub forgotten_at : (holder : Option ℕ) → List (LinkOf WireSegments) → List (LinkOf WireSegments)
 forgotten_at None links = links
 forgotten_at (Some number) links = forgotten_found number (slice_get links number) links

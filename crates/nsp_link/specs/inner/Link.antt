@@ -1,8 +1,8 @@
 -- What a contract sees of one end of a link.
 use Rattle.std.specs.Prelude.{Option, Some, None}
-use Rattle.dna_links.specs.WireFlow.{WireFlow, empty}
+use Rattle.dna_links.specs.WireSegments.{WireSegments, empty}
 
--- a flow that lies somewhere, or an empty one
-abbrev pub flow_in : {B : Type 0} → (B → WireFlow) → Option B → WireFlow
-flow_in value None = empty
-flow_in value (Some b) = value b
+-- segments that lie somewhere, or empty ones
+abbrev pub segments_in : {B : Type 0} → (B → WireSegments) → Option B → WireSegments
+segments_in value None = empty
+segments_in value (Some b) = value b

@@ -20,10 +20,10 @@ impl<W: Window<Piece, 4096> + Drop> Link<W> {
         requires live { is_live self.now.port.phase ≡ true }
         requires acks { AllByRecursion IsAckWord segment.now.acks.items }
         requires number { segment.now.number < 4096 }
-        ensures { result ≡ spec.failed_segment self.now.segsize (segment_view segment.now) self.now.flow }
+        ensures { result ≡ spec.failed_segment self.now.segsize (segment_view segment.now) self.now.segments }
     {
-        match &self.flow {
-            Some(flow) => flow.failed_segment(self.segsize, segment),
+        match &self.segments {
+            Some(segments) => segments.failed_segment(self.segsize, segment),
             None => unreachable!(),
         }
     }
@@ -32,33 +32,33 @@ impl<W: Window<Piece, 4096> + Drop> Link<W> {
     pub fn failed_acks(&self, words: &[AckWord]) -> Option<FailedLinkSending>
         requires live { is_live self.now.port.phase ≡ true }
         requires acks { AllByRecursion IsAckWord words.now }
-        ensures { result ≡ spec.failed_acks words.now self.now.flow }
+        ensures { result ≡ spec.failed_acks words.now self.now.segments }
     {
-        match &self.flow {
-            Some(flow) => flow.failed_acks(words),
+        match &self.segments {
+            Some(segments) => segments.failed_acks(words),
             None => unreachable!(),
         }
     }
     /// The check that this message does not pass, if it were delivered now at this link, which has this number; `None` where it is the next
     /// whole one. Takes no memory.
     pub fn failed_delivery(&self, number: u64, message: &[u8]) -> Option<FailedLinkEvent>
-        ensures { result ≡ failed_delivery number message.now self.now.flow.kept.pieces }
+        ensures { result ≡ failed_delivery number message.now self.now.segments.variables.pieces }
     {
         let seen = message.len();
-        let Some(flow) = &self.flow else {
+        let Some(segments) = &self.segments else {
             return Some(FailedLinkEvent::Delivery {
                 link: number,
                 seen,
                 allowed: None,
             });
         };
-        if flow.is_next_message(message) {
+        if segments.is_next_message(message) {
             return None;
         }
         Some(FailedLinkEvent::Delivery {
             link: number,
             seen,
-            allowed: flow.next_length(),
+            allowed: segments.next_length(),
         })
     }
 }

@@ -13,8 +13,8 @@ impl<W: Window<Piece, 4096> + Drop> Link<W> {
     pub fn view(&self) -> LinkView
         ensures { result ≡ view_of self.now }
     {
-        let numbers = match &self.flow {
-            Some(flow) => flow.numbers(),
+        let numbers = match &self.segments {
+            Some(segments) => segments.numbers(),
             None => NO_NUMBERS,
         };
         LinkView {
@@ -29,8 +29,8 @@ impl<W: Window<Piece, 4096> + Drop> Link<W> {
     pub fn rest(&self) -> Option<&[u8]>
         ensures { option_copied result ≡ rest_of self.now }
     {
-        match &self.flow {
-            Some(flow) => flow.rest(),
+        match &self.segments {
+            Some(segments) => segments.rest(),
             None => None,
         }
     }

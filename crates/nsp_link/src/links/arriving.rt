@@ -7,7 +7,7 @@ ghost use Rattle.dna_packet.specs.Nsp.{segment_view};
 ghost use Rattle.dna_packet.specs.Nsp as nsp;
 ghost use Rattle.dna_links.specs.Arriving.{of_partner, message_arrived, ends_link};
 ghost use Rattle.dna_links.specs.Arriving as arriving;
-ghost use Rattle.dna_links.specs.WireFlow.{wire_flows};
+ghost use Rattle.dna_links.specs.WireSegments.{wire_segments};
 ghost use Rattle.dna_links.specs.WireLinks.{wire_links_arrived};
 ghost use Rattle.nsp_link.specs.Fault.{IsFault};
 ghost use Rattle.nsp_link.specs.PartnerRules.{partner_rule};
@@ -74,9 +74,9 @@ impl<W: Window<Piece, 4096> + Drop> Links<W> {
     // The same of a message that comes from the other node to this one.
     fn take<const OF_PAIR: bool>(&mut self, message: &Nsp, tag: LinkTag) -> Result<(), LinkFault>
         requires { nsp.IsInRange (nsp.view message.now) }
-        ensures ok { OnOk result (message_arrived wire_flows (partner_rule OF_PAIR) self.old (nsp.view message.now)
+        ensures ok { OnOk result (message_arrived wire_segments (partner_rule OF_PAIR) self.old (nsp.view message.now)
             (record { tag = tag; known = tt }) ≡ Ok self.new) }
-        ensures refused { IfErr result (λ fault. IsFault (message_arrived wire_flows (partner_rule OF_PAIR) self.old (nsp.view message.now)
+        ensures refused { IfErr result (λ fault. IsFault (message_arrived wire_segments (partner_rule OF_PAIR) self.old (nsp.view message.now)
             (record { tag = tag; known = tt })) (arrival_takes_memory self.old (nsp.view message.now)) fault) }
         ensures err { OnErr result (self.new ≡ self.old) }
     {
@@ -115,10 +115,10 @@ impl<W: Window<Piece, 4096> + Drop> Links<W> {
         message: &ConnectConfirm,
         tag: LinkTag,
     ) -> Result<(), LinkFault>
-        ensures ok { OnOk result (message_arrived wire_flows (partner_rule OF_PAIR) self.old (nsp.ConnectConfirm message.now.dstaddr
+        ensures ok { OnOk result (message_arrived wire_segments (partner_rule OF_PAIR) self.old (nsp.ConnectConfirm message.now.dstaddr
             message.now.srcaddr message.now.services message.now.info message.now.segsize message.now.user_data.now)
             (record { tag = tag; known = tt }) ≡ Ok self.new) }
-        ensures refused { IfErr result (λ fault. IsFault (message_arrived wire_flows (partner_rule OF_PAIR) self.old (nsp.ConnectConfirm
+        ensures refused { IfErr result (λ fault. IsFault (message_arrived wire_segments (partner_rule OF_PAIR) self.old (nsp.ConnectConfirm
             message.now.dstaddr message.now.srcaddr message.now.services message.now.info message.now.segsize message.now.user_data.now)
             (record { tag = tag; known = tt })) false fault) }
         ensures err { OnErr result (self.new ≡ self.old) }
@@ -143,8 +143,8 @@ impl<W: Window<Piece, 4096> + Drop> Links<W> {
         far: u16,
         tag: LinkTag,
     ) -> Result<(), LinkFault>
-        ensures ok { OnOk result (arriving.acted_on wire_flows (partner_rule OF_PAIR) own far tag (λ link. link.flow) self.old ≡ Ok self.new) }
-        ensures refused { IfErr result (λ fault. IsFault (arriving.acted_on wire_flows (partner_rule OF_PAIR) own far tag (λ link. link.flow)
+        ensures ok { OnOk result (arriving.acted_on wire_segments (partner_rule OF_PAIR) own far tag (λ link. link.segments) self.old ≡ Ok self.new) }
+        ensures refused { IfErr result (λ fault. IsFault (arriving.acted_on wire_segments (partner_rule OF_PAIR) own far tag (λ link. link.segments)
             self.old) false fault) }
         ensures err { OnErr result (self.new ≡ self.old) }
     {
@@ -166,9 +166,10 @@ impl<W: Window<Piece, 4096> + Drop> Links<W> {
         tag: LinkTag,
     ) -> Result<(), LinkFault>
         requires { AllByRecursion IsAckWord message.now.acks.items }
-        ensures ok { OnOk result (message_arrived wire_flows (partner_rule OF_PAIR) self.old (nsp.DataAck message.now.dstaddr message.now.srcaddr
+        ensures ok { OnOk result (message_arrived wire_segments (partner_rule OF_PAIR) self.old (nsp.DataAck message.now.dstaddr message.now.srcaddr
             message.now.acks.items) (record { tag = tag; known = tt }) ≡ Ok self.new) }
-        ensures refused { IfErr result (λ fault. IsFault (message_arrived wire_flows (partner_rule OF_PAIR) self.old (nsp.DataAck message.now.dstaddr
+        ensures refused { IfErr result
+            (λ fault. IsFault (message_arrived wire_segments (partner_rule OF_PAIR) self.old (nsp.DataAck message.now.dstaddr
             message.now.srcaddr message.now.acks.items) (record { tag = tag; known = tt })) false fault) }
         ensures err { OnErr result (self.new ≡ self.old) }
     {
@@ -195,9 +196,9 @@ impl<W: Window<Piece, 4096> + Drop> Links<W> {
     ) -> Result<(), LinkFault>
         requires acks { AllByRecursion IsAckWord segment.now.acks.items }
         requires segnum { segment.now.number < 4096 }
-        ensures ok { OnOk result (message_arrived wire_flows (partner_rule OF_PAIR) self.old (nsp.DataSegment (segment_view segment.now))
+        ensures ok { OnOk result (message_arrived wire_segments (partner_rule OF_PAIR) self.old (nsp.DataSegment (segment_view segment.now))
             (record { tag = tag; known = tt }) ≡ Ok self.new) }
-        ensures refused { IfErr result (λ fault. IsFault (message_arrived wire_flows (partner_rule OF_PAIR) self.old
+        ensures refused { IfErr result (λ fault. IsFault (message_arrived wire_segments (partner_rule OF_PAIR) self.old
             (nsp.DataSegment (segment_view segment.now)) (record { tag = tag; known = tt }))
             (holds_segment self.old (segment_view segment.now)) fault) }
         ensures err { OnErr result (self.new ≡ self.old) }
@@ -225,10 +226,10 @@ impl<W: Window<Piece, 4096> + Drop> Links<W> {
         message: &ConnectInitiate,
         tag: LinkTag,
     ) -> Result<(), LinkFault>
-        ensures ok { OnOk result (message_arrived wire_flows (partner_rule OF_PAIR) self.old (nsp.ConnectInitiate message.now.retransmitted
+        ensures ok { OnOk result (message_arrived wire_segments (partner_rule OF_PAIR) self.old (nsp.ConnectInitiate message.now.retransmitted
             message.now.srcaddr message.now.services message.now.info message.now.segsize message.now.user_data.now)
             (record { tag = tag; known = tt }) ≡ Ok self.new) }
-        ensures refused { IfErr result (λ fault. IsFault (message_arrived wire_flows (partner_rule OF_PAIR) self.old (nsp.ConnectInitiate
+        ensures refused { IfErr result (λ fault. IsFault (message_arrived wire_segments (partner_rule OF_PAIR) self.old (nsp.ConnectInitiate
             message.now.retransmitted message.now.srcaddr message.now.services message.now.info message.now.segsize
             message.now.user_data.now) (record { tag = tag; known = tt })) (begins_link self.old message.now.srcaddr) fault) }
         ensures err { OnErr result (self.new ≡ self.old) }
@@ -245,7 +246,7 @@ impl<W: Window<Piece, 4096> + Drop> Links<W> {
     // A DI or a DC: the link, or the one in Calling with the own address, is over.
     #[tactic(auto, using(crate::proofs::Found::found_links))]
     fn end(&mut self, own: u16, far: u16)
-        ensures { self.new ≡ ends_link wire_flows of_partner own far self.old }
+        ensures { self.new ≡ ends_link wire_segments of_partner own far self.old }
     {
         if let Some((number, _link)) = self.found(LinkTest::TheLink { own, far }) {
             self.end_at(number);

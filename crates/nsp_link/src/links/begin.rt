@@ -11,7 +11,7 @@ ghost use Rattle.dna_links.specs.LookUps.{is_live, is_called, is_calling};
 ghost use Rattle.dna_links.specs.Links.{LinkOf, begun, changed, freed, forgotten, number_of};
 ghost use Rattle.dna_links.specs.User.{opened, answered};
 ghost use Rattle.dna_links.specs.Arriving.{of_partner, called};
-ghost use Rattle.dna_links.specs.WireFlow.{WireFlow, wire_flows};
+ghost use Rattle.dna_links.specs.WireSegments.{WireSegments, wire_segments};
 ghost use Rattle.nsp_link.specs.inner.Index.{forgotten_at, times, counted, lives_to};
 ghost use Rattle.nsp_link.specs.inner.Indexing.{AreIndexed};
 
@@ -32,7 +32,7 @@ impl<W: Window<Piece, 4096> + Drop> Links<W> {
         tag: LinkTag,
     ) -> Result<(), AllocError>
         requires { number_of (LinkTest.LiveTo far) self.old ≡ None }
-        ensures ok { OnOk result (self.new ≡ begun (called wire_flows of_partner far segsize tag) self.old) }
+        ensures ok { OnOk result (self.new ≡ begun (called wire_segments of_partner far segsize tag) self.old) }
         ensures err { OnErr result (self.new ≡ self.old) }
     {
         called_at(
@@ -48,7 +48,7 @@ impl<W: Window<Piece, 4096> + Drop> Links<W> {
     // A link is opened from here, with an own address that no live link has. Where memory is refused, nothing changes.
     pub(super) fn begin_opened(&mut self, own: u16) -> Result<(), AllocError>
         requires { number_of (LinkTest.LiveAt own) self.old ≡ None }
-        ensures ok { OnOk result (self.new ≡ begun (opened wire_flows own) (freed wire_flows own self.old)) }
+        ensures ok { OnOk result (self.new ≡ begun (opened wire_segments own) (freed wire_segments own self.old)) }
         ensures err { OnErr result (self.new ≡ self.old) }
     {
         opened_at(self.alloc, &mut self.links, &mut self.index, own)
@@ -64,12 +64,12 @@ impl<W: Window<Piece, 4096> + Drop> Links<W> {
     ) -> Result<(), AllocError>
         requires free { number_of (LinkTest.LiveAt own) self.old ≡ None }
         requires within { number < length self.old.links }
-        requires called { (link : LinkOf WireFlow) → slice_get self.old.links number ≡ Some link → is_called link.port.phase ≡ true }
+        requires called { (link : LinkOf WireSegments) → slice_get self.old.links number ≡ Some link → is_called link.port.phase ≡ true }
         requires live { is_live phase ≡ true }
         requires answers { is_called phase ≡ false }
         requires known { is_calling phase ≡ false }
-        ensures ok { (link : LinkOf WireFlow) → slice_get self.old.links number ≡ Some link
-            → OnOk result (self.new ≡ changed number (answered wire_flows phase own link) (freed wire_flows own self.old)) }
+        ensures ok { (link : LinkOf WireSegments) → slice_get self.old.links number ≡ Some link
+            → OnOk result (self.new ≡ changed number (answered wire_segments phase own link) (freed wire_segments own self.old)) }
         ensures err { OnErr result (self.new ≡ self.old) }
     {
         answered_at(&mut self.links, &mut self.index, number, phase, own)
@@ -108,7 +108,7 @@ fn called_at<W: Window<Piece, 4096> + Drop>(
     requires index { AreIndexed links.old.items index.old }
     requires free { counted (lives_to far) links.old.items ≡ 0 }
     ensures index { AreIndexed links.new.items index.new }
-    ensures ok { OnOk result (links.new.items ≡ links.old.items ++ called wire_flows of_partner far segsize tag ∷ []) }
+    ensures ok { OnOk result (links.new.items ≡ links.old.items ++ called wire_segments of_partner far segsize tag ∷ []) }
     ensures err { OnErr result (links.new.items ≡ links.old.items) }
 {
     let link = Link::called(alloc, far, segsize, tag)?;
@@ -121,7 +121,7 @@ fn called_at<W: Window<Piece, 4096> + Drop>(
 
 // The ended link that held an own address, if there is one, loses it.
 fn free<W: Window<Piece, 4096> + Drop>(links: &mut Vec<Link<W>>, holder: Option<usize>)
-    requires { (number : ℕ) (link : LinkOf WireFlow) → holder ≡ Some number → slice_get links.old.items number ≡ Some link
+    requires { (number : ℕ) (link : LinkOf WireSegments) → holder ≡ Some number → slice_get links.old.items number ≡ Some link
         → is_live link.port.phase ≡ false }
     ensures items { links.new.items ≡ forgotten_at holder links.old.items }
     ensures len { vec_len links.new ≡ vec_len links.old }
@@ -145,10 +145,10 @@ fn opened_at<W: Window<Piece, 4096> + Drop>(
     own: u16,
 ) -> Result<(), AllocError>
     requires index { AreIndexed links.old.items index.old }
-    requires dead { (number : ℕ) (link : LinkOf WireFlow) → get nat_cmp index.old.holders own ≡ Some number
+    requires dead { (number : ℕ) (link : LinkOf WireSegments) → get nat_cmp index.old.holders own ≡ Some number
         → slice_get links.old.items number ≡ Some link → is_live link.port.phase ≡ false }
     ensures index { AreIndexed links.new.items index.new }
-    ensures ok { OnOk result (links.new.items ≡ forgotten_at (get nat_cmp index.old.holders own) links.old.items ++ opened wire_flows own ∷ []) }
+    ensures ok { OnOk result (links.new.items ≡ forgotten_at (get nat_cmp index.old.holders own) links.old.items ++ opened wire_segments own ∷ []) }
     ensures err { OnErr result (links.new.items ≡ links.old.items) }
 {
     let link = Link::opened(alloc, own)?;
@@ -167,7 +167,7 @@ fn put_opened<W: Window<Piece, 4096> + Drop>(
     link: Link<W>,
 )
     requires room { vec_len links.old < vec_capacity links.old }
-    requires dead { (number : ℕ) (link : LinkOf WireFlow) → holder ≡ Some number → slice_get links.old.items number ≡ Some link
+    requires dead { (number : ℕ) (link : LinkOf WireSegments) → holder ≡ Some number → slice_get links.old.items number ≡ Some link
         → is_live link.port.phase ≡ false }
     ensures { links.new.items ≡ forgotten_at holder links.old.items ++ link ∷ [] }
 {
@@ -185,17 +185,17 @@ fn answered_at<W: Window<Piece, 4096> + Drop>(
     own: u16,
 ) -> Result<(), AllocError>
     requires index { AreIndexed links.old.items index.old }
-    requires dead { (number : ℕ) (link : LinkOf WireFlow) → get nat_cmp index.old.holders own ≡ Some number
+    requires dead { (number : ℕ) (link : LinkOf WireSegments) → get nat_cmp index.old.holders own ≡ Some number
         → slice_get links.old.items number ≡ Some link → is_live link.port.phase ≡ false }
     requires within { number < length links.old.items }
-    requires called { (link : LinkOf WireFlow) → slice_get links.old.items number ≡ Some link → is_called link.port.phase ≡ true }
+    requires called { (link : LinkOf WireSegments) → slice_get links.old.items number ≡ Some link → is_called link.port.phase ≡ true }
     requires live { is_live phase ≡ true }
     requires answers { is_called phase ≡ false }
     requires known { is_calling phase ≡ false }
     ensures index { AreIndexed links.new.items index.new }
-    ensures ok { (link : LinkOf WireFlow) → slice_get links.old.items number ≡ Some link
+    ensures ok { (link : LinkOf WireSegments) → slice_get links.old.items number ≡ Some link
         → OnOk result (links.new.items ≡ slice_set (forgotten_at (get nat_cmp index.old.holders own) links.old.items) number
-        (answered wire_flows phase own link)) }
+        (answered wire_segments phase own link)) }
     ensures err { OnErr result (links.new.items ≡ links.old.items) }
 {
     let _port = links[number].port();

@@ -6,14 +6,14 @@ ghost use Rattle.std.specs.HashMap as hashed;
 ghost use Rattle.std.specs.List.{AllByRecursion};
 ghost use Rattle.dna_packet.specs.AckWord.{IsAckWord};
 ghost use Rattle.dna_packet.specs.Nsp.{segment_view};
-ghost use Rattle.dna_links.specs.Links.{LinkOf, changed, in_phase, with_flow, ended};
+ghost use Rattle.dna_links.specs.Links.{LinkOf, changed, in_phase, with_segments, ended};
 ghost use Rattle.dna_links.specs.LookUps.{is_calling, is_at};
 ghost use Rattle.dna_links.specs.User.{delivered};
 ghost use Rattle.dna_links.specs.Sending.{carries, segment_of, truth_of};
 ghost use Rattle.dna_links.specs.Arriving.{of_partner, confirmed, running};
-ghost use Rattle.dna_links.specs.WireFlow.{WireFlow, wire_flows, hands_in, delivers, is_new, sends_acks, takes_acks, takes_segment};
+ghost use Rattle.dna_links.specs.WireSegments.{WireSegments, wire_segments, hands_in, delivers, is_new, sends_acks, takes_acks, takes_segment};
 ghost use Rattle.nsp_link.specs.Fault.{IsFault};
-ghost use Rattle.nsp_link.specs.Flow.{is_held};
+ghost use Rattle.nsp_link.specs.Segments.{is_held};
 ghost use Rattle.nsp_link.specs.inner.Index.{times};
 ghost use Rattle.nsp_link.specs.inner.Indexing.{LivesAt};
 
@@ -30,7 +30,7 @@ impl<W: Window<Piece, 4096> + Drop> Links<W> {
     pub(super) fn close_link(&mut self, number: usize)
         requires within { number < length self.old.links }
         requires live { LivesAt number self.old }
-        ensures { (link : LinkOf WireFlow) → slice_get self.old.links number ≡ Some link
+        ensures { (link : LinkOf WireSegments) → slice_get self.old.links number ≡ Some link
             → self.new ≡ changed number (in_phase Phase.Disconnecting link) self.old }
     {
         self.links[number].close();
@@ -40,8 +40,8 @@ impl<W: Window<Piece, 4096> + Drop> Links<W> {
     pub(super) fn hand_in_at(&mut self, number: usize, message: &[u8]) -> Result<(), AllocError>
         requires within { number < length self.old.links }
         requires live { LivesAt number self.old }
-        ensures ok { (link : LinkOf WireFlow) → slice_get self.old.links number ≡ Some link
-            → OnOk result (self.new ≡ changed number (with_flow (hands_in message.now link.flow) link) self.old) }
+        ensures ok { (link : LinkOf WireSegments) → slice_get self.old.links number ≡ Some link
+            → OnOk result (self.new ≡ changed number (with_segments (hands_in message.now link.segments) link) self.old) }
         ensures err { OnErr result (self.new ≡ self.old) }
     {
         self.links[number].hand_in(self.alloc, message)
@@ -50,8 +50,8 @@ impl<W: Window<Piece, 4096> + Drop> Links<W> {
     // A message is delivered on the link with this number, if it is the next whole one; the answer is whether it is.
     pub(super) fn deliver_at(&mut self, number: usize, message: &[u8]) -> bool
         requires within { number < length self.old.links }
-        ensures told { (link : LinkOf WireFlow) → slice_get self.old.links number ≡ Some link
-            → delivered wire_flows number link self.old (delivers message.now link.flow)
+        ensures told { (link : LinkOf WireSegments) → slice_get self.old.links number ≡ Some link
+            → delivered wire_segments number link self.old (delivers message.now link.segments)
             ≡ (if result then Ok self.new else Err LinkRefusal.WrongDelivery) }
         ensures no { result ≡ false → self.new ≡ self.old }
     {
@@ -68,12 +68,12 @@ impl<W: Window<Piece, 4096> + Drop> Links<W> {
         requires live { LivesAt number self.old }
         requires acks { AllByRecursion IsAckWord segment.now.acks.items }
         requires segnum { segment.now.number < 4096 }
-        ensures ok { (link : LinkOf WireFlow) → slice_get self.old.links number ≡ Some link
-            → OnOk result (carries wire_flows self.old number link (segment_of wire_flows (segment_view segment.now) link)
-            ≡ Ok (record { links = self.new; truth = truth_of wire_flows number link tt })) }
-        ensures refused { (link : LinkOf WireFlow) → slice_get self.old.links number ≡ Some link
-            → IfErr result (λ fault. IsFault (segment_of wire_flows (segment_view segment.now) link)
-            (is_new (segment_view segment.now) link.flow.kept) fault) }
+        ensures ok { (link : LinkOf WireSegments) → slice_get self.old.links number ≡ Some link
+            → OnOk result (carries wire_segments self.old number link (segment_of wire_segments (segment_view segment.now) link)
+            ≡ Ok (record { links = self.new; truth = truth_of wire_segments number link tt })) }
+        ensures refused { (link : LinkOf WireSegments) → slice_get self.old.links number ≡ Some link
+            → IfErr result (λ fault. IsFault (segment_of wire_segments (segment_view segment.now) link)
+            (is_new (segment_view segment.now) link.segments.variables) fault) }
         ensures err { OnErr result (self.new ≡ self.old) }
     {
         self.links[number].send_segment(self.alloc, segment)
@@ -88,11 +88,11 @@ impl<W: Window<Piece, 4096> + Drop> Links<W> {
         requires within { number < length self.old.links }
         requires live { LivesAt number self.old }
         requires acks { AllByRecursion IsAckWord words.now }
-        ensures ok { (link : LinkOf WireFlow) → slice_get self.old.links number ≡ Some link
-            → OnOk result (carries wire_flows self.old number link (sends_acks words.now link.flow)
-            ≡ Ok (record { links = self.new; truth = truth_of wire_flows number link tt })) }
-        ensures refused { (link : LinkOf WireFlow) → slice_get self.old.links number ≡ Some link
-            → IfErr result (λ refusal. sends_acks words.now link.flow ≡ Err refusal) }
+        ensures ok { (link : LinkOf WireSegments) → slice_get self.old.links number ≡ Some link
+            → OnOk result (carries wire_segments self.old number link (sends_acks words.now link.segments)
+            ≡ Ok (record { links = self.new; truth = truth_of wire_segments number link tt })) }
+        ensures refused { (link : LinkOf WireSegments) → slice_get self.old.links number ≡ Some link
+            → IfErr result (λ refusal. sends_acks words.now link.segments ≡ Err refusal) }
         ensures err { OnErr result (self.new ≡ self.old) }
     {
         self.links[number].send_acks(words)
@@ -101,9 +101,9 @@ impl<W: Window<Piece, 4096> + Drop> Links<W> {
     // A CC confirms the link with this number, which is in Calling.
     pub(super) fn confirm_at(&mut self, number: usize, far: u16, segsize: u16, tag: LinkTag)
         requires within { number < length self.old.links }
-        requires calling { (link : LinkOf WireFlow) → slice_get self.old.links number ≡ Some link → is_calling link.port.phase ≡ true }
-        ensures { (link : LinkOf WireFlow) → slice_get self.old.links number ≡ Some link
-            → self.new ≡ changed number (confirmed wire_flows of_partner far segsize tag link) self.old }
+        requires calling { (link : LinkOf WireSegments) → slice_get self.old.links number ≡ Some link → is_calling link.port.phase ≡ true }
+        ensures { (link : LinkOf WireSegments) → slice_get self.old.links number ≡ Some link
+            → self.new ≡ changed number (confirmed wire_segments of_partner far segsize tag link) self.old }
     {
         let _port = self.links[number].port();
         self.links[number].confirm(far, segsize, tag);
@@ -115,8 +115,8 @@ impl<W: Window<Piece, 4096> + Drop> Links<W> {
     pub(super) fn run_at(&mut self, number: usize)
         requires within { number < length self.old.links }
         requires live { LivesAt number self.old }
-        ensures { (link : LinkOf WireFlow) → slice_get self.old.links number ≡ Some link
-            → self.new ≡ changed number (running wire_flows of_partner (λ l. l.flow) link) self.old }
+        ensures { (link : LinkOf WireSegments) → slice_get self.old.links number ≡ Some link
+            → self.new ≡ changed number (running wire_segments of_partner (λ l. l.segments) link) self.old }
     {
         self.links[number].run();
     }
@@ -126,8 +126,8 @@ impl<W: Window<Piece, 4096> + Drop> Links<W> {
         requires within { number < length self.old.links }
         requires live { LivesAt number self.old }
         requires acks { AllByRecursion IsAckWord words.now }
-        ensures { (link : LinkOf WireFlow) → slice_get self.old.links number ≡ Some link
-            → self.new ≡ changed number (running wire_flows of_partner (λ l. takes_acks words.now tt l.flow) link) self.old }
+        ensures { (link : LinkOf WireSegments) → slice_get self.old.links number ≡ Some link
+            → self.new ≡ changed number (running wire_segments of_partner (λ l. takes_acks words.now tt l.segments) link) self.old }
     {
         self.links[number].take_acks(words);
     }
@@ -142,11 +142,11 @@ impl<W: Window<Piece, 4096> + Drop> Links<W> {
         requires live { LivesAt number self.old }
         requires acks { AllByRecursion IsAckWord segment.now.acks.items }
         requires segnum { segment.now.number < 4096 }
-        ensures ok { (link : LinkOf WireFlow) → slice_get self.old.links number ≡ Some link
+        ensures ok { (link : LinkOf WireSegments) → slice_get self.old.links number ≡ Some link
             → OnOk result (self.new ≡ changed number
-            (running wire_flows of_partner (λ l. takes_segment (segment_view segment.now) tt l.flow) link) self.old) }
-        ensures held { (link : LinkOf WireFlow) → slice_get self.old.links number ≡ Some link
-            → IfErr result (λ e. is_held (segment_view segment.now) link.flow.kept ≡ true) }
+            (running wire_segments of_partner (λ l. takes_segment (segment_view segment.now) tt l.segments) link) self.old) }
+        ensures held { (link : LinkOf WireSegments) → slice_get self.old.links number ≡ Some link
+            → IfErr result (λ e. is_held (segment_view segment.now) link.segments.variables ≡ true) }
         ensures err { OnErr result (self.new ≡ self.old) }
     {
         self.links[number].take_segment(self.alloc, segment)
@@ -156,8 +156,8 @@ impl<W: Window<Piece, 4096> + Drop> Links<W> {
     pub(super) fn end_at(&mut self, number: usize)
         requires within { number < length self.old.links }
         requires live { LivesAt number self.old }
-        ensures { (link : LinkOf WireFlow) → slice_get self.old.links number ≡ Some link
-            → self.new ≡ changed number (ended wire_flows link) self.old }
+        ensures { (link : LinkOf WireSegments) → slice_get self.old.links number ≡ Some link
+            → self.new ≡ changed number (ended wire_segments link) self.old }
     {
         let port = self.links[number].port();
         self.links[number].end(self.alloc);

@@ -8,7 +8,7 @@ ghost use Rattle.dna_packet.specs.Nsp as nsp;
 ghost use Rattle.dna_links.specs.Links.{LinkOf, check, number_of, with_link};
 ghost use Rattle.dna_links.specs.Sending.{Sent, message_sent};
 ghost use Rattle.dna_links.specs.Sending as sending;
-ghost use Rattle.dna_links.specs.WireFlow.{WireFlow, wire_flows};
+ghost use Rattle.dna_links.specs.WireSegments.{WireSegments, wire_segments};
 ghost use Rattle.nsp_link.specs.Fault.{IsFault};
 ghost use Rattle.nsp_link.specs.inner.Index.{is_of_one};
 ghost use Rattle.dna_links.specs.WireLinks.{wire_links_sent};
@@ -68,9 +68,9 @@ impl<W: Window<Piece, 4096> + Drop> Links<W> {
     // The same of a message that goes from this node to the other.
     fn send(&mut self, message: &Nsp) -> Result<LinkTag, LinkFault>
         requires { nsp.IsInRange (nsp.view message.now) }
-        ensures ok { IfOk result (λ tag. message_sent wire_flows self.old (nsp.view message.now)
+        ensures ok { IfOk result (λ tag. message_sent wire_segments self.old (nsp.view message.now)
             ≡ Ok (record { links = self.new; truth = record { tag = tag; known = tt } })) }
-        ensures refused { IfErr result (λ fault. IsFault (message_sent wire_flows self.old (nsp.view message.now))
+        ensures refused { IfErr result (λ fault. IsFault (message_sent wire_segments self.old (nsp.view message.now))
             (sending_takes_memory self.old (nsp.view message.now)) fault) }
         ensures err { OnErr result (self.new ≡ self.old) }
     {
@@ -113,9 +113,9 @@ impl<W: Window<Piece, 4096> + Drop> Links<W> {
     #[tactic(auto, using(crate::proofs::Found::found_links))]
     fn in_its_phase(&self, test: LinkTest, phase: Phase) -> Result<LinkTag, LinkFault>
         requires { is_of_one test ≡ true }
-        ensures ok { IfOk result (λ tag. sending.in_its_phase wire_flows test (is_in phase) self.now
+        ensures ok { IfOk result (λ tag. sending.in_its_phase wire_segments test (is_in phase) self.now
             ≡ Ok (record { links = self.now; truth = record { tag = tag; known = tt } })) }
-        ensures refused { IfErr result (λ fault. IsFault (sending.in_its_phase wire_flows test (is_in phase) self.now) false fault) }
+        ensures refused { IfErr result (λ fault. IsFault (sending.in_its_phase wire_segments test (is_in phase) self.now) false fault) }
     {
         let (number, link) = self.found_in(test, phase)?;
         Ok(tag_of(number, link))
@@ -130,7 +130,8 @@ impl<W: Window<Piece, 4096> + Drop> Links<W> {
         ensures link { IfOk result (λ found. slice_get self.now.links found.0 ≡ Some found.1.now) }
         ensures within { IfOk result (λ found. found.0 < length self.now.links) }
         ensures phase { IfOk result (λ found. is_in phase found.1.now.port.phase ≡ true) }
-        ensures refused { (next : ℕ → LinkOf WireFlow → Result (Sent WireFlow (Unit {0})) LinkRefusal) → IfErr result (λ fault. (memory : Bool) →
+        ensures refused { (next : ℕ → LinkOf WireSegments → Result (Sent WireSegments (Unit {0})) LinkRefusal) →
+            IfErr result (λ fault. (memory : Bool) →
             IsFault (with_link test self.now (Err LinkRefusal.NoLink)
             (λ number link. check (is_in phase link.port.phase) LinkRefusal.LinkState (next number link))) memory fault) }
     {
@@ -146,9 +147,9 @@ impl<W: Window<Piece, 4096> + Drop> Links<W> {
     // A connect acknowledgement.
     #[tactic(auto, using(crate::proofs::Found::found_links))]
     fn connect_ack(&self, dst: u16) -> Result<LinkTag, LinkFault>
-        ensures ok { IfOk result (λ tag. message_sent wire_flows self.now (nsp.ConnectAck dst)
+        ensures ok { IfOk result (λ tag. message_sent wire_segments self.now (nsp.ConnectAck dst)
             ≡ Ok (record { links = self.now; truth = record { tag = tag; known = tt } })) }
-        ensures refused { IfErr result (λ fault. IsFault (message_sent wire_flows self.now (nsp.ConnectAck dst)) false fault) }
+        ensures refused { IfErr result (λ fault. IsFault (message_sent wire_segments self.now (nsp.ConnectAck dst)) false fault) }
     {
         let Some((number, link)) = self.found(LinkTest::BegunBy { far: dst }) else {
             return Err(LinkFault::Refused(LinkRefusal::NoLink));
@@ -160,9 +161,10 @@ impl<W: Window<Piece, 4096> + Drop> Links<W> {
     #[tactic(auto, using(crate::proofs::Found::found_links))]
     fn data_ack(&mut self, message: &DataAck) -> Result<LinkTag, LinkFault>
         requires { AllByRecursion IsAckWord message.now.acks.items }
-        ensures ok { IfOk result (λ tag. message_sent wire_flows self.old (nsp.DataAck message.now.dstaddr message.now.srcaddr message.now.acks.items)
+        ensures ok { IfOk result
+            (λ tag. message_sent wire_segments self.old (nsp.DataAck message.now.dstaddr message.now.srcaddr message.now.acks.items)
             ≡ Ok (record { links = self.new; truth = record { tag = tag; known = tt } })) }
-        ensures refused { IfErr result (λ fault. IsFault (message_sent wire_flows self.old
+        ensures refused { IfErr result (λ fault. IsFault (message_sent wire_segments self.old
             (nsp.DataAck message.now.dstaddr message.now.srcaddr message.now.acks.items)) false fault) }
         ensures err { OnErr result (self.new ≡ self.old) }
     {
@@ -183,9 +185,9 @@ impl<W: Window<Piece, 4096> + Drop> Links<W> {
     fn segment(&mut self, segment: &Segment) -> Result<LinkTag, LinkFault>
         requires acks { AllByRecursion IsAckWord segment.now.acks.items }
         requires segnum { segment.now.number < 4096 }
-        ensures ok { IfOk result (λ tag. message_sent wire_flows self.old (nsp.DataSegment (segment_view segment.now))
+        ensures ok { IfOk result (λ tag. message_sent wire_segments self.old (nsp.DataSegment (segment_view segment.now))
             ≡ Ok (record { links = self.new; truth = record { tag = tag; known = tt } })) }
-        ensures refused { IfErr result (λ fault. IsFault (message_sent wire_flows self.old (nsp.DataSegment (segment_view segment.now)))
+        ensures refused { IfErr result (λ fault. IsFault (message_sent wire_segments self.old (nsp.DataSegment (segment_view segment.now)))
             (gives_new self.old (segment_view segment.now)) fault) }
         ensures err { OnErr result (self.new ≡ self.old) }
     {
@@ -204,9 +206,9 @@ impl<W: Window<Piece, 4096> + Drop> Links<W> {
     // A DC: no live link has its addresses; with SRCADDR 0 it ends the link in Called that it is sent for, if there is one.
     #[tactic(auto, using(crate::proofs::Found::found_links))]
     fn disconnect_confirm(&mut self, dst: u16, src: u16, reason: u16) -> Result<LinkTag, LinkFault>
-        ensures ok { IfOk result (λ tag. message_sent wire_flows self.old (nsp.DisconnectConfirm dst src reason)
+        ensures ok { IfOk result (λ tag. message_sent wire_segments self.old (nsp.DisconnectConfirm dst src reason)
             ≡ Ok (record { links = self.new; truth = record { tag = tag; known = tt } })) }
-        ensures refused { IfErr result (λ fault. IsFault (message_sent wire_flows self.old (nsp.DisconnectConfirm dst src reason)) false fault) }
+        ensures refused { IfErr result (λ fault. IsFault (message_sent wire_segments self.old (nsp.DisconnectConfirm dst src reason)) false fault) }
         ensures err { OnErr result (self.new ≡ self.old) }
     {
         if let Some((number, _link)) = self.found(LinkTest::TheLink { own: src, far: dst }) {

@@ -6,7 +6,7 @@ ghost use Rattle.dna_links.specs.WireLinks.{wire_links_user};
 ghost use Rattle.nsp_link.specs.Fault.{IsFault};
 ghost use Rattle.dna_links.specs.Links.{LinkOf, changed, in_phase};
 ghost use Rattle.dna_links.specs.LookUps.{is_live, is_called, is_calling};
-ghost use Rattle.dna_links.specs.WireFlow.{WireFlow, wire_flows};
+ghost use Rattle.dna_links.specs.WireSegments.{WireSegments, wire_segments};
 ghost use Rattle.nsp_link.specs.Phases.{event_takes_memory};
 
 use super::Links;
@@ -118,8 +118,8 @@ impl<W: Window<Piece, 4096> + Drop> Links<W> {
         requires live { is_live phase ≡ true }
         requires answers { is_called phase ≡ false }
         requires known { is_calling phase ≡ false }
-        ensures ok { OnOk result (user.answers wire_flows phase partner own self.old ≡ Ok self.new) }
-        ensures refused { IfErr result (λ fault. IsFault (user.answers wire_flows phase partner own self.old) true fault) }
+        ensures ok { OnOk result (user.answers wire_segments phase partner own self.old ≡ Ok self.new) }
+        ensures refused { IfErr result (λ fault. IsFault (user.answers wire_segments phase partner own self.old) true fault) }
         ensures err { OnErr result (self.new ≡ self.old) }
     {
         let Some((number, _link)) = self.found(LinkTest::CalledBy { far: partner }) else {

@@ -3,8 +3,8 @@ use Rattle.std.specs.Prelude.{ℕ, Bool, false, List, Option, Some, None}
 use Rattle.dna_packet.specs.declared.ack_word.AckWord.{AckWord}
 use Rattle.dna_links.specs.declared.port.LinkTest.{LinkTest}
 use Rattle.dna_links.specs.LookUps.{passes}
-use Rattle.dna_links.specs.Flow.{distance}
-use Rattle.dna_links.specs.WireFlow.{LinkVariables, acknowledged_by_all}
+use Rattle.dna_links.specs.SegmentBook.{distance}
+use Rattle.dna_links.specs.WireSegments.{LinkVariables, acknowledged_by_all}
 use Rattle.dna_links.specs.declared.port.Phase.TheVariants.{Ended}
 use Rattle.dna_play.specs.LinkOwed.{LinkOwed, Turn, lowered, nothing, retried}
 use Rattle.dna_play.specs.NextSent.{LinkEnd, turn_of}

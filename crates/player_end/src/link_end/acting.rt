@@ -5,7 +5,7 @@ ghost use Rattle.std.specs.List.{AllByRecursion};
 ghost use Rattle.dna_packet.specs.AckWord.{IsAckWord};
 ghost use Rattle.dna_packet.specs.Nsp.{segment_view};
 ghost use Rattle.dna_links.specs.LookUps as tests;
-ghost use Rattle.dna_links.specs.WireFlow.{segment_taken};
+ghost use Rattle.dna_links.specs.WireSegments.{segment_taken};
 ghost use Rattle.dna_play.specs.KeptLinks as kept;
 ghost use Rattle.player_end.specs.inner.Links.{acknowledged};
 

@@ -1,7 +1,7 @@
 use Rattle.std.proofs.Common.{◌≡◌, drop}
 use Rattle.std.specs.List.{AllByRecursion}
 use Rattle.dna_packet.specs.AckWord.{IsAckWord}
-use Rattle.dna_links.specs.WireFlow.{all_named}
+use Rattle.dna_links.specs.WireSegments.{all_named}
 use Rattle.nsp_link.proofs.last_sent.LastSent.behind_all.Given as goal
 
 abbrev pub invariant-loop-word : goal.invariant-loop-word

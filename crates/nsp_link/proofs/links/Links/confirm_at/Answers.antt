@@ -3,7 +3,7 @@ use Rattle.std.specs.BTreeMap.{BTreeMap, get}
 use Rattle.std.specs.HashMap.{HashMap}
 use Rattle.std.specs.HashMap as hashed
 use Rattle.dna_links.specs.Arriving.{of_partner, confirmed}
-use Rattle.dna_links.specs.WireFlow.{wire_flows}
+use Rattle.dna_links.specs.WireSegments.{wire_segments}
 use Rattle.nsp_link.specs.inner.Index.{times}
 use Rattle.nsp_link.proofs.Indexed.{some_wait, few_reached}
 use Rattle.nsp_link.proofs.Giving.{one_link}
@@ -36,7 +36,7 @@ invariant_of-self g c =
     (λ q. ap (λ (m : BTreeMap ℕ ℕ). get nat_cmp m q) (c.reach.ensures.holders ∙ c.stop_waiting.ensures.holders))
     (λ q. ap (λ (m : BTreeMap ℕ ℕ). get nat_cmp m q) (c.reach.ensures.callers ∙ c.stop_waiting.ensures.callers))
     far c.args.segsize c.args.tag calling (c.port-port.ensures.calling calling)
-    (c.confirm.ensures ∙ ap (confirmed wire_flows of_partner far c.args.segsize c.args.tag) same)
+    (c.confirm.ensures ∙ ap (confirmed wire_segments of_partner far c.args.segsize c.args.tag) same)
     (ap suc c.reach.ensures.waiting ∙ c.stop_waiting.ensures.waiting)
     (λ q. c.reach.ensures.reached q ∙ ap (λ (n : ℕ). cond (eqb far q) (suc n) n)
     (ap (λ (m : HashMap ℕ ℕ _). times (hashed.get nat_eq m q)) c.stop_waiting.ensures.reached))
@@ -44,4 +44,4 @@ invariant_of-self g c =
 pub returns : goal.returns
 returns g c =
     change_made (in_place c.self.view_is c.requires.within c.index_mut.ensures.value)
-    (confirmed wire_flows of_partner c.args.far c.args.segsize c.args.tag) c.confirm.ensures
+    (confirmed wire_segments of_partner c.args.far c.args.segsize c.args.tag) c.confirm.ensures

@@ -3,7 +3,7 @@ use Rattle.std.specs.BTreeMap.{BTreeMap, get}
 use Rattle.dna_links.specs.declared.port.Port.{Port}
 use Rattle.dna_links.specs.LookUps.{is_calling}
 use Rattle.dna_links.specs.Links.{ended}
-use Rattle.dna_links.specs.WireFlow.{wire_flows}
+use Rattle.dna_links.specs.WireSegments.{wire_segments}
 use Rattle.nsp_link.proofs.LookUps.{eq-is_at}
 use Rattle.nsp_link.proofs.Indexed.{some_wait, some_reached}
 use Rattle.nsp_link.proofs.Giving.{one_link}
@@ -34,8 +34,8 @@ invariant_of-self g c =
     ended_index at c.self.invariant
     (λ q. ap (λ (m : BTreeMap ℕ ℕ). get nat_cmp m q) c.forget.ensures.holders)
     (λ q. ap (λ (m : BTreeMap ℕ ℕ). get nat_cmp m q) c.forget.ensures.callers)
-    c.port-port.ensures.port (c.requires.live k (link_found at)) (c.end.ensures ∙ ap (ended wire_flows) same)
+    c.port-port.ensures.port (c.requires.live k (link_found at)) (c.end.ensures ∙ ap (ended wire_segments) same)
     c.forget.ensures.waiting c.forget.ensures.reached
 
 pub returns : goal.returns
-returns g c = change_made (in_place c.self.view_is c.requires.within c.index_mut.ensures.value) (ended wire_flows) c.end.ensures
+returns g c = change_made (in_place c.self.view_is c.requires.within c.index_mut.ensures.value) (ended wire_segments) c.end.ensures

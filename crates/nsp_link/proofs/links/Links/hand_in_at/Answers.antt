@@ -1,6 +1,6 @@
 use Rattle.std.proofs.Common.{rules}
-use Rattle.dna_links.specs.Links.{with_flow}
-use Rattle.dna_links.specs.WireFlow.{hands_in}
+use Rattle.dna_links.specs.Links.{with_segments}
+use Rattle.dna_links.specs.WireSegments.{hands_in}
 use Rattle.nsp_link.proofs.Change.{in_place, changes, made_if_ok}
 use Rattle.nsp_link.proofs.links.Links.hand_in_at.Goals as goal
 
@@ -10,4 +10,4 @@ invariant_of-self g c = search (rules, changes)
 pub returns-clause-ok : goal.returns-clause-ok
 returns-clause-ok g c =
     made_if_ok (in_place c.self.view_is c.requires.within c.index_mut.ensures.value) c.hand_in.result
-    (λ k. with_flow (hands_in c.args.message.now k.flow) k) c.hand_in.new.self c.hand_in.ensures.ok
+    (λ k. with_segments (hands_in c.args.message.now k.segments) k) c.hand_in.new.self c.hand_in.ensures.ok

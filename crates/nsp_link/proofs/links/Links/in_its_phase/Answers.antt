@@ -2,9 +2,9 @@ use Rattle.std.proofs.Common.{rules, false}
 use Rattle.std.proofs.Common.{ℕ, Ok}
 use Rattle.dna_links.specs.Links.{LinkOf}
 use Rattle.dna_links.specs.Sending.{unchanged}
-use Rattle.dna_links.specs.WireFlow.{WireFlow, wire_flows}
+use Rattle.dna_links.specs.WireSegments.{WireSegments, wire_segments}
 use Rattle.nsp_link.proofs.links.Links.in_its_phase.Goals as goal
 
 pub returns-in_err-number-clause-refused : goal.returns-in_err-number-clause-refused
 returns-in_err-number-clause-refused g c =
-    search (rules, c.in_err-number.ensures.refused (λ (n : ℕ) (l : LinkOf WireFlow). Ok (unchanged wire_flows c.args.self.now n l)) false)
+    search (rules, c.in_err-number.ensures.refused (λ (n : ℕ) (l : LinkOf WireSegments). Ok (unchanged wire_segments c.args.self.now n l)) false)

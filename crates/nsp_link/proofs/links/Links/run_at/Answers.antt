@@ -1,6 +1,6 @@
 use Rattle.std.proofs.Common.{rules}
 use Rattle.dna_links.specs.Arriving.{of_partner, running}
-use Rattle.dna_links.specs.WireFlow.{wire_flows}
+use Rattle.dna_links.specs.WireSegments.{wire_segments}
 use Rattle.nsp_link.proofs.Change.{in_place, changes, change_made}
 use Rattle.nsp_link.proofs.links.Links.run_at.Goals as goal
 
@@ -9,4 +9,5 @@ invariant_of-self g c = search (rules, changes)
 
 pub returns : goal.returns
 returns g c =
-    change_made (in_place c.self.view_is c.requires.within c.index_mut.ensures.value) (running wire_flows of_partner (λ k. k.flow)) c.run.ensures
+    change_made (in_place c.self.view_is c.requires.within c.index_mut.ensures.value)
+    (running wire_segments of_partner (λ k. k.segments)) c.run.ensures

@@ -3,7 +3,7 @@ use Rattle.std.proofs.Common.{ℕ}
 use Rattle.dna_packet.specs.Nsp.{segment_view}
 use Rattle.dna_links.specs.Links.{LinkOf}
 use Rattle.dna_links.specs.Sending.{carries, segment_of}
-use Rattle.dna_links.specs.WireFlow.{WireFlow, wire_flows}
+use Rattle.dna_links.specs.WireSegments.{WireSegments, wire_segments}
 use Rattle.nsp_link.specs.Phases.{gives_new}
 use Rattle.nsp_link.proofs.links.Links.segment.Goals as goal
 
@@ -11,6 +11,6 @@ pub returns-in_err-number-clause-refused : goal.returns-in_err-number-clause-ref
 returns-in_err-number-clause-refused g c =
     search (
       rules,
-      c.in_err-number.ensures.refused (λ (n : ℕ) (l : LinkOf WireFlow). carries wire_flows c.args.self.now n l
-          (segment_of wire_flows (segment_view c.args.segment.now) l)) (gives_new c.args.self.now (segment_view c.args.segment.now)),
+      c.in_err-number.ensures.refused (λ (n : ℕ) (l : LinkOf WireSegments). carries wire_segments c.args.self.now n l
+          (segment_of wire_segments (segment_view c.args.segment.now) l)) (gives_new c.args.self.now (segment_view c.args.segment.now)),
     )

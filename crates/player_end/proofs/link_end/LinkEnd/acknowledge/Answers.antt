@@ -1,6 +1,6 @@
 use Rattle.std.proofs.Common.{[], ap₂, ◌∙◌}
-use Rattle.dna_links.specs.Flow.{distance}
-use Rattle.dna_links.specs.WireFlow.{LinkVariables}
+use Rattle.dna_links.specs.SegmentBook.{distance}
+use Rattle.dna_links.specs.WireSegments.{LinkVariables}
 use Rattle.player_end.proofs.Acknowledged.{acks_taken}
 use Rattle.player_end.proofs.link_end.LinkEnd.acknowledge.Goals as goal
 

@@ -1,6 +1,6 @@
 use Rattle.std.proofs.Common.{◌≡◌, sym, ◌∙◌, arith, rules}
 use Rattle.dna_packet.specs.Nsp.{segment_view}
-use Rattle.dna_links.specs.Flow.{distance}
+use Rattle.dna_links.specs.SegmentBook.{distance}
 use Rattle.player_end.proofs.Holding.{unheld}
 use Rattle.player_end.proofs.link_end.LinkEnd.hold.Goals as goal
 

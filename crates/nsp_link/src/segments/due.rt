@@ -2,16 +2,16 @@
 
 ghost use Rattle.std.specs.Prelude.{◌≡◌, ◌<◌, option_copied};
 ghost use Rattle.dna_packet.specs.Nsp.{segment_view};
-ghost use Rattle.dna_links.specs.Flow.{distance};
-ghost use Rattle.dna_links.specs.WireFlow.{highest_given};
+ghost use Rattle.dna_links.specs.SegmentBook.{distance};
+ghost use Rattle.dna_links.specs.WireSegments.{highest_given};
 ghost use Rattle.nsp_link.specs.Due as spec;
 
-use super::Flow;
+use super::Segments;
 use dna_packet::Segment;
 use link_segments::Piece;
 use wire_base::{Seq, Window};
 
-impl<W: Window<Piece, 4096> + Drop> Flow<W> {
+impl<W: Window<Piece, 4096> + Drop> Segments<W> {
     /// For a segment with the next number, what is left of the current message; for another one, what it first carried, while it is
     /// outstanding. `None` where there is none. Takes no memory.
     pub fn segment_due(&self, segment: &Segment) -> Option<&[u8]>
@@ -28,7 +28,7 @@ impl<W: Window<Piece, 4096> + Drop> Flow<W> {
 
     // What the segment so far below the highest given first carried, while it is outstanding.
     fn first_body(&self, below: usize) -> Option<&[u8]>
-        ensures { option_copied result ≡ spec.first_body below self.now.kept.outstanding }
+        ensures { option_copied result ≡ spec.first_body below self.now.variables.outstanding }
     {
         let count = self.outstanding.len();
         if below >= count {

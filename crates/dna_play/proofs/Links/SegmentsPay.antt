@@ -1,4 +1,4 @@
--- What a link of the player in RUN puts together its flow may send: a data ack, a segment once more, a new segment.
+-- What a link of the player in RUN puts together its segments may send: a data ack, a segment once more, a new segment.
 use Rattle.std.proofs.Common.{◌≡◌, ℕ, ◌+◌, ◌-◌, ◌<◌, ◌≤◌, max, min, Bool, true, false, ◌&&◌, ◌||◌, not, eqb, nat_lt, nat_le, cond, Option, Some, List}
 use Rattle.std.proofs.Common.{[], ◌∷◌, ◌++◌, length, take, Result, Ok, refl, sym, ap, ap₂, ◌∙◌, arith, eq-eqb, lt-ltb, le-leb, length-drop, ◌⊎◌, inl}
 use Rattle.std.proofs.Common.{inr}
@@ -13,11 +13,12 @@ use Rattle.dna_station.specs.declared.link_refusal.LinkRefusal.TheVariants.{Wron
 use Rattle.dna_links.specs.declared.port.Port.{Port}
 use Rattle.dna_links.specs.Pieces.{Piece, alike, same_piece, Unsent, is_piece_of, is_next_piece, without_piece, has_more, SEGSIZE, piece_with}
 use Rattle.dna_links.specs.Pieces.{next_piece_of, next_piece}
-use Rattle.dna_links.specs.Flow.{Sending, REACH, wire, distance}
+use Rattle.dna_links.specs.SegmentBook.{Sending, REACH, wire, distance}
 use Rattle.dna_links.specs.Links.{check}
-use Rattle.dna_links.specs.TrueFlow.{TrueFlow, Numbers, Named, highest_given, highest_received, named, with_first, all_named, sending, acks_named}
-use Rattle.dna_links.specs.TrueFlow.{sends_acks, sends_new, is_given, is_repeat, sends_again, is_new, sends_segment}
-use Rattle.dna_links.specs.CutFlow.{cut, IsOrdered, IsAnswered}
+use Rattle.dna_links.specs.TrueSegments.{TrueSegments, Numbers, Named, highest_given, highest_received, named, with_first, all_named, sending}
+use Rattle.dna_links.specs.TrueSegments.{acks_named}
+use Rattle.dna_links.specs.TrueSegments.{sends_acks, sends_new, is_given, is_repeat, sends_again, is_new, sends_segment}
+use Rattle.dna_links.specs.CutSegments.{cut, IsOrdered, IsAnswered}
 use Rattle.dna_play.specs.LinkOwed.{LinkOwed}
 use Rattle.dna_play.specs.NextSent.{LinkEnd}
 use Rattle.dna_play.specs.Compose.{segment_with, ack_of}
@@ -94,16 +95,16 @@ short u = go u.messages
     go [] = at_most []
     go (rest ∷ later) = at_most rest
 
--- ---- a flow
+-- ---- the segments of a link
 
-abbrev pub MaySend : Result (Sending TrueFlow Numbers) LinkRefusal → Type 0
-MaySend r = (sent : Sending TrueFlow Numbers) × (r ≡ Ok sent)
+abbrev pub MaySend : Result (Sending TrueSegments Numbers) LinkRefusal → Type 0
+MaySend r = (sent : Sending TrueSegments Numbers) × (r ≡ Ok sent)
 
--- a link with this flow, as a node keeps it
-abbrev pub end_with : Port → TrueFlow → LinkOwed → LinkEnd
-end_with port f owed = record { port = port; variables = (cut f).kept; owed = owed }
+-- a link with these segments, as a node keeps it
+abbrev pub end_with : Port → TrueSegments → LinkOwed → LinkEnd
+end_with port f owed = record { port = port; variables = (cut f).variables; owed = owed }
 
-module _ (f : TrueFlow) (ordered : IsOrdered f) (answered : IsAnswered f) where
+module _ (f : TrueSegments) (ordered : IsOrdered f) (answered : IsAnswered f) where
   pub data_ack_may : MaySend (sends_acks (ack_of (wire (highest_received f)) ∷ []) f)
   data_ack_may =
       let least = ordered.last in

@@ -9,10 +9,10 @@ use Rattle.dna_station.specs.declared.link_refusal.LinkRefusal.{LinkRefusal}
 use Rattle.dna_station.specs.declared.link_refusal.LinkRefusal.TheVariants.{WrongSegment, WrongAck, SegmentTooLong, LinkWindowFull}
 use Rattle.dna_links.specs.Pieces.{Piece, piece_of, same_piece, Unsent, none_unsent, with_message, is_next_piece, without_piece, in_order, hold}
 use Rattle.dna_links.specs.Pieces.{Whole, next_message}
-use Rattle.dna_links.specs.Flow.{Flows, Sending, REACH, wire, distance, is_of_data}
+use Rattle.dna_links.specs.SegmentBook.{SegmentBook, Sending, REACH, wire, distance, is_of_data}
 use Rattle.dna_links.specs.Links.{check}
 
-pub record TrueFlow : Type 0 where
+pub record TrueSegments : Type 0 where
   -- all messages handed in, and what of them is in no segment yet
   pub handed : List (List ℕ)
   pub unsent : Unsent
@@ -41,31 +41,31 @@ pub record Numbers : Type 0 where
   pub last : ℕ
   pub last_before : ℕ
 
-abbrev pub empty : TrueFlow
+abbrev pub empty : TrueSegments
 empty = record { handed = []; unsent = none_unsent; given = []; acknowledged = 0; last = 0; received = []; delivered = []; passed = 0 }
 
 -- the highest number given, and the highest received without a gap
-abbrev pub highest_given : TrueFlow → ℕ
+abbrev pub highest_given : TrueSegments → ℕ
 highest_given f = length f.given
 
-abbrev pub highest_received : TrueFlow → ℕ
+abbrev pub highest_received : TrueSegments → ℕ
 highest_received f = in_order f.received
 
 -- ---- the user's messages
 
-abbrev pub hands_in : List ℕ → TrueFlow → TrueFlow
+abbrev pub hands_in : List ℕ → TrueSegments → TrueSegments
 hands_in message f = record f { handed = f.handed ++ message ∷ []; unsent = with_message message f.unsent }
 
 -- the next message, if all its segments were received: it is what the user says was delivered
-abbrev pub delivered_as : Bool → Whole → TrueFlow → Option TrueFlow
+abbrev pub delivered_as : Bool → Whole → TrueSegments → Option TrueSegments
 delivered_as true w f = Some (record f { delivered = f.delivered ++ w.message ∷ []; passed = f.passed + w.pieces })
 delivered_as false w f = None
 
-abbrev pub delivers_whole : Option Whole → List ℕ → TrueFlow → Option TrueFlow
+abbrev pub delivers_whole : Option Whole → List ℕ → TrueSegments → Option TrueSegments
 delivers_whole None message f = None
 delivers_whole (Some w) message f = delivered_as (bytes_eq message w.message) w f
 
-abbrev pub delivers : List ℕ → TrueFlow → Option TrueFlow
+abbrev pub delivers : List ℕ → TrueSegments → Option TrueSegments
 delivers message f = delivers_whole (next_message (drop f.passed f.received)) message f
 
 -- ---- acknowledgement words that are sent
@@ -102,7 +102,7 @@ all_named again highest (word ∷ words) last =
 
 -- ---- what is sent
 
-abbrev pub numbers_of : (segment : ℕ) → Named → TrueFlow → TrueFlow → Numbers
+abbrev pub numbers_of : (segment : ℕ) → Named → TrueSegments → TrueSegments → Numbers
 numbers_of segment names before after = record {
   segment = segment;
   acknowledgements = names.numbers;
@@ -113,23 +113,23 @@ numbers_of segment names before after = record {
   last_before = before.last;
 }
 
-abbrev pub sending : (segment : ℕ) → Named → TrueFlow → TrueFlow → Sending TrueFlow Numbers
-sending segment names before after = record { flow = after; known = numbers_of segment names before after }
+abbrev pub sending : (segment : ℕ) → Named → TrueSegments → TrueSegments → Sending TrueSegments Numbers
+sending segment names before after = record { segments = after; known = numbers_of segment names before after }
 
 -- a message without numbers
-abbrev pub sends_other : TrueFlow → Numbers
+abbrev pub sends_other : TrueSegments → Numbers
 sends_other f = numbers_of 0 (record { numbers = []; last = f.last }) f f
 
 -- words alone: each names a number that it may, else 21
-abbrev pub acks_named : Option Named → TrueFlow → Result (Sending TrueFlow Numbers) LinkRefusal
+abbrev pub acks_named : Option Named → TrueSegments → Result (Sending TrueSegments Numbers) LinkRefusal
 acks_named None f = Err WrongAck
 acks_named (Some names) f = Ok (sending 0 names f (record f { last = names.last }))
 
-abbrev pub sends_acks : List AckWord → TrueFlow → Result (Sending TrueFlow Numbers) LinkRefusal
+abbrev pub sends_acks : List AckWord → TrueSegments → Result (Sending TrueSegments Numbers) LinkRefusal
 sends_acks words f = acks_named (all_named false (highest_received f) words f.last) f
 
 -- SEGNUM = S + 1 is new: with 2,047 outstanding 23; longer than the partner takes 22; it is the next piece of what was handed in, else 20
-abbrev pub sends_new : (segsize : ℕ) → Piece → Named → TrueFlow → Result (Sending TrueFlow Numbers) LinkRefusal
+abbrev pub sends_new : (segsize : ℕ) → Piece → Named → TrueSegments → Result (Sending TrueSegments Numbers) LinkRefusal
 sends_new segsize p names f =
     check (nat_lt (highest_given f - f.acknowledged) REACH) LinkWindowFull
     (check (nat_le (length p.body) segsize) SegmentTooLong
@@ -141,51 +141,51 @@ is_given None p = false
 is_given (Some first) p = same_piece p first
 
 -- one that is not acknowledged has its flag byte and its data; one that is acknowledged is not judged further
-abbrev pub is_repeat : (number : ℕ) → Piece → TrueFlow → Bool
+abbrev pub is_repeat : (number : ℕ) → Piece → TrueSegments → Bool
 is_repeat number p f = nat_le number f.acknowledged || is_given (slice_get f.given (number - 1)) p
 
 -- any other SEGNUM is that of one of the last 2,047 given, else 20: of the one so far below the highest
-abbrev pub sends_again : (below : ℕ) → Piece → Named → TrueFlow → Result (Sending TrueFlow Numbers) LinkRefusal
+abbrev pub sends_again : (below : ℕ) → Piece → Named → TrueSegments → Result (Sending TrueSegments Numbers) LinkRefusal
 sends_again below p names f =
     check (nat_lt below REACH && nat_lt below (highest_given f)) WrongSegment
     (check (is_repeat (highest_given f - below) p f) WrongSegment
     (Ok (sending (highest_given f - below) names f (record f { last = names.last }))))
 
-abbrev pub is_new : SegmentValue → TrueFlow → Bool
+abbrev pub is_new : SegmentValue → TrueSegments → Bool
 is_new s f = s.number == wire (highest_given f + 1)
 
-abbrev pub segment_named : Option Named → (segsize : ℕ) → SegmentValue → TrueFlow → Result (Sending TrueFlow Numbers) LinkRefusal
+abbrev pub segment_named : Option Named → (segsize : ℕ) → SegmentValue → TrueSegments → Result (Sending TrueSegments Numbers) LinkRefusal
 segment_named None segsize s f = Err WrongAck
 segment_named (Some names) segsize s f =
     if is_new s f then sends_new segsize (piece_of s) names f else sends_again (distance s.number (wire (highest_given f))) (piece_of s) names f
 
 -- its words first, else 21: an earlier number is allowed only where the segment is not new
-abbrev pub sends_segment : (segsize : ℕ) → SegmentValue → TrueFlow → Result (Sending TrueFlow Numbers) LinkRefusal
+abbrev pub sends_segment : (segsize : ℕ) → SegmentValue → TrueSegments → Result (Sending TrueSegments Numbers) LinkRefusal
 sends_segment segsize s f = segment_named (all_named (not (is_new s f)) (highest_received f) s.acks f.last) segsize s f
 
 -- ---- what comes, by its true numbers
 
 -- an acknowledgement acknowledges all segments through its number
-abbrev pub acknowledged_through : TrueFlow → ℕ → TrueFlow
+abbrev pub acknowledged_through : TrueSegments → ℕ → TrueSegments
 acknowledged_through f number = if nat_lt f.acknowledged number && nat_le number (highest_given f) then record f { acknowledged = number } else f
 
-abbrev pub takes_acks : List AckWord → Numbers → TrueFlow → TrueFlow
+abbrev pub takes_acks : List AckWord → Numbers → TrueSegments → TrueSegments
 takes_acks words known f = fold acknowledged_through f known.acknowledgements
 
 -- a segment that was not received yet is held; one that was is ignored
-abbrev pub with_segment : (number : ℕ) → Piece → TrueFlow → TrueFlow
+abbrev pub with_segment : (number : ℕ) → Piece → TrueSegments → TrueSegments
 with_segment number p f = record f { received = hold (number - 1) p f.received }
 
-abbrev pub takes_segment : SegmentValue → Numbers → TrueFlow → TrueFlow
+abbrev pub takes_segment : SegmentValue → Numbers → TrueSegments → TrueSegments
 takes_segment s known f = with_segment known.segment (piece_of s) (takes_acks s.acks known f)
 
--- ---- the flow; an end changes nothing, and no list is ever cut
+-- ---- the segments; an end changes nothing, and no list is ever cut
 
-abbrev pub unchanged : TrueFlow → TrueFlow
+abbrev pub unchanged : TrueSegments → TrueSegments
 unchanged f = f
 
-abbrev pub true_flows : Flows TrueFlow Numbers
-true_flows = record {
+abbrev pub true_segments : SegmentBook TrueSegments Numbers
+true_segments = record {
   empty = empty;
   hands_in = hands_in;
   delivers = delivers;

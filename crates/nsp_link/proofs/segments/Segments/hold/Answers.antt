@@ -1,8 +1,8 @@
 use Rattle.std.proofs.Common.{◌≡◌, sym, ◌∙◌, arith, rules}
 use Rattle.dna_packet.specs.Nsp.{segment_view}
-use Rattle.dna_links.specs.Flow.{distance}
+use Rattle.dna_links.specs.SegmentBook.{distance}
 use Rattle.nsp_link.proofs.Holding.{held_there}
-use Rattle.nsp_link.proofs.flow.Flow.hold.Goals as goal
+use Rattle.nsp_link.proofs.segments.Segments.hold.Goals as goal
 
 pub returns-then-not-is_missing-clause-ok : goal.returns-then-not-is_missing-clause-ok
 returns-then-not-is_missing-clause-ok g c =

@@ -1,5 +1,5 @@
 -- The segments of one link as a node keeps them: numbers modulo 4,096, what is not given, what is not acknowledged, what is not
--- delivered, and of a message its bytes alone. Its steps are those of `TrueFlow` made on that. They have to agree with those where an
+-- delivered, and of a message its bytes alone. Its steps are those of `TrueSegments` made on that. They have to agree with those where an
 -- arriving segment is at most 2,047 from the highest received, an arriving acknowledgement at most 2,047 below the highest acknowledged
 -- and not above the highest given, and the highest received at most 2,047 above the last acknowledgement sent.
 use Rattle.std.specs.Prelude.{ℕ, ◌+◌, ◌-◌, Bool, true, false, ◌&&◌, ◌||◌, not, ◌==◌, nat_lt, nat_le, if◌then◌else◌, Option, Some, None, List, [], ◌∷◌}
@@ -11,7 +11,7 @@ use Rattle.dna_station.specs.declared.link_refusal.LinkRefusal.{LinkRefusal}
 use Rattle.dna_station.specs.declared.link_refusal.LinkRefusal.TheVariants.{WrongSegment, WrongAck, SegmentTooLong, LinkWindowFull}
 use Rattle.dna_links.specs.Pieces.{Piece, piece_of, same_piece, Unsent, none_unsent, with_message, is_next_piece, without_piece, in_order, hold}
 use Rattle.dna_links.specs.Pieces.{Whole, next_message, in_whole_messages}
-use Rattle.dna_links.specs.Flow.{Flows, Sending, REACH, wire, distance, is_of_data}
+use Rattle.dna_links.specs.SegmentBook.{SegmentBook, Sending, REACH, wire, distance, is_of_data}
 use Rattle.dna_links.specs.Links.{check}
 
 -- what any node keeps
@@ -28,8 +28,8 @@ pub record LinkVariables : Type 0 where
   pub pieces : List (Option Piece)
 
 -- and what the judge keeps of it besides
-pub record WireFlow : Type 0 where
-  pub kept : LinkVariables
+pub record WireSegments : Type 0 where
+  pub variables : LinkVariables
   -- whether the highest number given has reached 2,047
   pub gave_many : Bool
   -- the last acknowledgement sent, modulo 4,096, and whether it has reached 2,047
@@ -37,15 +37,15 @@ pub record WireFlow : Type 0 where
   pub last_is_high : Bool
 
 -- with these pieces, and nothing else
-abbrev pub with_pieces_alone : List (Option Piece) → WireFlow
+abbrev pub with_pieces_alone : List (Option Piece) → WireSegments
 with_pieces_alone pieces = record {
-  kept = record { unsent = none_unsent; acknowledged = 0; outstanding = []; received = 0; pieces = pieces };
+  variables = record { unsent = none_unsent; acknowledged = 0; outstanding = []; received = 0; pieces = pieces };
   gave_many = false;
   last = 0;
   last_is_high = false;
 }
 
-abbrev pub empty : WireFlow
+abbrev pub empty : WireSegments
 empty = with_pieces_alone []
 
 -- S, the highest number given, modulo 4,096
@@ -54,19 +54,19 @@ highest_given k = wire (k.acknowledged + length k.outstanding)
 
 -- ---- the user's messages
 
-abbrev pub hands_in : List ℕ → WireFlow → WireFlow
-hands_in message f = record f { kept = record f.kept { unsent = with_message message f.kept.unsent } }
+abbrev pub hands_in : List ℕ → WireSegments → WireSegments
+hands_in message f = record f { variables = record f.variables { unsent = with_message message f.variables.unsent } }
 
-abbrev pub delivered_as : Bool → Whole → WireFlow → Option WireFlow
-delivered_as true w f = Some (record f { kept = record f.kept { pieces = drop w.pieces f.kept.pieces } })
+abbrev pub delivered_as : Bool → Whole → WireSegments → Option WireSegments
+delivered_as true w f = Some (record f { variables = record f.variables { pieces = drop w.pieces f.variables.pieces } })
 delivered_as false w f = None
 
-abbrev pub delivers_whole : Option Whole → List ℕ → WireFlow → Option WireFlow
+abbrev pub delivers_whole : Option Whole → List ℕ → WireSegments → Option WireSegments
 delivers_whole None message f = None
 delivers_whole (Some w) message f = delivered_as (bytes_eq message w.message) w f
 
-abbrev pub delivers : List ℕ → WireFlow → Option WireFlow
-delivers message f = delivers_whole (next_message f.kept.pieces) message f
+abbrev pub delivers : List ℕ → WireSegments → Option WireSegments
+delivers message f = delivers_whole (next_message f.variables.pieces) message f
 
 -- ---- acknowledgement words that are sent
 
@@ -103,39 +103,39 @@ all_named again received (word ∷ words) sent =
     then after_first (last_named again received word.number sent) (λ next. all_named again received words next)
     else all_named again received words sent
 
-abbrev pub last_of : WireFlow → LastSent
+abbrev pub last_of : WireSegments → LastSent
 last_of f = record { last = f.last; is_high = f.last_is_high }
 
-abbrev pub with_last : LastSent → WireFlow → WireFlow
+abbrev pub with_last : LastSent → WireSegments → WireSegments
 with_last sent f = record f { last = sent.last; last_is_high = sent.is_high }
 
 -- ---- what is sent; nothing but its bytes is known of a message
 
-abbrev pub sending : WireFlow → Sending WireFlow (Unit {0})
-sending f = record { flow = f; known = tt }
+abbrev pub sending : WireSegments → Sending WireSegments (Unit {0})
+sending f = record { segments = f; known = tt }
 
-abbrev pub sends_other : WireFlow → Unit {0}
+abbrev pub sends_other : WireSegments → Unit {0}
 sends_other f = tt
 
-abbrev pub acks_named : Option LastSent → WireFlow → Result (Sending WireFlow (Unit {0})) LinkRefusal
+abbrev pub acks_named : Option LastSent → WireSegments → Result (Sending WireSegments (Unit {0})) LinkRefusal
 acks_named None f = Err WrongAck
 acks_named (Some sent) f = Ok (sending (with_last sent f))
 
-abbrev pub sends_acks : List AckWord → WireFlow → Result (Sending WireFlow (Unit {0})) LinkRefusal
-sends_acks words f = acks_named (all_named false f.kept.received words (last_of f)) f
+abbrev pub sends_acks : List AckWord → WireSegments → Result (Sending WireSegments (Unit {0})) LinkRefusal
+sends_acks words f = acks_named (all_named false f.variables.received words (last_of f)) f
 
 -- the highest number given rises by one, and may reach 2,047
-abbrev pub with_new : Piece → WireFlow → WireFlow
+abbrev pub with_new : Piece → WireSegments → WireSegments
 with_new p f = record f {
-  kept = record f.kept { unsent = without_piece p f.kept.unsent; outstanding = f.kept.outstanding ++ p ∷ [] };
-  gave_many = f.gave_many || nat_le REACH (highest_given f.kept + 1);
+  variables = record f.variables { unsent = without_piece p f.variables.unsent; outstanding = f.variables.outstanding ++ p ∷ [] };
+  gave_many = f.gave_many || nat_le REACH (highest_given f.variables + 1);
 }
 
-abbrev pub sends_new : (segsize : ℕ) → Piece → LastSent → WireFlow → Result (Sending WireFlow (Unit {0})) LinkRefusal
+abbrev pub sends_new : (segsize : ℕ) → Piece → LastSent → WireSegments → Result (Sending WireSegments (Unit {0})) LinkRefusal
 sends_new segsize p sent f =
-    check (nat_lt (length f.kept.outstanding) REACH) LinkWindowFull
+    check (nat_lt (length f.variables.outstanding) REACH) LinkWindowFull
     (check (nat_le (length p.body) segsize) SegmentTooLong
-    (check (is_next_piece p f.kept.unsent) WrongSegment
+    (check (is_next_piece p f.variables.unsent) WrongSegment
     (Ok (sending (with_last sent (with_new p f))))))
 
 abbrev pub is_given : Option Piece → Piece → Bool
@@ -146,22 +146,23 @@ is_given (Some first) p = same_piece p first
 abbrev pub is_repeat : (below : ℕ) → Piece → List Piece → Bool
 is_repeat below p outstanding = nat_le (length outstanding) below || is_given (slice_get outstanding (length outstanding - 1 - below)) p
 
-abbrev pub sends_again : (below : ℕ) → Piece → LastSent → WireFlow → Result (Sending WireFlow (Unit {0})) LinkRefusal
+abbrev pub sends_again : (below : ℕ) → Piece → LastSent → WireSegments → Result (Sending WireSegments (Unit {0})) LinkRefusal
 sends_again below p sent f =
-    check (nat_lt below REACH && (f.gave_many || nat_lt below (highest_given f.kept))) WrongSegment
-    (check (is_repeat below p f.kept.outstanding) WrongSegment
+    check (nat_lt below REACH && (f.gave_many || nat_lt below (highest_given f.variables))) WrongSegment
+    (check (is_repeat below p f.variables.outstanding) WrongSegment
     (Ok (sending (with_last sent f))))
 
 abbrev pub is_new : SegmentValue → LinkVariables → Bool
 is_new s k = s.number == wire (highest_given k + 1)
 
-abbrev pub segment_named : Option LastSent → (segsize : ℕ) → SegmentValue → WireFlow → Result (Sending WireFlow (Unit {0})) LinkRefusal
+abbrev pub segment_named : Option LastSent → (segsize : ℕ) → SegmentValue → WireSegments → Result (Sending WireSegments (Unit {0})) LinkRefusal
 segment_named None segsize s f = Err WrongAck
 segment_named (Some sent) segsize s f =
-    if is_new s f.kept then sends_new segsize (piece_of s) sent f else sends_again (distance s.number (highest_given f.kept)) (piece_of s) sent f
+    if is_new s f.variables then sends_new segsize (piece_of s) sent f else sends_again (distance s.number (highest_given f.variables))
+    (piece_of s) sent f
 
-abbrev pub sends_segment : (segsize : ℕ) → SegmentValue → WireFlow → Result (Sending WireFlow (Unit {0})) LinkRefusal
-sends_segment segsize s f = segment_named (all_named (not (is_new s f.kept)) f.kept.received s.acks (last_of f)) segsize s f
+abbrev pub sends_segment : (segsize : ℕ) → SegmentValue → WireSegments → Result (Sending WireSegments (Unit {0})) LinkRefusal
+sends_segment segsize s f = segment_named (all_named (not (is_new s f.variables)) f.variables.received s.acks (last_of f)) segsize s f
 
 -- ---- what comes
 
@@ -190,22 +191,22 @@ with_segment above p k = if nat_le 1 above && nat_le above REACH then with_piece
 abbrev pub segment_taken : SegmentValue → LinkVariables → LinkVariables
 segment_taken s k = with_segment (distance k.received s.number) (piece_of s) k
 
-abbrev pub takes_acks : List AckWord → Unit {0} → WireFlow → WireFlow
-takes_acks words known f = record f { kept = acknowledged_by_all words f.kept }
+abbrev pub takes_acks : List AckWord → Unit {0} → WireSegments → WireSegments
+takes_acks words known f = record f { variables = acknowledged_by_all words f.variables }
 
-abbrev pub takes_segment : SegmentValue → Unit {0} → WireFlow → WireFlow
-takes_segment s known f = record f { kept = segment_taken s (acknowledged_by_all s.acks f.kept) }
+abbrev pub takes_segment : SegmentValue → Unit {0} → WireSegments → WireSegments
+takes_segment s known f = record f { variables = segment_taken s (acknowledged_by_all s.acks f.variables) }
 
 -- ---- a link that has ended keeps what `Up` may still deliver, and nothing else; once its address is given again, nothing at all
 
-abbrev pub ends : WireFlow → WireFlow
-ends f = with_pieces_alone (take (in_whole_messages f.kept.pieces) f.kept.pieces)
+abbrev pub ends : WireSegments → WireSegments
+ends f = with_pieces_alone (take (in_whole_messages f.variables.pieces) f.variables.pieces)
 
-abbrev pub forgets : WireFlow → WireFlow
+abbrev pub forgets : WireSegments → WireSegments
 forgets f = empty
 
-abbrev pub wire_flows : Flows WireFlow (Unit {0})
-wire_flows = record {
+abbrev pub wire_segments : SegmentBook WireSegments (Unit {0})
+wire_segments = record {
   empty = empty;
   hands_in = hands_in;
   delivers = delivers;

@@ -5,13 +5,13 @@ ghost use Rattle.std.specs.List.{AllByRecursion};
 ghost use Rattle.dna_packet.specs.AckWord.{IsAckWord};
 ghost use Rattle.dna_packet.specs.Nsp.{segment_view};
 ghost use Rattle.dna_links.specs.Pieces.{piece_of};
-ghost use Rattle.dna_links.specs.Flow.{wire, distance};
-ghost use Rattle.dna_links.specs.WireFlow.{sends_acks, sends_segment, sends_new, sends_again, is_repeat, sending};
-ghost use Rattle.dna_links.specs.WireFlow as spec;
+ghost use Rattle.dna_links.specs.SegmentBook.{wire, distance};
+ghost use Rattle.dna_links.specs.WireSegments.{sends_acks, sends_segment, sends_new, sends_again, is_repeat, sending};
+ghost use Rattle.dna_links.specs.WireSegments as spec;
 ghost use Rattle.nsp_link.specs.Fault.{IsFault};
-ghost use Rattle.nsp_link.specs.Flow.{is_true_repeat};
+ghost use Rattle.nsp_link.specs.Segments.{is_true_repeat};
 
-use super::Flow;
+use super::Segments;
 use crate::last_sent::LastSent;
 use crate::{LinkFault, LinkRefusal};
 use dna_packet::{AckWord, Segment};
@@ -19,7 +19,7 @@ use link_segments::{Piece, REACH};
 use std::alloc::Global;
 use wire_base::{Seq, Window};
 
-impl<W: Window<Piece, 4096> + Drop> Flow<W> {
+impl<W: Window<Piece, 4096> + Drop> Segments<W> {
     /// Acknowledgement words are sent alone.
     ///
     /// `WrongAck`: a word names a number that is not from the last one sent through the highest received. Nothing changes.
@@ -50,7 +50,7 @@ impl<W: Window<Piece, 4096> + Drop> Flow<W> {
         requires number { segment.now.number < 4096 }
         ensures ok { OnOk result (sends_segment segsize (segment_view segment.now) self.old ≡ Ok (sending self.new)) }
         ensures refused { IfErr result (λ fault. IsFault (sends_segment segsize (segment_view segment.now) self.old)
-            (spec.is_new (segment_view segment.now) self.old.kept) fault) }
+            (spec.is_new (segment_view segment.now) self.old.variables) fault) }
         ensures err { OnErr result (self.new ≡ self.old) }
     {
         let new = self.is_new(segment);
@@ -69,7 +69,7 @@ impl<W: Window<Piece, 4096> + Drop> Flow<W> {
 
     // Whether a segment has the number after the highest given.
     pub(super) fn is_new(&self, segment: &Segment) -> bool
-        ensures { result ≡ spec.is_new (segment_view segment.now) self.now.kept }
+        ensures { result ≡ spec.is_new (segment_view segment.now) self.now.variables }
     {
         segment.number == self.outstanding.highest().next().value()
     }

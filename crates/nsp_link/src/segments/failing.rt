@@ -4,21 +4,21 @@ ghost use Rattle.std.specs.Prelude.{◌≡◌, ◌≤◌, ◌<◌};
 ghost use Rattle.std.specs.List.{AllByRecursion};
 ghost use Rattle.dna_packet.specs.AckWord.{IsAckWord};
 ghost use Rattle.dna_packet.specs.Nsp.{segment_view};
-ghost use Rattle.dna_links.specs.Flow.{distance};
+ghost use Rattle.dna_links.specs.SegmentBook.{distance};
 ghost use Rattle.dna_links.specs.Pieces.{next_message, piece_of};
-ghost use Rattle.dna_links.specs.WireFlow.{highest_given};
+ghost use Rattle.dna_links.specs.WireSegments.{highest_given};
 ghost use Rattle.link_segments.specs.Received.{next_length};
 ghost use Rattle.nsp_link.specs.FailedEvent.{is_whole};
 ghost use Rattle.nsp_link.specs.FailedSending as spec;
 
-use super::Flow;
+use super::Segments;
 use crate::failed::{FailedLinkSending, NextPiece, Numbers, PieceShape};
 use crate::last_sent::failing::from_below;
 use dna_packet::{AckWord, Segment};
 use link_segments::{Piece, REACH};
 use wire_base::{Seq, Window};
 
-impl<W: Window<Piece, 4096> + Drop> Flow<W> {
+impl<W: Window<Piece, 4096> + Drop> Segments<W> {
     /// The check that these acknowledgement words do not pass, if they were sent alone now; `None` where they may be sent.
     pub fn failed_acks(&self, words: &[AckWord]) -> Option<FailedLinkSending>
         requires { AllByRecursion IsAckWord words.now }
@@ -73,7 +73,7 @@ impl<W: Window<Piece, 4096> + Drop> Flow<W> {
 
     // What the next new segment has to carry.
     fn next_piece(&self) -> Option<NextPiece>
-        ensures { result ≡ spec.next_in self.now.kept.unsent }
+        ensures { result ≡ spec.next_in self.now.variables.unsent }
     {
         match self.unsent.rest() {
             Some(rest) => Some(NextPiece {
@@ -87,7 +87,7 @@ impl<W: Window<Piece, 4096> + Drop> Flow<W> {
     // The check that a segment does not pass which has another number than the next one.
     fn failed_again(&self, segment: &Segment) -> Option<FailedLinkSending>
         requires { segment.now.number < 4096 }
-        ensures { result ≡ spec.failed_again (distance segment.now.number (highest_given self.now.kept))
+        ensures { result ≡ spec.failed_again (distance segment.now.number (highest_given self.now.variables))
             (segment_view segment.now) self.now }
     {
         let highest = self.outstanding.highest();
@@ -136,7 +136,7 @@ impl<W: Window<Piece, 4096> + Drop> Flow<W> {
 
     // The check that a segment does not pass which is sent again: while it is not acknowledged, it carries what it first did.
     fn failed_repeat(&self, below: usize, segment: &Segment) -> Option<FailedLinkSending>
-        ensures { result ≡ spec.failed_repeat below (segment_view segment.now) self.now.kept.outstanding }
+        ensures { result ≡ spec.failed_repeat below (segment_view segment.now) self.now.variables.outstanding }
     {
         let count = self.outstanding.len();
         if below >= count {
@@ -162,14 +162,14 @@ impl<W: Window<Piece, 4096> + Drop> Flow<W> {
     /// Whether this is the next whole message.
     #[tactic(auto, using(crate::proofs::FailedEvent::is_whole_same))]
     pub fn is_next_message(&self, message: &[u8]) -> bool
-        ensures { result ≡ is_whole message.now (next_message self.now.kept.pieces) }
+        ensures { result ≡ is_whole message.now (next_message self.now.variables.pieces) }
     {
         self.pieces.pieces_of(message).is_some()
     }
 
     /// How many bytes the next whole message has, if there is one.
     pub fn next_length(&self) -> Option<usize>
-        ensures { result ≡ next_length self.now.kept.pieces }
+        ensures { result ≡ next_length self.now.variables.pieces }
     {
         self.pieces.next_length()
     }

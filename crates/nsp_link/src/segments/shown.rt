@@ -3,12 +3,12 @@
 ghost use Rattle.std.specs.Prelude.{◌≡◌, option_copied, slice_get};
 ghost use Rattle.nsp_link.specs.View.{numbers_of};
 
-use super::Flow;
+use super::Segments;
 use crate::view::LinkNumbers;
 use link_segments::Piece;
 use wire_base::Window;
 
-impl<W: Window<Piece, 4096> + Drop> Flow<W> {
+impl<W: Window<Piece, 4096> + Drop> Segments<W> {
     /// The numbers as they are now. Takes no memory.
     pub fn numbers(&self) -> LinkNumbers
         ensures { result ≡ numbers_of self.now }
@@ -23,7 +23,7 @@ impl<W: Window<Piece, 4096> + Drop> Flow<W> {
     }
     /// What is left of the current message, if there is one. Takes no memory.
     pub fn rest(&self) -> Option<&[u8]>
-        ensures { option_copied result ≡ slice_get self.now.kept.unsent.messages 0 }
+        ensures { option_copied result ≡ slice_get self.now.variables.unsent.messages 0 }
     {
         self.unsent.rest()
     }

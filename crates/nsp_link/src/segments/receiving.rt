@@ -4,16 +4,16 @@ ghost use Rattle.std.specs.Prelude.{◌≡◌, ◌<◌, true, OnOk, OnErr, IfErr
 ghost use Rattle.std.specs.List.{AllByRecursion};
 ghost use Rattle.dna_packet.specs.AckWord.{IsAckWord};
 ghost use Rattle.dna_packet.specs.Nsp.{segment_view};
-ghost use Rattle.dna_links.specs.WireFlow.{takes_segment, takes_acks};
-ghost use Rattle.nsp_link.specs.Flow.{with_held, is_held};
+ghost use Rattle.dna_links.specs.WireSegments.{takes_segment, takes_acks};
+ghost use Rattle.nsp_link.specs.Segments.{with_held, is_held};
 
-use super::Flow;
+use super::Segments;
 use dna_packet::{AckWord, Segment};
 use link_segments::{Piece, REACH};
 use std::alloc::{AllocError, Global};
 use wire_base::{Seq, Window};
 
-impl<W: Window<Piece, 4096> + Drop> Flow<W> {
+impl<W: Window<Piece, 4096> + Drop> Segments<W> {
     /// Acknowledgement words come. Takes no memory.
     #[tactic(auto, using(crate::proofs::Acknowledged::acknowledged))]
     pub fn take_acks(&mut self, words: &[AckWord])
@@ -30,7 +30,7 @@ impl<W: Window<Piece, 4096> + Drop> Flow<W> {
         requires acks { AllByRecursion IsAckWord segment.now.acks.items }
         requires number { segment.now.number < 4096 }
         ensures ok { OnOk result (self.new ≡ takes_segment (segment_view segment.now) tt self.old) }
-        ensures held { IfErr result (λ e. is_held (segment_view segment.now) self.old.kept ≡ true) }
+        ensures held { IfErr result (λ e. is_held (segment_view segment.now) self.old.variables ≡ true) }
         ensures err { OnErr result (self.new ≡ self.old) }
     {
         self.hold(alloc, segment)?;
@@ -43,7 +43,7 @@ impl<W: Window<Piece, 4096> + Drop> Flow<W> {
     fn hold(&mut self, alloc: Global, segment: &Segment) -> Result<(), AllocError>
         requires { segment.now.number < 4096 }
         ensures ok { OnOk result (self.new ≡ with_held (segment_view segment.now) self.old) }
-        ensures held { IfErr result (λ e. is_held (segment_view segment.now) self.old.kept ≡ true) }
+        ensures held { IfErr result (λ e. is_held (segment_view segment.now) self.old.variables ≡ true) }
         ensures err { OnErr result (self.new ≡ self.old) }
     {
         let highest = self.received.value();

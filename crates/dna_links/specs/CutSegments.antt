@@ -1,15 +1,15 @@
--- A flow on true numbers, cut to what a node keeps of a live link. What holds of its own numbers, and of the numbers of what it meets, is
--- what makes numbers modulo 4,096 tell all.
+-- The segments of a link on true numbers, cut to what a node keeps of a live one. What holds of their own numbers, and of the numbers of what
+-- comes, is what makes numbers modulo 4,096 tell all.
 use Rattle.std.specs.Prelude.{◌≡◌, ℕ, ◌+◌, ◌≤◌, nat_le, if◌then◌else◌, List, [], ◌∷◌, map, drop, Result, Ok, Err}
 use Rattle.dna_packet.specs.declared.ack_word.AckWord.{AckWord}
 use Rattle.dna_station.specs.declared.link_refusal.LinkRefusal.{LinkRefusal}
-use Rattle.dna_links.specs.Flow.{Sending, REACH, wire, is_of_data}
-use Rattle.dna_links.specs.TrueFlow.{TrueFlow, Numbers, highest_given, highest_received, acknowledged_through}
-use Rattle.dna_links.specs.WireFlow.{WireFlow}
+use Rattle.dna_links.specs.SegmentBook.{Sending, REACH, wire, is_of_data}
+use Rattle.dna_links.specs.TrueSegments.{TrueSegments, Numbers, highest_given, highest_received, acknowledged_through}
+use Rattle.dna_links.specs.WireSegments.{WireSegments}
 
-abbrev pub cut : TrueFlow → WireFlow
+abbrev pub cut : TrueSegments → WireSegments
 cut f = record {
-  kept = record {
+  variables = record {
     unsent = f.unsent;
     acknowledged = wire f.acknowledged;
     outstanding = drop f.acknowledged f.given;
@@ -21,21 +21,21 @@ cut f = record {
   last_is_high = nat_le REACH f.last;
 }
 
--- what a message makes of a flow, cut; of its numbers a node knows nothing but the bytes
-abbrev pub cut_sending : Result (Sending TrueFlow Numbers) LinkRefusal → Result (Sending WireFlow (Unit {0})) LinkRefusal
-cut_sending (Ok sent) = Ok (record { flow = cut sent.flow; known = tt })
+-- what a message makes of the segments, cut; of its numbers a node knows nothing but the bytes
+abbrev pub cut_sending : Result (Sending TrueSegments Numbers) LinkRefusal → Result (Sending WireSegments (Unit {0})) LinkRefusal
+cut_sending (Ok sent) = Ok (record { segments = cut sent.segments; known = tt })
 cut_sending (Err reason) = Err reason
 
--- A flow's own numbers are in order: what is acknowledged was given, and at most 2,047 are outstanding; what was acknowledged to the
+-- Their own numbers are in order: what is acknowledged was given, and at most 2,047 are outstanding; what was acknowledged to the
 -- partner was received, and so was what is delivered
-pub record IsOrdered (f : TrueFlow) : Type 0 where
+pub record IsOrdered (f : TrueSegments) : Type 0 where
   pub given : f.acknowledged ≤ highest_given f
   pub few : highest_given f ≤ f.acknowledged + REACH
   pub last : f.last ≤ highest_received f
   pub passed : f.passed ≤ highest_received f
 
 -- the highest received is at most 2,047 above the last acknowledgement sent
-abbrev pub IsAnswered : TrueFlow → Type 0
+abbrev pub IsAnswered : TrueSegments → Type 0
 IsAnswered f = highest_received f ≤ f.last + REACH
 
 -- ---- what comes
@@ -50,17 +50,17 @@ abbrev pub Spells : List AckWord → List ℕ → Type 0
 Spells words numbers = data_numbers words ≡ map wire numbers
 
 -- an acknowledgement lies from 2,047 below the highest acknowledged through the highest given
-pub record AckIsNear (f : TrueFlow) (number : ℕ) : Type 0 where
+pub record AckIsNear (f : TrueSegments) (number : ℕ) : Type 0 where
   pub least : f.acknowledged ≤ number + REACH
   pub most : number ≤ highest_given f
 
 -- each is near when it comes
-abbrev pub AcksAreNear : TrueFlow → List ℕ → Type 0
+abbrev pub AcksAreNear : TrueSegments → List ℕ → Type 0
 AcksAreNear f [] = Unit {0}
 AcksAreNear f (number ∷ numbers) = AckIsNear f number × AcksAreNear (acknowledged_through f number) numbers
 
 -- a segment number differs from the highest received by -2,047 to 2,047
-pub record SegmentIsNear (f : TrueFlow) (number : ℕ) : Type 0 where
+pub record SegmentIsNear (f : TrueSegments) (number : ℕ) : Type 0 where
   pub first : 1 ≤ number
   pub least : highest_received f ≤ number + REACH
   pub most : number ≤ highest_received f + REACH

@@ -1,7 +1,7 @@
 use Rattle.std.proofs.Common.{refl}
-use Rattle.dna_links.proofs.Cut.FlowArriving.{delivers_same, takes_acks_same, takes_segment_same}
-use Rattle.dna_links.proofs.Cut.FlowSending.{sends_acks_same, sends_segment_same}
-use Rattle.dna_links.proofs.laws.cut_flow.Goals as goal
+use Rattle.dna_links.proofs.Cut.SegmentsArriving.{delivers_same, takes_acks_same, takes_segment_same}
+use Rattle.dna_links.proofs.Cut.SegmentsSending.{sends_acks_same, sends_segment_same}
+use Rattle.dna_links.proofs.laws.cut_segments.Goals as goal
 
 pub returns : goal.returns
 returns c = record {

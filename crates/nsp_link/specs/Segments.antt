@@ -1,18 +1,18 @@
 -- The steps of one link's segments in parts, as the code takes them.
 use Rattle.std.specs.Prelude.{ℕ, ◌+◌, ◌-◌, Bool, ◌&&◌, ◌||◌, nat_lt, nat_le}
 use Rattle.dna_packet.specs.Nsp.{SegmentValue}
-use Rattle.dna_links.specs.Flow.{REACH, distance}
+use Rattle.dna_links.specs.SegmentBook.{REACH, distance}
 use Rattle.dna_links.specs.Pieces.{piece_of, in_order}
-use Rattle.dna_links.specs.WireFlow.{LinkVariables, WireFlow, highest_given, is_repeat, segment_taken}
+use Rattle.dna_links.specs.WireSegments.{LinkVariables, WireSegments, highest_given, is_repeat, segment_taken}
 use Rattle.link_segments.specs.Received.{is_missing_at}
 
 -- a segment that is not new is one of the last 2,047 given, and, while that one is not acknowledged, carries the same
-abbrev pub is_true_repeat_at : ℕ → SegmentValue → WireFlow → Bool
-is_true_repeat_at below s f = (nat_lt below REACH && (f.gave_many || nat_lt below (highest_given f.kept))) &&
-    is_repeat below (piece_of s) f.kept.outstanding
+abbrev pub is_true_repeat_at : ℕ → SegmentValue → WireSegments → Bool
+is_true_repeat_at below s f = (nat_lt below REACH && (f.gave_many || nat_lt below (highest_given f.variables))) &&
+    is_repeat below (piece_of s) f.variables.outstanding
 
-abbrev pub is_true_repeat : SegmentValue → WireFlow → Bool
-is_true_repeat s f = is_true_repeat_at (distance s.number (highest_given f.kept)) s f
+abbrev pub is_true_repeat : SegmentValue → WireSegments → Bool
+is_true_repeat s f = is_true_repeat_at (distance s.number (highest_given f.variables)) s f
 
 -- a segment that comes is at most 2,047 above the highest received without a gap, and missing
 abbrev pub is_missing : (above : ℕ) → LinkVariables → Bool
@@ -22,5 +22,5 @@ abbrev pub is_held : SegmentValue → LinkVariables → Bool
 is_held s k = is_missing (distance k.received s.number) k
 
 -- its piece is held, and its words are not read
-abbrev pub with_held : SegmentValue → WireFlow → WireFlow
-with_held s f = record f { kept = segment_taken s f.kept }
+abbrev pub with_held : SegmentValue → WireSegments → WireSegments
+with_held s f = record f { variables = segment_taken s f.variables }

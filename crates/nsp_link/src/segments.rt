@@ -6,10 +6,10 @@ ghost use Rattle.std.specs.List.{AllByRecursion};
 ghost use Rattle.dna_packet.specs.AckWord.{IsAckWord};
 ghost use Rattle.dna_packet.specs.Nsp.{segment_view};
 ghost use Rattle.dna_links.specs.Pieces.{piece_of};
-ghost use Rattle.dna_links.specs.Flow.{wire, distance};
-ghost use Rattle.dna_links.specs.WireFlow.{empty, hands_in, delivers, sends_acks, sends_segment, sends_new, sends_again, is_repeat};
-ghost use Rattle.dna_links.specs.WireFlow.{takes_segment, takes_acks, ends, sending};
-ghost use Rattle.dna_links.specs.WireFlow as spec;
+ghost use Rattle.dna_links.specs.SegmentBook.{wire, distance};
+ghost use Rattle.dna_links.specs.WireSegments.{empty, hands_in, delivers, sends_acks, sends_segment, sends_new, sends_again, is_repeat};
+ghost use Rattle.dna_links.specs.WireSegments.{takes_segment, takes_acks, ends, sending};
+ghost use Rattle.dna_links.specs.WireSegments as spec;
 ghost use Rattle.nsp_link.specs.Fault.{IsFault};
 ghost use Rattle.nsp_link.specs.Given.{given_of};
 
@@ -30,7 +30,7 @@ use wire_base::{Seq, Window};
 /// The segments of one link, both ways: what was handed in and is not given, what is given and not acknowledged, what is received and
 /// not delivered, and the last acknowledgement sent. Its numbers are kept modulo 4,096.
 #[derive(Drop)]
-pub struct Flow<W: Window<Piece, 4096> + Drop> {
+pub struct Segments<W: Window<Piece, 4096> + Drop> {
     unsent: Unsent,
     outstanding: Outstanding<Piece, W>,
     // the highest number received without a gap
@@ -41,13 +41,13 @@ pub struct Flow<W: Window<Piece, 4096> + Drop> {
     last: LastSent,
 }
 
-impl<W: Window<Piece, 4096> + Drop> Model for Flow<W> {
-    ghost use Rattle.dna_links.specs.WireFlow.{WireFlow};
+impl<W: Window<Piece, 4096> + Drop> Model for Segments<W> {
+    ghost use Rattle.dna_links.specs.WireSegments.{WireSegments};
 
-    ghost Value = { WireFlow };
+    ghost Value = { WireSegments };
 
     ghost view = { λ f. record {
-      kept = record {
+      variables = record {
         unsent = f.unsent;
         acknowledged = f.outstanding.first;
         outstanding = f.outstanding.items;
@@ -60,12 +60,12 @@ impl<W: Window<Piece, 4096> + Drop> Model for Flow<W> {
     } };
 }
 
-impl<W: Window<Piece, 4096> + Drop> Flow<W> {
+impl<W: Window<Piece, 4096> + Drop> Segments<W> {
     /// Nothing was handed in, given or received. Takes no memory.
     pub fn new(alloc: Global) -> Self
         ensures { result ≡ empty }
     {
-        Flow {
+        Segments {
             unsent: Unsent::new(alloc),
             outstanding: Outstanding::new(),
             received: Seq::of(0),
@@ -111,7 +111,7 @@ impl<W: Window<Piece, 4096> + Drop> Flow<W> {
     /// The link ends: what is received in whole messages is kept, and nothing else. The answer is whether that is nothing.
     pub fn end(&mut self, alloc: Global) -> bool
         ensures ends { self.new ≡ ends self.old }
-        ensures empty { result ≡ (length self.new.kept.pieces == 0) }
+        ensures empty { result ≡ (length self.new.variables.pieces == 0) }
     {
         self.unsent = Unsent::new(alloc);
         self.outstanding = Outstanding::new();

@@ -1,5 +1,5 @@
 use Rattle.nsp_link.proofs.Acknowledged.{taken}
-use Rattle.nsp_link.proofs.flow.Flow.take_acks.Goals as goal
+use Rattle.nsp_link.proofs.segments.Segments.take_acks.Goals as goal
 
 pub returns : goal.returns
 returns g c = let f = c.self.inside in

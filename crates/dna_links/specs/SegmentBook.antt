@@ -1,5 +1,5 @@
--- What the tables of the links ask of the segments of one link: its flow, both ways. The tables stand once over any flow; `TrueFlow`
--- is the one on numbers without a bound, `WireFlow` the one that a node keeps. Numbers, windows and repeats: NSP 4.0, data segments and
+-- What the tables of the links ask of the segments of one link, both ways: a book of them. The tables stand once over any book; `TrueSegments`
+-- is the one on numbers without a bound, `WireSegments` the one that a node keeps. Numbers, windows and repeats: NSP 4.0, data segments and
 -- acknowledgements.
 use Rattle.std.specs.Prelude.{ℕ, Bool, true, false, Option, List, Result}
 use Rattle.wire_base.specs.Seq.{wire_value, wire_distance}
@@ -27,13 +27,13 @@ is_of_data Nak = true
 is_of_data OtherAck = false
 is_of_data OtherNak = false
 
--- what a message that may be sent makes of a flow, and what is known of its numbers beside its bytes
+-- what a message that may be sent makes of the segments, and what is known of its numbers beside its bytes
 pub record Sending (D K : Type 0) : Type 0 where
-  pub flow : D
+  pub segments : D
   pub known : K
 
 -- D is what a link keeps of its segments, K what is known of a message's numbers
-pub record Flows (D K : Type 0) : Type 0 where
+pub record SegmentBook (D K : Type 0) : Type 0 where
   -- nothing was handed in, given or received
   pub empty : D
   -- a message is handed in; it is delivered, if it is the next whole one

@@ -1,4 +1,4 @@
--- Cutting a flow to what a node keeps commutes with what may be sent and with what sending changes, where the flow's own numbers are in
+-- Cutting a link's segments to what a node keeps commutes with what may be sent and with what sending changes, where the segments' own numbers are in
 -- order and its last acknowledgement is at most 2,047 below the highest received.
 use Rattle.std.proofs.Common.{◌≡◌, ℕ, ◌+◌, ◌-◌, ◌<◌, ◌≤◌, max, Bool, true, false, ◌&&◌, ◌||◌, not, eqb, ltb, leb, cond, Option, Some, None, List, []}
 use Rattle.std.proofs.Common.{◌∷◌, ◌++◌, length, drop, Result, Ok, refl, sym, ap, ap₂, ◌∙◌, arith, length-drop, option_map, ◌⊎◌, inl, inr}
@@ -10,13 +10,14 @@ use Rattle.dna_packet.specs.Nsp.{SegmentValue}
 use Rattle.dna_station.specs.declared.link_refusal.LinkRefusal.{LinkRefusal}
 use Rattle.dna_station.specs.declared.link_refusal.LinkRefusal.TheVariants.{WrongSegment, SegmentTooLong, LinkWindowFull}
 use Rattle.dna_links.specs.Pieces.{Piece, piece_of, is_next_piece, without_piece}
-use Rattle.dna_links.specs.Flow.{Sending, REACH, wire, distance, is_of_data}
+use Rattle.dna_links.specs.SegmentBook.{Sending, REACH, wire, distance, is_of_data}
 use Rattle.dna_links.specs.Links.{check}
-use Rattle.dna_links.specs.TrueFlow.{TrueFlow, Numbers, Named, highest_given, highest_received, named, with_number, with_first, all_named, sending}
-use Rattle.dna_links.specs.TrueFlow.{acks_named, sends_acks, sends_new, is_given, is_repeat, sends_again, is_new, segment_named, sends_segment}
-use Rattle.dna_links.specs.WireFlow.{WireFlow, LastSent}
-use Rattle.dna_links.specs.WireFlow as kept
-use Rattle.dna_links.specs.CutFlow.{cut, cut_sending, IsOrdered, IsAnswered}
+use Rattle.dna_links.specs.TrueSegments.{TrueSegments, Numbers, Named, highest_given, highest_received, named, with_number, with_first, all_named}
+use Rattle.dna_links.specs.TrueSegments.{sending}
+use Rattle.dna_links.specs.TrueSegments.{acks_named, sends_acks, sends_new, is_given, is_repeat, sends_again, is_new, segment_named, sends_segment}
+use Rattle.dna_links.specs.WireSegments.{WireSegments, LastSent}
+use Rattle.dna_links.specs.WireSegments as kept
+use Rattle.dna_links.specs.CutSegments.{cut, cut_sending, IsOrdered, IsAnswered}
 use Rattle.two_nodes.proofs.NumberedSteps.{slice_get-drop}
 use Rattle.dna_links.proofs.Tables.Numbers.{distance_ahead, wire-one, wire_named, same_le, reached_same, low_le_same, low_lt_same}
 
@@ -111,11 +112,11 @@ module _ (r : ℕ) where
 
 -- ---- what is sent
 
-abbrev cut_one : Sending TrueFlow Numbers → Sending WireFlow (Unit {0})
-cut_one sent = record { flow = cut sent.flow; known = tt }
+abbrev cut_one : Sending TrueSegments Numbers → Sending WireSegments (Unit {0})
+cut_one sent = record { segments = cut sent.segments; known = tt }
 
 -- checks alike on both
-three_checks : (b c d : Bool) (sent : Sending TrueFlow Numbers) →
+three_checks : (b c d : Bool) (sent : Sending TrueSegments Numbers) →
     cut_sending (check b LinkWindowFull (check c SegmentTooLong (check d WrongSegment (Ok sent)))) ≡ check b LinkWindowFull
     (check c SegmentTooLong (check d WrongSegment (Ok (cut_one sent))))
 three_checks true true true sent = refl
@@ -124,7 +125,7 @@ three_checks true false d sent = refl
 three_checks false c d sent = refl
 
 -- the second is alike where the first is passed
-two_checks : (b c c' : Bool) (sent : Sending TrueFlow Numbers) → (b ≡ true → c ≡ c') →
+two_checks : (b c c' : Bool) (sent : Sending TrueSegments Numbers) → (b ≡ true → c ≡ c') →
     cut_sending (check b WrongSegment (check c WrongSegment (Ok sent))) ≡ check b WrongSegment (check c' WrongSegment (Ok (cut_one sent)))
 two_checks false c c' sent same = refl
 two_checks true c c' sent same = one_check c ∙ ap (λ (d : Bool). check d WrongSegment (Ok (cut_one sent))) (same refl)
@@ -137,34 +138,34 @@ given_same : (o : Option Piece) (p : Piece) → is_given o p ≡ kept.is_given o
 given_same None p = refl
 given_same (Some first) p = refl
 
-module _ (f : TrueFlow) (ordered : IsOrdered f) where
+module _ (f : TrueSegments) (ordered : IsOrdered f) where
   -- as many are kept as are outstanding, and the highest given is known
   outstanding : length (drop f.acknowledged f.given) ≡ highest_given f - f.acknowledged
   outstanding = length-drop f.acknowledged f.given
 
-  highest_same : kept.highest_given (cut f).kept ≡ wire (highest_given f)
+  highest_same : kept.highest_given (cut f).variables ≡ wire (highest_given f)
   highest_same = let h = outstanding in let l = ordered.given in omega arith
 
-  new_same : (s : SegmentValue) → is_new s f ≡ kept.is_new s (cut f).kept
+  new_same : (s : SegmentValue) → is_new s f ≡ kept.is_new s (cut f).variables
   new_same s = ap (λ n. eqb s.number n) (sym (wire-one (highest_given f))) ∙ ap (λ n. eqb s.number (wire (n + 1))) (sym highest_same)
 
   -- a new segment: what is kept of it is cut of what is true
   grown : (p : Piece) → drop f.acknowledged (f.given ++ p ∷ []) ≡ drop f.acknowledged f.given ++ p ∷ []
   grown p = drop-append-le f.acknowledged f.given (p ∷ []) ordered.given
 
-  many_same : leb REACH (highest_given f + 1) ≡ ((cut f).gave_many || leb REACH (kept.highest_given (cut f).kept + 1))
+  many_same : leb REACH (highest_given f + 1) ≡ ((cut f).gave_many || leb REACH (kept.highest_given (cut f).variables + 1))
   many_same = reached_same (highest_given f) 1 ∙ ap (λ n. leb REACH (highest_given f) || leb REACH (n + 1)) (sym highest_same)
 
   given_one_more : (p : Piece) → length (f.given ++ p ∷ []) ≡ highest_given f + 1
   given_one_more p = length-append f.given (p ∷ [])
 
   -- with these segments outstanding, and whether 2,047 are given
-  abbrev with_given : Piece → Named → List Piece → Bool → Sending WireFlow (Unit {0})
+  abbrev with_given : Piece → Named → List Piece → Bool → Sending WireSegments (Unit {0})
   with_given p names pieces many =
       kept.sending (kept.with_last (last_in names)
-      (record (cut f) { kept = record (cut f).kept { unsent = without_piece p f.unsent; outstanding = pieces }; gave_many = many }))
+      (record (cut f) { variables = record (cut f).variables { unsent = without_piece p f.unsent; outstanding = pieces }; gave_many = many }))
 
-  abbrev new_checked : (segsize : ℕ) → Piece → Bool → Sending WireFlow (Unit {0}) → Result (Sending WireFlow (Unit {0})) LinkRefusal
+  abbrev new_checked : (segsize : ℕ) → Piece → Bool → Sending WireSegments (Unit {0}) → Result (Sending WireSegments (Unit {0})) LinkRefusal
   new_checked segsize p room sent =
       check room LinkWindowFull (check (leb (length p.body) segsize) SegmentTooLong (check (is_next_piece p f.unsent) WrongSegment (Ok sent)))
 
@@ -173,21 +174,21 @@ module _ (f : TrueFlow) (ordered : IsOrdered f) where
   sends_new_same segsize p names =
       three_checks (ltb (highest_given f - f.acknowledged) REACH) (leb (length p.body) segsize) (is_next_piece p f.unsent)
       (sending (highest_given f + 1) names f (record f { last = names.last; given = f.given ++ p ∷ []; unsent = without_piece p f.unsent }))
-      ∙ ap₂ (λ (n : ℕ) (sent : Sending WireFlow (Unit {0})). new_checked segsize p (ltb n REACH) sent) (sym outstanding)
+      ∙ ap₂ (λ (n : ℕ) (sent : Sending WireSegments (Unit {0})). new_checked segsize p (ltb n REACH) sent) (sym outstanding)
       (ap₂ (with_given p names) (grown p) (ap (leb REACH) (given_one_more p) ∙ many_same))
 
   -- a repeat
   below_same : (below : ℕ) →
-      (ltb below REACH && ltb below (highest_given f)) ≡ (ltb below REACH && ((cut f).gave_many || ltb below (kept.highest_given (cut f).kept)))
+      (ltb below REACH && ltb below (highest_given f)) ≡ (ltb below REACH && ((cut f).gave_many || ltb below (kept.highest_given (cut f).variables)))
   below_same below = low_lt_same below (highest_given f) ∙ ap (λ n. ltb below REACH && (leb REACH (highest_given f) || ltb below n))
       (sym highest_same)
 
   repeat_same : (below : ℕ) (p : Piece) → below < highest_given f →
-      is_repeat (highest_given f - below) p f ≡ kept.is_repeat below p (cut f).kept.outstanding
+      is_repeat (highest_given f - below) p f ≡ kept.is_repeat below p (cut f).variables.outstanding
   repeat_same below p l = by_place (cases_lt below (length (drop f.acknowledged f.given)))
     where
       by_place : (below < length (drop f.acknowledged f.given)) ⊎ (length (drop f.acknowledged f.given) ≤ below)
-          → is_repeat (highest_given f - below) p f ≡ kept.is_repeat below p (cut f).kept.outstanding
+          → is_repeat (highest_given f - below) p f ≡ kept.is_repeat below p (cut f).variables.outstanding
       by_place (inr m) =
           let h = outstanding in let g = ordered.given in
           let b = le-leb (highest_given f - below) f.acknowledged (omega arith) in
@@ -206,11 +207,11 @@ module _ (f : TrueFlow) (ordered : IsOrdered f) where
       (cut f)
   sends_again_same below p names =
       two_checks (ltb below REACH && ltb below (highest_given f)) (is_repeat (highest_given f - below) p f)
-      (kept.is_repeat below p (cut f).kept.outstanding)
+      (kept.is_repeat below p (cut f).variables.outstanding)
       (sending (highest_given f - below) names f (record f { last = names.last }))
       (λ b. repeat_same below p (ltb-true below (highest_given f) (and_parts (ltb below REACH) (ltb below (highest_given f)) b).1))
       ∙ ap (λ (b : Bool). check b WrongSegment
-      (check (kept.is_repeat below p (cut f).kept.outstanding) WrongSegment (Ok (kept.sending (kept.with_last (last_in names) (cut f))))))
+      (check (kept.is_repeat below p (cut f).variables.outstanding) WrongSegment (Ok (kept.sending (kept.with_last (last_in names) (cut f))))))
       (below_same below)
 
   -- words alone, and a segment with its words
