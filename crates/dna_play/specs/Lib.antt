@@ -18,9 +18,9 @@ pub mod ScriptText
 pub mod PlayRun
 pub mod StepRule
 -- the same of ends as their nodes keep them, on numbers that wrap: what an end keeps, what happens to it, and what a script stands for by that
-pub mod Kept
-pub mod KeptStation
-pub mod KeptLinks
-pub mod KeptPlay
-pub mod KeptPlayed
-pub mod KeptRun
+pub mod StoredEnd
+pub mod StoredStation
+pub mod StoredLinks
+pub mod StoredPlay
+pub mod StoredPlayed
+pub mod StoredRun

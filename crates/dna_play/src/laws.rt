@@ -9,8 +9,8 @@ ghost use Rattle.dna_play.specs.ScriptText.{IsScript};
 ghost use Rattle.dna_play.specs.Played.{Played, Stopped, head_a, head_b, plays_step, play};
 ghost use Rattle.dna_play.specs.PlayRun.{ArePlayed, StartsOnce, world_of};
 ghost use Rattle.dna_play.specs.StepRule.{StepsByRule, StopsByRule, and_then};
-ghost use Rattle.dna_play.specs.KeptPlayed.{kept_play};
-ghost use Rattle.dna_play.specs.KeptRun.{kept_of};
+ghost use Rattle.dna_play.specs.StoredPlayed.{stored_play};
+ghost use Rattle.dna_play.specs.StoredRun.{stored_of};
 
 /// The records of a script are made by two nodes that ask no rule on tags, in some order, and each has a line in a capture; so are those of the
 /// steps before one that can't be made.
@@ -53,9 +53,9 @@ pub fn steps_go_by_their_rules()
 
 /// What the nodes of the ends keep plays a script that starts each side at most once as the ends on true numbers do: the same captures, the same
 /// ends as their nodes keep them, and the same step that can't be made. So it does where the steps before that one start each side at most once.
-pub fn kept_ends_play_the_same()
-    ensures played { (script : Script) → IsScript script → StartsOnce script.steps → kept_of (play script) ≡ kept_play script }
+pub fn stored_ends_play_the_same()
+    ensures played { (script : Script) → IsScript script → StartsOnce script.steps → stored_of (play script) ≡ stored_play script }
     ensures stopped { (script : Script) (stopped : Stopped) → IsScript script → play script ≡ Err stopped →
         StartsOnce (take stopped.steps script.steps)
-        → kept_of (play script) ≡ kept_play script }
+        → stored_of (play script) ≡ stored_play script }
 {}

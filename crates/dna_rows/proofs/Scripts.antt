@@ -10,13 +10,13 @@ use Rattle.dna_play.specs.Player.{end_step}
 use Rattle.dna_play.specs.Stepped.{Stop, BadStep}
 use Rattle.dna_play.specs.Play.{plays}
 use Rattle.dna_play.specs.Played.{Played, Stopped, plays_step, plays_all, play}
-use Rattle.dna_play.specs.KeptPlay.{kept_plays}
-use Rattle.dna_play.specs.KeptPlayed.{KeptPlayed, KeptStopped, kept_plays_step, kept_plays_all, kept_play}
+use Rattle.dna_play.specs.StoredPlay.{stored_plays}
+use Rattle.dna_play.specs.StoredPlayed.{StoredPlayed, StoredStopped, stored_plays_step, stored_plays_all, stored_play}
 use Rattle.dna_rows.proofs.Units.{computing, hex}
 
 -- what the computation of a script opens
 unfoldable pub playing : Unit {0}
-unfolding computing spelling end_step plays plays_step kept_plays kept_plays_step
+unfolding computing spelling end_step plays plays_step stored_plays stored_plays_step
 playing = tt
 
 abbrev pub a : StepValue → ScriptStep
@@ -62,25 +62,25 @@ behind (Ok end) steps = plays_all 0 (record end { of_a = []; of_b = [] }) steps
 behind (Err stopped) steps = Err stopped
 
 -- the same by ends as their nodes keep them
-abbrev kept_becomes : Result KeptPlayed KeptStopped → Becomes
+abbrev kept_becomes : Result StoredPlayed StoredStopped → Becomes
 kept_becomes (Ok end) = Captures end.of_a end.of_b
 kept_becomes (Err stopped) = StopsAt stopped.steps stopped.stop stopped.so_far.of_a stopped.so_far.of_b
 
-abbrev kept_behind : Result KeptPlayed KeptStopped → List ScriptStep → Result KeptPlayed KeptStopped
-kept_behind (Ok end) steps = kept_plays_all 0 (record end { of_a = []; of_b = [] }) steps
+abbrev kept_behind : Result StoredPlayed StoredStopped → List ScriptStep → Result StoredPlayed StoredStopped
+kept_behind (Ok end) steps = stored_plays_all 0 (record end { of_a = []; of_b = [] }) steps
 kept_behind (Err stopped) steps = Err stopped
 
 -- ---- a row is of both
 
 abbrev pub PlaysBetween : (node_a node_b : ℕ) → List ScriptStep → Becomes → Type 0
 PlaysBetween node_a node_b steps made =
-    (becomes (play (script_between node_a node_b steps)) ≡ made) × (kept_becomes (kept_play (script_between node_a node_b steps)) ≡ made)
+    (becomes (play (script_between node_a node_b steps)) ≡ made) × (kept_becomes (stored_play (script_between node_a node_b steps)) ≡ made)
 
 abbrev pub Plays : List ScriptStep → Becomes → Type 0
 Plays steps made = PlaysBetween 0x0401 0x0402 steps made
 
 abbrev pub Adds : (first steps : List ScriptStep) → Becomes → Type 0
-Adds first steps made = (becomes (behind (play (script first)) steps) ≡ made) × (kept_becomes (kept_behind (kept_play (script first)) steps) ≡ made)
+Adds first steps made = (becomes (behind (play (script first)) steps) ≡ made) × (kept_becomes (kept_behind (stored_play (script first)) steps) ≡ made)
 
 abbrev pub ASends : (first : List ScriptStep) → (digits : List ℕ) → Type 0
 ASends first digits = Adds first (a Send ∷ []) (Captures (s digits ∷ []) [])

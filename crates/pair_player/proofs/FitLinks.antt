@@ -21,11 +21,11 @@ use Rattle.dna_links.specs.Pieces.{Piece, piece_of}
 use Rattle.dna_links.specs.WireSegments.{LinkVariables, acknowledged_by, acknowledged_by_all, acknowledged_to, held, segment_taken, with_pieces}
 use Rattle.dna_play.specs.NextSent.{LinkEnd}
 use Rattle.dna_links.specs.Pieces.{SEGSIZE}
-use Rattle.dna_play.specs.Kept.{KeptLinks}
-use Rattle.dna_play.specs.KeptLinks.{Delivering, acted_on, acts, arrives, at_place, begun, called, called_again, changed, confirm_came, confirmed}
-use Rattle.dna_play.specs.KeptLinks.{confirmed_again, confirming, delivering_at, delivering_none, ended, ends_link, message_came, no_more, on_end}
-use Rattle.dna_play.specs.KeptLinks.{place_of, took_acks, took_segment, with_end, without_whole}
-use Rattle.dna_play.specs.KeptPlay.{arrived, up_address}
+use Rattle.dna_play.specs.StoredEnd.{StoredLinks}
+use Rattle.dna_play.specs.StoredLinks.{Delivering, acted_on, acts, arrives, at_place, begun, called, called_again, changed, confirm_came, confirmed}
+use Rattle.dna_play.specs.StoredLinks.{confirmed_again, confirming, delivering_at, delivering_none, ended, ends_link, message_came, no_more, on_end}
+use Rattle.dna_play.specs.StoredLinks.{place_of, took_acks, took_segment, with_end, without_whole}
+use Rattle.dna_play.specs.StoredPlay.{arrived, up_address}
 use Rattle.pair_player.proofs.ByteLists.{HasBytes}
 use Rattle.pair_player.proofs.EachElement.{left_all, more_all, position_passes, there, with_all, without_all}
 use Rattle.pair_player.proofs.Carried.{SegmentBytes}
@@ -118,14 +118,14 @@ more_waits [] link none = omega arith
 more_waits (first ∷ links) link none = let e = more_waits links link none in omega arith
 
 -- the links after something, of which at most so many more wait
-pub record Leaves (more : ℕ) (s after : KeptLinks) : Type 0 where
+pub record Leaves (more : ℕ) (s after : StoredLinks) : Type 0 where
   pub fits : AllFit after.links
   pub few : waiting after.links ≤ waiting s.links + more
 
-pub stays : (s : KeptLinks) → AllFit s.links → Leaves 0 s s
+pub stays : (s : StoredLinks) → AllFit s.links → Leaves 0 s s
 stays s h = record { fits = h; few = omega arith }
 
-module _ (s : KeptLinks) (h : AllFit s.links) where
+module _ (s : StoredLinks) (h : AllFit s.links) where
   pub changes : (more place : ℕ) (link after : LinkEnd) → slice_get s.links place ≡ Some link → LinkFits after → wait after ≤ wait link + more →
       Leaves more s (changed place after s)
   changes more place link after at fits few =
@@ -143,7 +143,7 @@ module _ (s : KeptLinks) (h : AllFit s.links) where
 -- ---- look-ups
 
 -- what holds where none is found, and of the one that is found
-pub looked : {R : Type 0} (P : R → Type 0) (test : LinkTest) (s : KeptLinks) (otherwise : R) (next : ℕ → LinkEnd → R) → P otherwise →
+pub looked : {R : Type 0} (P : R → Type 0) (test : LinkTest) (s : StoredLinks) (otherwise : R) (next : ℕ → LinkEnd → R) → P otherwise →
     ((place : ℕ) (link : LinkEnd) → slice_get s.links place ≡ Some link → passes test link.port ≡ true → P (next place link)) →
     P (with_end test s otherwise next)
 looked {R} P test s otherwise next none some = go (place_of test s.links) refl
@@ -158,7 +158,7 @@ looked {R} P test s otherwise next none some = go (place_of test s.links) refl
 
 -- ---- a message comes
 
-module _ (s : KeptLinks) (h : AllFit s.links) where
+module _ (s : StoredLinks) (h : AllFit s.links) where
   fits_at : (place : ℕ) (link : LinkEnd) → slice_get s.links place ≡ Some link → LinkFits link
   fits_at place link at = there LinkFits s.links place link h at
 
@@ -183,16 +183,16 @@ module _ (s : KeptLinks) (h : AllFit s.links) where
       (λ place link at passed. turns place link (confirmed far link) at (fits_at place link at) refl)
 
   -- the link ends, and a DC may be owed
-  abbrev Same : (KeptLinks → KeptLinks) → Type 0
-  Same then_owes = (x : KeptLinks) → (then_owes x).links ≡ x.links
+  abbrev Same : (StoredLinks → StoredLinks) → Type 0
+  Same then_owes = (x : StoredLinks) → (then_owes x).links ≡ x.links
 
-  owes_more : (then_owes : KeptLinks → KeptLinks) → Same then_owes → (x : KeptLinks) → Leaves 0 s x → Leaves 0 s (then_owes x)
+  owes_more : (then_owes : StoredLinks → StoredLinks) → Same then_owes → (x : StoredLinks) → Leaves 0 s x → Leaves 0 s (then_owes x)
   owes_more then_owes same x l = record {
     fits = subst AllFit (sym (same x)) l.fits;
     few = subst (λ (links : List LinkEnd). waiting links ≤ waiting s.links + 0) (sym (same x)) l.few;
   }
 
-  ends_it : (own far : ℕ) (otherwise : KeptLinks) (then_owes : KeptLinks → KeptLinks) → Same then_owes → Leaves 0 s otherwise →
+  ends_it : (own far : ℕ) (otherwise : StoredLinks) (then_owes : StoredLinks → StoredLinks) → Same then_owes → Leaves 0 s otherwise →
       Leaves 0 s (ends_link own far otherwise then_owes s)
   ends_it own far otherwise then_owes same none = looked (Leaves 0 s) (TheLink own far) s _ (λ place link. then_owes (ended place s))
       (looked (Leaves 0 s) (CallingAt own) s otherwise (λ place link. then_owes (ended place s)) none
@@ -227,7 +227,7 @@ module _ (s : KeptLinks) (h : AllFit s.links) where
 abbrev pub IsOfLink : ℕ → List ℕ → Type 0
 IsOfLink own message = IsLink own × (are_bytes message ≡ true)
 
-pub record Gets (own : ℕ) (s : KeptLinks) (d : Delivering) : Type 0 where
+pub record Gets (own : ℕ) (s : StoredLinks) (d : Delivering) : Type 0 where
   pub fits : AllFit d.links.links
   pub messages : AllByRecursion (IsOfLink own) d.messages
   pub few : length d.messages + waiting d.links.links ≤ waiting s.links + 1
@@ -240,10 +240,10 @@ own_of : (own : ℕ) (o : Option ℕ) → is_at o own ≡ true → IfSome o IsLi
 own_of own None e h = absurd cc
 own_of own (Some known) e h = subst IsLink (eqb-true known own e) h
 
-none_got : (own : ℕ) (s after : KeptLinks) → Leaves 0 s after → Gets own s (delivering_none after)
+none_got : (own : ℕ) (s after : StoredLinks) → Leaves 0 s after → Gets own s (delivering_none after)
 none_got own s after l = let few = l.few in record { fits = l.fits; messages = tt; few = omega arith }
 
-module _ (s : KeptLinks) (h : AllFit s.links) (segment : SegmentValue) (e : are_bytes segment.body ≡ true) where
+module _ (s : StoredLinks) (h : AllFit s.links) (segment : SegmentValue) (e : are_bytes segment.body ≡ true) where
   gets_at : (place : ℕ) (link : LinkEnd) → slice_get s.links place ≡ Some link →
       passes (ActedOn segment.dstaddr segment.srcaddr) link.port ≡ true → Gets segment.dstaddr s (delivering_at place (took_segment segment link) s)
   gets_at place link at passed =
@@ -269,7 +269,7 @@ module _ (s : KeptLinks) (h : AllFit s.links) (segment : SegmentValue) (e : are_
   gets_segment = looked (Gets segment.dstaddr s) (ActedOn segment.dstaddr segment.srcaddr) s (delivering_none s)
       (λ place link. delivering_at place (took_segment segment link) s) (none_got segment.dstaddr s s (stays s h)) gets_at
 
-module _ (s : KeptLinks) (h : AllFit s.links) where
+module _ (s : StoredLinks) (h : AllFit s.links) where
   pub gets : (message : Option NspValue) → IfSome message SegmentBytes → Gets (up_address message) s (arrived message s)
   gets None e = none_got 0 s s (stays s h)
   gets (Some (DataSegment segment)) e = gets_segment s h segment e

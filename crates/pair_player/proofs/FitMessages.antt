@@ -16,9 +16,9 @@ use Rattle.dna_play.specs.NextSent.{LinkEnd, LinkChoice, Confirms, OfLink, Choic
 use Rattle.dna_play.specs.Compose.{SERVICES, INFO, USER_DATA, ack_of, address, link_message, message_at, message_of, new_data, no_flags, packet_again}
 use Rattle.dna_play.specs.Compose.{packet_with, piece_to_send, segment_with, turn_message}
 use Rattle.dna_links.specs.Pieces.{SEGSIZE, next_piece, next_piece_of, piece_with}
-use Rattle.dna_play.specs.Kept.{KeptLinks}
-use Rattle.dna_play.specs.KeptLinks.{after_sent, gave, gave_by, sent_at, turn_sent}
-use Rattle.dna_play.specs.KeptPlay.{links_sent}
+use Rattle.dna_play.specs.StoredEnd.{StoredLinks}
+use Rattle.dna_play.specs.StoredLinks.{after_sent, gave, gave_by, sent_at, turn_sent}
+use Rattle.dna_play.specs.StoredPlay.{links_sent}
 use Rattle.dna_play.proofs.Ends.UnitLines.{IsOfBytes, PacketFits, joined_bytes, packet_fits}
 use Rattle.pair_player.proofs.ByteLists.{HasBytes, front, left, taken}
 use Rattle.pair_player.proofs.PiecesWaiting.{AreMessages}
@@ -192,7 +192,7 @@ gave_by_fits ConfirmTurn link h = (h, refl)
 gave_by_fits DisconnectTurn link h = (h, refl)
 gave_by_fits DataAckTurn link h = (h, refl)
 
-module _ (s : KeptLinks) (h : AllFit s.links) where
+module _ (s : StoredLinks) (h : AllFit s.links) where
   sent_fits : (place : ℕ) (o : Option LinkEnd) (turn : Turn) → slice_get s.links place ≡ o → Leaves 0 s (sent_at place o turn s)
   sent_fits place None turn e = stays s h
   sent_fits place (Some link) turn e =

@@ -11,9 +11,9 @@ use Rattle.capture.specs.Range.{EventNumbersFit, IsRecord, event_bytes}
 use Rattle.dna_play.specs.HasLine.{are_bytes}
 use Rattle.dna_play.specs.NextSent.{LinkEnd}
 use Rattle.dna_play.specs.Stepped.{Stop}
-use Rattle.dna_play.specs.Kept.{KeptEnd}
-use Rattle.dna_play.specs.KeptLinks.{handed}
-use Rattle.dna_play.specs.KeptPlay.{KeptStepped, all_short, ups}
+use Rattle.dna_play.specs.StoredEnd.{StoredEnd}
+use Rattle.dna_play.specs.StoredLinks.{handed}
+use Rattle.dna_play.specs.StoredPlay.{StoredStepped, all_short, ups}
 use Rattle.pair_player.proofs.ByteLists.{HasBytes, bytes_told}
 use Rattle.pair_player.proofs.EachElement.{more_all}
 use Rattle.pair_player.proofs.FitLinks.{AllFit, IsOfLink, LinkFits, waiting}
@@ -21,7 +21,7 @@ use Rattle.pair_player.proofs.FitStation.{StationFits}
 
 -- ---- what is in range
 
-pub record EndFits (e : KeptEnd) : Type 0 where
+pub record EndFits (e : StoredEnd) : Type 0 where
   pub station : StationFits e.station.variables
   pub links : AllFit e.links.links
 
@@ -29,13 +29,13 @@ pub record EndFits (e : KeptEnd) : Type 0 where
 abbrev pub UnitFits : List ℕ → Type 0
 UnitFits unit = HasBytes MAX_UNIT unit
 
-pub record StepFits (waited : ℕ) (stepped : KeptStepped) : Type 0 where
+pub record StepFits (waited : ℕ) (stepped : StoredStepped) : Type 0 where
   pub end : EndFits stepped.end
   pub sent : AllByRecursion UnitFits stepped.sent
   pub records : AllByRecursion IsRecord stepped.records
   pub few : length stepped.records + waiting stepped.end.links.links ≤ waited + 2
 
-abbrev pub ResultFits : ℕ → Result KeptStepped Stop → Type 0
+abbrev pub ResultFits : ℕ → Result StoredStepped Stop → Type 0
 ResultFits waited (Ok stepped) = StepFits waited stepped
 ResultFits waited (Err stop) = Unit {0}
 

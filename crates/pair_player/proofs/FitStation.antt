@@ -10,7 +10,7 @@ use Rattle.dna_station.specs.Table.{change_of, Effect, GoTo, TakePartner, Respon
 use Rattle.dna_station.specs.Book.{body_of, num_of, resp_of}
 use Rattle.dna_station.specs.WireStation.{HeldPacket, StationVariables, with_new}
 use Rattle.dna_station.specs.WireBook.{acknowledges, variables_after, wire_acknowledged_by, wire_is_new, wire_is_next, with_next}
-use Rattle.dna_play.specs.KeptStation.{came, variables_by, variables_sent}
+use Rattle.dna_play.specs.StoredStation.{came, variables_by, variables_sent}
 use Rattle.dna_play.proofs.Ends.UnitLines.{IsOfBytes, PacketFits}
 use Rattle.pair_player.proofs.EachElement.{left_all, more_all}
 

@@ -30,12 +30,13 @@ use Rattle.dna_play.specs.NextSent.{Choice, LinkEnd, choice, link_choice}
 use Rattle.dna_play.specs.Compose.{message_of}
 use Rattle.dna_play.specs.Receipt.{carried, damaged, is_damage}
 use Rattle.dna_play.specs.Stepped.{Stop, BadStep, Full}
-use Rattle.dna_play.specs.Kept.{KeptEnd, KeptLinks, KeptStation}
-use Rattle.dna_play.specs.KeptLinks.{Delivering, answered, begun, changed, closed, handed, opened}
-use Rattle.dna_play.specs.KeptStation as stations
-use Rattle.dna_play.specs.KeptPlay.{KeptStepped, all_short, answers, arrived, came_as, comes, comes_damaged, closes, hands_in, heard, hears, hears_as}
-use Rattle.dna_play.specs.KeptPlay.{if_so, kept_plays, loses, made, opens, receives, retrying, sends_choice, sends_message, silent, timed}
-use Rattle.dna_play.specs.KeptPlay.{unless_refused, up_address, ups, with_links, with_next, with_station}
+use Rattle.dna_play.specs.StoredEnd.{StoredEnd, StoredLinks, StoredStation}
+use Rattle.dna_play.specs.StoredLinks.{Delivering, answered, begun, changed, closed, handed, opened}
+use Rattle.dna_play.specs.StoredStation as stations
+use Rattle.dna_play.specs.StoredPlay.{StoredStepped, all_short, answers, arrived, came_as, comes, comes_damaged, closes, hands_in, heard, hears}
+use Rattle.dna_play.specs.StoredPlay.{hears_as}
+use Rattle.dna_play.specs.StoredPlay.{if_so, stored_plays, loses, made, opens, receives, retrying, sends_choice, sends_message, silent, timed}
+use Rattle.dna_play.specs.StoredPlay.{unless_refused, up_address, ups, with_links, with_next, with_station}
 use Rattle.dna_play.proofs.Ends.UnitLines.{IsOfBytes, unit_line}
 use Rattle.pair_player.proofs.ByteLists.{HasBytes, damaged_bytes, set_length}
 use Rattle.pair_player.proofs.Carried.{SegmentBytes, carried_bytes}
@@ -48,15 +49,15 @@ use Rattle.pair_player.proofs.FitRecords.{ups_lined, ups_count}
 
 -- ---- one end
 
-module _ (e : KeptEnd) (h : EndFits e) where
+module _ (e : StoredEnd) (h : EndFits e) where
   abbrev waited : ℕ
   waited = waiting e.links.links
 
-  abbrev Fits : Result KeptStepped Stop → Type 0
+  abbrev Fits : Result StoredStepped Stop → Type 0
   Fits result = ResultFits waited result
 
   -- a record of the user, behind which the links are these
-  by_user : (event : Event) (station : KeptStation) (links : KeptLinks) (addresses : ℕ) → IsRecord (User event) → StationFits station.variables →
+  by_user : (event : Event) (station : StoredStation) (links : StoredLinks) (addresses : ℕ) → IsRecord (User event) → StationFits station.variables →
       Leaves 0 e.links links → Fits (made event (record e { station = station; links = links; addresses = addresses }))
   by_user event station links addresses line fits l = let few = l.few in record {
     end = record { station = fits; links = l.fits };
@@ -66,7 +67,7 @@ module _ (e : KeptEnd) (h : EndFits e) where
   }
 
   -- no record
-  by_none : (station : KeptStation) (links : KeptLinks) (passed : ℕ) → StationFits station.variables → Leaves 0 e.links links →
+  by_none : (station : StoredStation) (links : StoredLinks) (passed : ℕ) → StationFits station.variables → Leaves 0 e.links links →
       Fits (silent (record e { station = station; links = links; passed = passed }))
   by_none station links passed fits l =
       let few = l.few in record { end = record { station = fits; links = l.fits }; sent = tt; records = tt; few = omega arith }
@@ -83,7 +84,7 @@ module _ (e : KeptEnd) (h : EndFits e) where
       (user_record events.Start tt (no_bytes MAX_MESSAGE)) (after_user station_events.Start e.station.variables h.station) same
 
   -- an address that is given
-  given : (b : Bool) → nat_lt e.addresses MAX_LINK ≡ b → (next : KeptEnd → ℕ → Result KeptStepped Stop) →
+  given : (b : Bool) → nat_lt e.addresses MAX_LINK ≡ b → (next : StoredEnd → ℕ → Result StoredStepped Stop) →
       (IsLink (e.addresses + 1) → Fits (next (record e { addresses = e.addresses + 1 }) (e.addresses + 1))) →
       Fits (cond b (next (record e { addresses = e.addresses + 1 }) (e.addresses + 1)) (Err Full))
   given true less next all = let l = ltb-true e.addresses MAX_LINK less in all (record { least = omega arith; most = omega arith })
@@ -173,7 +174,7 @@ module _ (e : KeptEnd) (h : EndFits e) where
 
   -- ---- what comes
 
-  came_fits : (b : Bool) (r : Record) (station : KeptStation) (own : ℕ) (d : Delivering) → all_short d.messages ≡ b → IsRecord r →
+  came_fits : (b : Bool) (r : Record) (station : StoredStation) (own : ℕ) (d : Delivering) → all_short d.messages ≡ b → IsRecord r →
       StationFits station.variables → Gets own e.links d →
       Fits (cond b (Ok (record {
         end = record e { station = station; links = d.links; passed = e.passed + 1 };
@@ -246,14 +247,14 @@ module _ (e : KeptEnd) (h : EndFits e) where
 
   -- ---- the steps
 
-  next_fits : (coming : List (List ℕ)) (next : List ℕ → Result KeptStepped Stop) → AllByRecursion UnitFits coming →
+  next_fits : (coming : List (List ℕ)) (next : List ℕ → Result StoredStepped Stop) → AllByRecursion UnitFits coming →
       ((unit : List ℕ) → UnitFits unit → Fits (next unit)) → Fits (with_next coming next)
   next_fits [] next units all = tt
   next_fits (unit ∷ later) next units all = all unit units.0
 
   module _ (coming : List (List ℕ)) (units : AllByRecursion UnitFits coming) where
-    pub plays_fit : (step : StepValue) → NumbersFit step → HasBytes (most_bytes step) (step_bytes step) → Fits (kept_plays e coming step)
-    unfolding kept_plays
+    pub plays_fit : (step : StepValue) → NumbersFit step → HasBytes (most_bytes step) (step_bytes step) → Fits (stored_plays e coming step)
+    unfolding stored_plays
     plays_fit Start numbers bytes = starts_fits (user_refusal e.station.variables.state station_events.Start)
     plays_fit Halt numbers bytes = by_user events.Halt (stations.after_event station_events.Halt e.station) e.links e.addresses
         (user_record events.Halt tt (no_bytes MAX_MESSAGE)) (after_user station_events.Halt e.station.variables h.station) same

@@ -2,14 +2,14 @@
 use Rattle.std.proofs.Common.{◌≡◌, ℕ, Bool, true, false, cond, Option, Some, None, List, [], ◌∷◌, Result, Ok, Err, refl, ap}
 use Rattle.std.specs.Prelude.{IsSome}
 use Rattle.dna_play.specs.Stepped.{Stop, BadStep}
-use Rattle.dna_play.specs.Kept.{KeptEnd}
-use Rattle.dna_play.specs.KeptPlay.{KeptStepped, comes, comes_damaged, sends, sends_choice, with_next}
+use Rattle.dna_play.specs.StoredEnd.{StoredEnd}
+use Rattle.dna_play.specs.StoredPlay.{StoredStepped, comes, comes_damaged, sends, sends_choice, with_next}
 use Rattle.dna_play.specs.Receipt.{damaged, is_damage}
 use Rattle.dna_play.specs.NextSent.{Choice, choice, link_choice}
 use Rattle.player_end.specs.Stepping.{HasUnit, with_lines}
 use Rattle.pair_player.specs.inner.Line.{first_of}
 
-module _ (next : List ℕ → Result KeptStepped Stop) where
+module _ (next : List ℕ → Result StoredStepped Stop) where
   pub next_unit : (coming : List (List ℕ)) (unit : List ℕ) → Some unit ≡ first_of coming → with_next coming next ≡ next unit
   next_unit [] unit e = absurd cc
   next_unit (first ∷ later) unit e = let same : first ≡ unit = cc in ap next same
@@ -18,7 +18,7 @@ module _ (next : List ℕ → Result KeptStepped Stop) where
   no_unit [] e = refl
   no_unit (first ∷ later) e = absurd cc
 
-module _ (e : KeptEnd) (place value : ℕ) (bytes : List ℕ) where
+module _ (e : StoredEnd) (place value : ℕ) (bytes : List ℕ) where
   damage_by : (b : Bool) → is_damage place value bytes ≡ b →
       comes_damaged e place value bytes ≡ cond b (comes e true (damaged place value bytes)) (Err BadStep)
   damage_by b is = ap (λ (c : Bool). cond c (comes e true (damaged place value bytes)) (Err BadStep)) is
@@ -30,7 +30,7 @@ module _ (e : KeptEnd) (place value : ℕ) (bytes : List ℕ) where
   no_damage is = damage_by false is
 
 -- what was sent was there to send
-module _ (e : KeptEnd) (text : List ℕ) (x : KeptEnd × List (List ℕ) × List ℕ) where
+module _ (e : StoredEnd) (text : List ℕ) (x : StoredEnd × List (List ℕ) × List ℕ) where
   some_choice : (o : Option Choice) → with_lines text (sends_choice e o) ≡ Ok x → IsSome o
   some_choice None is = absurd cc
   some_choice (Some next) is = refl

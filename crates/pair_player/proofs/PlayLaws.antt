@@ -15,8 +15,9 @@ use Rattle.capture.specs.Paged.{HandsOver}
 use Rattle.capture.specs.Text.{capture_text, head_line, record_lines, record_line}
 use Rattle.dna_play.specs.Script.{ScriptStep}
 use Rattle.dna_play.specs.ScriptText.{IsStep, StepDeparts, listed, script_form, script_line, MAX_STEPS}
-use Rattle.dna_play.specs.KeptPlayed.{KeptMade, KeptPair, KeptPlayed, KeptStopped, if_made, kept_not_begun, kept_plays_all, kept_plays_step}
-use Rattle.dna_play.specs.KeptPlayed.{with_records}
+use Rattle.dna_play.specs.StoredPlayed.{StoredMade, StoredPair, StoredPlayed, StoredStopped, if_made, stored_not_begun, stored_plays_all}
+use Rattle.dna_play.specs.StoredPlayed.{stored_plays_step}
+use Rattle.dna_play.specs.StoredPlayed.{with_records}
 use Rattle.dna_play.specs.Stepped.{Stop, BadStep, Full}
 use Rattle.pair_player.specs.declared.fault.PlayFault.{PlayFault}
 use Rattle.pair_player.specs.declared.fault.PlayFault.TheVariants as faults
@@ -56,7 +57,7 @@ text-more own peer rs more = ap (λ (x : List ℕ). head_line One own peer ++ x)
 pub record Place : Type 0 where
   pub lines : ListState
   pub come : Option (List ℕ)
-  pub pair : KeptPair
+  pub pair : StoredPair
   pub a : List ℕ
   pub b : List ℕ
   pub now : Held
@@ -78,7 +79,7 @@ pub record IsUnderWay (text : Option (List ℕ)) (old : Held) (p : Place) : Type
   pub over_b : HandsOver (text_b reached) p.b old.b p.now.b
 
 abbrev no_step : ListState → Option (List ℕ) → Reached
-no_step lines left = let script = no_steps lines.node_a lines.node_b in record { script = script; played = kept_not_begun script; come = left }
+no_step lines left = let script = no_steps lines.node_a lines.node_b in record { script = script; played = stored_not_begun script; come = left }
 
 -- the heads wait
 pub under_way : (text left : Option (List ℕ)) (old : Held) (lines : ListState) (at : Standing) → IsBegun text left lines at →
@@ -102,49 +103,49 @@ under_way text left old lines at begun = let opens = begun.0 in record {
 
 -- ---- one step more
 
-pub same_Ok : (x y : KeptPlayed) → ◌≡◌ {A = Result KeptPlayed KeptStopped} (Ok x) (Ok y) → x ≡ y
+pub same_Ok : (x y : StoredPlayed) → ◌≡◌ {A = Result StoredPlayed StoredStopped} (Ok x) (Ok y) → x ≡ y
 same_Ok x y e = cc
 
 -- where the first step is made, what more steps behind the others make is what they make behind it
-first-made : (n : ℕ) (so_far played after : KeptPlayed) (first : ScriptStep) (steps more : List ScriptStep) (now : Result KeptMade Stop)
-    → ((made : KeptMade) → kept_plays_all (n + 1) (with_records so_far first.side made) steps ≡ Ok played →
-    kept_plays_all (n + 1) (with_records so_far first.side made) more ≡ Ok after)
-    → if_made now (λ made. kept_plays_all (n + 1) (with_records so_far first.side made) steps)
+first-made : (n : ℕ) (so_far played after : StoredPlayed) (first : ScriptStep) (steps more : List ScriptStep) (now : Result StoredMade Stop)
+    → ((made : StoredMade) → stored_plays_all (n + 1) (with_records so_far first.side made) steps ≡ Ok played →
+    stored_plays_all (n + 1) (with_records so_far first.side made) more ≡ Ok after)
+    → if_made now (λ made. stored_plays_all (n + 1) (with_records so_far first.side made) steps)
     (λ stop. record { steps = n; stop = stop; so_far = so_far }) ≡ Ok played
-    → if_made now (λ made. kept_plays_all (n + 1) (with_records so_far first.side made) more)
+    → if_made now (λ made. stored_plays_all (n + 1) (with_records so_far first.side made) more)
     (λ stop. record { steps = n; stop = stop; so_far = so_far }) ≡ Ok after
 first-made n so_far played after first steps more (Ok made) on e = on made e
 first-made n so_far played after first steps more (Err stop) on e = absurd cc
 
-steps-push : (n : ℕ) (so_far played : KeptPlayed) (steps : List ScriptStep) (step : ScriptStep) (made : KeptMade) →
-    kept_plays_all n so_far steps ≡ Ok played → kept_plays_step played.pair step ≡ Ok made
-    → kept_plays_all n so_far (steps ++ step ∷ []) ≡ Ok (with_records played step.side made)
+steps-push : (n : ℕ) (so_far played : StoredPlayed) (steps : List ScriptStep) (step : ScriptStep) (made : StoredMade) →
+    stored_plays_all n so_far steps ≡ Ok played → stored_plays_step played.pair step ≡ Ok made
+    → stored_plays_all n so_far (steps ++ step ∷ []) ≡ Ok (with_records played step.side made)
 steps-push n so_far played [] step made e f = rw (same_Ok so_far played e, f) refl
 steps-push n so_far played (first ∷ steps) step made e f =
-    first-made n so_far played (with_records played step.side made) first steps (steps ++ step ∷ []) (kept_plays_step so_far.pair first)
+    first-made n so_far played (with_records played step.side made) first steps (steps ++ step ∷ []) (stored_plays_step so_far.pair first)
     (λ now k. steps-push (n + 1) (with_records so_far first.side now) played steps step made k f) e
 
-pair_with : (so_far : KeptPlayed) (side : Side) (made : KeptMade) → (with_records so_far side made).pair ≡ made.pair
+pair_with : (so_far : StoredPlayed) (side : Side) (made : StoredMade) → (with_records so_far side made).pair ≡ made.pair
 pair_with so_far A made = refl
 pair_with so_far B made = refl
 
 module _ (text : Option (List ℕ)) (old : Held) (p : Place) (h : IsUnderWay text old p) where
-  abbrev reached_on : ScriptStep → KeptMade → Option (List ℕ) → Reached
+  abbrev reached_on : ScriptStep → StoredMade → Option (List ℕ) → Reached
   reached_on step made after =
       record { script = with_step h.reached.script step; played = with_records h.reached.played step.side made; come = after }
 
-  played_on : (step : ScriptStep) (made : KeptMade) (after : Option (List ℕ)) → IsStep step → length h.reached.script.steps < MAX_STEPS →
+  played_on : (step : ScriptStep) (made : StoredMade) (after : Option (List ℕ)) → IsStep step → length h.reached.script.steps < MAX_STEPS →
       Consumes p.come after (script_line step)
-      → kept_plays_step p.pair step ≡ Ok made → HasPlayed text (reached_on step made after)
+      → stored_plays_step p.pair step ≡ Ok made → HasPlayed text (reached_on step made after)
   played_on step made after fits few consumes e = record {
     read = one_more script_form text h.reached.come after (listed h.reached.script) step h.played.read few fits
         (subst (λ (x : Option (List ℕ)). Consumes x after (script_line step)) (sym h.come_is) consumes);
-    made = steps-push 0 (kept_not_begun h.reached.script) h.reached.played h.reached.script.steps step made h.played.made
-        (ap (λ (x : KeptPair). kept_plays_step x step) h.pair_is ∙ e);
+    made = steps-push 0 (stored_not_begun h.reached.script) h.reached.played h.reached.script.steps step made h.played.made
+        (ap (λ (x : StoredPair). stored_plays_step x step) h.pair_is ∙ e);
   }
 
   -- the lines of its records wait behind those of its side
-  put_on : (side : Side) (made : KeptMade) (a b : List ℕ) → PutsLines side (p.a, p.b) (a, b) (record_lines Number made.records)
+  put_on : (side : Side) (made : StoredMade) (a b : List ℕ) → PutsLines side (p.a, p.b) (a, b) (record_lines Number made.records)
       → HandsOver (capture_text One h.reached.script.node_a h.reached.script.node_b (with_records h.reached.played side made).of_a) a old.a p.now.a
       × HandsOver (capture_text One h.reached.script.node_b h.reached.script.node_a (with_records h.reached.played side made).of_b) b old.b p.now.b
   put_on A made a b puts = (
@@ -270,21 +271,21 @@ module _ (text : Option (List ℕ)) (old : Held) (p : Place) (h : IsUnderWay tex
   -- its next step isn't made
   at_stop : (step : ScriptStep) (lines : ListState) (after : Option (List ℕ)) (fault : StepFault) →
       Advances script_form p.lines lines p.come after (Ok (Some step))
-      → StopMeans (kept_plays_step p.pair step) fault → Meant h.reached (Err (fault_at (p.steps + 2) fault))
+      → StopMeans (stored_plays_step p.pair step) fault → Meant h.reached (Err (fault_at (p.steps + 2) fault))
   at_stop step lines after fault advances means = by_fault fault means
     where
-      behind : (why : Stop) → kept_plays_step p.pair step ≡ Err why → StopsBehind why (p.steps + 2) h.reached
+      behind : (why : Stop) → stored_plays_step p.pair step ≡ Err why → StopsBehind why (p.steps + 2) h.reached
       behind why e = record {
         step = step;
         fits = advances.0;
         few = few_steps text old p h advances.1;
         later = after;
         spelled = subst (λ (x : Option (List ℕ)). Consumes x after (script_line step)) (sym h.come_is) advances.4;
-        stops = ap (λ (x : KeptPair). kept_plays_step x step) h.pair_is ∙ e;
+        stops = ap (λ (x : StoredPair). stored_plays_step x step) h.pair_is ∙ e;
         line_is = ap (λ n. n + 2) (sym h.count);
       }
 
-      by_fault : (fault : StepFault) → StopMeans (kept_plays_step p.pair step) fault → Meant h.reached (Err (fault_at (p.steps + 2) fault))
+      by_fault : (fault : StepFault) → StopMeans (stored_plays_step p.pair step) fault → Meant h.reached (Err (fault_at (p.steps + 2) fault))
       by_fault stops.BadStep e = behind BadStep e
       by_fault stops.Full e = behind Full e
       by_fault stops.OutOfMemory e = record {

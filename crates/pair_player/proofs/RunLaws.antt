@@ -14,8 +14,8 @@ use Rattle.dna_play.specs.Script.{ScriptStep, Script}
 use Rattle.dna_play.specs.ScriptText.{IsScriptText, script_form, listed}
 use Rattle.dna_play.specs.Played.{Played, Stopped, head_a, head_b, play}
 use Rattle.dna_play.specs.PlayRun.{StartsOnce, starts_of}
-use Rattle.dna_play.specs.KeptPlayed.{KeptPlayed}
-use Rattle.dna_play.specs.KeptRun.{kept_of, kept_played}
+use Rattle.dna_play.specs.StoredPlayed.{StoredPlayed}
+use Rattle.dna_play.specs.StoredRun.{stored_of, stored_played}
 use Rattle.dna_play.proofs.Stored.Law.{whole_kept}
 use Rattle.dna_play.proofs.Played.Checked.{whole_is_run}
 use Rattle.pair_player.specs.declared.fault.PlayFault.{PlayFault}
@@ -56,9 +56,9 @@ once_throughout bytes script is_text once r h = go r.come h.read
 -- ---- true numbers
 
 -- what is kept of a whole play is of a whole play
-of_whole : (result : Result Played Stopped) (played : KeptPlayed) → kept_of result ≡ Ok played →
-    (so_far : Played) × (result ≡ Ok so_far) × (kept_played so_far ≡ played)
-of_whole (Ok so_far) played e = (so_far, refl, same_Ok (kept_played so_far) played e)
+of_whole : (result : Result Played Stopped) (played : StoredPlayed) → stored_of result ≡ Ok played →
+    (so_far : Played) × (result ≡ Ok so_far) × (stored_played so_far ≡ played)
+of_whole (Ok so_far) played e = (so_far, refl, same_Ok (stored_played so_far) played e)
 of_whole (Err stopped) played e = absurd cc
 
 pub of_truth : (text : Option (List ℕ)) (r : Reached) → HasPlayed text r → StartsOnce r.script.steps → (so_far : Played) × IsOfTruth r so_far
@@ -68,9 +68,9 @@ of_truth text r h once =
 
 pub whole_of_truth : (bytes : List ℕ) (script : Script) (played : Played) (old new : Held) (answer : Result answers.Played PlayFault) →
     IsScriptText script bytes → StartsOnce script.steps → play script ≡ Ok played → Plays (Some bytes) old new answer →
-    AnswersWhole (reached script (kept_played played) (Some [])) old new answer
+    AnswersWhole (reached script (stored_played played) (Some [])) old new answer
 whole_of_truth bytes script played old new answer is_text once e h =
-    whole_played bytes script (kept_played played) is_text (sym (whole_kept script is_text.fits once) ∙ ap kept_of e) old new answer h
+    whole_played bytes script (stored_played played) is_text (sym (whole_kept script is_text.fits once) ∙ ap stored_of e) old new answer h
 
 -- ---- the captures
 
@@ -96,8 +96,8 @@ a_run text r h once =
     let found = of_truth text r h once in
     let so_far : Played = found.0 in
     let makes = found.1.makes in
-    let same_a : so_far.of_a ≡ r.played.of_a = ap (λ (p : KeptPlayed). p.of_a) found.1.keeps in
-    let same_b : so_far.of_b ≡ r.played.of_b = ap (λ (p : KeptPlayed). p.of_b) found.1.keeps in
+    let same_a : so_far.of_a ≡ r.played.of_a = ap (λ (p : StoredPlayed). p.of_a) found.1.keeps in
+    let same_b : so_far.of_b ≡ r.played.of_b = ap (λ (p : StoredPlayed). p.of_b) found.1.keeps in
     let texts = all_texts text r h in
     record {
       run = subst (λ (of_a : List Record). IsLayersRun (head_a r.script) (head_b r.script) of_a r.played.of_b) same_a

@@ -10,7 +10,7 @@ use Rattle.dna_station.specs.WireStation.{StationVariables}
 use Rattle.dna_station.specs.WireBook.{wire_is_new}
 use Rattle.dna_play.specs.Owed.{Owed}
 use Rattle.dna_play.specs.LinkOwed.{EndConfirm, Turn, ConnectAckTurn, InitiateTurn, ConfirmTurn, DisconnectTurn, DataAckTurn, SegmentTurn}
-use Rattle.dna_play.specs.Kept.{KeptEnd}
+use Rattle.dna_play.specs.StoredEnd.{StoredEnd}
 use Rattle.dna_play.specs.Player.{End, link_ends_of, variables_of}
 use Rattle.dna_play.specs.StepRule.{HasUnit}
 use Rattle.dna_play.specs.NextSent.{Choice, LinkChoice, LinkEnd, SendAck, SendAgain, SendNak, SendRep, SendStack, SendStrt, choice, choice_in}
@@ -97,7 +97,7 @@ found : {X : Type 0} (o : Option X) → is_some o ≡ true → (x : X) × (o ≡
 found None e = absurd cc
 found (Some x) e = (x, refl)
 
-pub kept_may : (e : KeptEnd) →
+pub kept_may : (e : StoredEnd) →
     (may_send e.station.variables.state e.station.variables e.station.owed (links_have e.links.confirms e.links.links) ≡ true)
     ↔ IsSome (choice e.station.variables e.station.owed (link_choice e.links.confirms e.links.links))
 kept_may e =

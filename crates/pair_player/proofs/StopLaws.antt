@@ -6,8 +6,8 @@ use Rattle.dna_play.specs.Stepped.{Stop}
 use Rattle.dna_play.specs.Played.{Played, plays_step}
 use Rattle.dna_play.specs.PlayRun.{StartsOnce}
 use Rattle.dna_play.specs.StepRule.{StepsByRule}
-use Rattle.dna_play.specs.KeptPlayed.{KeptPlayed, kept_plays_step}
-use Rattle.dna_play.specs.KeptRun.{kept_pair}
+use Rattle.dna_play.specs.StoredPlayed.{StoredPlayed, stored_plays_step}
+use Rattle.dna_play.specs.StoredRun.{stored_pair}
 use Rattle.dna_play.proofs.Stored.Next.{stops_too}
 use Rattle.dna_play.proofs.Played.Ruled.{next_goes_by_rule}
 use Rattle.pair_player.specs.Playing.{HasPlayed, Reached, StopsBehind}
@@ -23,8 +23,8 @@ by_its_rule text r stop line h once s =
     let read = h.read.fits in
     let fits : IsScript (with_step r.script s.step) =
     (one_more script_form text r.come s.later (listed r.script) s.step h.read s.few s.fits s.spelled).fits in
-    let same : kept_plays_step (kept_pair so_far) s.step ≡ Err stop =
-    ap (λ (p : KeptPlayed). kept_plays_step p.pair s.step) found.1.keeps ∙ s.stops in
+    let same : stored_plays_step (stored_pair so_far) s.step ≡ Err stop =
+    ap (λ (p : StoredPlayed). stored_plays_step p.pair s.step) found.1.keeps ∙ s.stops in
     let stops : plays_step so_far s.step ≡ Err stop = stops_too r.script read so_far found.1.makes once s.step stop s.fits
     same in
     record {

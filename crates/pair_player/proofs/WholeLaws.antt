@@ -4,8 +4,9 @@ use Rattle.std.specs.Option.{IfSome}
 use Rattle.capture.specs.declared.fault.Departure.{Departure}
 use Rattle.capture.specs.Listed.{IsBeginningOf, Listed}
 use Rattle.capture.proofs.ListedSoFar.{departs_nowhere, goes_on, head_stands, one_list, one_more, whole}
-use Rattle.dna_play.specs.KeptPlayed.{KeptMade, KeptPlayed, KeptStopped, if_made, kept_not_begun, kept_play, kept_plays_all, kept_plays_step}
-use Rattle.dna_play.specs.KeptPlayed.{new_pair, with_records}
+use Rattle.dna_play.specs.StoredPlayed.{StoredMade, StoredPlayed, StoredStopped, if_made, stored_not_begun, stored_play, stored_plays_all}
+use Rattle.dna_play.specs.StoredPlayed.{stored_plays_step}
+use Rattle.dna_play.specs.StoredPlayed.{new_pair, with_records}
 use Rattle.dna_play.specs.Script.{ScriptStep, Script}
 use Rattle.dna_play.specs.ScriptText.{IsScriptText, StepDeparts, script_form, listed}
 use Rattle.dna_play.specs.Stepped.{Stop, BadStep, Full}
@@ -19,37 +20,38 @@ use Rattle.pair_player.proofs.TextLaws.{lines}
 
 -- ---- where a step stops, no more are made
 
-first-made : (n : ℕ) (so_far played after : KeptPlayed) (first : ScriptStep) (steps more : List ScriptStep) (now : Result KeptMade Stop)
-    → ((made : KeptMade) → kept_plays_all (n + 1) (with_records so_far first.side made) steps ≡ Ok played →
-    kept_plays_all (n + 1) (with_records so_far first.side made) more ≡ Ok after → ⊥)
-    → if_made now (λ made. kept_plays_all (n + 1) (with_records so_far first.side made) steps)
+first-made : (n : ℕ) (so_far played after : StoredPlayed) (first : ScriptStep) (steps more : List ScriptStep) (now : Result StoredMade Stop)
+    → ((made : StoredMade) → stored_plays_all (n + 1) (with_records so_far first.side made) steps ≡ Ok played →
+    stored_plays_all (n + 1) (with_records so_far first.side made) more ≡ Ok after → ⊥)
+    → if_made now (λ made. stored_plays_all (n + 1) (with_records so_far first.side made) steps)
     (λ stop. record { steps = n; stop = stop; so_far = so_far }) ≡ Ok played
-    → if_made now (λ made. kept_plays_all (n + 1) (with_records so_far first.side made) more)
+    → if_made now (λ made. stored_plays_all (n + 1) (with_records so_far first.side made) more)
     (λ stop. record { steps = n; stop = stop; so_far = so_far }) ≡ Ok after → ⊥
 first-made n so_far played after first steps more (Ok made) on e f = on made e f
 first-made n so_far played after first steps more (Err stop) on e f = absurd cc
 
-stops_there : (n : ℕ) (so_far after : KeptPlayed) (step : ScriptStep) (more : List ScriptStep) (stop : Stop) →
-    kept_plays_step so_far.pair step ≡ Err stop → kept_plays_all n so_far (step ∷ more) ≡ Ok after → ⊥
-stops_there n so_far after step more stop e f = by_step (kept_plays_step so_far.pair step) e f
+stops_there : (n : ℕ) (so_far after : StoredPlayed) (step : ScriptStep) (more : List ScriptStep) (stop : Stop) →
+    stored_plays_step so_far.pair step ≡ Err stop → stored_plays_all n so_far (step ∷ more) ≡ Ok after → ⊥
+stops_there n so_far after step more stop e f = by_step (stored_plays_step so_far.pair step) e f
   where
-    by_step : (now : Result KeptMade Stop) → now ≡ Err stop → if_made now (λ made. kept_plays_all (n + 1) (with_records so_far step.side made) more)
+    by_step : (now : Result StoredMade Stop) → now ≡ Err stop →
+        if_made now (λ made. stored_plays_all (n + 1) (with_records so_far step.side made) more)
         (λ stop. record { steps = n; stop = stop; so_far = so_far }) ≡ Ok after → ⊥
     by_step (Ok made) p q = absurd cc
     by_step (Err why) p q = absurd cc
 
-stops_behind : (n : ℕ) (so_far played after : KeptPlayed) (steps : List ScriptStep) (step : ScriptStep) (more : List ScriptStep) (stop : Stop) →
-    kept_plays_all n so_far steps ≡ Ok played
-    → kept_plays_step played.pair step ≡ Err stop → kept_plays_all n so_far ((steps ++ step ∷ []) ++ more) ≡ Ok after → ⊥
+stops_behind : (n : ℕ) (so_far played after : StoredPlayed) (steps : List ScriptStep) (step : ScriptStep) (more : List ScriptStep) (stop : Stop) →
+    stored_plays_all n so_far steps ≡ Ok played
+    → stored_plays_step played.pair step ≡ Err stop → stored_plays_all n so_far ((steps ++ step ∷ []) ++ more) ≡ Ok after → ⊥
 stops_behind n so_far played after [] step more stop e f g =
-    stops_there n so_far after step more stop (ap (λ (x : KeptPlayed). kept_plays_step x.pair step) (same_Ok so_far played e) ∙ f) g
+    stops_there n so_far after step more stop (ap (λ (x : StoredPlayed). stored_plays_step x.pair step) (same_Ok so_far played e) ∙ f) g
 stops_behind n so_far played after (first ∷ steps) step more stop e f g =
-    first-made n so_far played after first steps ((steps ++ step ∷ []) ++ more) (kept_plays_step so_far.pair first)
+    first-made n so_far played after first steps ((steps ++ step ∷ []) ++ more) (stored_plays_step so_far.pair first)
     (λ now k l. stops_behind (n + 1) (with_records so_far first.side now) played after steps step more stop k f l) e g
 
 -- what these steps make behind the heads of these nodes
-abbrev play_of : (node_a node_b : ℕ) (steps : List ScriptStep) → Result KeptPlayed KeptStopped
-play_of node_a node_b steps = kept_plays_all 0 (record { pair = new_pair node_a node_b; of_a = []; of_b = [] }) steps
+abbrev play_of : (node_a node_b : ℕ) (steps : List ScriptStep) → Result StoredPlayed StoredStopped
+play_of node_a node_b steps = stored_plays_all 0 (record { pair = new_pair node_a node_b; of_a = []; of_b = [] }) steps
 
 same_play : (a a' b b' : ℕ) (steps steps' : List ScriptStep) → a ≡ a' → b ≡ b' → steps ≡ steps' → play_of a b steps ≡ play_of a' b' steps'
 same_play a a' b b' steps steps' e f g = ap (λ (x : ℕ). play_of x b steps) e ∙ ap (λ (x : ℕ). play_of a' x steps) f ∙
@@ -64,7 +66,8 @@ script_of list = record { node_a = list.node_a; node_b = list.node_b; steps = li
 one_script : (bytes : List ℕ) (p q : Script) → IsScriptText p bytes → IsScriptText q bytes → p ≡ q
 one_script bytes p q h k = ap script_of (one_list script_form lines bytes (listed p) (listed q) h k)
 
-module _ (bytes : List ℕ) (script : Script) (played : KeptPlayed) (is_text : IsScriptText script bytes) (made : kept_play script ≡ Ok played) where
+module _ (bytes : List ℕ) (script : Script) (played : StoredPlayed) (is_text : IsScriptText script bytes)
+    (made : stored_play script ≡ Ok played) where
   nowhere : (kind : Departure) (line : ℕ) (r : Reached) (come : Option (List ℕ)) → IsReadSoFar (Some bytes) r.script come →
       IfSome come (StepDeparts (length r.script.steps) kind) → ⊥
   nowhere kind line r None read departs = absurd read.begins
@@ -82,12 +85,12 @@ module _ (bytes : List ℕ) (script : Script) (played : KeptPlayed) (is_text : I
   not_stopped stop line r h s =
       let begun = begun_of (with_step r.script s.step) s.later
       (one_more script_form (Some bytes) r.come s.later (listed r.script) s.step h.read s.few s.fits s.spelled) in
-      stops_behind 0 (kept_not_begun r.script) r.played played r.script.steps s.step begun.more stop h.made s.stops
+      stops_behind 0 (stored_not_begun r.script) r.played played r.script.steps s.step begun.more stop h.made s.stops
       (sym (same_play script.node_a r.script.node_a script.node_b r.script.node_b script.steps ((r.script.steps ++ s.step ∷ []) ++ begun.more)
       begun.node_a begun.node_b begun.items) ∙ made)
 
   same_reached : (r : Reached) → HasPlayed (Some bytes) r → r.script ≡ script → r.played ≡ played
-  same_reached r h same = same_Ok r.played played (sym h.made ∙ ap kept_play same ∙ made)
+  same_reached r h same = same_Ok r.played played (sym h.made ∙ ap stored_play same ∙ made)
 
   same_written : (old new : Held) (r : Reached) → HasWritten old new r → r.script ≡ script → r.played ≡ played →
       HasWritten old new (record { script = script; played = played; come = Some [] })

@@ -12,7 +12,7 @@ use Rattle.capture.specs.Text.{capture_text}
 use Rattle.dna_play.specs.Script.{ScriptStep, Script}
 use Rattle.dna_play.specs.ScriptText.{IsStep, ScriptHeadDeparts, StepDeparts, script_line, MAX_STEPS}
 use Rattle.dna_play.specs.Stepped.{Stop, BadStep, Full}
-use Rattle.dna_play.specs.KeptPlayed.{KeptPlayed, kept_plays_step, kept_play}
+use Rattle.dna_play.specs.StoredPlayed.{StoredPlayed, stored_plays_step, stored_play}
 use Rattle.pair_player.specs.declared.fault.PlayFault.{PlayFault}
 use Rattle.pair_player.specs.declared.fault.PlayFault.TheVariants as faults
 use Rattle.pair_player.specs.declared.played.Played.{Played}
@@ -34,16 +34,16 @@ pub record TakesNothing (old new : Held) : Type 0 where
 -- What was read of a script, what its steps made, and what is to come
 pub record Reached : Type 0 where
   pub script : Script
-  pub played : KeptPlayed
+  pub played : StoredPlayed
   pub come : Option (List ℕ)
 
-abbrev pub reached : Script → KeptPlayed → Option (List ℕ) → Reached
+abbrev pub reached : Script → StoredPlayed → Option (List ℕ) → Reached
 reached script played come = record { script = script; played = played; come = come }
 
 -- the text begins with this script, and its steps are made
 pub record HasPlayed (text : Option (List ℕ)) (r : Reached) : Type 0 where
   pub read : IsReadSoFar text r.script r.come
-  pub made : kept_play r.script ≡ Ok r.played
+  pub made : stored_play r.script ≡ Ok r.played
 
 -- ---- what is written
 
@@ -88,7 +88,7 @@ pub record StopsBehind (stop : Stop) (line : ℕ) (r : Reached) : Type 0 where
   pub few : length r.script.steps < MAX_STEPS
   pub later : Option (List ℕ)
   pub spelled : Consumes r.come later (script_line step)
-  pub stops : kept_plays_step r.played.pair step ≡ Err stop
+  pub stops : stored_plays_step r.played.pair step ≡ Err stop
   pub line_is : line ≡ length r.script.steps + 2
 
 -- the next line is a step's, for which memory was refused

@@ -7,7 +7,7 @@ use Rattle.dna_play.specs.Stepped.{Stop}
 use Rattle.dna_play.specs.Played.{Played, head_a, head_b, play, plays_step}
 use Rattle.dna_play.specs.PlayRun.{StartsOnce}
 use Rattle.dna_play.specs.StepRule.{StepsByRule}
-use Rattle.dna_play.specs.KeptRun.{kept_played}
+use Rattle.dna_play.specs.StoredRun.{stored_played}
 use Rattle.pair_player.specs.Playing.{HasPlayed, Reached, text_a, text_b}
 
 -- no step that is made starts a side that was started before
@@ -32,7 +32,7 @@ pub record AreARun (r : Reached) : Type 0 where
 -- ends on true numbers make the same steps, and their nodes keep of it what was made
 pub record IsOfTruth (r : Reached) (so_far : Played) : Type 0 where
   pub makes : play r.script ≡ Ok so_far
-  pub keeps : kept_played so_far ≡ r.played
+  pub keeps : stored_played so_far ≡ r.played
 
 -- behind what they made, the next step stops them too, and its rule is why
 pub record StopsByRule (r : Reached) (step : ScriptStep) (stop : Stop) : Type 0 where

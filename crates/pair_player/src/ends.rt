@@ -2,9 +2,9 @@
 
 ghost use Rattle.std.specs.Prelude.{◌≡◌, [], true, false, Ok, Err, drop, OnOk, IfOk, IfErr};
 ghost use Rattle.dna_play.specs.Receipt.{damaged, is_damage};
-ghost use Rattle.dna_play.specs.KeptPlay.{kept_plays};
-ghost use Rattle.dna_play.specs.KeptPlay as kept;
-ghost use Rattle.dna_play.specs.KeptPlayed.{kept_plays_step, new_pair};
+ghost use Rattle.dna_play.specs.StoredPlay.{stored_plays};
+ghost use Rattle.dna_play.specs.StoredPlay as kept;
+ghost use Rattle.dna_play.specs.StoredPlayed.{stored_plays_step, new_pair};
 ghost use Rattle.pair_player.specs.Step.{step_with, view_of_line};
 ghost use Rattle.player_end.specs.Stepping.{HasUnit, StopMeans, with_lines};
 ghost use Rattle.pair_player.specs.Stepping.{Asks, AsksMemory, CanBeHurt, CanCome, sends, sides, with_text};
@@ -32,9 +32,9 @@ pub struct Ends {
 }
 
 impl Model for Ends {
-    ghost use Rattle.dna_play.specs.KeptPlayed.{KeptPair};
+    ghost use Rattle.dna_play.specs.StoredPlayed.{StoredPair};
 
-    ghost Value = { KeptPair };
+    ghost Value = { StoredPair };
 
     ghost view = { λ e. record { a = e.a; b = e.b; to_a = e.to_a; to_b = e.to_b } };
 }
@@ -71,10 +71,10 @@ impl Ends {
     /// given; whether it is bad is asked first. `OutOfMemory`: memory was refused, for which a timer and a loss never ask, nor does a step
     /// that breaks its rule, but where a message that becomes whole is too long. After any of them neither the ends nor what stands behind
     /// the text is of any use.
-    #[tactic(auto, using(crate::proofs::Sides::both_sides), unfolding(dna_play::specs::KeptPlayed::kept_plays_step))]
+    #[tactic(auto, using(crate::proofs::Sides::both_sides), unfolding(dna_play::specs::StoredPlayed::stored_plays_step))]
     pub fn play_step(&mut self, step: ScriptStep<'_>, text: &mut Vec<u8>) -> Result<(), StepFault>
-        ensures ok { OnOk result (with_text text.old.items (kept_plays_step self.old (view_of_line step.entry)) ≡ Ok (self.new, text.new.items)) }
-        ensures stop { IfErr result (λ fault. StopMeans (kept_plays_step self.old (view_of_line step.entry)) fault) }
+        ensures ok { OnOk result (with_text text.old.items (stored_plays_step self.old (view_of_line step.entry)) ≡ Ok (self.new, text.new.items)) }
+        ensures stop { IfErr result (λ fault. StopMeans (stored_plays_step self.old (view_of_line step.entry)) fault) }
         ensures memory { result ≡ Err StepFault.OutOfMemory → Asks self.old (view_of_line step.entry) }
     {
         let alloc = self.alloc;
@@ -102,7 +102,7 @@ impl Ends {
 }
 
 // A step of an end, with the bytes beside it, the line to the end and the line from it.
-#[tactic(auto, using(crate::proofs::Sides::sides_of), unfolding(dna_play::specs::KeptPlay::kept_plays))]
+#[tactic(auto, using(crate::proofs::Sides::sides_of), unfolding(dna_play::specs::StoredPlay::stored_plays))]
 fn step_of(
     alloc: Global,
     end: &mut RingEnd,
@@ -113,8 +113,8 @@ fn step_of(
     text: &mut Vec<u8>,
 ) -> Result<(), StepFault>
     ensures ok { OnOk result (sides (step_with step bytes.now) coming.old going.old text.old.items
-        (kept_plays end.old coming.old (step_with step bytes.now)) ≡ Ok (end.new, coming.new, going.new, text.new.items)) }
-    ensures stop { IfErr result (λ fault. StopMeans (kept_plays end.old coming.old (step_with step bytes.now)) fault) }
+        (stored_plays end.old coming.old (step_with step bytes.now)) ≡ Ok (end.new, coming.new, going.new, text.new.items)) }
+    ensures stop { IfErr result (λ fault. StopMeans (stored_plays end.old coming.old (step_with step bytes.now)) fault) }
     ensures memory { result ≡ Err StepFault.OutOfMemory → AsksMemory end.old coming.old (step_with step bytes.now) }
 {
     match step {

@@ -2,8 +2,8 @@
 //! starts each side at most once they are a run of two nodes, and what is answered is what ends on true numbers make of it.
 
 ghost use Rattle.std.specs.Prelude.{◌≡◌, ◌↔◌, ℕ, [], true, List, Option, Result, Some, Ok};
-ghost use Rattle.dna_play.specs.Kept.{KeptEnd};
-ghost use Rattle.dna_play.specs.KeptRun.{kept_played};
+ghost use Rattle.dna_play.specs.StoredEnd.{StoredEnd};
+ghost use Rattle.dna_play.specs.StoredRun.{stored_played};
 ghost use Rattle.dna_play.specs.Played.{Played as TruePlayed, play as true_play};
 ghost use Rattle.dna_play.specs.Player.{End, link_ends_of, variables_of};
 ghost use Rattle.dna_play.specs.PlayRun.{StartsOnce};
@@ -36,7 +36,7 @@ pub fn written_captures_are_a_run()
 pub fn answered_as_true_ends()
     ensures whole { (bytes : List ℕ) (script : Script) (played : TruePlayed) (old new : Held) (answer : Result Played PlayFault) →
         IsScriptText script bytes → StartsOnce script.steps → true_play script ≡ Ok played → Plays (Some bytes) old new answer →
-        AnswersWhole (reached script (kept_played played) (Some [])) old new answer }
+        AnswersWhole (reached script (stored_played played) (Some [])) old new answer }
     ensures made { (text : Option (List ℕ)) (r : Reached) → HasPlayed text r → StartsOnce r.script.steps →
         (so_far : TruePlayed) × IsOfTruth r so_far }
 {}
@@ -57,7 +57,7 @@ pub fn starts_once_throughout()
 /// When an end has something to send, said apart from how it chooses what goes first (`may_send`): of an end as its node keeps it, and of one on true
 /// numbers, where that is what the rule of `send` asks.
 pub fn what_an_end_may_send()
-    ensures kept { (e : KeptEnd) → (may_send e.station.variables.state e.station.variables e.station.owed
+    ensures kept { (e : StoredEnd) → (may_send e.station.variables.state e.station.variables e.station.owed
         (links_have e.links.confirms e.links.links) ≡ true) ↔ HasUnit e }
     ensures of_truth { (own : End) → (may_send (variables_of own.half).state (variables_of own.half) own.owed
         (links_have own.links_owed.confirms (link_ends_of own)) ≡ true) ↔ rule.HasUnit own }

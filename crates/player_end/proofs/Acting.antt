@@ -10,7 +10,7 @@ use Rattle.dna_links.specs.Pieces.{Piece, piece_of}
 use Rattle.dna_links.specs.WireSegments.{LinkVariables, acknowledged_by_all, with_pieces, segment_taken, held}
 use Rattle.dna_play.specs.LinkOwed.{LinkOwed, DataAckTurn, nothing, same_phase, unless_left, lowered}
 use Rattle.dna_play.specs.NextSent.{LinkEnd}
-use Rattle.dna_play.specs.KeptLinks.{in_phase, acted_on, took_acks, took_segment, owes}
+use Rattle.dna_play.specs.StoredLinks.{in_phase, acted_on, took_acks, took_segment, owes}
 use Rattle.link_segments.specs.Outstanding.{acknowledged_words}
 use Rattle.player_end.specs.inner.Links.{acknowledged_as, acknowledged}
 use Rattle.link_segments.proofs.Acknowledged.{with_window, same_words}

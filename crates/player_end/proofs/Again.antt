@@ -9,7 +9,7 @@ use Rattle.dna_station.specs.Book.{body_of}
 use Rattle.dna_station.specs.WireStation.{HeldPacket, StationVariables, with_new}
 use Rattle.dna_station.specs.WireBook.{wire_is_new}
 use Rattle.dna_play.specs.Compose.{packet_again}
-use Rattle.dna_play.specs.KeptStation.{variables_sent}
+use Rattle.dna_play.specs.StoredStation.{variables_sent}
 
 abbrev Variables : Type 0
 Variables = StationVariables (Unit {0})

@@ -7,14 +7,14 @@ use Rattle.capture.specs.declared.limit.TheConstants.{MAX_LINK}
 use Rattle.dna_links.specs.declared.port.LinkTest.TheVariants.{CalledBy}
 use Rattle.dna_play.specs.NextSent.{LinkEnd}
 use Rattle.dna_play.specs.Stepped.{Stop, BadStep, Full}
-use Rattle.dna_play.specs.Kept.{KeptEnd, KeptLinks}
-use Rattle.dna_play.specs.KeptLinks.{changed, place_of, with_end}
-use Rattle.dna_play.specs.KeptPlay.{KeptStepped, answers, giving, made, with_links}
+use Rattle.dna_play.specs.StoredEnd.{StoredEnd, StoredLinks}
+use Rattle.dna_play.specs.StoredLinks.{changed, place_of, with_end}
+use Rattle.dna_play.specs.StoredPlay.{StoredStepped, answers, giving, made, with_links}
 use Rattle.player_end.specs.inner.Index.{live_of, place_among}
 use Rattle.player_end.proofs.Searching.{with_passed}
 
 -- no address is left
-full : (e : KeptEnd) (next : KeptEnd → (address : ℕ) → Result KeptStepped Stop) → MAX_LINK ≤ e.addresses → giving e next ≡ Err Full
+full : (e : StoredEnd) (next : StoredEnd → (address : ℕ) → Result StoredStepped Stop) → MAX_LINK ≤ e.addresses → giving e next ≡ Err Full
 full e next h =
     ap (λ (b : Bool). cond b (next (record e { addresses = e.addresses + 1 }) (e.addresses + 1)) (Err Full))
     (none_left (nat_lt e.addresses MAX_LINK) refl)
@@ -23,15 +23,15 @@ full e next h =
     none_left true is = absurd (let less : e.addresses < MAX_LINK = ltb-true e.addresses MAX_LINK is in omega (arith, less, h))
     none_left false is = is
 
-module _ (e : KeptEnd) (change : (address : ℕ) → LinkEnd → LinkEnd) (event : (address : ℕ) → Event) where
-  abbrev given : ℕ → LinkEnd → KeptEnd → (address : ℕ) → Result KeptStepped Stop
+module _ (e : StoredEnd) (change : (address : ℕ) → LinkEnd → LinkEnd) (event : (address : ℕ) → Event) where
+  abbrev given : ℕ → LinkEnd → StoredEnd → (address : ℕ) → Result StoredStepped Stop
   given place link end address = made (event address) (with_links (changed place (change address link) e.links) end)
 
-  pub answer_full : (s : KeptLinks) → e.links ≡ live_of s → (partner n : ℕ) (link : LinkEnd) →
+  pub answer_full : (s : StoredLinks) → e.links ≡ live_of s → (partner n : ℕ) (link : LinkEnd) →
       place_of (CalledBy partner) s.links ≡ Some n → slice_get s.links n ≡ Some link →
       MAX_LINK ≤ e.addresses → answers e partner change event ≡ Err Full
   answer_full s same partner n link found there h =
-      ap (λ (links : KeptLinks). with_end (CalledBy partner) links (Err BadStep) (λ (p : ℕ) (l : LinkEnd). giving e (given p l))) same
+      ap (λ (links : StoredLinks). with_end (CalledBy partner) links (Err BadStep) (λ (p : ℕ) (l : LinkEnd). giving e (given p l))) same
       ∙ with_passed (CalledBy partner) s (Err BadStep) (λ (p : ℕ) (l : LinkEnd). giving e (given p l)) n link refl found there
       ∙ full e (given (place_among n s.links) link) h
 

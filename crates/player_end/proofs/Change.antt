@@ -6,9 +6,9 @@ use Rattle.std.proofs.lemmas.Option.{slice_get_read, same_Some}
 use Rattle.dna_links.specs.LookUps.{is_live}
 use Rattle.dna_play.specs.LinkOwed.{LinkOwed, EndConfirm, Turn, retried}
 use Rattle.dna_play.specs.NextSent.{LinkEnd, OfLink, link_choice, turn_of}
-use Rattle.dna_play.specs.Kept.{KeptLinks, live_ends}
+use Rattle.dna_play.specs.StoredEnd.{StoredLinks, live_ends}
 use Rattle.dna_packet.specs.Nsp.{SegmentValue}
-use Rattle.dna_play.specs.KeptLinks.{Delivering, after_sent, begun, changed, delivering_at, ended, sent_at, took_segment, turn_sent, without_whole}
+use Rattle.dna_play.specs.StoredLinks.{Delivering, after_sent, begun, changed, delivering_at, ended, sent_at, took_segment, turn_sent, without_whole}
 use Rattle.player_end.specs.declared.fault.StepFault.{StepFault}
 use Rattle.player_end.specs.declared.fault.StepFault.TheVariants.{BadStep, Full, OutOfMemory}
 use Rattle.player_end.specs.Stepping.{Stopped}
@@ -27,38 +27,38 @@ map_ok (Ok x) f h = f h
 map_ok (Err e) f h = h
 
 -- what is whole of a link goes to the user
-lines_links : (b : Bool) (links : KeptLinks) (x t : List ℕ) → ◌≡◌ {A = Option (List ℕ)} (cond b (Some x) None) (Some t) →
-    ◌≡◌ {A = Option (KeptLinks × List ℕ)} (cond b (Some (links, x)) None) (Some (links, t))
+lines_links : (b : Bool) (links : StoredLinks) (x t : List ℕ) → ◌≡◌ {A = Option (List ℕ)} (cond b (Some x) None) (Some t) →
+    ◌≡◌ {A = Option (StoredLinks × List ℕ)} (cond b (Some (links, x)) None) (Some (links, t))
 lines_links true links x t e = ap (λ (y : List ℕ). Some (links, y)) (same_Some x t e)
 lines_links false links x t e = absurd cc
 
-lines_stop : (b : Bool) (links : KeptLinks) (x : List ℕ) (fault : StepFault) → Stopped {M = List ℕ} (cond b (Some x) None) fault →
-    Stopped {M = KeptLinks × List ℕ} (cond b (Some (links, x)) None) fault
+lines_stop : (b : Bool) (links : StoredLinks) (x : List ℕ) (fault : StepFault) → Stopped {M = List ℕ} (cond b (Some x) None) fault →
+    Stopped {M = StoredLinks × List ℕ} (cond b (Some (links, x)) None) fault
 lines_stop true links x BadStep h = absurd cc
 lines_stop false links x BadStep h = refl
 lines_stop b links x Full h = h
 lines_stop b links x OutOfMemory h = tt
 
 -- one of the links of an end, at its number, where it lives
-pub record InPlace (items : List LinkEnd) (confirms : List EndConfirm) (s : KeptLinks) (n : ℕ) (l : LinkEnd) : Type 0 where
+pub record InPlace (items : List LinkEnd) (confirms : List EndConfirm) (s : StoredLinks) (n : ℕ) (l : LinkEnd) : Type 0 where
   pub is : record { links = items; confirms = confirms } ≡ s
   pub within : n < length s.links
   pub there : l ≡ get_or items n l
   pub live : LivesAt n s
 
-pub in_place : {items : List LinkEnd} {confirms : List EndConfirm} {s : KeptLinks} {n : ℕ} {l : LinkEnd} →
+pub in_place : {items : List LinkEnd} {confirms : List EndConfirm} {s : StoredLinks} {n : ℕ} {l : LinkEnd} →
     record { links = items; confirms = confirms } ≡ s → n < length s.links → l ≡ get_or items n l → LivesAt n s → InPlace items confirms s n l
 in_place is within there live = record { is = is; within = within; there = there; live = live }
 
-module _ {items : List LinkEnd} {confirms : List EndConfirm} {s : KeptLinks} {n : ℕ} {l : LinkEnd} (at : InPlace items confirms s n l) where
+module _ {items : List LinkEnd} {confirms : List EndConfirm} {s : StoredLinks} {n : ℕ} {l : LinkEnd} (at : InPlace items confirms s n l) where
   shown_within : n < length items
-  shown_within = subst (λ (t : KeptLinks). n < length t.links) (sym at.is) at.within
+  shown_within = subst (λ (t : StoredLinks). n < length t.links) (sym at.is) at.within
 
   link_there : slice_get items n ≡ Some l
   link_there = slice_get_read items (length items) n l refl shown_within at.there
 
   link_found : slice_get s.links n ≡ Some l
-  link_found = ap (λ (t : KeptLinks). slice_get t.links n) (sym at.is) ∙ link_there
+  link_found = ap (λ (t : StoredLinks). slice_get t.links n) (sym at.is) ∙ link_there
 
   same_link : (link : LinkEnd) → slice_get s.links n ≡ Some link → l ≡ link
   same_link link e = same_Some l link (sym link_found ∙ e)
@@ -66,14 +66,14 @@ module _ {items : List LinkEnd} {confirms : List EndConfirm} {s : KeptLinks} {n 
   pub l_lives : is_live l.port.phase ≡ true
   l_lives = at.live l link_found
 
-  abbrev with_it : LinkEnd → KeptLinks
+  abbrev with_it : LinkEnd → StoredLinks
   with_it m = record { links = set items n m; confirms = confirms }
 
   set_made : (m : LinkEnd) → is_live m.port.phase ≡ true → live_of (with_it m) ≡ changed (place_among n s.links) m (live_of s)
   set_made m still =
       ap (λ (all : List LinkEnd). record { links = all; confirms = confirms }) (filter_set lives items n l m link_there l_lives still)
       ∙ ap (λ (k : ℕ). changed k m (live_of (record { links = items; confirms = confirms }))) (sym (place_same n items))
-      ∙ ap (λ (t : KeptLinks). changed (place_among n t.links) m (live_of t)) at.is
+      ∙ ap (λ (t : StoredLinks). changed (place_among n t.links) m (live_of t)) at.is
 
   -- it is the change of the link that is there
   pub live_made : (f : LinkEnd → LinkEnd) {m : LinkEnd} → m ≡ f l → is_live m.port.phase ≡ true → (link : LinkEnd) →
@@ -82,17 +82,17 @@ module _ {items : List LinkEnd} {confirms : List EndConfirm} {s : KeptLinks} {n 
       set_made m still ∙ ap (λ (k : LinkEnd). changed (place_among n s.links) k (live_of s)) (e ∙ ap f (same_link link found))
 
   -- likewise where it keeps its addresses and lives on
-  pub kept_made : (f : LinkEnd → LinkEnd) {m : LinkEnd} → Keeps l m → m ≡ f l → (link : LinkEnd) →
+  pub stored_made : (f : LinkEnd → LinkEnd) {m : LinkEnd} → Keeps l m → m ≡ f l → (link : LinkEnd) →
       slice_get s.links n ≡ Some link → live_of (with_it m) ≡ changed (place_among n s.links) (f link) (live_of s)
-  kept_made f keeps e link found = live_made f e (keeps.live l_lives) link found
+  stored_made f keeps e link found = live_made f e (keeps.live l_lives) link found
 
   pub kept_by : {f : LinkEnd → LinkEnd} → ((k : LinkEnd) → Keeps k (f k)) → {m : LinkEnd} → m ≡ f l → (link : LinkEnd) →
       slice_get s.links n ≡ Some link → live_of (with_it m) ≡ changed (place_among n s.links) (f link) (live_of s)
-  kept_by {f} keeps made = kept_made f (as_made made (keeps l)) made
+  kept_by {f} keeps made = stored_made f (as_made made (keeps l)) made
 
   pub kept_if_ok : {A E : Type 0} (r : Result A E) (f : LinkEnd → LinkEnd) {m : LinkEnd} → Keeps l m → OnOk r (m ≡ f l) → (link : LinkEnd) →
       slice_get s.links n ≡ Some link → OnOk r (live_of (with_it m) ≡ changed (place_among n s.links) (f link) (live_of s))
-  kept_if_ok r f keeps made link found = map_ok r (λ e. kept_made f keeps e link found) made
+  kept_if_ok r f keeps made link found = map_ok r (λ e. stored_made f keeps e link found) made
 
   -- ---- the index stays one
 
@@ -134,7 +134,7 @@ module _ {items : List LinkEnd} {confirms : List EndConfirm} {s : KeptLinks} {n 
       ap (λ (all : List LinkEnd). record { links = all; confirms = confirms }) (filter_drop lives items n l m link_there l_lives
       (ap (λ (k : LinkEnd). is_live k.port.phase) over))
       ∙ ap (λ (k : ℕ). ended k (live_of (record { links = items; confirms = confirms }))) (sym (place_same n items))
-      ∙ ap (λ (t : KeptLinks). ended (place_among n t.links) (live_of t)) at.is
+      ∙ ap (λ (t : StoredLinks). ended (place_among n t.links) (live_of t)) at.is
 
   -- a segment comes, and what it makes whole goes to the user
   module _ (seg : SegmentValue) (own : ℕ) (text : List ℕ) (r : Result (Unit {0}) StepFault) (link : LinkEnd)
@@ -151,7 +151,7 @@ module _ {items : List LinkEnd} {confirms : List EndConfirm} {s : KeptLinks} {n 
         go (Ok u) lines left =
             lines_links _ delivering.links _ t
             (ap (λ (k : LinkEnd). lines_of own text (took_segment seg k).variables.pieces) (sym (same_link link found)) ∙ lines)
-            ∙ ap (λ (links : KeptLinks). Some (links, t)) (sym (kept_made (λ k. without_whole (took_segment seg k)) keeps left link found))
+            ∙ ap (λ (links : StoredLinks). Some (links, t)) (sym (stored_made (λ k. without_whole (took_segment seg k)) keeps left link found))
         go (Err e) lines left = lines
 
     pub received_stops : IfErr r (λ fault. Stopped (lines_of own text (took_segment seg l).variables.pieces) fault) →
@@ -187,7 +187,7 @@ module _ {items : List LinkEnd} {confirms : List EndConfirm} {s : KeptLinks} {n 
   no_retry r h link found e = ap (λ (k : LinkEnd). retried k.port.phase) (sym (same_link link found)) ∙ h e
 
 -- a change that leaves its addresses, as the tactic finds it
-pub change_indexed : {items : List LinkEnd} {confirms : List EndConfirm} {s : KeptLinks} {n : ℕ} {l m k : LinkEnd} {h c : Knows}
+pub change_indexed : {items : List LinkEnd} {confirms : List EndConfirm} {s : StoredLinks} {n : ℕ} {l m k : LinkEnd} {h c : Knows}
     {marks marks' : List ℕ} → m ≡ k → Keeps l k → l ≡ get_or items n l → record { links = items; confirms = confirms } ≡ s →
     n < length s.links → LivesAt n s → marks' ≡ slice_set marks n 1 → IsIndexed items h c marks → IsIndexed (set items n m) h c marks'
 change_indexed made keeps there is within live marked index = index_made (in_place is within there live) index marked (as_made made keeps)
@@ -195,15 +195,15 @@ change_indexed made keeps there is within live marked index = index_made (in_pla
 pub ruleset changes = (change_indexed, keeps_acted, keeps_called, keeps_closed, keeps_confirmed, keeps_acks)
 
 -- one begins
-pub begun_made : (items : List LinkEnd) (confirms : List EndConfirm) (s : KeptLinks) → record { links = items; confirms = confirms } ≡ s →
+pub begun_made : (items : List LinkEnd) (confirms : List EndConfirm) (s : StoredLinks) → record { links = items; confirms = confirms } ≡ s →
     (link : LinkEnd) → is_live link.port.phase ≡ true →
     live_of (record { links = items ++ link ∷ []; confirms = confirms }) ≡ begun link (live_of s)
 begun_made items confirms s is link live =
     ap (λ (all : List LinkEnd). record { links = all; confirms = confirms }) (filter_push lives items link live)
-    ∙ ap (λ (t : KeptLinks). begun link (live_of t)) is
+    ∙ ap (λ (t : StoredLinks). begun link (live_of t)) is
 
 -- one of them sent this
-module _ (s : KeptLinks) (n : ℕ) (turn : Turn) (chosen : link_choice s.confirms s.links ≡ Some (OfLink n turn)) where
+module _ (s : StoredLinks) (n : ℕ) (turn : Turn) (chosen : link_choice s.confirms s.links ≡ Some (OfLink n turn)) where
   pub sent_within : n < length s.links
   sent_within = let stands = chosen_stands s.confirms s.links n turn chosen in within s.links n stands.0 stands.1
     where
@@ -213,7 +213,7 @@ module _ (s : KeptLinks) (n : ℕ) (turn : Turn) (chosen : link_choice s.confirm
       within (y ∷ xs) (suc k) x e = let later = within xs k x e in omega (arith, later)
 
   module _ {E : Type 0} (ended : (k : ℕ) (link : LinkEnd) (t : Turn) → slice_get s.links k ≡ Some link →
-      turn_of link ≡ Some t → is_live link.port.phase ≡ true) (r : Result (Unit {0}) E) (after : KeptLinks) where
+      turn_of link ≡ Some t → is_live link.port.phase ≡ true) (r : Result (Unit {0}) E) (after : StoredLinks) where
     pub sent_made : ((link : LinkEnd) → slice_get s.links n ≡ Some link →
         OnOk r (after ≡ changed (place_among n s.links) (turn_sent turn link) (live_of s))) →
         OnOk r (after ≡ after_sent (among_live s.links (OfLink n turn)) (live_of s))

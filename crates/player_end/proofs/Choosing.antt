@@ -13,7 +13,7 @@ use Rattle.std.proofs.lemmas.Bool.{ltb-true}
 use Rattle.dna_links.specs.Pieces.{Piece}
 use Rattle.dna_links.specs.LookUps.{is_running}
 use Rattle.dna_play.specs.LinkOwed.{EndConfirm, Turn, ConnectAckTurn, InitiateTurn, ConfirmTurn, DisconnectTurn, DataAckTurn, SegmentTurn}
-use Rattle.dna_play.specs.KeptLinks.{gave}
+use Rattle.dna_play.specs.StoredLinks.{gave}
 use Rattle.dna_play.specs.NextSent.{LinkEnd, LinkChoice, OfLink, turn_of, turn_or_next, first_turn, link_choice, has_segment, Choice, SendStrt}
 use Rattle.dna_play.specs.NextSent.{SendStack, SendNak, SendRep, SendAgain, SendNew, SendAck, when, or_else, new_packet, choice_in, choice}
 use Rattle.dna_links.specs.Pieces.{has_more}

@@ -9,7 +9,7 @@ use Rattle.capture.specs.declared.hint.HintForm.TheVariants.{Number}
 use Rattle.capture.specs.Text.{record_lines}
 use Rattle.dna_links.specs.Pieces.{Piece, Whole, with_piece, next_message, in_whole_messages, one_more}
 use Rattle.dna_play.specs.Receipt.{complete}
-use Rattle.dna_play.specs.KeptPlay.{all_short, ups}
+use Rattle.dna_play.specs.StoredPlay.{all_short, ups}
 use Rattle.player_end.specs.declared.fault.StepFault.{StepFault}
 use Rattle.player_end.specs.declared.fault.StepFault.TheVariants.{BadStep, Full, OutOfMemory}
 use Rattle.link_segments.specs.Received.{count_of, next_count}

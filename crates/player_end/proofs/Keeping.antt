@@ -10,7 +10,7 @@ use Rattle.dna_links.specs.LookUps.{is_live, is_running}
 use Rattle.dna_links.specs.Pieces.{Piece}
 use Rattle.dna_play.specs.LinkOwed.{Turn, ConnectAckTurn, InitiateTurn, ConfirmTurn, DisconnectTurn, DataAckTurn, SegmentTurn}
 use Rattle.dna_play.specs.NextSent.{LinkEnd}
-use Rattle.dna_play.specs.KeptLinks.{called_again, confirmed_again, acted_on, took_acks, handed, closed, turn_sent, gave, gave_by}
+use Rattle.dna_play.specs.StoredLinks.{called_again, confirmed_again, acted_on, took_acks, handed, closed, turn_sent, gave, gave_by}
 
 pub record Keeps (l m : LinkEnd) : Type 0 where
   pub live : is_live l.port.phase ≡ true → is_live m.port.phase ≡ true

@@ -8,8 +8,8 @@ use Rattle.dna_links.specs.declared.port.LinkTest.{LinkTest}
 use Rattle.dna_links.specs.declared.port.LinkTest.TheVariants.{HasAddress, LiveAt, TheLink, LiveTo, OpenedAt, CallingAt, CalledBy, BegunBy, ActedOn}
 use Rattle.dna_links.specs.LookUps.{passes, is_live}
 use Rattle.dna_play.specs.NextSent.{LinkEnd, LinkChoice, Confirms, OfLink}
-use Rattle.dna_play.specs.Kept.{KeptLinks, live_ends}
-use Rattle.dna_play.specs.KeptLinks.{place_of, at_place, on_end, with_end}
+use Rattle.dna_play.specs.StoredEnd.{StoredLinks, live_ends}
+use Rattle.dna_play.specs.StoredLinks.{place_of, at_place, on_end, with_end}
 use Rattle.dna_play.proofs.Stored.LiveLists.{place_in, filter_get, position_filter, position_here, position_later}
 use Rattle.dna_play.proofs.Stored.LiveLinks.{live_at_lives, the_link_lives, live_to_lives, calling_at_lives, called_by_lives, acted_on_lives}
 use Rattle.dna_play.proofs.Stored.Choices as choices
@@ -60,17 +60,17 @@ found_lives test needs links None e = e
 
 -- ---- what is found
 
-module _ (test : LinkTest) (s : KeptLinks) (needs : needs_life test ≡ true) where
+module _ (test : LinkTest) (s : StoredLinks) (needs : needs_life test ≡ true) where
   place_live : place_of test (live_ends s.links) ≡ option_map (λ (n : ℕ). place_in lives n s.links) (place_of test s.links)
   place_live = position_filter lives (λ (l : LinkEnd). passes test l.port) (λ l e. test_lives test needs l.port e) s.links
 
-pub with_none : {R : Type 0} (test : LinkTest) (s : KeptLinks) (otherwise : R) (next : ℕ → LinkEnd → R) → needs_life test ≡ true →
+pub with_none : {R : Type 0} (test : LinkTest) (s : StoredLinks) (otherwise : R) (next : ℕ → LinkEnd → R) → needs_life test ≡ true →
     place_of test s.links ≡ None → with_end test (live_of s) otherwise next ≡ otherwise
 with_none test s otherwise next needs e =
     ap (λ (p : Option ℕ). at_place (live_ends s.links) p otherwise next)
     (place_live test s needs ∙ ap (option_map (λ (n : ℕ). place_in lives n s.links)) e)
 
-pub with_found : {R : Type 0} (test : LinkTest) (s : KeptLinks) (otherwise : R) (next : ℕ → LinkEnd → R) (n : ℕ) (link : LinkEnd) →
+pub with_found : {R : Type 0} (test : LinkTest) (s : StoredLinks) (otherwise : R) (next : ℕ → LinkEnd → R) (n : ℕ) (link : LinkEnd) →
     needs_life test ≡ true → place_of test s.links ≡ Some n → slice_get s.links n ≡ Some link → is_live link.port.phase ≡ true →
     with_end test (live_of s) otherwise next ≡ next (place_among n s.links) link
 with_found test s otherwise next n link needs e at live =
@@ -97,7 +97,7 @@ position_passes : {X : Type 0} (p : X → Bool) (xs : List X) (n : ℕ) (x : X) 
 position_passes p [] n x found at = absurd cc
 position_passes p (y ∷ ys) n x found at = passed_by p y ys n x (λ m. position_passes p ys m x) (p y) refl found at
 
-pub with_passed : {R : Type 0} (test : LinkTest) (s : KeptLinks) (otherwise : R) (next : ℕ → LinkEnd → R) (n : ℕ) (link : LinkEnd) →
+pub with_passed : {R : Type 0} (test : LinkTest) (s : StoredLinks) (otherwise : R) (next : ℕ → LinkEnd → R) (n : ℕ) (link : LinkEnd) →
     needs_life test ≡ true → place_of test s.links ≡ Some n → slice_get s.links n ≡ Some link →
     with_end test (live_of s) otherwise next ≡ next (place_among n s.links) link
 with_passed test s otherwise next n link needs e at =

@@ -15,10 +15,10 @@ use Rattle.dna_station.specs.WireStation.{StationVariables}
 use Rattle.dna_play.specs.NextSent.{LinkEnd, LinkChoice, Choice, SendStrt, SendStack, SendNak, SendRep, SendAgain, SendNew, SendAck}
 use Rattle.dna_play.specs.Compose.{data_with, packet_with, link_message, message_of, new_data}
 use Rattle.dna_play.specs.Stepped.{Stop, BadStep}
-use Rattle.dna_play.specs.Kept.{KeptStation, KeptLinks, KeptEnd}
-use Rattle.dna_play.specs.KeptStation as stations
-use Rattle.dna_play.specs.KeptLinks as of_links
-use Rattle.dna_play.specs.KeptPlay.{KeptStepped, links_sent, sends_message, sends_choice}
+use Rattle.dna_play.specs.StoredEnd.{StoredStation, StoredLinks, StoredEnd}
+use Rattle.dna_play.specs.StoredStation as stations
+use Rattle.dna_play.specs.StoredLinks as of_links
+use Rattle.dna_play.specs.StoredPlay.{StoredStepped, links_sent, sends_message, sends_choice}
 use Rattle.player_end.specs.inner.Composing.{is_new, without_links}
 use Rattle.player_end.specs.Stepping.{with_lines}
 
@@ -34,7 +34,7 @@ without SendAgain e head k links = refl
 without (SendNew message) e head k links = absurd cc
 without SendAck e head k links = refl
 
-same_links : (next : Choice) → is_new next ≡ false → (s : KeptLinks) → links_sent next s ≡ s
+same_links : (next : Choice) → is_new next ≡ false → (s : StoredLinks) → links_sent next s ≡ s
 same_links SendStrt e s = refl
 same_links SendStack e s = refl
 same_links (SendNak reason) e s = refl
@@ -48,19 +48,19 @@ one_line : (text unit : List ℕ) → text ++ (record_line Number (Sent unit) ++
 one_line text unit = ap (λ (line : List ℕ). text ++ line) (append-nil (record_line Number (Sent unit)))
 
 abbrev Sending : Type 0
-Sending = Result (KeptEnd × List (List ℕ) × List ℕ) Stop
+Sending = Result (StoredEnd × List (List ℕ) × List ℕ) Stop
 
-module _ (e : KeptEnd) (next : Choice) (old : is_new next ≡ false) (text : List ℕ) where
+module _ (e : StoredEnd) (next : Choice) (old : is_new next ≡ false) (text : List ℕ) where
   choice_is : (o : Option MessageValue) → without_links next e.station.variables ≡ o → sends_choice e (Some next) ≡ sends_message e next o
   choice_is o is = ap (sends_message e next) (without next old e.head e.station.variables e.links.links ∙ is)
 
-  abbrev After : Option MessageValue → KeptStation → Type 0
+  abbrev After : Option MessageValue → StoredStation → Type 0
   After o after = IfSome o (λ m. after ≡ stations.after_sent next m e.station)
 
-  abbrev sending : KeptStation → KeptLinks → (unit line : List ℕ) → Sending
+  abbrev sending : StoredStation → StoredLinks → (unit line : List ℕ) → Sending
   sending station links unit line = Ok (record e { station = station; links = links }, unit ∷ [], line)
 
-  sent_by : (o : Option MessageValue) → without_links next e.station.variables ≡ o → (unit t : List ℕ) (after : KeptStation) →
+  sent_by : (o : Option MessageValue) → without_links next e.station.variables ≡ o → (unit t : List ℕ) (after : StoredStation) →
       Some unit ≡ option_map spelling o → After o after → t ≡ text ++ record_line Number (Sent unit) →
       with_lines text (sends_choice e (Some next)) ≡ sending after e.links unit t
   sent_by None is unit t after same made line = absurd cc
@@ -70,11 +70,11 @@ module _ (e : KeptEnd) (next : Choice) (old : is_new next ≡ false) (text : Lis
       ap (with_lines text) (choice_is (Some m) is)
       ∙ ap (λ (u : List ℕ). sending (stations.after_sent next m e.station) (links_sent next e.links) u
       (text ++ (record_line Number (Sent u) ++ []))) (sym spelled)
-      ∙ ap (λ (s : KeptStation). sending s (links_sent next e.links) unit (text ++ (record_line Number (Sent unit) ++ []))) (sym after_is)
-      ∙ ap (λ (s : KeptLinks). sending after s unit (text ++ (record_line Number (Sent unit) ++ []))) (same_links next old e.links)
+      ∙ ap (λ (s : StoredStation). sending s (links_sent next e.links) unit (text ++ (record_line Number (Sent unit) ++ []))) (sym after_is)
+      ∙ ap (λ (s : StoredLinks). sending after s unit (text ++ (record_line Number (Sent unit) ++ []))) (same_links next old e.links)
       ∙ ap (sending after e.links unit) (one_line text unit ∙ sym line)
 
-  pub sent_other : (unit t : List ℕ) (after : KeptStation) → Some unit ≡ option_map spelling (without_links next e.station.variables) →
+  pub sent_other : (unit t : List ℕ) (after : StoredStation) → Some unit ≡ option_map spelling (without_links next e.station.variables) →
       After (without_links next e.station.variables) after → t ≡ text ++ record_line Number (Sent unit) →
       with_lines text (sends_choice e (Some next)) ≡ sending after e.links unit t
   sent_other unit t after same made line = sent_by (without_links next e.station.variables) refl unit t after same made line
@@ -91,11 +91,11 @@ pub ruleset sent_others = (sent_other, none_other)
 
 -- ---- a new packet
 
-module _ (e : KeptEnd) (message : LinkChoice) (text : List ℕ) where
+module _ (e : StoredEnd) (message : LinkChoice) (text : List ℕ) where
   abbrev k : StationVariables (Unit {0})
   k = e.station.variables
 
-  abbrev carrying : Option NspValue → Result KeptStepped Stop
+  abbrev carrying : Option NspValue → Result StoredStepped Stop
   carrying o = sends_message e (SendNew message) (new_data k e.head o)
 
   abbrev sent_with : List ℕ → Sending
@@ -115,7 +115,7 @@ module _ (e : KeptEnd) (message : LinkChoice) (text : List ℕ) where
       ap (λ (x : List ℕ). packet_bytes (packets.Data 2 e.head.peer e.head.own 0 x)) (sym spelled) ∙ sym put in
       ap (λ (o : Option NspValue). with_lines text (carrying o)) is ∙ ap sent_with whole
 
-  pub sent_new : (nsp packet unit t : List ℕ) (station : KeptStation) (links : KeptLinks) →
+  pub sent_new : (nsp packet unit t : List ℕ) (station : StoredStation) (links : StoredLinks) →
       Some nsp ≡ option_map nsp_bytes (link_message message e.links.links) →
       packet ≡ packet_bytes (packets.Data 2 e.head.peer e.head.own 0 nsp) → unit ≡ spelling (data_with k packet) →
       t ≡ text ++ record_line Number (Sent unit) →

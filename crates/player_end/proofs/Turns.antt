@@ -8,7 +8,7 @@ use Rattle.std.proofs.lemmas.Option.{same_Some}
 use Rattle.dna_links.specs.LookUps.{is_live}
 use Rattle.dna_play.specs.LinkOwed.{EndConfirm, Turn}
 use Rattle.dna_play.specs.NextSent.{LinkEnd, LinkChoice, Confirms, OfLink, turn_of, turn_or_next, first_turn, link_choice}
-use Rattle.dna_play.specs.Kept.{KeptLinks, live_ends}
+use Rattle.dna_play.specs.StoredEnd.{StoredLinks, live_ends}
 use Rattle.dna_play.specs.Compose.{link_message}
 use Rattle.dna_play.proofs.Stored.Choices.{link_choice_live, link_message_live, NamesLive}
 use Rattle.player_end.specs.inner.Index.{AreMarked, among_live}
@@ -140,7 +140,7 @@ chosen_stands (confirm ∷ later) links n turn e = absurd cc
 -- ---- the same of those that live
 
 -- a link that has ended has nothing to send
-abbrev pub AllSilent : KeptLinks → Type 0
+abbrev pub AllSilent : StoredLinks → Type 0
 AllSilent s = (k : ℕ) (link : LinkEnd) (turn : Turn) → slice_get s.links k ≡ Some link → turn_of link ≡ Some turn → is_live link.port.phase ≡ true
 
 module _ (confirms : List EndConfirm) (links : List LinkEnd)

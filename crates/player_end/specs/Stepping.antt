@@ -5,13 +5,13 @@ use Rattle.capture.specs.Text.{record_lines}
 use Rattle.dna_play.specs.Stepped.{Stop}
 use Rattle.dna_play.specs.Stepped as stops
 use Rattle.dna_play.specs.NextSent.{choice, link_choice}
-use Rattle.dna_play.specs.Kept.{KeptEnd}
-use Rattle.dna_play.specs.KeptPlay.{KeptStepped}
+use Rattle.dna_play.specs.StoredEnd.{StoredEnd}
+use Rattle.dna_play.specs.StoredPlay.{StoredStepped}
 use Rattle.player_end.specs.declared.fault.StepFault.{StepFault}
 use Rattle.player_end.specs.declared.fault.StepFault.TheVariants.{BadStep, Full, OutOfMemory}
 
 -- the end after a step, the units that it sends, and a text with the lines of its records behind it
-abbrev pub with_lines : List ℕ → Result KeptStepped Stop → Result (KeptEnd × List (List ℕ) × List ℕ) Stop
+abbrev pub with_lines : List ℕ → Result StoredStepped Stop → Result (StoredEnd × List (List ℕ) × List ℕ) Stop
 with_lines text (Ok made) = Ok (made.end, made.sent, text ++ record_lines Number made.records)
 with_lines text (Err stop) = Err stop
 
@@ -28,5 +28,5 @@ Stopped made Full = ⊥
 Stopped made OutOfMemory = Unit {0}
 
 -- it has something to send
-abbrev pub HasUnit : KeptEnd → Type 0
+abbrev pub HasUnit : StoredEnd → Type 0
 HasUnit e = IsSome (choice e.station.variables e.station.owed (link_choice e.links.confirms e.links.links))

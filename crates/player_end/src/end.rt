@@ -1,8 +1,8 @@
 //! One end of the line.
 
 ghost use Rattle.std.specs.Prelude.{◌≡◌, Err, OnOk, IfOk, IfErr};
-ghost use Rattle.dna_play.specs.Kept.{new_kept_end};
-ghost use Rattle.dna_play.specs.KeptPlay as kept;
+ghost use Rattle.dna_play.specs.StoredEnd.{new_stored_end};
+ghost use Rattle.dna_play.specs.StoredPlay as kept;
 ghost use Rattle.player_end.specs.Stepping.{StopMeans};
 
 mod receiving;
@@ -38,10 +38,10 @@ pub struct End<W: Window<HeldPacket, 256> + Drop, V: Window<GivenPiece, 4096> + 
 }
 
 impl<W: Window<HeldPacket, 256> + Drop, V: Window<GivenPiece, 4096> + Drop> Model for End<W, V> {
-    ghost use Rattle.dna_play.specs.Kept.{KeptEnd};
+    ghost use Rattle.dna_play.specs.StoredEnd.{StoredEnd};
     ghost use Rattle.player_end.specs.inner.Index.{live_of};
 
-    ghost Value = { KeptEnd };
+    ghost Value = { StoredEnd };
 
     ghost view = { λ e. record { head = e.head; station = e.station; links = live_of e.links; addresses = e.addresses; passed = e.passed } };
 }
@@ -49,7 +49,7 @@ impl<W: Window<HeldPacket, 256> + Drop, V: Window<GivenPiece, 4096> + Drop> Mode
 impl<W: Window<HeldPacket, 256> + Drop, V: Window<GivenPiece, 4096> + Drop> End<W, V> {
     /// Before any step, with the addresses of its head. It takes the memory that the window of its station takes.
     pub fn new(alloc: Global, head: Head) -> Result<Self, AllocError>
-        ensures { IfOk result (λ end. end ≡ new_kept_end head) }
+        ensures { IfOk result (λ end. end ≡ new_stored_end head) }
     {
         Ok(End {
             head,

@@ -2,8 +2,8 @@
 
 ghost use Rattle.std.specs.Prelude.{◌≡◌, true, false, Some, None, OnOk, OnErr};
 ghost use Rattle.dna_play.specs.LinkOwed as model;
-ghost use Rattle.dna_play.specs.KeptLinks.{no_segments};
-ghost use Rattle.dna_play.specs.KeptLinks as kept;
+ghost use Rattle.dna_play.specs.StoredLinks.{no_segments};
+ghost use Rattle.dna_play.specs.StoredLinks as kept;
 ghost use Rattle.player_end.specs.inner.Links.{gone, retried_end};
 ghost use Rattle.player_end.specs.inner.Owing.{turn_view};
 

@@ -2,10 +2,10 @@
 
 ghost use Rattle.std.specs.Prelude.{◌≡◌, ◌<◌, ℕ, Some, true, length, slice_get, option_map, OnOk, OnErr, IfSome};
 ghost use Rattle.dna_links.specs.LookUps.{is_live, passes};
-ghost use Rattle.dna_play.specs.NextSent.{LinkEnd as KeptLink};
-ghost use Rattle.dna_play.specs.Kept.{no_kept_links};
-ghost use Rattle.dna_play.specs.KeptLinks.{place_of};
-ghost use Rattle.dna_play.specs.KeptLinks as kept;
+ghost use Rattle.dna_play.specs.NextSent.{LinkEnd as StoredLink};
+ghost use Rattle.dna_play.specs.StoredEnd.{no_stored_links};
+ghost use Rattle.dna_play.specs.StoredLinks.{place_of};
+ghost use Rattle.dna_play.specs.StoredLinks as kept;
 ghost use Rattle.player_end.specs.inner.Addresses.{has};
 ghost use Rattle.player_end.specs.inner.Index.{LivesAt, live_of, needs_life, place_among};
 
@@ -40,11 +40,11 @@ pub struct LinkEnds<V: Window<GivenPiece, 4096> + Drop> {
 }
 
 impl<V: Window<GivenPiece, 4096> + Drop> Model for LinkEnds<V> {
-    ghost use Rattle.dna_play.specs.Kept.{KeptLinks};
+    ghost use Rattle.dna_play.specs.StoredEnd.{StoredLinks};
     ghost use Rattle.player_end.specs.inner.Addresses.{has};
     ghost use Rattle.player_end.specs.inner.Index.{IsIndexed};
 
-    ghost Value = { KeptLinks };
+    ghost Value = { StoredLinks };
 
     ghost view = { λ l. record { links = l.links.items; confirms = l.confirms.items } };
 
@@ -54,7 +54,7 @@ impl<V: Window<GivenPiece, 4096> + Drop> Model for LinkEnds<V> {
 impl<V: Window<GivenPiece, 4096> + Drop> LinkEnds<V> {
     /// None. Takes no memory.
     pub fn new(alloc: Global) -> Self
-        ensures { result ≡ no_kept_links }
+        ensures { result ≡ no_stored_links }
     {
         LinkEnds {
             links: Vec::new(alloc),
@@ -96,7 +96,7 @@ impl<V: Window<GivenPiece, 4096> + Drop> LinkEnds<V> {
 
     // The addresses among which each link is known that passes this test, and the one which it has there.
     fn known_by(&self, test: LinkTest) -> (&Addresses, u16)
-        ensures { (number : ℕ) (link : KeptLink) → slice_get self.now.links number ≡ Some link → passes test link.port ≡ true
+        ensures { (number : ℕ) (link : StoredLink) → slice_get self.now.links number ≡ Some link → passes test link.port ≡ true
             → has result.0.now.pairs result.1 number ≡ true }
     {
         match test {

@@ -4,8 +4,8 @@ ghost use Rattle.std.specs.Prelude.{◌≡◌, Some, IfOk};
 ghost use Rattle.std.specs.Option.{option_map};
 ghost use Rattle.dna_station.specs.declared.state.StationEvent.TheVariants as events;
 ghost use Rattle.dna_play.specs.Owed.{OwesStrt, same_state, still_owed, timer_debt};
-ghost use Rattle.dna_play.specs.Kept.{new_kept_station};
-ghost use Rattle.dna_play.specs.KeptStation.{after_event, owing};
+ghost use Rattle.dna_play.specs.StoredEnd.{new_stored_station};
+ghost use Rattle.dna_play.specs.StoredStation.{after_event, owing};
 ghost use Rattle.player_end.specs.inner.Owing.{debt_view};
 
 mod arriving;
@@ -30,9 +30,9 @@ pub struct StationEnd<W: Window<HeldPacket, 256> + Drop> {
 }
 
 impl<W: Window<HeldPacket, 256> + Drop> Model for StationEnd<W> {
-    ghost use Rattle.dna_play.specs.Kept.{KeptStation};
+    ghost use Rattle.dna_play.specs.StoredEnd.{StoredStation};
 
-    ghost Value = { KeptStation };
+    ghost Value = { StoredStation };
 
     ghost view = { λ s. record { variables = s.variables; owed = s.owed } };
 }
@@ -40,7 +40,7 @@ impl<W: Window<HeldPacket, 256> + Drop> Model for StationEnd<W> {
 impl<W: Window<HeldPacket, 256> + Drop> StationEnd<W> {
     /// Before any step: in HALTED, owing nothing. It takes the memory that its window takes when it is made.
     pub fn new(alloc: Global) -> Result<Self, AllocError>
-        ensures { IfOk result (λ station. station ≡ new_kept_station) }
+        ensures { IfOk result (λ station. station ≡ new_stored_station) }
     {
         Ok(StationEnd {
             variables: StationVariables::new(alloc, State::Halted)?,

@@ -27,7 +27,7 @@ use Rattle.dna_play.proofs.Ends.StationStage.{sent_stage, sent_packets}
 use Rattle.dna_play.proofs.Links.Stage.{LinkHolds, left_links, sent_holds, first_sent_holds, change_holds}
 use Rattle.dna_play.proofs.Ends.Stage.{Stage, Known, station_stage}
 use Rattle.dna_links.proofs.Runs.Sides.{set_same}
-use Rattle.dna_play.specs.KeptLinks.{gave_by}
+use Rattle.dna_play.specs.StoredLinks.{gave_by}
 use Rattle.dna_play.proofs.Links.Turns.{TurnMade, turn_made, gave_ahead}
 
 module _ (own other : End) (h : Stage own) (known : Known own other) where

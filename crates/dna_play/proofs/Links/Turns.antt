@@ -22,7 +22,7 @@ use Rattle.dna_links.specs.CutSegments.{IsOrdered}
 use Rattle.dna_play.specs.LinkOwed.{LinkOwed, Turn, ConnectAckTurn, InitiateTurn, ConfirmTurn, DisconnectTurn, DataAckTurn, SegmentTurn, variables_of}
 use Rattle.dna_play.specs.NextSent.{LinkEnd}
 use Rattle.dna_play.specs.Compose.{ack_of, address, piece_to_send, segment_with, turn_message}
-use Rattle.dna_play.specs.KeptLinks.{gave, gave_by}
+use Rattle.dna_play.specs.StoredLinks.{gave, gave_by}
 use Rattle.dna_play.proofs.Links.SegmentsDid.{SegmentDid, GivesIt, GivesAgain, segment_did, acks_did}
 use Rattle.dna_links.proofs.Tables.Outcomes.{has_numbers, IsFound, SentDid, OfNone, Stays, EndsCalled, Segment, Acks}
 use Rattle.dna_links.proofs.Runs.Reads.{at_is}

@@ -11,7 +11,7 @@ use Rattle.dna_play.specs.Played.{Played, Stopped, with_a, with_b, plays_at, pla
 use Rattle.dna_play.specs.PlayRun.{StartsOnce}
 use Rattle.dna_play.specs.StepRule.{GoesByRule, rule_at, StepsByRule, StopsByRule, and_then}
 use Rattle.dna_play.proofs.Played.Reached.{own_end, other_end, Reached, each_later, whole_reached, stopped_reached}
-use Rattle.dna_play.proofs.Stored.Now.{KeptNow}
+use Rattle.dna_play.proofs.Stored.Now.{StoredNow}
 use Rattle.dna_play.proofs.Stored.Right.{right_ruled}
 use Rattle.dna_play.proofs.Stored.Steps.{step_right}
 use Rattle.dna_play.proofs.Played.Stages.{now_at}
@@ -39,7 +39,7 @@ next_ruled : (script : Script) → IsScript script → {steps count_a count_b : 
 unfolding plays_step
 next_ruled script all so_far r few_a few_b few step fits = go step.side (now_at script all r few_a few_b few step.side)
   where
-    go : (side : Side) → KeptNow (own_end side so_far) (other_end side so_far) → rule_at so_far side step.step (plays_at so_far side step.step)
+    go : (side : Side) → StoredNow (own_end side so_far) (other_end side so_far) → rule_at so_far side step.step (plays_at so_far side step.step)
     go A now = a_ruled so_far step.step (plays so_far.a so_far.b.half step.step)
         (right_ruled so_far.a so_far.b step.step _ _ (step_right so_far.a so_far.b now step fits))
     go B now = b_ruled so_far step.step (plays so_far.b so_far.a.half step.step)

@@ -13,7 +13,7 @@ use Rattle.dna_play.proofs.Played.Facts.{Going, later_a}
 use Rattle.dna_play.proofs.Ends.Stage.{Stage, new_stage, Staged}
 use Rattle.dna_play.proofs.Played.StepMakes.{passed_one}
 use Rattle.dna_play.proofs.Played.Walk.{step_comes}
-use Rattle.dna_play.proofs.Stored.Now.{KeptNow}
+use Rattle.dna_play.proofs.Stored.Now.{StoredNow}
 use Rattle.dna_play.proofs.Stored.Left.{tidy_of_a}
 use Rattle.dna_play.proofs.Stored.Steps.{step_right}
 use Rattle.dna_play.proofs.Stored.Right.{right_staged}
@@ -45,7 +45,7 @@ reached_going {count_a = count_a} {count_b = count_b} r few_a few_b = record {
 -- so what a step needs is known of side a
 now_of_a : (script : Script) → IsNode script.node_a → IsNode script.node_b → {steps count_a count_b : ℕ} {later : List ScriptStep}
     {so_far : Played} → Reached script steps count_a count_b later so_far → count_a ≤ 1 → count_b ≤ 1 → steps ≤ MAX_STEPS →
-    Stages so_far steps → KeptNow so_far.a so_far.b
+    Stages so_far steps → StoredNow so_far.a so_far.b
 now_of_a script node_a node_b {so_far = so_far} r few_a few_b few s = let passed = s.passed_a in record {
   stage = s.of_a;
   theirs = s.of_b;
@@ -54,7 +54,7 @@ now_of_a script node_a node_b {so_far = so_far} r few_a few_b few s = let passed
   counted = (tidy_of_a r).counted;
 }
 
-staged_by_a : (so_far : Played) (steps : ℕ) → KeptNow so_far.a so_far.b → Stages so_far steps → (step : ScriptStep) → IsStep step →
+staged_by_a : (so_far : Played) (steps : ℕ) → StoredNow so_far.a so_far.b → Stages so_far steps → (step : ScriptStep) → IsStep step →
     (made : Stepped) → plays so_far.a so_far.b.half step.step ≡ Ok made → Stages (after_a so_far made) (steps + 1)
 staged_by_a so_far steps now s step fits made is =
     let a = s.passed_a in let b = s.passed_b in
@@ -83,7 +83,7 @@ reached_stages script fits (StepOfB {steps} so_far step made at before is) few_a
 -- and of both sides
 pub now_at : (script : Script) → IsScript script → {steps count_a count_b : ℕ} {later : List ScriptStep} {so_far : Played} →
     Reached script steps count_a count_b later so_far → count_a ≤ 1 → count_b ≤ 1 → steps ≤ MAX_STEPS → (side : Side) →
-    KeptNow (own_end side so_far) (other_end side so_far)
+    StoredNow (own_end side so_far) (other_end side so_far)
 now_at script fits r few_a few_b few A =
     now_of_a script fits.node_a fits.node_b r few_a few_b few (reached_stages script fits r few_a few_b few)
 now_at script fits r few_a few_b few B = now_of_a (exchanged_script script) fits.node_b fits.node_a (exchanged r) few_b few_a few

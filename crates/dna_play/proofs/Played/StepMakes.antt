@@ -5,7 +5,7 @@ use Rattle.capture.specs.declared.record.Record.TheVariants.{User}
 use Rattle.dna_play.specs.Script.{StepValue}
 use Rattle.dna_play.specs.Player.{End, after_record}
 use Rattle.dna_play.specs.Stepped.{Stepped}
-use Rattle.dna_play.specs.KeptPlayed.{is_of_line}
+use Rattle.dna_play.specs.StoredPlayed.{is_of_line}
 use Rattle.dna_play.proofs.Played.Order.{InOrder, nothing_in_order, up_more}
 use Rattle.dna_play.proofs.Played.Steps.{PlayHalf, MakesAll, Nothing, First, one_more}
 use Rattle.dna_play.proofs.Played.Walk.{Comes, Silent, Makes, Delivers, off_line}

@@ -23,7 +23,7 @@ use Rattle.dna_play.specs.Player.{End, makes, links_of, variables_of, link_ends_
 use Rattle.dna_play.specs.Stepped.{Stop, Stepped, made, owing_more, links_owing_more}
 use Rattle.dna_play.specs.Receipt.{carried, carried_debt, after_receipt, receives, can_keep, passing, on_unit, is_damage, damaged, heard}
 use Rattle.dna_play.specs.Play.{by_user, with_address, giving, timed, retrying, after_sending, sends_message, sends_choice, no_more, plays}
-use Rattle.dna_play.specs.KeptPlayed.{is_of_line}
+use Rattle.dna_play.specs.StoredPlayed.{is_of_line}
 use Rattle.dna_play.proofs.Played.Cases.{made_case, link_case, giving_case, unit_case, test_case, AllOf, then_each}
 use Rattle.dna_play.proofs.Played.Order.{InOrder, quiet}
 use Rattle.dna_play.proofs.Played.Steps.{PlayHalf}

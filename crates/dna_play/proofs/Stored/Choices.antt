@@ -17,7 +17,7 @@ use Rattle.dna_play.specs.NextSent.{LinkEnd, LinkChoice, Confirms, OfLink, turn_
 use Rattle.dna_play.specs.NextSent.{SendStack, SendNak, SendRep, SendAgain, SendNew, SendAck, when, or_else, lowest_nak, new_packet, data_choice}
 use Rattle.dna_play.specs.NextSent.{choice_in, choice}
 use Rattle.dna_play.specs.Compose.{new_data, message_at, link_message, message_of}
-use Rattle.dna_play.specs.Kept.{live_ends}
+use Rattle.dna_play.specs.StoredEnd.{live_ends}
 use Rattle.dna_play.proofs.Stored.LiveLists.{place_in, filter_get}
 
 abbrev pub lives : LinkEnd → Bool
@@ -107,42 +107,42 @@ link_choice_live [] ends ended = go (same_turn ends 0 0 ended)
 
 -- ---- what is chosen
 
-abbrev pub kept_choice : List LinkEnd → Choice → Choice
-kept_choice ends (SendNew message) = SendNew (among_live ends message)
-kept_choice ends c = c
+abbrev pub stored_choice : List LinkEnd → Choice → Choice
+stored_choice ends (SendNew message) = SendNew (among_live ends message)
+stored_choice ends c = c
 
 module _ (ends : List LinkEnd) where
-  abbrev kept_of : Option Choice → Option Choice
-  kept_of o = option_map (kept_choice ends) o
+  abbrev stored_of : Option Choice → Option Choice
+  stored_of o = option_map (stored_choice ends) o
 
-  when_same : (b : Bool) (c : Choice) → kept_choice ends c ≡ c → when b c ≡ kept_of (when b c)
+  when_same : (b : Bool) (c : Choice) → stored_choice ends c ≡ c → when b c ≡ stored_of (when b c)
   when_same true c same = ap Some (sym same)
   when_same false c same = refl
 
-  else_same : (first first' next next' : Option Choice) → first' ≡ kept_of first → next' ≡ kept_of next →
-      or_else first' next' ≡ kept_of (or_else first next)
+  else_same : (first first' next next' : Option Choice) → first' ≡ stored_of first → next' ≡ stored_of next →
+      or_else first' next' ≡ stored_of (or_else first next)
   else_same None first' next next' e f = ap (λ (o : Option Choice). or_else o next') e ∙ f
   else_same (Some c) first' next next' e f = ap (λ (o : Option Choice). or_else o next') e
 
-  one_nak : (b : Bool) (reason : NakReason) (rest : Option Choice) → rest ≡ kept_of rest →
-      cond b (Some (SendNak reason)) rest ≡ kept_of (cond b (Some (SendNak reason)) rest)
+  one_nak : (b : Bool) (reason : NakReason) (rest : Option Choice) → rest ≡ stored_of rest →
+      cond b (Some (SendNak reason)) rest ≡ stored_of (cond b (Some (SendNak reason)) rest)
   one_nak true reason rest e = refl
   one_nak false reason rest e = e
 
-  nak_same : (owed : Owed) → lowest_nak owed ≡ kept_of (lowest_nak owed)
+  nak_same : (owed : Owed) → lowest_nak owed ≡ stored_of (lowest_nak owed)
   nak_same owed = one_nak owed.header_check HeaderCheck _
       (one_nak owed.data_check DataCheck _ (one_nak owed.rep_response RepResponse _ (one_nak owed.no_buffer NoBuffer None refl)))
 
   data_same : (new room : Bool) (o : Option LinkChoice) →
       cond new (cond room (new_packet (option_map (among_live ends) o)) None) (Some SendAgain)
-      ≡ kept_of (cond new (cond room (new_packet o) None) (Some SendAgain))
+      ≡ stored_of (cond new (cond room (new_packet o) None) (Some SendAgain))
   data_same true true None = refl
   data_same true true (Some message) = refl
   data_same true false o = refl
   data_same false room o = refl
 
   module _ {L : Type 0} (k : StationVariables L) (owed : Owed) (o : Option LinkChoice) where
-    in_state : (state : State) → choice_in state k owed (option_map (among_live ends) o) ≡ kept_of (choice_in state k owed o)
+    in_state : (state : State) → choice_in state k owed (option_map (among_live ends) o) ≡ stored_of (choice_in state k owed o)
     in_state Halted = refl
     in_state Istrt = when_same owed.strt SendStrt refl
     in_state Astrt = when_same owed.stack SendStack refl
@@ -152,7 +152,7 @@ module _ (ends : List LinkEnd) where
         (else_same (data_choice k o) (data_choice k (option_map (among_live ends) o)) (when owed.ack SendAck) (when owed.ack SendAck)
         (data_same (wire_is_new k) (nat_lt (length k.held) WINDOW) o) (when_same owed.ack SendAck refl)))
 
-    pub choice_live : choice k owed (option_map (among_live ends) o) ≡ kept_of (choice k owed o)
+    pub choice_live : choice k owed (option_map (among_live ends) o) ≡ stored_of (choice k owed o)
     choice_live = in_state k.state
 
 -- ---- its message
@@ -170,6 +170,6 @@ link_message_live ends (OfLink number turn) named =
 
 pub message_live : (ends : List LinkEnd) (c : Choice) → ((one : LinkChoice) → c ≡ SendNew one → NamesLive ends one) →
     (head : Head) (k : StationVariables (Unit {0})) →
-    message_of (kept_choice ends c) head k (live_ends ends) ≡ message_of c head k ends
+    message_of (stored_choice ends c) head k (live_ends ends) ≡ message_of c head k ends
 message_live ends (SendNew one) named head k = ap (new_data k head) (link_message_live ends one (named one refl))
 message_live ends c named head k = refl

@@ -18,7 +18,7 @@ use Rattle.dna_play.specs.LinkOwed.{LinkOwed, LinksOwed}
 use Rattle.dna_play.specs.Player.{End, variables_of, links_of, after_record}
 use Rattle.dna_play.specs.Stepped.{Stepped}
 use Rattle.dna_play.specs.Receipt.{complete, with_half, gets_all}
-use Rattle.dna_play.specs.KeptPlay.{ups}
+use Rattle.dna_play.specs.StoredPlay.{ups}
 use Rattle.dna_play.proofs.Played.Steps.{PlayHalf}
 use Rattle.dna_links.proofs.Cut.Ended.{Splits, splits}
 use Rattle.dna_links.proofs.Runs.Sides.{set_same}

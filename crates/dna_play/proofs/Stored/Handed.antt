@@ -1,8 +1,8 @@
 -- What the user of an end of the player does with a link that has an address, and the timer of a link.
 use Rattle.dna_links.specs.User as of_links
-use Rattle.dna_play.specs.KeptPlay as keeping
+use Rattle.dna_play.specs.StoredPlay as keeping
 use Rattle.capture.specs.declared.event.Event.TheVariants as events
-use Rattle.dna_play.specs.KeptLinks as kept_link
+use Rattle.dna_play.specs.StoredLinks as stored_link
 use Rattle.dna_play.specs.LinkOwed as links_owing
 use Rattle.std.proofs.Common.{◌≡◌, Result, refl, sym, ap, ◌∙◌, le-leb, length, subst, true, false, Bool, Option, Some, None, ◌&&◌, ℕ, ◌≤◌, List}
 use Rattle.capture.specs.Range.{IsLink}
@@ -25,11 +25,11 @@ use Rattle.dna_play.proofs.Links.Phases.{retried_is}
 use Rattle.dna_play.proofs.Stored.LiveEnds.{still_same, still_in_phase}
 use Rattle.dna_play.proofs.Stored.LiveLinks.{record_changed, live_at_lives, owed_set, record_set}
 use Rattle.dna_play.proofs.Stored.Made.{s, place, known, event_right, refused_right}
-use Rattle.dna_play.proofs.Stored.Now.{KeptNow}
-use Rattle.dna_play.proofs.Stored.Timers.{kept_silent}
+use Rattle.dna_play.proofs.Stored.Now.{StoredNow}
+use Rattle.dna_play.proofs.Stored.Timers.{stored_silent}
 use Rattle.dna_play.specs.HasLine.{has_line, are_bytes}
-use Rattle.dna_play.specs.Kept.{KeptLinks, kept}
-use Rattle.dna_play.specs.KeptPlay.{KeptStepped, if_so, with_links}
+use Rattle.dna_play.specs.StoredEnd.{StoredLinks, stored}
+use Rattle.dna_play.specs.StoredPlay.{StoredStepped, if_so, with_links}
 use Rattle.dna_play.specs.LinkOwed.{LinkOwed, NoDebt, Owes, DisconnectTurn, retried, with_turn}
 use Rattle.dna_play.specs.Play.{by_user, plays, retrying, no_more}
 use Rattle.dna_play.specs.Player.{End, links_of}
@@ -43,7 +43,7 @@ use Rattle.dna_play.proofs.Links.Debts.{when_set}
 use Rattle.dna_play.specs.Compose.{address}
 use Rattle.dna_play.proofs.Stored.Right.{IsRight, never_full, end_case, look_right}
 
-module _ (own other : End) (now : KeptNow own other) where
+module _ (own other : End) (now : StoredNow own other) where
   abbrev links : Links
   links = s own other now
 
@@ -104,31 +104,32 @@ module _ (own other : End) (now : KeptNow own other) where
     by_phase : (n : ℕ) (l : LinkOf TrueSegments) (o : LinkOwed) → IsFound (LiveAt address) links n l → slice_get own.links_owed.links n ≡ Some o →
         (b : Bool) → takes_messages l.port.phase ≡ b → IsRight own other (In address message)
         (if_so (b && nat_le (length message) MAX_MESSAGE) (keeping.made (events.In address message)
-        (with_links (kept_link.changed (place own other now n) (kept_link.handed message (end_of l o)) (kept own).links) (kept own))))
+        (with_links (stored_link.changed (place own other now n) (stored_link.handed message (end_of l o)) (stored own).links) (stored own))))
         (by_user own other.half (events.In address message) no_more)
     by_phase n l o found owes false may = refused_right own other now (In address message) (events.In address message)
         (of_links.In address message) refl no_more (λ left did. never_takes n l found may left did)
         (λ asks. differ (takes_messages l.port.phase) (takes_when l.port.phase (its_phase address n l Takes takes_live found asks)).0 may)
     by_phase n l o found owes true may =
         let left = with_segments (true_segments.hands_in message l.segments) l in
-        let kept_left = kept_link.changed (place own other now n) (kept_link.handed message (end_of l o)) (kept own).links in
+        let stored_left = stored_link.changed (place own other now n) (stored_link.handed message (end_of l o)) (stored own).links in
         subst (λ (b : Bool). IsRight own other (In address message)
-        (if_so b (keeping.made (events.In address message) (with_links kept_left (kept own))))
+        (if_so b (keeping.made (events.In address message) (with_links stored_left (stored own))))
         (by_user own other.half (events.In address message) no_more)) (sym (le-leb (length message) MAX_MESSAGE short))
         (event_right own other now (In address message) (events.In address message) (of_links.In address message) refl (changed n left links) NoDebt
-        kept_left lined bytes tt now.stage.few (in_goes links address message n l found may) tt
+        stored_left lined bytes tt now.stage.few (in_goes links address message n l found may) tt
         (record_set links.links own.links_owed n l o found.there owes (live_at_lives address l.port found.passed) now.counted left
         (live_at_lives address l.port found.passed)
-        ∙ ap (λ (x : LinkOwed). kept_link.changed (place own other now n) (end_of left x) (kept own).links) (still_same l left o refl refl))
+        ∙ ap (λ (x : LinkOwed). stored_link.changed (place own other now n) (end_of left x) (stored own).links) (still_same l left o refl refl))
         (has_link address n l Takes found (takes_is l.port.phase may)) (never_full own other (In address message) refl))
 
-    pub in_right : IsRight own other (In address message) (keeping.hands_in (kept own) address message) (plays own other.half (In address message))
+    pub in_right : IsRight own other (In address message) (keeping.hands_in (stored own) address message) (plays own other.half (In address message))
     unfolding plays
     in_right = end_case own other now (In address message)
-        (λ (k : Result KeptStepped Stop). IsRight own other (In address message) k (by_user own other.half (events.In address message) no_more))
+        (λ (k : Result StoredStepped Stop). IsRight own other (In address message) k (by_user own other.half (events.In address message) no_more))
         (LiveAt address) (live_at_lives address)
         (λ at link. if_so (takes_messages link.port.phase && nat_le (length message) MAX_MESSAGE)
-        (keeping.made (events.In address message) (with_links (kept_link.changed at (kept_link.handed message link) (kept own).links) (kept own))))
+        (keeping.made (events.In address message)
+        (with_links (stored_link.changed at (stored_link.handed message link) (stored own).links) (stored own))))
         (λ none. refused_right own other now (In address message) (events.In address message) (of_links.In address message) refl no_more
         (λ left did. nobody_takes left none did) (none_live address Takes takes_live none))
         (λ n l o found owes. by_phase n l o found owes (takes_messages l.port.phase) refl)
@@ -148,48 +149,49 @@ module _ (own other : End) (now : KeptNow own other) where
     closes_by : (n : ℕ) (l : LinkOf TrueSegments) (o : LinkOwed) → IsFound (LiveAt address) links n l → slice_get own.links_owed.links n ≡ Some o →
         (b : Bool) → is_connected l.port.phase ≡ b → IsRight own other (Close address)
         (if_so b (keeping.made (events.Close address)
-        (with_links (kept_link.changed (place own other now n) (kept_link.closed (end_of l o)) (kept own).links) (kept own))))
+        (with_links (stored_link.changed (place own other now n) (stored_link.closed (end_of l o)) (stored own).links) (stored own))))
         (by_user own other.half (events.Close address) (links_owing_more (Owes n DisconnectTurn)))
     closes_by n l o found owes true may =
         let left = in_phase Disconnecting l in
         event_right own other now (Close address) (events.Close address) (of_links.Close address) refl (changed n left links) (Owes n DisconnectTurn)
-        (kept_link.changed (place own other now n) (kept_link.closed (end_of l o)) (kept own).links) (close_line address linked) tt tt now.stage.few
+        (stored_link.changed (place own other now n) (stored_link.closed (end_of l o)) (stored own).links)
+        (close_line address linked) tt tt now.stage.few
         (close_goes links address n l found may) (when_set links n l left found.there)
         (record_changed links.links own.links_owed n l o found.there owes (live_at_lives address l.port found.passed) now.counted left
         (with_turn DisconnectTurn true) refl
-        ∙ ap (λ (x : LinkOwed). kept_link.changed (place own other now n) (end_of left (with_turn DisconnectTurn true x)) (kept own).links)
+        ∙ ap (λ (x : LinkOwed). stored_link.changed (place own other now n) (end_of left (with_turn DisconnectTurn true x)) (stored own).links)
         (still_in_phase l left o refl))
         (has_link address n l Connected found (connected_is l.port.phase may)) (never_full own other (Close address) refl)
     closes_by n l o found owes false may = refused_right own other now (Close address) (events.Close address) (of_links.Close address) refl
         (links_owing_more (Owes n DisconnectTurn)) (λ left did. never_closes n l found may left did)
         (λ asks. differ (is_connected l.port.phase) (connected_when l.port.phase (its_phase address n l Connected connected_live found asks)).0 may)
 
-    pub close_right : IsRight own other (Close address) (keeping.closes (kept own) address) (plays own other.half (Close address))
+    pub close_right : IsRight own other (Close address) (keeping.closes (stored own) address) (plays own other.half (Close address))
     unfolding plays
     close_right = look_right own other now (Close address) (LiveAt address) (live_at_lives address)
         (λ number found. by_user own other.half (events.Close address) (links_owing_more (Owes number DisconnectTurn)))
         (λ at link. if_so (is_connected link.port.phase)
-        (keeping.made (events.Close address) (with_links (kept_link.changed at (kept_link.closed link) (kept own).links) (kept own))))
+        (keeping.made (events.Close address) (with_links (stored_link.changed at (stored_link.closed link) (stored own).links) (stored own))))
         (none_live address Connected connected_live) (λ n l o found owes. closes_by n l o found owes (is_connected l.port.phase) refl)
 
   -- ---- the timer of a link
 
-  pub retry_right : (address : ℕ) → IsRight own other (Retry address) (keeping.retries (kept own) address) (plays own other.half (Retry address))
+  pub retry_right : (address : ℕ) → IsRight own other (Retry address) (keeping.retries (stored own) address) (plays own other.half (Retry address))
   unfolding plays
   retry_right address = look_right own other now (Retry address) (LiveAt address) (live_at_lives address)
       (λ number found. retrying own number (retried found.port.phase))
-      (λ at link. keeping.retrying (kept own) at link (retried link.port.phase)) (none_live address Retried retries_live)
+      (λ at link. keeping.retrying (stored own) at link (retried link.port.phase)) (none_live address Retried retries_live)
       (λ n l o found owes. go n l o found owes (retried l.port.phase) refl (retried_is l.port.phase))
     where
       go : (n : ℕ) (l : LinkOf TrueSegments) (o : LinkOwed) → IsFound (LiveAt address) links n l → slice_get own.links_owed.links n ≡ Some o →
           (change : Option (LinkOwed → LinkOwed)) → retried l.port.phase ≡ change → IsRetried l.port.phase change →
-          IsRight own other (Retry address) (keeping.retrying (kept own) (place own other now n) (end_of l o) change) (retrying own n change)
+          IsRight own other (Retry address) (keeping.retrying (stored own) (place own other now n) (end_of l o) change) (retrying own n change)
       go n l o found owes None is never = (λ asks. never (its_phase address n l Retried retries_live found asks), refl)
       go n l o found owes (Some change) is may = record {
         stage = retry_stage own now.stage n l change found.there is;
         asks = has_link address n l Retried found may;
         room = never_full own other (Retry address) refl;
-        same = kept_silent own (record own { links_owed = links_owing.changed n change own.links_owed }) refl
-            ∙ ap (λ (kept_now : KeptLinks). keeping.silent (with_links kept_now (kept own)))
+        same = stored_silent own (record own { links_owed = links_owing.changed n change own.links_owed }) refl
+            ∙ ap (λ (stored_now : StoredLinks). keeping.silent (with_links stored_now (stored own)))
             (owed_set links.links own.links_owed n l o found.there owes (live_at_lives address l.port found.passed) change);
       }

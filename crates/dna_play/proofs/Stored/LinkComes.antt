@@ -20,8 +20,8 @@ use Rattle.dna_links.specs.CutLinks.{ArrivesNear}
 use Rattle.dna_play.specs.LinkOwed.{LinkOwed, LinksOwed, LinkDebt, NoDebt, Owes, ConnectAckTurn, ConfirmTurn, DataAckTurn, Turn, with_turn, with_debt}
 use Rattle.dna_play.specs.LinkOwed.{repeated_call_debt, confirm_debt, message_debt, still_owed}
 use Rattle.dna_play.specs.NextSent.{LinkEnd}
-use Rattle.dna_play.specs.Kept.{KeptLinks}
-use Rattle.dna_play.specs.KeptLinks as keeping
+use Rattle.dna_play.specs.StoredEnd.{StoredLinks}
+use Rattle.dna_play.specs.StoredLinks as keeping
 use Rattle.dna_links.proofs.Cut.SegmentsArriving.{takes_acks_same}
 use Rattle.dna_links.proofs.Tables.Outcomes.{IsFound, looked, checked}
 use Rattle.dna_play.proofs.Once.Addresses.{LinkList}
@@ -29,7 +29,7 @@ use Rattle.dna_play.proofs.Links.Pays.{with_found, without_found}
 use Rattle.dna_play.proofs.Links.Stage.{left_links}
 use Rattle.dna_play.proofs.Stored.LiveLists.{set_back}
 use Rattle.dna_play.proofs.Stored.LiveEnds.{Counted, left_same, still_in_phase}
-use Rattle.dna_play.proofs.Stored.LiveLinks.{kept_links, place_among, NeedsLife, the_link_lives, live_to_lives, calling_at_lives, acted_on_lives}
+use Rattle.dna_play.proofs.Stored.LiveLinks.{stored_links, place_among, NeedsLife, the_link_lives, live_to_lives, calling_at_lives, acted_on_lives}
 use Rattle.dna_play.proofs.Stored.LiveLinks.{live_there, owed_set, record_set, record_changed, record_dropped, record_same, record_begun, look_kept}
 use Rattle.dna_play.proofs.Links.Choices.{end_of}
 
@@ -46,22 +46,23 @@ acted_end l g o v same = ap (λ (after : LinkVariables). keeping.acted_on after 
 module _ (rule : PartnerRule) (s : Links) (owed : LinksOwed) (counted : Counted s.links owed)
     (ordered : (i : ℕ) (l : LinkOf TrueSegments) → slice_get s.links i ≡ Some l → IsOrdered l.segments) (truth : LinkTruth Numbers)
     (left : Links) where
-  abbrev live : KeptLinks
-  live = kept_links s.links owed
+  abbrev live : StoredLinks
+  live = stored_links s.links owed
 
   abbrev place : ℕ → ℕ
   place n = place_among s.links owed n
 
   -- with these links, and this newly owed
-  abbrev after_all : Links → LinkDebt → KeptLinks
-  after_all all debt = kept_links all.links (with_debt debt (left_links s.links all.links owed))
+  abbrev after_all : Links → LinkDebt → StoredLinks
+  after_all all debt = stored_links all.links (with_debt debt (left_links s.links all.links owed))
 
-  abbrev after : LinkDebt → KeptLinks
+  abbrev after : LinkDebt → StoredLinks
   after debt = after_all left debt
 
   -- ---- what is left
 
-  leaves : (all : Links) (debt : LinkDebt) (these : KeptLinks) → ◌≡◌ {A = Result Links LinkRefusal} (Ok all) (Ok left) → after_all all debt ≡ these →
+  leaves : (all : Links) (debt : LinkDebt) (these : StoredLinks) → ◌≡◌ {A = Result Links LinkRefusal} (Ok all) (Ok left) →
+      after_all all debt ≡ these →
       after debt ≡ these
   leaves all debt these e same = subst (λ (x : Links). after_all x debt ≡ these) (same_links all e) same
     where
@@ -81,7 +82,7 @@ module _ (rule : PartnerRule) (s : Links) (owed : LinksOwed) (counted : Counted 
     -- but this link owes more
     owes_more : (turn : Turn) → after_all s (Owes n turn) ≡ keeping.changed (place n) (keeping.owes turn (end_of l o)) live
     owes_more turn =
-        ap (λ (w : LinksOwed). kept_links s.links (with_debt (Owes n turn) w)) (left_same s.links owed counted)
+        ap (λ (w : LinksOwed). stored_links s.links (with_debt (Owes n turn) w)) (left_same s.links owed counted)
         ∙ owed_set s.links owed n l o found.there owes (needs l.port found.passed) (with_turn turn true)
 
     -- and this link stays as it is
@@ -169,8 +170,8 @@ module _ (rule : PartnerRule) (s : Links) (owed : LinksOwed) (counted : Counted 
   -- ---- DI, DC
 
   -- where this is owed if no link ends, and that if one does
-  module _ (dst src : ℕ) (none_owes owes_then : LinkDebt) (none_kept : KeptLinks) (then_owes : KeptLinks → KeptLinks)
-      (same_then : (links : LinkList) (w : LinksOwed) → kept_links links (with_debt owes_then w) ≡ then_owes (kept_links links w))
+  module _ (dst src : ℕ) (none_owes owes_then : LinkDebt) (none_kept : StoredLinks) (then_owes : StoredLinks → StoredLinks)
+      (same_then : (links : LinkList) (w : LinksOwed) → stored_links links (with_debt owes_then w) ≡ then_owes (stored_links links w))
       (same_none : after_all s none_owes ≡ none_kept) where
     one_ends : (n : ℕ) (l : LinkOf TrueSegments) (o : LinkOwed) (test : LinkTest) → NeedsLife test → IsFound test s n l →
         slice_get owed.links n ≡ Some o →
@@ -241,7 +242,7 @@ module _ (rule : PartnerRule) (s : Links) (owed : LinksOwed) (counted : Counted 
   -- ---- by message
 
   pub message_kept : (m : NspValue) → NoSegment m → ArrivesNear rule s m truth → message_arrived true_segments rule s m truth ≡ Ok left →
-      kept_links left.links (with_debt (message_debt s m) (left_links s.links left.links owed)) ≡ keeping.message_came m (kept_links s.links owed)
+      stored_links left.links (with_debt (message_debt s m) (left_links s.links left.links owed)) ≡ keeping.message_came m (stored_links s.links owed)
   message_kept (ConnectInitiate retransmitted src services info segsize user_data) is near e = call_kept src segsize e
   message_kept (ConnectAck dst) is near e = leaves s NoDebt live e stay
   message_kept (NoOperation rest) is near e = leaves s NoDebt live e stay

@@ -14,9 +14,9 @@ use Rattle.dna_links.specs.TrueLinks.{Links}
 use Rattle.dna_play.specs.LinkOwed.{LinkOwed, LinksOwed, nothing, still_owed}
 use Rattle.dna_play.specs.LinkOwed as owing
 use Rattle.dna_play.specs.NextSent.{LinkEnd, link_ends}
-use Rattle.dna_play.specs.Kept.{KeptLinks, live_ends}
-use Rattle.dna_play.specs.KeptLinks.{place_of, on_end, at_place, with_end}
-use Rattle.dna_play.specs.KeptLinks as keeping
+use Rattle.dna_play.specs.StoredEnd.{StoredLinks, live_ends}
+use Rattle.dna_play.specs.StoredLinks.{place_of, on_end, at_place, with_end}
+use Rattle.dna_play.specs.StoredLinks as keeping
 use Rattle.dna_play.proofs.Links.Phases.{connected_is, connected_when, called_is, calling_is}
 use Rattle.dna_play.proofs.Once.Addresses.{LinkList}
 use Rattle.dna_play.proofs.Links.Stage.{left_links}
@@ -27,8 +27,8 @@ use Rattle.dna_play.proofs.Stored.LiveEnds.{left_set, left_changed, left_begun}
 use Rattle.dna_play.proofs.Links.Choices.{end_of}
 
 -- what a node keeps of these links, with what they owe
-abbrev pub kept_links : LinkList → LinksOwed → KeptLinks
-kept_links links owed = record { links = live_ends (link_ends links owed.links); confirms = owed.confirms }
+abbrev pub stored_links : LinkList → LinksOwed → StoredLinks
+stored_links links owed = record { links = live_ends (link_ends links owed.links); confirms = owed.confirms }
 
 abbrev is_live_end : LinkEnd → Bool
 is_live_end l = is_live l.port.phase
@@ -72,30 +72,30 @@ module _ (links : LinkList) (owed : LinksOwed) where
     stands = ends_get links owed.links n l o there owes
 
     -- it stands among those that live
-    pub live_there : slice_get (kept_links links owed).links (place_among n) ≡ Some (end_of l o)
+    pub live_there : slice_get (stored_links links owed).links (place_among n) ≡ Some (end_of l o)
     live_there = filter_get is_live_end (link_ends links owed.links) n (end_of l o) stands lives
 
     -- it changes
     pub live_set : (k : LinkOf TrueSegments) (left : LinkOwed) → is_live k.port.phase ≡ true →
-        kept_links (slice_set links n k) (with_owed (slice_set owed.links n left) owed)
-        ≡ keeping.changed (place_among n) (end_of k left) (kept_links links owed)
+        stored_links (slice_set links n k) (with_owed (slice_set owed.links n left) owed)
+        ≡ keeping.changed (place_among n) (end_of k left) (stored_links links owed)
     live_set k left still = ap (λ (all : List LinkEnd). record { links = all; confirms = owed.confirms })
         (ap live_ends (ends_set links owed.links n k left)
         ∙ filter_set is_live_end (link_ends links owed.links) n (end_of l o) (end_of k left) stands lives still)
 
     -- it ends
     pub live_dropped : (k : LinkOf TrueSegments) (left : LinkOwed) → is_live k.port.phase ≡ false →
-        kept_links (slice_set links n k) (with_owed (slice_set owed.links n left) owed) ≡ keeping.ended (place_among n) (kept_links links owed)
+        stored_links (slice_set links n k) (with_owed (slice_set owed.links n left) owed) ≡ keeping.ended (place_among n) (stored_links links owed)
     live_dropped k left over = ap (λ (all : List LinkEnd). record { links = all; confirms = owed.confirms })
         (ap live_ends (ends_set links owed.links n k left)
         ∙ filter_drop is_live_end (link_ends links owed.links) n (end_of l o) (end_of k left) stands lives over)
 
     -- what it owes changes, and nothing else
     pub owed_set : (change : LinkOwed → LinkOwed) →
-        kept_links links (owing.changed n change owed) ≡ keeping.changed (place_among n) (end_of l (change o)) (kept_links links owed)
+        stored_links links (owing.changed n change owed) ≡ keeping.changed (place_among n) (end_of l (change o)) (stored_links links owed)
     owed_set change =
-        ap (kept_links links) (owed_changed owed n o change owes)
-        ∙ ap (λ (all : LinkList). kept_links all (with_owed (slice_set owed.links n (change o)) owed)) (sym (set_back links n l there))
+        ap (stored_links links) (owed_changed owed n o change owes)
+        ∙ ap (λ (all : LinkList). stored_links all (with_owed (slice_set owed.links n (change o)) owed)) (sym (set_back links n l there))
         ∙ live_set l (change o) lives
 
     -- ---- after a record
@@ -103,48 +103,48 @@ module _ (links : LinkList) (owed : LinksOwed) where
     module _ (counted : Counted links owed) where
       -- it changes, and what it still owes
       pub record_set : (k : LinkOf TrueSegments) → is_live k.port.phase ≡ true →
-          kept_links (slice_set links n k) (left_links links (slice_set links n k) owed)
-          ≡ keeping.changed (place_among n) (end_of k (still_owed l k o)) (kept_links links owed)
-      record_set k still = ap (kept_links (slice_set links n k)) (left_set links owed counted n l k o there owes)
+          stored_links (slice_set links n k) (left_links links (slice_set links n k) owed)
+          ≡ keeping.changed (place_among n) (end_of k (still_owed l k o)) (stored_links links owed)
+      record_set k still = ap (stored_links (slice_set links n k)) (left_set links owed counted n l k o there owes)
           ∙ live_set k (still_owed l k o) still
 
       -- and then what it owes, as by a turn that it owes more, or that was sent
       pub record_changed : (k : LinkOf TrueSegments) (change : LinkOwed → LinkOwed) → is_live k.port.phase ≡ true →
-          kept_links (slice_set links n k) (owing.changed n change (left_links links (slice_set links n k) owed))
-          ≡ keeping.changed (place_among n) (end_of k (change (still_owed l k o))) (kept_links links owed)
+          stored_links (slice_set links n k) (owing.changed n change (left_links links (slice_set links n k) owed))
+          ≡ keeping.changed (place_among n) (end_of k (change (still_owed l k o))) (stored_links links owed)
       record_changed k change still =
-          ap (kept_links (slice_set links n k)) (left_changed links owed counted n l k o there owes change)
+          ap (stored_links (slice_set links n k)) (left_changed links owed counted n l k o there owes change)
           ∙ live_set k (change (still_owed l k o)) still
 
       -- it ends
       pub record_dropped : (k : LinkOf TrueSegments) → is_live k.port.phase ≡ false →
-          kept_links (slice_set links n k) (left_links links (slice_set links n k) owed) ≡ keeping.ended (place_among n) (kept_links links owed)
-      record_dropped k over = ap (kept_links (slice_set links n k)) (left_set links owed counted n l k o there owes)
+          stored_links (slice_set links n k) (left_links links (slice_set links n k) owed) ≡ keeping.ended (place_among n) (stored_links links owed)
+      record_dropped k over = ap (stored_links (slice_set links n k)) (left_set links owed counted n l k o there owes)
           ∙ live_dropped k (still_owed l k o) over
 
   -- ---- all links, after a record
 
   module _ (counted : Counted links owed) where
     -- none changes
-    pub record_same : kept_links links (left_links links links owed) ≡ kept_links links owed
-    record_same = ap (kept_links links) (left_same links owed counted)
+    pub record_same : stored_links links (left_links links links owed) ≡ stored_links links owed
+    record_same = ap (stored_links links) (left_same links owed counted)
 
     begun_with : (k : LinkOf TrueSegments) (o : LinkOwed) → is_live k.port.phase ≡ true →
-        kept_links (links ++ k ∷ []) (with_owed (owed.links ++ o ∷ []) owed) ≡ keeping.begun (end_of k o) (kept_links links owed)
+        stored_links (links ++ k ∷ []) (with_owed (owed.links ++ o ∷ []) owed) ≡ keeping.begun (end_of k o) (stored_links links owed)
     begun_with k o lives = ap (λ (all : List LinkEnd). record { links = all; confirms = owed.confirms })
         (ap live_ends (ends_push links owed.links k o counted) ∙ filter_push is_live_end (link_ends links owed.links) (end_of k o) lives)
 
     -- a new one, and what it owes
     pub record_begun : (k : LinkOf TrueSegments) (change : LinkOwed → LinkOwed) → is_live k.port.phase ≡ true →
-        kept_links (links ++ k ∷ []) (owing.changed (length links) change (left_links links (links ++ k ∷ []) owed))
-        ≡ keeping.begun (end_of k (change nothing)) (kept_links links owed)
-    record_begun k change lives = ap (kept_links (links ++ k ∷ [])) (left_begun links owed counted k change) ∙ begun_with k (change nothing) lives
+        stored_links (links ++ k ∷ []) (owing.changed (length links) change (left_links links (links ++ k ∷ []) owed))
+        ≡ keeping.begun (end_of k (change nothing)) (stored_links links owed)
+    record_begun k change lives = ap (stored_links (links ++ k ∷ [])) (left_begun links owed counted k change) ∙ begun_with k (change nothing) lives
 
 -- ---- look-ups
 
 module _ (test : LinkTest) (needs : NeedsLife test) (s : Links) (owed : LinksOwed) (counted : Counted s.links owed) where
-  abbrev live : KeptLinks
-  live = kept_links s.links owed
+  abbrev live : StoredLinks
+  live = stored_links s.links owed
 
   -- the same link is found, at its place among those that live
   pub place_found : place_of test live.links ≡ option_map (place_among s.links owed) (number_of test s)

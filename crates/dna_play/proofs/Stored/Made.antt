@@ -1,7 +1,7 @@
 -- What the user of an end of the player does: a start, a halt, and what is done with its links, by what becomes of these.
-use Rattle.dna_play.specs.KeptPlay as keeping
+use Rattle.dna_play.specs.StoredPlay as keeping
 use Rattle.capture.specs.declared.event.Event.TheVariants as events
-use Rattle.dna_play.specs.KeptStation as kept_station
+use Rattle.dna_play.specs.StoredStation as stored_station
 use Rattle.dna_play.specs.LinkOwed as links_owing
 use Rattle.dna_station.specs.declared.state.State.TheVariants as states
 use Rattle.dna_station.specs.declared.state.StationEvent.TheVariants as station_events
@@ -26,12 +26,12 @@ use Rattle.dna_play.proofs.Once.Orderly.{IsHigher, higher}
 use Rattle.dna_play.proofs.Played.Cases.{made_case}
 use Rattle.dna_play.proofs.Played.Steps.{PlayHalf}
 use Rattle.dna_play.proofs.Stored.LiveEnds.{left_same}
-use Rattle.dna_play.proofs.Stored.LiveLinks.{kept_links, place_among}
-use Rattle.dna_play.proofs.Stored.Now.{KeptNow, facts_of}
+use Rattle.dna_play.proofs.Stored.LiveLinks.{stored_links, place_among}
+use Rattle.dna_play.proofs.Stored.Now.{StoredNow, facts_of}
 use Rattle.dna_play.proofs.Stored.Timers.{none_behind}
 use Rattle.dna_play.specs.HasLine.{has_line}
-use Rattle.dna_play.specs.Kept.{KeptLinks, KeptEnd, kept, KeptStation}
-use Rattle.dna_play.specs.KeptRun.{bytes_of, kept_stepped}
+use Rattle.dna_play.specs.StoredEnd.{StoredLinks, StoredEnd, stored, StoredStation}
+use Rattle.dna_play.specs.StoredRun.{bytes_of, stored_stepped}
 use Rattle.dna_play.specs.LinkOwed.{LinkDebt, with_debt}
 use Rattle.dna_play.specs.Owed.{OwesStrt, Owed, same_state, unless_left, all_acknowledged, still_owed}
 use Rattle.dna_play.specs.Play.{by_user, plays, with_address}
@@ -45,7 +45,7 @@ use Rattle.dna_station.specs.declared.state.State.TheVariants.{Halted, Istrt, As
 use Rattle.dna_station.specs.declared.state.State.{State}
 use Rattle.dna_play.specs.Compose.{address}
 use Rattle.dna_play.proofs.Stored.Right.{IsRight, never_full}
-use Rattle.dna_play.specs.KeptPlay.{with_links}
+use Rattle.dna_play.specs.StoredPlay.{with_links}
 
 -- ---- the station, where nothing becomes of it
 
@@ -66,13 +66,13 @@ owed_same k owed pays =
 -- ---- an event that is made
 
 -- it sends nothing, and is the one record
-kept_made : (own e : End) (event : Event) → e.half.sent ≡ own.half.sent →
-    kept_stepped own (Ok (record { end = e; records = User event ∷ [] })) ≡ keeping.made event (kept e)
-kept_made own e event same =
-    ap (λ (sent : List (List ℕ)). Ok (record { end = kept e; sent = sent; records = User event ∷ [] }))
+stored_made : (own e : End) (event : Event) → e.half.sent ≡ own.half.sent →
+    stored_stepped own (Ok (record { end = e; records = User event ∷ [] })) ≡ keeping.made event (stored e)
+stored_made own e event same =
+    ap (λ (sent : List (List ℕ)). Ok (record { end = stored e; sent = sent; records = User event ∷ [] }))
     (ap (λ (units : List LayersUnit). drop (length own.half.sent) (bytes_of units)) same ∙ none_behind own.half.sent)
 
-module _ (own other : End) (now : KeptNow own other) where
+module _ (own other : End) (now : StoredNow own other) where
   abbrev pub s : Links
   s = links_of own.half
 
@@ -85,60 +85,60 @@ module _ (own other : End) (now : KeptNow own other) where
 
   -- ---- of the station
 
-  links_stay : kept_links s.links (record own.links_owed { links = links_owing.all_still_owed s.links s.links own.links_owed.links })
-      ≡ (kept own).links
-  links_stay = ap (kept_links s.links) (left_same s.links own.links_owed now.counted)
+  links_stay : stored_links s.links (record own.links_owed { links = links_owing.all_still_owed s.links s.links own.links_owed.links })
+      ≡ (stored own).links
+  links_stay = ap (stored_links s.links) (left_same s.links own.links_owed now.counted)
 
   -- the end as its node keeps it, with this station
-  abbrev with_this : KeptStation → KeptEnd
-  with_this station = keeping.with_station station (kept own)
+  abbrev with_this : StoredStation → StoredEnd
+  with_this station = keeping.with_station station (stored own)
 
-  pub start_right : IsRight own other Start (keeping.starts (kept own)) (plays own other.half Start)
+  pub start_right : IsRight own other Start (keeping.starts (stored own)) (plays own other.half Start)
   unfolding plays end_step
   start_right = go (station_of own.half).state refl
     where
-      station : KeptStation
-      station = kept_station.owing (Some OwesStrt) (kept_station.after_event station_events.Start (kept own).station)
+      station : StoredStation
+      station = stored_station.owing (Some OwesStrt) (stored_station.after_event station_events.Start (stored own).station)
 
       left : End
       left = after_record own (after_user own.half other.half own.half station_events.Start)
 
       go : (state : State) → (station_of own.half).state ≡ state → IsRight own other Start
           (keeping.unless_refused (user_refusal state station_events.Start) (keeping.made events.Start (with_this
-          (kept_station.owing (Some OwesStrt) (kept_station.after_event station_events.Start (kept own).station)))))
+          (stored_station.owing (Some OwesStrt) (stored_station.after_event station_events.Start (stored own).station)))))
           (made own (User events.Start) (owing_more (Some OwesStrt)) (started own.half other.half own.half state))
       go Halted is = record {
         stage = strt_stage _ (start_event_stage own now.stage known.numbers is);
         asks = is;
         room = never_full own other Start refl;
-        same = kept_made own (owing_more (Some OwesStrt) left) events.Start refl
-            ∙ ap (λ (links : KeptLinks). keeping.made events.Start (with_links links (with_this station))) links_stay;
+        same = stored_made own (owing_more (Some OwesStrt) left) events.Start refl
+            ∙ ap (λ (links : StoredLinks). keeping.made events.Start (with_links links (with_this station))) links_stay;
       }
       go Istrt is = (λ halted. let e = sym is ∙ halted in cc, refl)
       go Astrt is = (λ halted. let e = sym is ∙ halted in cc, refl)
       go states.Running is = (λ halted. let e = sym is ∙ halted in cc, refl)
 
-  pub halt_right : IsRight own other Halt (keeping.halts (kept own)) (plays own other.half Halt)
+  pub halt_right : IsRight own other Halt (keeping.halts (stored own)) (plays own other.half Halt)
   unfolding plays end_step
   halt_right = record {
     stage = halt_event_stage own now.stage known.numbers;
     asks = tt;
     room = never_full own other Halt refl;
-    same = kept_made own (after_record own (after_user own.half other.half own.half station_events.Halt)) events.Halt refl
-        ∙ ap (λ (links : KeptLinks). keeping.made events.Halt (with_links links
-        (with_this (kept_station.after_event station_events.Halt (kept own).station)))) links_stay;
+    same = stored_made own (after_record own (after_user own.half other.half own.half station_events.Halt)) events.Halt refl
+        ∙ ap (λ (links : StoredLinks). keeping.made events.Halt (with_links links
+        (with_this (stored_station.after_event station_events.Halt (stored own).station)))) links_stay;
   }
 
   -- ---- of the links
 
   -- what an end then is, as its node keeps it
-  abbrev pub KeptBy : ℕ → KeptLinks → KeptEnd
-  KeptBy address links = with_links links (record (kept own) { addresses = address })
+  abbrev pub StoredBy : ℕ → StoredLinks → StoredEnd
+  StoredBy address links = with_links links (record (stored own) { addresses = address })
 
   -- what becomes of the links, with what is owed then
-  abbrev pub left_kept : Links → LinkDebt → KeptLinks
+  abbrev pub left_kept : Links → LinkDebt → StoredLinks
   left_kept left debt =
-      kept_links left.links (with_debt debt (record own.links_owed { links = links_owing.all_still_owed s.links left.links own.links_owed.links }))
+      stored_links left.links (with_debt debt (record own.links_owed { links = links_owing.all_still_owed s.links left.links own.links_owed.links }))
 
   module _ (step : StepValue) (event : Event) (value : LinkEventValue) (is : link_event event ≡ Some value) where
     -- the highest address that is given then
@@ -146,23 +146,23 @@ module _ (own other : End) (now : KeptNow own other) where
     top = higher own.addresses (given_address value)
 
     -- it is made
-    pub event_right : (left : Links) (debt : LinkDebt) (links : KeptLinks) → has_line (User event) ≡ true → EventFits value →
+    pub event_right : (left : Links) (debt : LinkDebt) (links : StoredLinks) → has_line (User event) ≡ true → EventFits value →
         IsHigher own.addresses (given_address value) → higher own.addresses (given_address value) ≤ MAX_LINK → links_user s value ≡ Ok left →
         DebtHolds left.links (higher own.addresses (given_address value)) debt → left_kept left debt ≡ links → Asks own other.half step →
-        ¬ (IsFull own step) → IsRight own other step (keeping.made event (KeptBy (higher own.addresses (given_address value)) links))
+        ¬ (IsFull own step) → IsRight own other step (keeping.made event (StoredBy (higher own.addresses (given_address value)) links))
         (by_user (with_address own (higher own.addresses (given_address value))) other.half event (links_owing_more debt))
     event_right left debt links lined fits less few does holds same asks room =
         let e : End = after_record (with_address own top) (with_left own.half left) in
         let stays = owed_same (variables_of own.half) own.owed now.stage.pays.rep in
-        subst (λ (o : Option PlayHalf). IsRight own other step (keeping.made event (KeptBy top links))
+        subst (λ (o : Option PlayHalf). IsRight own other step (keeping.made event (StoredBy top links))
         (made (with_address own top) (User event) (links_owing_more debt) o))
         (sym (event_makes own.half other.half event value left is lined does)) (record {
           stage = link_debt_stage e
               (link_event_stage own now.stage known.numbers (links_of other.half).links known.addressed value left fits less few does) debt holds;
           asks = asks;
           room = room;
-          same = kept_made own (links_owing_more debt e) event refl
-              ∙ ap₂ (λ (owed : Owed) (links : KeptLinks). keeping.made event (record (KeptBy top links) {
+          same = stored_made own (links_owing_more debt e) event refl
+              ∙ ap₂ (λ (owed : Owed) (links : StoredLinks). keeping.made event (record (StoredBy top links) {
                 station = record { variables = variables_of own.half; owed = owed };
               })) stays same;
         })

@@ -5,14 +5,14 @@ use Rattle.dna_play.specs.ScriptText.{IsStep, IsScript}
 use Rattle.dna_play.specs.Stepped.{Stop}
 use Rattle.dna_play.specs.Played.{Played, plays_step, play}
 use Rattle.dna_play.specs.PlayRun.{StartsOnce}
-use Rattle.dna_play.specs.KeptPlayed.{kept_plays_step}
-use Rattle.dna_play.specs.KeptRun.{kept_pair}
+use Rattle.dna_play.specs.StoredPlayed.{stored_plays_step}
+use Rattle.dna_play.specs.StoredRun.{stored_pair}
 use Rattle.dna_play.proofs.Played.Reached.{whole_reached}
 use Rattle.dna_play.proofs.Stored.Pairs.{GoesAlong}
 use Rattle.dna_play.proofs.Stored.Law.{next_along}
 
 module _ (script : Script) (all : IsScript script) (so_far : Played) (e : play script ≡ Ok so_far) (once : StartsOnce script.steps) where
-  pub stops_too : (step : ScriptStep) (stop : Stop) → IsStep step → kept_plays_step (kept_pair so_far) step ≡ Err stop →
+  pub stops_too : (step : ScriptStep) (stop : Stop) → IsStep step → stored_plays_step (stored_pair so_far) step ≡ Err stop →
       plays_step so_far step ≡ Err stop
   stops_too step stop fits stops =
       by_step (plays_step so_far step)

@@ -13,15 +13,15 @@ use Rattle.dna_play.proofs.Played.Cases.{made_case}
 use Rattle.dna_play.proofs.Played.Runs.{line_makes, makes_tells}
 use Rattle.dna_play.proofs.Played.Steps.{PlayHalf}
 use Rattle.dna_play.proofs.Stored.LiveEnds.{left_same}
-use Rattle.dna_play.proofs.Stored.LiveLinks.{kept_links}
-use Rattle.dna_play.proofs.Stored.Now.{KeptNow, facts_of}
+use Rattle.dna_play.proofs.Stored.LiveLinks.{stored_links}
+use Rattle.dna_play.proofs.Stored.Now.{StoredNow, facts_of}
 use Rattle.dna_play.proofs.Stored.Stations.{damage_came}
 use Rattle.dna_play.proofs.Stored.Timers.{none_behind}
 use Rattle.dna_play.specs.HasLine.{has_line, numbers_fit, are_bytes}
-use Rattle.dna_play.specs.Kept.{KeptStation, KeptLinks, kept}
-use Rattle.dna_play.specs.KeptPlay as keeping
-use Rattle.dna_play.specs.KeptPlay.{KeptStepped}
-use Rattle.dna_play.specs.KeptRun.{kept_stepped}
+use Rattle.dna_play.specs.StoredEnd.{StoredStation, StoredLinks, stored}
+use Rattle.dna_play.specs.StoredPlay as keeping
+use Rattle.dna_play.specs.StoredPlay.{StoredStepped}
+use Rattle.dna_play.specs.StoredRun.{stored_stepped}
 use Rattle.dna_play.specs.Play.{plays}
 use Rattle.dna_play.specs.Player.{End, end_step, makes, station_of, links_of, after_record}
 use Rattle.dna_play.specs.Receipt.{heard}
@@ -67,7 +67,7 @@ module _ (own other : PlayHalf) where
 
 -- ---- the end after it
 
-module _ (own other : End) (now : KeptNow own other) (bytes : List ℕ) (lined : has_line (recorded.Noise bytes) ≡ true) where
+module _ (own other : End) (now : StoredNow own other) (bytes : List ℕ) (lined : has_line (recorded.Noise bytes) ≡ true) where
   known : Known own other
   known = (facts_of now).known
 
@@ -79,36 +79,36 @@ module _ (own other : End) (now : KeptNow own other) (bytes : List ℕ) (lined :
   few_bytes : nat_le (length bytes) MAX_UNIT ≡ true
   few_bytes = (and_parts (are_bytes bytes) (nat_le (length bytes) MAX_UNIT) (and_parts (numbers_fit (recorded.Noise bytes)) _ lined).1).1
 
-  links_stay : kept_links (links_of own.half).links (after_record own own.half).links_owed ≡ (kept own).links
-  links_stay = ap (kept_links (links_of own.half).links) (left_same (links_of own.half).links own.links_owed now.counted)
+  links_stay : stored_links (links_of own.half).links (after_record own own.half).links_owed ≡ (stored own).links
+  links_stay = ap (stored_links (links_of own.half).links) (left_same (links_of own.half).links own.links_owed now.counted)
 
   -- the end after damage, as its node keeps it
   heard_by : (d : ShownDamage) →
-      kept_stepped own (made own (recorded.Noise bytes) (heard own (read_of d)) (Some (damage_left own.half other.half d)))
-      ≡ keeping.heard (kept own) bytes (read_of d)
+      stored_stepped own (made own (recorded.Noise bytes) (heard own (read_of d)) (Some (damage_left own.half other.half d)))
+      ≡ keeping.heard (stored own) bytes (read_of d)
   heard_by d =
       ap (λ (sent : List (List ℕ)). Ok (record {
-        end = kept (heard own (read_of d) (after_record own (damage_left own.half other.half d)));
+        end = stored (heard own (read_of d) (after_record own (damage_left own.half other.half d)));
         sent = sent;
         records = recorded.Noise bytes ∷ [];
       })) (none_behind own.half.sent)
-      ∙ ap₂ (λ (station : KeptStation) (links : KeptLinks). Ok (record {
-        end = record (kept own) { station = station; links = links };
+      ∙ ap₂ (λ (station : StoredStation) (links : StoredLinks). Ok (record {
+        end = record (stored own) { station = station; links = links };
         sent = [];
         records = recorded.Noise bytes ∷ [];
       })) (damage_came (station_of own.half) own.owed d) links_stay
 
   -- bytes that have a line
-  told : (r : ReadingValue) → keeping.hears_as (kept own) bytes r ≡ keeping.hears (kept own) bytes r
-  told r = ap (λ (b : Bool). keeping.if_so b (keeping.hears_as (kept own) bytes r)) (sym few_bytes)
+  told : (r : ReadingValue) → keeping.hears_as (stored own) bytes r ≡ keeping.hears (stored own) bytes r
+  told r = ap (λ (b : Bool). keeping.if_so b (keeping.hears_as (stored own) bytes r)) (sym few_bytes)
 
-  abbrev Right : Result KeptStepped Stop → ReadingValue → Type 0
+  abbrev Right : Result StoredStepped Stop → ReadingValue → Type 0
   Right as_kept r = IsRight own other (Noise bytes) as_kept
       (made own (recorded.Noise bytes) (heard own r) (makes own.half other.half (recorded.Noise bytes)))
 
-  as_heard : (d : ShownDamage) → reading bytes ≡ read_of d → IsNoise bytes → Right (keeping.heard (kept own) bytes (read_of d)) (read_of d)
+  as_heard : (d : ShownDamage) → reading bytes ≡ read_of d → IsNoise bytes → Right (keeping.heard (stored own) bytes (read_of d)) (read_of d)
   as_heard d e noise =
-      subst (λ (o : Option PlayHalf). IsRight own other (Noise bytes) (keeping.heard (kept own) bytes (read_of d))
+      subst (λ (o : Option PlayHalf). IsRight own other (Noise bytes) (keeping.heard (stored own) bytes (read_of d))
       (made own (recorded.Noise bytes) (heard own (read_of d)) o))
       (sym (line_makes own.half other.half (recorded.Noise bytes) (damage_left own.half other.half d) lined
       (damage_heard own.half other.half d bytes e)))
@@ -124,16 +124,16 @@ module _ (own other : End) (now : KeptNow own other) (bytes : List ℕ) (lined :
   never_noise r e header data_ (inl f) = header (sym e ∙ f)
   never_noise r e header data_ (inr f) = data_ (sym e ∙ f)
 
-  by_reading : (r : ReadingValue) → reading bytes ≡ r → Right (keeping.hears (kept own) bytes r) r
-  by_reading r e = subst (λ (k : Result KeptStepped Stop). Right k r) (told r) (go r e)
+  by_reading : (r : ReadingValue) → reading bytes ≡ r → Right (keeping.hears (stored own) bytes r) r
+  by_reading r e = subst (λ (k : Result StoredStepped Stop). Right k r) (told r) (go r e)
     where
-      go : (r : ReadingValue) → reading bytes ≡ r → Right (keeping.hears_as (kept own) bytes r) r
+      go : (r : ReadingValue) → reading bytes ≡ r → Right (keeping.hears_as (stored own) bytes r) r
       go read_as.HeaderBad e = as_heard OfHeader e (inl e)
       go read_as.DataBad e = as_heard OfData e (inr e)
       go (read_as.Sound m) e = not_heard (read_as.Sound m) (never_noise (read_as.Sound m) e (λ f. cc) (λ f. cc))
       go (read_as.Malformed departure) e =
           not_heard (read_as.Malformed departure) (never_noise (read_as.Malformed departure) e (λ f. cc) (λ f. cc))
 
-  pub noise_right : IsRight own other (Noise bytes) (keeping.hears (kept own) bytes (reading bytes)) (plays own other.half (Noise bytes))
+  pub noise_right : IsRight own other (Noise bytes) (keeping.hears (stored own) bytes (reading bytes)) (plays own other.half (Noise bytes))
   unfolding plays
   noise_right = by_reading (reading bytes) refl

@@ -9,7 +9,7 @@ use Rattle.dna_play.proofs.Stored.LiveEnds.{Counted}
 use Rattle.dna_play.proofs.Played.Steps.{Nothing}
 use Rattle.dna_play.proofs.Played.Order.{nothing_in_order}
 
-pub record KeptNow (own other : End) : Type 0 where
+pub record StoredNow (own other : End) : Type 0 where
   pub stage : Stage own
   pub theirs : Stage other
   pub later : Later own other
@@ -18,5 +18,5 @@ pub record KeptNow (own other : End) : Type 0 where
   pub counted : Counted (links_of own.half).links own.links_owed
 
 -- and so this
-pub facts_of : {own other : End} → KeptNow own other → Facts own other
+pub facts_of : {own other : End} → StoredNow own other → Facts own other
 facts_of {own} now = now.later own [] Nothing (nothing_in_order own.addresses)

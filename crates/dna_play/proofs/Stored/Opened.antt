@@ -1,8 +1,8 @@
 -- A link that the user of an end of the player opens, or whose call it answers.
 use Rattle.dna_links.specs.User as of_links
-use Rattle.dna_play.specs.KeptPlay as keeping
+use Rattle.dna_play.specs.StoredPlay as keeping
 use Rattle.capture.specs.declared.event.Event.TheVariants as events
-use Rattle.dna_play.specs.KeptLinks as kept_link
+use Rattle.dna_play.specs.StoredLinks as stored_link
 use Rattle.std.proofs.Common.{◌≡◌, Ok, Err, refl, sym, ap, ap₂, ◌∙◌, arith, length, subst, true, ◌<◌, Bool, Some, None, ◌+◌, ◌&&◌, ℕ}
 use Rattle.capture.specs.Range.{IsLink}
 use Rattle.capture.specs.declared.event.Event.{Event}
@@ -28,10 +28,10 @@ use Rattle.dna_play.proofs.Links.Phases.{called_is}
 use Rattle.dna_play.proofs.Once.Orderly.{IsHigher, higher}
 use Rattle.dna_play.proofs.Stored.LiveEnds.{still_in_phase}
 use Rattle.dna_play.proofs.Stored.LiveLinks.{called_by_lives, record_changed, record_begun}
-use Rattle.dna_play.proofs.Stored.Made.{s, place, known, KeptBy, event_right}
-use Rattle.dna_play.proofs.Stored.Now.{KeptNow}
+use Rattle.dna_play.proofs.Stored.Made.{s, place, known, StoredBy, event_right}
+use Rattle.dna_play.proofs.Stored.Now.{StoredNow}
 use Rattle.dna_play.specs.HasLine.{has_line}
-use Rattle.dna_play.specs.Kept.{kept}
+use Rattle.dna_play.specs.StoredEnd.{stored}
 use Rattle.dna_play.specs.LinkOwed.{LinkOwed, Owes, InitiateTurn, ConfirmTurn, DisconnectTurn, with_turn, Turn}
 use Rattle.dna_play.specs.Play.{by_user, giving, plays, with_address}
 use Rattle.dna_play.specs.Player.{End, links_of}
@@ -44,9 +44,9 @@ use Rattle.dna_play.proofs.Once.Addresses.{LinkList}
 use Rattle.dna_play.proofs.Links.Stage.{InPhase}
 use Rattle.dna_play.proofs.Links.Debts.{when_set, when_pushed}
 use Rattle.dna_play.proofs.Stored.Right.{IsRight, look_right, giving_right}
-use Rattle.dna_play.specs.KeptPlay.{with_links}
+use Rattle.dna_play.specs.StoredPlay.{with_links}
 
-module _ (own other : End) (now : KeptNow own other) where
+module _ (own other : End) (now : StoredNow own other) where
   abbrev links : Links
   links = s own other now
 
@@ -63,15 +63,15 @@ module _ (own other : End) (now : KeptNow own other) where
   abbrev next : ℕ
   next = own.addresses + 1
 
-  pub open_right : IsRight own other Open (keeping.opens (kept own)) (plays own other.half Open)
+  pub open_right : IsRight own other Open (keeping.opens (stored own)) (plays own other.half Open)
   unfolding plays
   open_right = giving_right own other now Open
       (λ end address. by_user end other.half (events.Open address) (links_owing_more (Owes (length links.links) InitiateTurn)))
-      (λ end address. keeping.made (events.Open address) (with_links (kept_link.begun (kept_link.opened address) (kept own).links) end)) refl tt
+      (λ end address. keeping.made (events.Open address) (with_links (stored_link.begun (stored_link.opened address) (stored own).links) end)) refl tt
       (λ less.
       let left = of_links.opened true_segments next in
       event_right own other now Open (events.Open next) (of_links.Open next) refl (begun left links) (Owes (length links.links) InitiateTurn)
-      (kept_link.begun (kept_link.opened next) (kept own).links) (open_line next (next_address less)) tt (omega arith) (omega arith)
+      (stored_link.begun (stored_link.opened next) (stored own).links) (open_line next (next_address less)) tt (omega arith) (omega arith)
       (open_goes links others own.addresses (known own other now).addressed next (omega arith)) (when_pushed links left)
       (record_begun links.links own.links_owed now.counted left (with_turn InitiateTurn true) refl) tt (not_full Open less))
 
@@ -99,45 +99,46 @@ module _ (own other : End) (now : KeptNow own other) where
       links_user links (value next) ≡ Ok (changed number (of_links.answered true_segments phase next link) links)) where
     one_answered : (n : ℕ) (l : LinkOf TrueSegments) (o : LinkOwed) → IsFound (CalledBy partner) links n l →
         slice_get own.links_owed.links n ≡ Some o →
-        IsRight own other step (keeping.giving (kept own) (λ end address. keeping.made (event address)
-        (with_links (kept_link.changed (place own other now n) (kept_link.answered phase turn address (end_of l o)) (kept own).links) end)))
+        IsRight own other step (keeping.giving (stored own) (λ end address. keeping.made (event address)
+        (with_links (stored_link.changed (place own other now n) (stored_link.answered phase turn address (end_of l o)) (stored own).links) end)))
         (giving own (λ end address. by_user end other.half (event address) (links_owing_more (Owes n turn))))
     one_answered n l o found owes = giving_right own other now step
         (λ end address. by_user end other.half (event address) (links_owing_more (Owes n turn)))
         (λ end address. keeping.made (event address)
-        (with_links (kept_link.changed (place own other now n) (kept_link.answered phase turn address (end_of l o)) (kept own).links) end))
+        (with_links (stored_link.changed (place own other now n) (stored_link.answered phase turn address (end_of l o)) (stored own).links) end))
         gives (may (called_from partner n l found)) (λ less.
         let left = of_links.answered true_segments phase next l in
         let given_next : higher own.addresses (given_address (value next)) ≡ next = ap (higher own.addresses) given in
-        let kept_left = kept_link.changed (place own other now n) (kept_link.answered phase turn next (end_of l o)) (kept own).links in
-        subst (λ (top : ℕ). IsRight own other step (keeping.made (event next) (KeptBy own other now top kept_left))
+        let stored_left = stored_link.changed (place own other now n) (stored_link.answered phase turn next (end_of l o)) (stored own).links in
+        subst (λ (top : ℕ). IsRight own other step (keeping.made (event next) (StoredBy own other now top stored_left))
         (by_user (with_address own top) other.half (event next) (links_owing_more (Owes n turn)))) given_next
-        (event_right own other now step (event next) (value next) (is next) (changed n left links) (Owes n turn) kept_left (lined (next_address less))
+        (event_right own other now step (event next) (value next) (is next) (changed n left links) (Owes n turn) stored_left
+        (lined (next_address less))
         fits (subst (IsHigher own.addresses) (sym given) (omega arith)) (omega arith) (goes n l found (omega arith))
         (subst (λ (p : Phase). InPhase n p (changed n left links).links) of (when_set links n l left found.there))
         (record_changed links.links own.links_owed n l o found.there owes (called_by_lives partner l.port found.passed) now.counted left
         (with_turn turn true) lives
-        ∙ ap (λ (x : LinkOwed). kept_link.changed (place own other now n) (end_of left (with_turn turn true x)) (kept own).links)
+        ∙ ap (λ (x : LinkOwed). stored_link.changed (place own other now n) (end_of left (with_turn turn true x)) (stored own).links)
         (still_in_phase l left o refl)) (may (called_from partner n l found)) (not_full step less)))
 
-    answer_right : IsRight own other step (keeping.answers (kept own) partner (kept_link.answered phase turn) event)
+    answer_right : IsRight own other step (keeping.answers (stored own) partner (stored_link.answered phase turn) event)
         (with_link (CalledBy partner) links (Err BadStep)
         (λ number link. giving own (λ end address. by_user end other.half (event address) (links_owing_more (Owes number turn)))))
     answer_right = look_right own other now step (CalledBy partner) (called_by_lives partner)
         (λ number link. giving own (λ end address. by_user end other.half (event address) (links_owing_more (Owes number turn))))
-        (λ at link. keeping.giving (kept own) (λ end address. keeping.made (event address)
-        (with_links (kept_link.changed at (kept_link.answered phase turn address link) (kept own).links) end)))
+        (λ at link. keeping.giving (stored own) (λ end address. keeping.made (event address)
+        (with_links (stored_link.changed at (stored_link.answered phase turn address link) (stored own).links) end)))
         (λ none asks. nobody_calls partner none (asked asks)) one_answered
 
   pub accept_right : (partner : ℕ) → IsLink partner →
-      IsRight own other (Accept partner) (keeping.accepts (kept own) partner) (plays own other.half (Accept partner))
+      IsRight own other (Accept partner) (keeping.accepts (stored own) partner) (plays own other.half (Accept partner))
   unfolding plays
   accept_right partner far = answer_right partner (Accept partner) (events.Accept partner) (of_links.Accept partner) Confirming ConfirmTurn refl
       (λ asks. asks) (λ asks. asks) (λ address. refl) refl tt refl refl (λ near. accept_line partner next far near)
       (λ number link found less. accept_goes links others own.addresses (known own other now).addressed partner next number link found less)
 
   pub reject_right : (partner : ℕ) → IsLink partner →
-      IsRight own other (Reject partner) (keeping.rejects (kept own) partner) (plays own other.half (Reject partner))
+      IsRight own other (Reject partner) (keeping.rejects (stored own) partner) (plays own other.half (Reject partner))
   unfolding plays
   reject_right partner far = answer_right partner (Reject partner) (events.Reject partner) (of_links.Reject partner) Disconnecting DisconnectTurn refl
       (λ asks. asks) (λ asks. asks) (λ address. refl) refl tt refl refl (λ near. reject_line partner next far near)

@@ -32,12 +32,12 @@ use Rattle.dna_play.specs.Stepped.{Stop, BadStep, Stepped, made}
 use Rattle.dna_play.specs.Receipt.{carried, after_receipt, then_gets, is_damage, damaged}
 use Rattle.dna_play.specs.Receipt as receiving
 use Rattle.dna_play.specs.Play.{plays}
-use Rattle.dna_play.specs.Kept.{KeptStation, KeptLinks, kept}
-use Rattle.dna_play.specs.KeptStation as of_station
-use Rattle.dna_play.specs.KeptLinks.{Delivering}
-use Rattle.dna_play.specs.KeptPlay.{KeptStepped, arrived, up_address, ups, came_as, with_next}
-use Rattle.dna_play.specs.KeptPlay as keeping
-use Rattle.dna_play.specs.KeptRun.{bytes_of, coming}
+use Rattle.dna_play.specs.StoredEnd.{StoredStation, StoredLinks, stored}
+use Rattle.dna_play.specs.StoredStation as of_station
+use Rattle.dna_play.specs.StoredLinks.{Delivering}
+use Rattle.dna_play.specs.StoredPlay.{StoredStepped, arrived, up_address, ups, came_as, with_next}
+use Rattle.dna_play.specs.StoredPlay as keeping
+use Rattle.dna_play.specs.StoredRun.{bytes_of, coming}
 use Rattle.dna_station.proofs.Cut.Arriving.{arrival_refusal_same}
 use Rattle.dna_station.proofs.Bounds.Numbers.{is_data}
 use Rattle.dna_links.proofs.Tables.Outcomes.{checked}
@@ -56,7 +56,7 @@ use Rattle.dna_play.proofs.Played.Runs.{line_makes}
 use Rattle.dna_play.proofs.Ends.ComesLined.{unit_line, damaged_line}
 use Rattle.dna_play.proofs.Stored.Timers.{none_behind}
 use Rattle.dna_play.proofs.Stored.LiveLinks.{record_same}
-use Rattle.dna_play.proofs.Stored.Now.{KeptNow, facts_of}
+use Rattle.dna_play.proofs.Stored.Now.{StoredNow, facts_of}
 use Rattle.dna_play.proofs.Stored.Stations.{station_with, sound_came, damage_came, can_keep_same}
 use Rattle.dna_play.proofs.Stored.Deliveries.{with_links}
 use Rattle.dna_play.proofs.Stored.Segments.{left_half, left_end, Got, nothing_got, message_got}
@@ -66,7 +66,7 @@ use Rattle.std.proofs.lemmas.Bool.{and_parts}
 use Rattle.std.proofs.lemmas.Option.{same_Some}
 use Rattle.dna_play.proofs.Played.PlayLines.{bytes_tested}
 
-module _ (own other : End) (now : KeptNow own other) where
+module _ (own other : End) (now : StoredNow own other) where
   abbrev s : Links
   s = links_of own.half
 
@@ -76,8 +76,8 @@ module _ (own other : End) (now : KeptNow own other) where
   abbrev k : StationVariables (Unit {0})
   k = player.variables_of own.half
 
-  abbrev live : KeptLinks
-  live = (kept own).links
+  abbrev live : StoredLinks
+  live = (stored own).links
 
   facts : Facts own other
   facts = facts_of now
@@ -93,7 +93,7 @@ module _ (own other : End) (now : KeptNow own other) where
     links : Links
     makes_it : makes own.half other.half (Received own.passed is_kept bytes) ≡ Some (left_half own left links)
     after : station_with (cut_of left).variables (with_debt (arrival_debt k read is_kept) (left_owed station left own.owed))
-        ≡ of_station.after_arrival read is_kept (kept own).station
+        ≡ of_station.after_arrival read is_kept (stored own).station
     stage : Stage (after_receipt own read is_kept (after_record own (left_half own left links)))
     got : Got own other.half now.counted ordered (Received own.passed is_kept bytes ∷ []) left (arrival_debt k read is_kept)
         (left_end own left (arrival_debt k read is_kept) (carried is_kept read) links) (carried is_kept read)
@@ -117,25 +117,25 @@ module _ (own other : End) (now : KeptNow own other) where
         ap (λ (o : Option PlayHalf). then_gets other.half (carried is_kept read) (made own r (after_receipt own read is_kept) o)) x.makes_it
         ∙ x.got.gets
 
-    abbrev step : KeptStation → KeptLinks → List (List ℕ) → Result KeptStepped Stop
+    abbrev step : StoredStation → StoredLinks → List (List ℕ) → Result StoredStepped Stop
     step after links units = Ok (record {
-      end = record (kept own) { station = after; links = links; passed = own.passed + 1 };
+      end = record (stored own) { station = after; links = links; passed = own.passed + 1 };
       sent = units;
       records = r ∷ ups (up_address (carried is_kept read)) delivering.messages;
     })
 
     receipt_right : (value : StepValue) → Asks own other.half value → gives_address value ≡ false →
-        IsRight own other value (keeping.receives (kept own) bytes read is_kept) (receiving.receives own other.half bytes read is_kept)
-    receipt_right value asks no_address = subst (IsRight own other value (keeping.receives (kept own) bytes read is_kept)) (sym is_made) (record {
+        IsRight own other value (keeping.receives (stored own) bytes read is_kept) (receiving.receives own other.half bytes read is_kept)
+    receipt_right value asks no_address = subst (IsRight own other value (keeping.receives (stored own) bytes read is_kept)) (sym is_made) (record {
       stage = x.got.stage x.stage;
       asks = asks;
       room = never_full own other value no_address;
-      same = ap₂ (λ (x : KeptStation) (y : KeptLinks). step x y (drop (length own.half.sent) (bytes_of own.half.sent))) x.after x.got.links
-          ∙ ap (step (of_station.after_arrival read is_kept (kept own).station) delivering.links) (none_behind own.half.sent)
-          ∙ sym (ap (λ (b : Bool). cond b (step (of_station.after_arrival read is_kept (kept own).station) delivering.links []) (Err BadStep))
+      same = ap₂ (λ (x : StoredStation) (y : StoredLinks). step x y (drop (length own.half.sent) (bytes_of own.half.sent))) x.after x.got.links
+          ∙ ap (step (of_station.after_arrival read is_kept (stored own).station) delivering.links) (none_behind own.half.sent)
+          ∙ sym (ap (λ (b : Bool). cond b (step (of_station.after_arrival read is_kept (stored own).station) delivering.links []) (Err BadStep))
           x.got.short)
           ∙ sym (ap (λ (b : Bool). cond b
-          (came_as (kept own) r (of_station.after_arrival read is_kept (kept own).station) (up_address (carried is_kept read)) delivering)
+          (came_as (stored own) r (of_station.after_arrival read is_kept (stored own).station) (up_address (carried is_kept read)) delivering)
           (Err BadStep))
           (le-leb own.passed MAX_HINT now.few));
     })
@@ -214,12 +214,12 @@ module _ (own other : End) (now : KeptNow own other) where
         }
 
     unit_right_by : (value : StepValue) (buffer : Bool) → Asks own other.half value → gives_address value ≡ false →
-        IsRight own other value (keeping.comes (kept own) buffer unit.bytes) (receiving.comes own other.half buffer unit.bytes)
+        IsRight own other value (keeping.comes (stored own) buffer unit.bytes) (receiving.comes own other.half buffer unit.bytes)
     unit_right_by value buffer asks no_address =
         let is_kept = buffer && receiving.can_keep own (reading unit.bytes) in
-        subst (λ (b : Bool). IsRight own other value (keeping.receives (kept own) unit.bytes (reading unit.bytes) (buffer && b))
+        subst (λ (b : Bool). IsRight own other value (keeping.receives (stored own) unit.bytes (reading unit.bytes) (buffer && b))
         (receiving.comes own other.half buffer unit.bytes)) (can_keep_same own (reading unit.bytes))
-        (subst (λ (read : ReadingValue). IsRight own other value (keeping.receives (kept own) unit.bytes read is_kept)
+        (subst (λ (read : ReadingValue). IsRight own other value (keeping.receives (stored own) unit.bytes read is_kept)
         (receiving.receives own other.half unit.bytes read is_kept)) (sym told)
         (receipt_right unit.bytes (read_as.Sound unit.message) is_kept (unit_received buffer) value asks no_address))
 
@@ -250,41 +250,42 @@ module _ (own other : End) (now : KeptNow own other) where
           }
 
       comes_hurt : IsHurt place value unit → IsRight own other (Damage place value)
-          (keeping.comes (kept own) true (damaged place value unit.bytes)) (receiving.comes own other.half true (damaged place value unit.bytes))
+          (keeping.comes (stored own) true (damaged place value unit.bytes)) (receiving.comes own other.half true (damaged place value unit.bytes))
       comes_hurt asks =
           let d = damage_of hurt differs.shows in
           subst (λ (read : ReadingValue). IsRight own other (Damage place value)
-          (keeping.receives (kept own) hurt read (true && of_station.can_keep read (kept own).station))
+          (keeping.receives (stored own) hurt read (true && of_station.can_keep read (stored own).station))
           (receiving.receives own other.half hurt read (true && receiving.can_keep own read))) (sym d.1) (go d.0 (bad_received d.0 d.1))
         where
           go : (d : ShownDamage) → IsReceived hurt (read_of d) false → IsRight own other (Damage place value)
-              (keeping.receives (kept own) hurt (read_of d) (true && of_station.can_keep (read_of d) (kept own).station))
+              (keeping.receives (stored own) hurt (read_of d) (true && of_station.can_keep (read_of d) (stored own).station))
               (receiving.receives own other.half hurt (read_of d) (true && receiving.can_keep own (read_of d)))
           go OfHeader x = receipt_right hurt read_as.HeaderBad false x (Damage place value) (unit, there, asks) refl
           go OfData x = receipt_right hurt read_as.DataBad false x (Damage place value) (unit, there, asks) refl
 
   -- ---- the steps
 
-  pub deliver_right : IsRight own other Deliver (with_next (coming own other.half) (keeping.comes (kept own) true)) (plays own other.half Deliver)
+  pub deliver_right : IsRight own other Deliver (with_next (coming own other.half) (keeping.comes (stored own) true)) (plays own other.half Deliver)
   unfolding plays
-  deliver_right = unit_right own other now Deliver (receiving.comes own other.half true) (keeping.comes (kept own) true) (λ asks. asks)
+  deliver_right = unit_right own other now Deliver (receiving.comes own other.half true) (keeping.comes (stored own) true) (λ asks. asks)
       (λ unit there. unit_right_by unit there Deliver true (unit, there) refl)
 
-  pub refuse_right : IsRight own other Refuse (with_next (coming own other.half) (keeping.comes (kept own) false)) (plays own other.half Refuse)
+  pub refuse_right : IsRight own other Refuse (with_next (coming own other.half) (keeping.comes (stored own) false)) (plays own other.half Refuse)
   unfolding plays
-  refuse_right = unit_right own other now Refuse (receiving.comes own other.half false) (keeping.comes (kept own) false) (λ asks. asks)
+  refuse_right = unit_right own other now Refuse (receiving.comes own other.half false) (keeping.comes (stored own) false) (λ asks. asks)
       (λ unit there. unit_right_by unit there Refuse false (unit, there) refl)
 
   pub damage_right : (place value : ℕ) → IsRight own other (Damage place value)
-      (with_next (coming own other.half) (keeping.comes_damaged (kept own) place value)) (plays own other.half (Damage place value))
+      (with_next (coming own other.half) (keeping.comes_damaged (stored own) place value)) (plays own other.half (Damage place value))
   unfolding plays
   damage_right place value = unit_right own other now (Damage place value)
       (λ bytes. cond (is_damage place value bytes) (receiving.comes own other.half true (damaged place value bytes)) (Err BadStep))
-      (keeping.comes_damaged (kept own) place value) (λ asks. (asks.0, asks.1)) (λ unit there. go unit there (is_damage place value unit.bytes) refl)
+      (keeping.comes_damaged (stored own) place value) (λ asks. (asks.0, asks.1))
+      (λ unit there. go unit there (is_damage place value unit.bytes) refl)
     where
       go : (unit : LayersUnit) → slice_get other.half.sent own.passed ≡ Some unit → (b : Bool) → is_damage place value unit.bytes ≡ b →
           IsRight own other (Damage place value)
-          (cond b (keeping.comes (kept own) true (damaged place value unit.bytes)) (Err BadStep))
+          (cond b (keeping.comes (stored own) true (damaged place value unit.bytes)) (Err BadStep))
           (cond b (receiving.comes own other.half true (damaged place value unit.bytes)) (Err BadStep))
       go unit there true is = comes_hurt unit there place value is (hurt_of place value unit is)
       go unit there false whole = (

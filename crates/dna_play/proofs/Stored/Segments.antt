@@ -33,10 +33,10 @@ use Rattle.dna_play.specs.Player.{End, links_of, after_record}
 use Rattle.dna_play.specs.Player as player
 use Rattle.dna_play.specs.Stepped.{owing_more, links_owing_more}
 use Rattle.dna_play.specs.Receipt.{complete, delivered_by, delivered_now, carried_debt, gets_all, passing}
-use Rattle.dna_play.specs.Kept.{KeptLinks, kept}
-use Rattle.dna_play.specs.KeptLinks.{Delivering, delivering_none, delivering_at, took_segment, arrives, message_came}
-use Rattle.dna_play.specs.KeptLinks as of_links
-use Rattle.dna_play.specs.KeptPlay.{arrived, up_address, ups, all_short}
+use Rattle.dna_play.specs.StoredEnd.{StoredLinks, stored}
+use Rattle.dna_play.specs.StoredLinks.{Delivering, delivering_none, delivering_at, took_segment, arrives, message_came}
+use Rattle.dna_play.specs.StoredLinks as of_links
+use Rattle.dna_play.specs.StoredPlay.{arrived, up_address, ups, all_short}
 use Rattle.dna_play.proofs.Played.Steps.{PlayHalf}
 use Rattle.dna_links.proofs.Cut.SegmentsArriving.{takes_segment_same}
 use Rattle.dna_links.proofs.Runs.Reads.{at_is}
@@ -46,7 +46,7 @@ use Rattle.dna_play.proofs.Links.Pays.{found_at, with_found}
 use Rattle.dna_play.proofs.Links.Stage.{left_links}
 use Rattle.dna_play.proofs.Ends.UpsFollow.{AllLined, AreDistinct, IsLined}
 use Rattle.dna_play.proofs.Stored.LiveEnds.{Counted, with_owed, owed_beside, left_changed}
-use Rattle.dna_play.proofs.Stored.LiveLinks.{kept_links, place_among, acted_on_lives, live_set, record_same, end_missing, end_found}
+use Rattle.dna_play.proofs.Stored.LiveLinks.{stored_links, place_among, acted_on_lives, live_set, record_same, end_missing, end_found}
 use Rattle.dna_play.proofs.Stored.LinkComes.{NoSegment, message_kept, acted_end}
 use Rattle.dna_play.proofs.Stored.Deliveries.{segments_got, with_links, gets_made, got_stage}
 use Rattle.dna_play.proofs.Links.Choices.{end_of}
@@ -81,21 +81,21 @@ module _ (own : End) (other : PlayHalf) (counted : Counted (links_of own.half).l
   abbrev owed : LinksOwed
   owed = own.links_owed
 
-  abbrev live : KeptLinks
-  live = (kept own).links
+  abbrev live : StoredLinks
+  live = (stored own).links
 
   -- what the user gets, by all links and by those that live
   pub record Got (e : End) (message : Option NspValue) : Type 0 where
     pub final : Links
     pub gets : gets_all (delivered_now (links_of e.half) message) other (record { end = e; records = records })
         ≡ Ok (record { end = with_links e final; records = records ++ ups (up_address message) (arrived message live).messages })
-    pub links : kept_links final.links e.links_owed ≡ (arrived message live).links
+    pub links : stored_links final.links e.links_owed ≡ (arrived message live).links
     pub short : all_short (arrived message live).messages ≡ true
     pub stage : Stage e → Stage (with_links e final)
 
   -- nothing is whole
-  pub nothing_got : (e : End) (message : Option NspValue) (left : KeptLinks) → delivered_now (links_of e.half) message ≡ [] →
-      arrived message live ≡ delivering_none left → kept_links (links_of e.half).links e.links_owed ≡ left → Got e message
+  pub nothing_got : (e : End) (message : Option NspValue) (left : StoredLinks) → delivered_now (links_of e.half) message ≡ [] →
+      arrived message live ≡ delivering_none left → stored_links (links_of e.half).links e.links_owed ≡ left → Got e message
   nothing_got e message left none as_kept same = record {
     final = links_of e.half;
     gets = ap (λ (list : List Event). gets_all list other (record { end = e; records = records })) none
@@ -128,7 +128,7 @@ module _ (own : End) (other : PlayHalf) (counted : Counted (links_of own.half).l
     not_found none = nothing_got (after s) (Some (DataSegment segment)) live
         (ap (λ (o : Option ℕ). at_number s.links o [] up_events) none)
         (end_missing test (acted_on_lives segment.dstaddr segment.srcaddr) s owed counted (delivering_none live) take_kept none)
-        (ap (λ (o : Option ℕ). kept_links s.links (with_debt (at_number s.links o NoDebt owes_ack) (left_links s.links s.links owed))) none
+        (ap (λ (o : Option ℕ). stored_links s.links (with_debt (at_number s.links o NoDebt owes_ack) (left_links s.links s.links owed))) none
         ∙ record_same s.links owed counted)
 
     module _ (n : ℕ) (l : LinkOf TrueSegments) (o : LinkOwed) (found : IsFound test s n l) (owes : slice_get owed.links n ≡ Some o)
@@ -185,9 +185,9 @@ module _ (own : End) (other : PlayHalf) (counted : Counted (links_of own.half).l
           abbrev got : LinkOf TrueSegments
           got = with_segments (segments_got k.segments (complete [] (variables_of k).pieces)) k
 
-          got_links : kept_links (slice_set x.links n got) (after x).links_owed ≡ (arrived (Some (DataSegment segment)) live).links
+          got_links : stored_links (slice_set x.links n got) (after x).links_owed ≡ (arrived (Some (DataSegment segment)) live).links
           got_links =
-              ap₂ kept_links (set-set s.links n k got) owed_is
+              ap₂ stored_links (set-set s.links n k got) owed_is
               ∙ live_set s.links owed n l o found.there owes (acted_on_lives segment.dstaddr segment.srcaddr l.port found.passed) got left_owes refl
               ∙ ap (λ (pieces : List (Option Piece)). of_links.changed (place_among s.links owed n)
               (record (end_of k left_owes) { variables = record (variables_of k) { pieces = pieces } }) live)

@@ -25,13 +25,13 @@ use Rattle.dna_play.specs.Player.{End, makes, links_of, station_of, link_ends_of
 use Rattle.dna_play.specs.Player as player
 use Rattle.dna_play.specs.Stepped.{Stop, made}
 use Rattle.dna_play.specs.Play.{after_sending, sends_message, sends_choice, plays}
-use Rattle.dna_play.specs.Kept.{KeptStation, KeptLinks, kept, live_ends}
-use Rattle.dna_play.specs.KeptStation as of_station
-use Rattle.dna_play.specs.KeptLinks.{sent_at}
-use Rattle.dna_play.specs.KeptLinks as of_links
-use Rattle.dna_play.specs.KeptPlay.{KeptStepped}
-use Rattle.dna_play.specs.KeptPlay as keeping
-use Rattle.dna_play.specs.KeptRun.{bytes_of, kept_stepped}
+use Rattle.dna_play.specs.StoredEnd.{StoredStation, StoredLinks, stored, live_ends}
+use Rattle.dna_play.specs.StoredStation as of_station
+use Rattle.dna_play.specs.StoredLinks.{sent_at}
+use Rattle.dna_play.specs.StoredLinks as of_links
+use Rattle.dna_play.specs.StoredPlay.{StoredStepped}
+use Rattle.dna_play.specs.StoredPlay as keeping
+use Rattle.dna_play.specs.StoredRun.{bytes_of, stored_stepped}
 use Rattle.dna_play.proofs.Played.Steps.{PlayHalf}
 use Rattle.dna_play.proofs.Played.Facts.{Facts}
 use Rattle.dna_links.proofs.Tables.Outcomes.{SentDid, sent_did}
@@ -42,10 +42,10 @@ use Rattle.dna_play.proofs.Ends.SendMakes.{sent_left, again_after, first_after}
 use Rattle.dna_play.proofs.Ends.Sends.{Goes, GoesOld, GoesNew, goes}
 use Rattle.dna_play.proofs.Ends.Stage.{Stage}
 use Rattle.dna_play.proofs.Stored.LiveEnds.{still_same, left_same, ends_get}
-use Rattle.dna_play.proofs.Stored.LiveLinks.{kept_links, place_among, live_there, record_changed, record_same}
-use Rattle.dna_play.proofs.Stored.Now.{KeptNow, facts_of}
+use Rattle.dna_play.proofs.Stored.LiveLinks.{stored_links, place_among, live_there, record_changed, record_same}
+use Rattle.dna_play.proofs.Stored.Now.{StoredNow, facts_of}
 use Rattle.dna_play.proofs.Stored.Stations.{station_sent}
-use Rattle.dna_play.proofs.Stored.Choices.{lives, NoneOfEnded, among_live, link_choice_live, kept_choice, choice_live, NamesLive, message_live}
+use Rattle.dna_play.proofs.Stored.Choices.{lives, NoneOfEnded, among_live, link_choice_live, stored_choice, choice_live, NamesLive, message_live}
 use Rattle.dna_play.proofs.Links.Turns.{TurnMade, turn_made, links_stay}
 use Rattle.dna_play.proofs.Stored.Right.{IsRight, never_full}
 use Rattle.dna_play.proofs.Ends.SendStage.{stage_again, stage_first}
@@ -79,14 +79,14 @@ sending_is (SendNew one) e = refl
 sending_is c e = refl
 
 -- the station is the same, whichever of its links is named
-same_station : (ends : List LinkEnd) (c : Choice) (m : MessageValue) (s : KeptStation) →
-    of_station.after_sent c m s ≡ of_station.after_sent (kept_choice ends c) m s
+same_station : (ends : List LinkEnd) (c : Choice) (m : MessageValue) (s : StoredStation) →
+    of_station.after_sent c m s ≡ of_station.after_sent (stored_choice ends c) m s
 same_station ends (SendNew one) m s = refl
 same_station ends c m s = refl
 
 -- ---- the step
 
-module _ (own other : End) (now : KeptNow own other) where
+module _ (own other : End) (now : StoredNow own other) where
   abbrev s : Links
   s = links_of own.half
 
@@ -116,32 +116,33 @@ module _ (own other : End) (now : KeptNow own other) where
     of_link : (number : ℕ) (turn : Turn) (l : LinkOf TrueSegments) (o : LinkOwed) → slice_get s.links number ≡ Some l →
         slice_get owed.links number ≡ Some o →
         is_live l.port.phase ≡ true → TurnMade s sent number l o turn →
-        kept_links sent.links.links (after_link_choice (OfLink number turn) left) ≡ of_links.after_sent
-        (among_live (link_ends_of own) (OfLink number turn)) (kept own).links
+        stored_links sent.links.links (after_link_choice (OfLink number turn) left) ≡ of_links.after_sent
+        (among_live (link_ends_of own) (OfLink number turn)) (stored own).links
     of_link number turn l o there owes live t =
         let place = place_among s.links owed number in
         let phase = ap (λ (port : Port). port.phase) t.port in
-        ap (λ (x : Links). kept_links x.links (after_link_choice (OfLink number turn) (left_links s.links x.links owed))) t.links
+        ap (λ (x : Links). stored_links x.links (after_link_choice (OfLink number turn) (left_links s.links x.links owed))) t.links
         ∙ record_changed s.links owed number l o there owes live now.counted t.left (without_turn turn) (ap is_live phase ∙ live)
-        ∙ ap (λ (x : LinkEnd). of_links.changed place x (kept own).links)
+        ∙ ap (λ (x : LinkEnd). of_links.changed place x (stored own).links)
         (ap (λ (x : LinkOwed). end_of t.left (without_turn turn x)) (still_same l t.left o phase t.acknowledged)
         ∙ ap (λ (x : LinkEnd). record x { owed = without_turn turn x.owed }) t.is)
-        ∙ ap (λ (x : Option LinkEnd). sent_at place x turn (kept own).links) (sym (live_there s.links owed number l o there owes live))
+        ∙ ap (λ (x : Option LinkEnd). sent_at place x turn (stored own).links) (sym (live_there s.links owed number l o there owes live))
 
     -- the oldest DC
     confirm_kept : (confirm : EndConfirm) → slice_get owed.confirms 0 ≡ Some confirm →
         SentDid true_segments s (DisconnectConfirm confirm.dst confirm.src confirm.reason) sent →
-        kept_links sent.links.links (after_link_choice (Confirms confirm) left) ≡ of_links.after_sent (Confirms confirm) (kept own).links
+        stored_links sent.links.links (after_link_choice (Confirms confirm) left) ≡ of_links.after_sent (Confirms confirm) (stored own).links
     confirm_kept confirm first did =
         let some = (now.stage.links.confirms 0 confirm first).some in
-        ap (λ (x : Links). kept_links x.links (after_link_choice (Confirms confirm) (left_links s.links x.links owed)))
+        ap (λ (x : Links). stored_links x.links (after_link_choice (Confirms confirm) (left_links s.links x.links owed)))
         (links_stay s (DisconnectConfirm confirm.dst confirm.src confirm.reason) refl
         (λ dst reason e. let none : confirm.src ≡ 0 = cc in absurd (omega arith)) sent did)
-        ∙ ap (λ (x : LinksOwed). kept_links s.links (after_link_choice (Confirms confirm) x)) (left_same s.links owed now.counted)
+        ∙ ap (λ (x : LinksOwed). stored_links s.links (after_link_choice (Confirms confirm) x)) (left_same s.links owed now.counted)
 
     pub record OneKept (one : LinkChoice) : Type 0 where
       pub named : NamesLive (link_ends_of own) one
-      pub links : kept_links sent.links.links (after_link_choice one left) ≡ of_links.after_sent (among_live (link_ends_of own) one) (kept own).links
+      pub links : stored_links sent.links.links (after_link_choice one left)
+          ≡ of_links.after_sent (among_live (link_ends_of own) one) (stored own).links
 
     one_kept : (one : LinkChoice) (message : NspValue) → IsAsked s.links owed one message → SentDid true_segments s message sent → OneKept one
     one_kept one message (OfConfirm confirm first) did = record { named = tt; links = confirm_kept confirm first did }
@@ -166,7 +167,7 @@ module _ (own other : End) (now : KeptNow own other) where
   abbrev asked : Option LinkChoice
   asked = link_choice own.links_owed.confirms (link_ends_of own)
 
-  choices : choice k own.owed (link_choice own.links_owed.confirms (live_ends (link_ends_of own))) ≡ option_map (kept_choice (link_ends_of own))
+  choices : choice k own.owed (link_choice own.links_owed.confirms (live_ends (link_ends_of own))) ≡ option_map (stored_choice (link_ends_of own))
       (choice k own.owed asked)
   choices = ap (choice k own.owed) (link_choice_live own.links_owed.confirms (link_ends_of own) ended) ∙
       choice_live (link_ends_of own) k own.owed asked
@@ -174,26 +175,26 @@ module _ (own other : End) (now : KeptNow own other) where
   -- ---- the end after the unit
 
   module _ (c : Choice) (m : MessageValue) (is : choice k own.owed asked ≡ Some c) (put : message_of c head k ends ≡ Some m) where
-    abbrev step : KeptStation → KeptLinks → List (List ℕ) → Result KeptStepped Stop
+    abbrev step : StoredStation → StoredLinks → List (List ℕ) → Result StoredStepped Stop
     step station links units =
-        Ok (record { end = record (kept own) { station = station; links = links }; sent = units; records = Sent (spelling m) ∷ [] })
+        Ok (record { end = record (stored own) { station = station; links = links }; sent = units; records = Sent (spelling m) ∷ [] })
 
     -- this half is left
     sent_right : (half : PlayHalf) → makes own.half other.half (Sent (spelling m)) ≡ Some half → Stage (after_sending c (after_record own half)) →
-        kept_stepped own (Ok (record { end = after_sending c (after_record own half); records = Sent (spelling m) ∷ [] }))
-        ≡ keeping.sends (kept own) →
-        IsRight own other Send (keeping.sends (kept own)) (sends_choice own other.half (Some c))
+        stored_stepped own (Ok (record { end = after_sending c (after_record own half); records = Sent (spelling m) ∷ [] }))
+        ≡ keeping.sends (stored own) →
+        IsRight own other Send (keeping.sends (stored own)) (sends_choice own other.half (Some c))
     sent_right half makes_it stage same =
-        subst (IsRight own other Send (keeping.sends (kept own)))
+        subst (IsRight own other Send (keeping.sends (stored own)))
         (sym (ap (sends_message own other.half c) put ∙ ap (made own (Sent (spelling m)) (after_sending c)) makes_it))
         (record { stage = stage; asks = (c, is); room = never_full own other Send refl; same = same })
 
     of_kept : ((one : LinkChoice) → c ≡ SendNew one → NamesLive (link_ends_of own) one) →
-        keeping.sends (kept own) ≡ step (of_station.after_sent (kept_choice (link_ends_of own) c) m (kept own).station)
-        (keeping.links_sent (kept_choice (link_ends_of own) c) (kept own).links) (spelling m ∷ [])
+        keeping.sends (stored own) ≡ step (of_station.after_sent (stored_choice (link_ends_of own) c) m (stored own).station)
+        (keeping.links_sent (stored_choice (link_ends_of own) c) (stored own).links) (spelling m ∷ [])
     of_kept named =
-        ap (keeping.sends_choice (kept own)) (choices ∙ ap (option_map (kept_choice (link_ends_of own))) is)
-        ∙ ap (keeping.sends_message (kept own) (kept_choice (link_ends_of own) c)) (message_live (link_ends_of own) c named head k ∙ put)
+        ap (keeping.sends_choice (stored own)) (choices ∙ ap (option_map (stored_choice (link_ends_of own))) is)
+        ∙ ap (keeping.sends_message (stored own) (stored_choice (link_ends_of own) c)) (message_live (link_ends_of own) c named head k ∙ put)
 
     -- with these links after it
     module _ (links : Links) (known : LayersTruth) where
@@ -202,28 +203,30 @@ module _ (own other : End) (now : KeptNow own other) where
           (record own.half.state.station { station = station_book.after_sending (station_of own.half) m; links = links }, known)
 
       all_kept : ((one : LinkChoice) → c ≡ SendNew one → NamesLive (link_ends_of own) one) →
-          kept_links links.links (owed_then c (left_links s.links links.links owed))
-          ≡ keeping.links_sent (kept_choice (link_ends_of own) c) (kept own).links →
-          kept_stepped own (Ok (record { end = after_sending c (after_record own half); records = Sent (spelling m) ∷ [] }))
-          ≡ keeping.sends (kept own)
+          stored_links links.links (owed_then c (left_links s.links links.links owed))
+          ≡ keeping.links_sent (stored_choice (link_ends_of own) c) (stored own).links →
+          stored_stepped own (Ok (record { end = after_sending c (after_record own half); records = Sent (spelling m) ∷ [] }))
+          ≡ keeping.sends (stored own)
       all_kept named same =
           let unit : LayersUnit = record { bytes = spelling m; message = m; known = known } in
-          ap (λ (e : End). kept_stepped own (Ok (record { end = e; records = Sent (spelling m) ∷ [] }))) (sending_is c (after_record own half))
-          ∙ ap₂ (λ (station : KeptStation) (units : List (List ℕ)). step station
-          (kept_links links.links (owed_then c (left_links s.links links.links owed))) units)
+          ap (λ (e : End). stored_stepped own (Ok (record { end = e; records = Sent (spelling m) ∷ [] }))) (sending_is c (after_record own half))
+          ∙ ap₂ (λ (station : StoredStation) (units : List (List ℕ)). step station
+          (stored_links links.links (owed_then c (left_links s.links links.links owed))) units)
           (station_sent (station_of own.half) own.owed facts.known.bounded.ordered c m
-          ∙ same_station (link_ends_of own) c m (kept own).station) (one_behind own.half.sent unit)
-          ∙ ap (λ (all : KeptLinks). step (of_station.after_sent (kept_choice (link_ends_of own) c) m (kept own).station) all (spelling m ∷ [])) same
+          ∙ same_station (link_ends_of own) c m (stored own).station) (one_behind own.half.sent unit)
+          ∙ ap (λ (all : StoredLinks). step (of_station.after_sent (stored_choice (link_ends_of own) c) m (stored own).station) all
+          (spelling m ∷ [])) same
           ∙ sym (of_kept named)
 
   -- without a message of the links
   old_same : (c : Choice) → ((one : LinkChoice) → c ≡ SendNew one → ⊥) →
-      kept_links s.links (owed_then c (left_links s.links s.links owed)) ≡ keeping.links_sent (kept_choice (link_ends_of own) c) (kept own).links
+      stored_links s.links (owed_then c (left_links s.links s.links owed))
+      ≡ keeping.links_sent (stored_choice (link_ends_of own) c) (stored own).links
   old_same (SendNew one) old = absurd (old one refl)
   old_same c old = record_same s.links owed now.counted
 
   by_goes : (c : Choice) → choice k own.owed asked ≡ Some c → Goes own other now.stage now.theirs facts.known c →
-      IsRight own other Send (keeping.sends (kept own)) (sends_choice own other.half (Some c))
+      IsRight own other Send (keeping.sends (stored own)) (sends_choice own other.half (Some c))
   by_goes c is (GoesOld _ m put b old makes_it) =
       sent_right c m is put _ makes_it (stage_again own other now.stage facts.known c old m put b)
       (all_kept c m is put s (again_after own.half other.half m).1 (λ one e. absurd (old one e)) (old_same c old))
@@ -236,13 +239,14 @@ module _ (own other : End) (now : KeptNow own other) where
       (λ x e. let same : one ≡ x = cc in subst (NamesLive (link_ends_of own)) same h.named) h.links)
 
   -- what is chosen is sent; else there is nothing to send
-  choice_right : (o : Option Choice) → choice k own.owed asked ≡ o → IsRight own other Send (keeping.sends (kept own)) (sends_choice own other.half o)
+  choice_right : (o : Option Choice) → choice k own.owed asked ≡ o →
+      IsRight own other Send (keeping.sends (stored own)) (sends_choice own other.half o)
   choice_right None none = (
     λ asks. let e = sym none ∙ asks.1 in cc,
-    sym (ap (keeping.sends_choice (kept own)) (choices ∙ ap (option_map (kept_choice (link_ends_of own))) none)),
+    sym (ap (keeping.sends_choice (stored own)) (choices ∙ ap (option_map (stored_choice (link_ends_of own))) none)),
   )
   choice_right (Some c) is = by_goes c is (goes own other now.stage now.theirs facts.known c is)
 
-  pub send_right : IsRight own other Send (keeping.sends (kept own)) (plays own other.half Send)
+  pub send_right : IsRight own other Send (keeping.sends (stored own)) (plays own other.half Send)
   unfolding plays
   send_right = choice_right (choice k own.owed asked) refl

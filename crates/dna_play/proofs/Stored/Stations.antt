@@ -18,17 +18,17 @@ use Rattle.dna_play.specs.Owed.{Owed, Debt, with_debt, arrival_debt, still_owed}
 use Rattle.dna_play.specs.NextSent.{Choice, after_choice}
 use Rattle.dna_play.specs.Receipt as receiving
 use Rattle.dna_play.specs.Player.{End}
-use Rattle.dna_play.specs.Kept.{KeptStation, kept}
-use Rattle.dna_play.specs.KeptStation as keeping
+use Rattle.dna_play.specs.StoredEnd.{StoredStation, stored}
+use Rattle.dna_play.specs.StoredStation as keeping
 use Rattle.dna_play.proofs.Ends.DamagedUnits.{ShownDamage, OfHeader, OfData, read_of, arrival_of}
 use Rattle.dna_play.proofs.Ends.StationStage.{cut_of, left_owed, sent_kept, came_kept}
 
 -- the station variables, and what is owed
-abbrev pub station_with : StationVariables (Unit {0}) → Owed → KeptStation
+abbrev pub station_with : StationVariables (Unit {0}) → Owed → StoredStation
 station_with k owed = record { variables = k; owed = owed }
 
-abbrev pub kept_station : Station → Owed → KeptStation
-kept_station s owed = station_with (cut_of s).variables owed
+abbrev pub stored_station : Station → Owed → StoredStation
+stored_station s owed = station_with (cut_of s).variables owed
 
 -- ---- a message is sent
 
@@ -39,7 +39,7 @@ sent_variables w m change = refl
 
 pub station_sent : (s : Station) (owed : Owed) → IsOrdered s → (c : Choice) (m : MessageValue) →
     station_with (cut_of (after_sending s m)).variables (after_choice c (left_owed s (after_sending s m) owed)) ≡ keeping.after_sent c m
-    (kept_station s owed)
+    (stored_station s owed)
 station_sent s owed ordered c m =
     ap (λ (k : StationVariables (Unit {0})). station_with k (after_choice c (still_owed (cut_of s).variables k owed)))
     (ap (λ (w : WireStation (Unit {0})). w.variables) (sent_kept s ordered m) ∙ sent_variables (cut_of s) m (change_of m))
@@ -55,7 +55,7 @@ module _ (s : Station) (owed : Owed) where
   -- these are the variables after it
   abbrev came_to : Station → StationVariables (Unit {0}) → Option Debt → Type 0
   came_to t k debt = station_with (cut_of t).variables (with_debt debt (left_owed s t owed)) ≡ keeping.owing debt
-      (keeping.becoming k (kept_station s owed))
+      (keeping.becoming k (stored_station s owed))
 
   left_as : (t : Station) (k : StationVariables (Unit {0})) (debt : Option Debt) → (cut_of t).variables ≡ k → came_to t k debt
   left_as t k debt same = ap (λ (x : StationVariables (Unit {0})). station_with x (with_debt debt (still_owed (cut_of s).variables x owed))) same
@@ -63,7 +63,7 @@ module _ (s : Station) (owed : Owed) where
   pub sound_came : IsOrdered s → (m : MessageValue) (u : Truth) (kept : Bool) → IsWithin s m u →
       station_with (cut_of (after_arrival s (Sound m u) kept)).variables
       (with_debt (arrival_debt (cut_of s).variables (read_as.Sound m) kept) (left_owed s (after_arrival s (Sound m u) kept) owed))
-      ≡ keeping.after_arrival (read_as.Sound m) kept (kept_station s owed)
+      ≡ keeping.after_arrival (read_as.Sound m) kept (stored_station s owed)
   sound_came ordered m u kept within =
       left_as (after_arrival s (Sound m u) kept) (keeping.message_came m kept (cut_of s).variables)
       (arrival_debt (cut_of s).variables (read_as.Sound m) kept)
@@ -77,13 +77,13 @@ module _ (s : Station) (owed : Owed) where
 
   pub damage_came : (d : ShownDamage) → station_with (cut_of (after_arrival s (arrival_of d) false)).variables
       (with_debt (arrival_debt (cut_of s).variables (read_of d) false) (left_owed s (after_arrival s (arrival_of d) false) owed))
-      ≡ keeping.after_arrival (read_of d) false (kept_station s owed)
+      ≡ keeping.after_arrival (read_of d) false (stored_station s owed)
   damage_came OfHeader = left_as (after_arrival s HeaderBad false) (cut_of s).variables (arrival_debt (cut_of s).variables read_as.HeaderBad false)
       (counted (counts_damage s.state) (with_cause HeaderCheck s.causes))
   damage_came OfData = left_as (after_arrival s DataBad false) (cut_of s).variables (arrival_debt (cut_of s).variables read_as.DataBad false)
       (counted (counts_damage s.state) (with_cause DataCheck s.causes))
 
 -- whether the packet of what came can be taken
-pub can_keep_same : (own : End) (read : ReadingValue) → receiving.can_keep own read ≡ keeping.can_keep read (kept own).station
+pub can_keep_same : (own : End) (read : ReadingValue) → receiving.can_keep own read ≡ keeping.can_keep read (stored own).station
 can_keep_same own (read_as.Sound m) = refl
 can_keep_same own read = refl

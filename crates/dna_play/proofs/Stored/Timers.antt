@@ -11,12 +11,12 @@ use Rattle.dna_play.specs.Player.{End, variables_of, station_of}
 use Rattle.dna_play.specs.Stepped.{BadStep, silent, owing_more}
 use Rattle.dna_play.specs.Receipt.{passing}
 use Rattle.dna_play.specs.Play.{plays, timed}
-use Rattle.dna_play.specs.Kept.{kept}
-use Rattle.dna_play.specs.KeptPlay.{with_next, loses}
-use Rattle.dna_play.specs.KeptPlay as keeping
-use Rattle.dna_play.specs.KeptRun.{bytes_of, kept_stepped, coming}
+use Rattle.dna_play.specs.StoredEnd.{stored}
+use Rattle.dna_play.specs.StoredPlay.{with_next, loses}
+use Rattle.dna_play.specs.StoredPlay as keeping
+use Rattle.dna_play.specs.StoredRun.{bytes_of, stored_stepped, coming}
 use Rattle.dna_play.proofs.Ends.Stage.{timer_stage, passing_stage}
-use Rattle.dna_play.proofs.Stored.Now.{KeptNow}
+use Rattle.dna_play.proofs.Stored.Now.{StoredNow}
 use Rattle.dna_station.specs.declared.state.State.TheVariants.{Halted, Istrt, Astrt}
 use Rattle.dna_station.specs.declared.state.State.{State}
 use Rattle.dna_play.proofs.Stored.Right.{IsRight, never_full, unit_right}
@@ -27,23 +27,23 @@ none_behind [] = refl
 none_behind (unit ∷ units) = none_behind units
 
 -- nothing is sent and nothing recorded
-pub kept_silent : (own after : End) → after.half ≡ own.half → kept_stepped own (silent after) ≡ keeping.silent (kept after)
-kept_silent own after same =
-    ap (λ (sent : List (List ℕ)). Ok (record { end = kept after; sent = sent; records = [] }))
+pub stored_silent : (own after : End) → after.half ≡ own.half → stored_stepped own (silent after) ≡ keeping.silent (stored after)
+stored_silent own after same =
+    ap (λ (sent : List (List ℕ)). Ok (record { end = stored after; sent = sent; records = [] }))
     (ap (λ (half : Half LayersNode LayersUnit). drop (length own.half.sent) (bytes_of half.sent)) same ∙ none_behind own.half.sent)
 
-module _ (own other : End) (now : KeptNow own other) where
-  pub timer_right : IsRight own other Timer (keeping.times_out (kept own)) (plays own other.half Timer)
+module _ (own other : End) (now : StoredNow own other) where
+  pub timer_right : IsRight own other Timer (keeping.times_out (stored own)) (plays own other.half Timer)
   unfolding plays
   timer_right = go (station_of own.half).state refl
     where
       owes : (debt : Debt) → timer_debt (variables_of own.half).state (variables_of own.half) ≡ Some debt → ¬ (IsHalted own) →
-          IsRight own other Timer (keeping.timed (kept own) (Some debt)) (timed own (Some debt))
+          IsRight own other Timer (keeping.timed (stored own) (Some debt)) (timed own (Some debt))
       owes debt is on = record {
         stage = timer_stage own now.stage debt is;
         asks = on;
         room = never_full own other Timer refl;
-        same = kept_silent own (owing_more (Some debt) own) refl;
+        same = stored_silent own (owing_more (Some debt) own) refl;
       }
 
       due : (state : State) → (station_of own.half).state ≡ state → timer_debt (variables_of own.half).state (variables_of own.half)
@@ -51,21 +51,21 @@ module _ (own other : End) (now : KeptNow own other) where
       due state is = ap (λ (x : State). timer_debt x (variables_of own.half)) is
 
       go : (state : State) → (station_of own.half).state ≡ state →
-          IsRight own other Timer (keeping.timed (kept own) (timer_debt state (variables_of own.half))) (timed own (timer_debt state
+          IsRight own other Timer (keeping.timed (stored own) (timer_debt state (variables_of own.half))) (timed own (timer_debt state
           (variables_of own.half)))
       go Halted is = (λ asks. asks is, refl)
       go Istrt is = owes OwesStrt (due Istrt is) (λ halted. let e = sym is ∙ halted in cc)
       go Astrt is = owes OwesStack (due Astrt is) (λ halted. let e = sym is ∙ halted in cc)
       go states.Running is = owes _ (due states.Running is) (λ halted. let e = sym is ∙ halted in cc)
 
-  pub lose_right : IsRight own other Lose (with_next (coming own other.half) (λ bytes. loses (kept own))) (plays own other.half Lose)
+  pub lose_right : IsRight own other Lose (with_next (coming own other.half) (λ bytes. loses (stored own))) (plays own other.half Lose)
   unfolding plays
-  lose_right = unit_right own other now Lose (λ bytes. silent (passing own)) (λ bytes. loses (kept own)) (λ asks. asks) (λ unit there. record {
+  lose_right = unit_right own other now Lose (λ bytes. silent (passing own)) (λ bytes. loses (stored own)) (λ asks. asks) (λ unit there. record {
     stage = passing_stage own now.stage;
     asks = (unit, there);
     room = never_full own other Lose refl;
-    same = kept_silent own (passing own) refl ∙ sym lost;
+    same = stored_silent own (passing own) refl ∙ sym lost;
   })
     where
-      lost : loses (kept own) ≡ keeping.silent (kept (passing own))
-      lost = ap (λ (b : Bool). if b then keeping.silent (kept (passing own)) else Err BadStep) (le-leb own.passed MAX_HINT now.few)
+      lost : loses (stored own) ≡ keeping.silent (stored (passing own))
+      lost = ap (λ (b : Bool). if b then keeping.silent (stored (passing own)) else Err BadStep) (le-leb own.passed MAX_HINT now.few)

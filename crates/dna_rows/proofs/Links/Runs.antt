@@ -50,13 +50,13 @@ module _ (own other : LinkSide) where
   arrives_made place unit (Ok links) ahead there e = Some (record { events = []; left = _; step = Keeps place unit links ahead there e })
   arrives_made place unit (Err reason) ahead there e = None
 
-  abbrev kept_made : (place : ℕ) (o : Option (Option SentMessage)) → own.front ≤ place → slice_get other.sent place ≡ o → Option (Made own other)
-  kept_made place None ahead there = None
-  kept_made place (Some None) ahead there = Some (record { events = []; left = _; step = KeepsNone place ahead there })
-  kept_made place (Some (Some unit)) ahead there = arrives_made place unit _ ahead there refl
+  abbrev stored_made : (place : ℕ) (o : Option (Option SentMessage)) → own.front ≤ place → slice_get other.sent place ≡ o → Option (Made own other)
+  stored_made place None ahead there = None
+  stored_made place (Some None) ahead there = Some (record { events = []; left = _; step = KeepsNone place ahead there })
+  stored_made place (Some (Some unit)) ahead there = arrives_made place unit _ ahead there refl
 
   abbrev ahead_made : (place : ℕ) (b : Bool) → nat_le own.front place ≡ b → Option (Made own other)
-  ahead_made place true e = kept_made place _ (leb-true own.front place e) refl
+  ahead_made place true e = stored_made place _ (leb-true own.front place e) refl
   ahead_made place false e = None
 
   abbrev turn_made : Turn → Option (Made own other)

@@ -4,7 +4,7 @@ use Rattle.capture.specs.declared.format.Format.TheVariants.{One}
 use Rattle.capture.specs.Lines.{IsCutBehind}
 use Rattle.capture.specs.ListReader.{ListState, Opens}
 use Rattle.capture.specs.Text.{head_line}
-use Rattle.dna_play.specs.KeptPlayed.{new_pair}
+use Rattle.dna_play.specs.StoredPlayed.{new_pair}
 use Rattle.dna_play.specs.ScriptText.{script_form}
 use Rattle.pair_player.specs.declared.fault.PlayFault.{PlayFault}
 use Rattle.pair_player.specs.declared.fault.PlayFault.TheVariants as faults

@@ -5,17 +5,17 @@ use Rattle.wire_base.specs.declared.side.Side.TheVariants.{A, B}
 use Rattle.capture.specs.declared.hint.HintForm.TheVariants.{Number}
 use Rattle.capture.specs.Text.{record_lines}
 use Rattle.dna_play.specs.Script.{ScriptStep}
-use Rattle.dna_play.specs.KeptPlayed.{KeptPair, KeptMade, kept_plays_step}
+use Rattle.dna_play.specs.StoredPlayed.{StoredPair, StoredMade, stored_plays_step}
 use Rattle.player_end.specs.declared.fault.StepFault.{StepFault}
 use Rattle.player_end.specs.Stepping.{StopMeans}
 
 -- both ends, and the lines of both captures that are not written yet
 pub record Standing : Type 0 where
-  pub pair : KeptPair
+  pub pair : StoredPair
   pub a : List ℕ
   pub b : List ℕ
 
-abbrev pub standing : KeptPair → List ℕ → List ℕ → Standing
+abbrev pub standing : StoredPair → List ℕ → List ℕ → Standing
 standing pair a b = record { pair = pair; a = a; b = b }
 
 -- the lines of one side are behind those that waited, and the other side's stay
@@ -25,14 +25,14 @@ PutsLines B old new lines = (new.0 ≡ old.0) × (new.1 ≡ old.1 ++ lines)
 
 -- the step is made, and the lines of its records wait
 pub record Steps (step : ScriptStep) (old new : Standing) : Type 0 where
-  pub made : KeptMade
-  pub makes : kept_plays_step old.pair step ≡ Ok made
+  pub made : StoredMade
+  pub makes : stored_plays_step old.pair step ≡ Ok made
   pub pair : new.pair ≡ made.pair
   pub puts : PutsLines step.side (old.a, old.b) (new.a, new.b) (record_lines Number made.records)
 
 -- it isn't made, for this reason, and no line is put
 pub record StopsStep (step : ScriptStep) (old new : Standing) (fault : StepFault) : Type 0 where
-  pub means : StopMeans (kept_plays_step old.pair step) fault
+  pub means : StopMeans (stored_plays_step old.pair step) fault
   pub a : new.a ≡ old.a
   pub b : new.b ≡ old.b
 

@@ -9,21 +9,21 @@ use Rattle.capture.specs.Text.{record_line, record_lines}
 use Rattle.dna_packet.specs.Nsp.{NspValue}
 use Rattle.dna_links.specs.Pieces.{Piece}
 use Rattle.dna_play.specs.Receipt.{complete}
-use Rattle.dna_play.specs.Kept.{KeptLinks}
-use Rattle.dna_play.specs.KeptLinks.{Delivering}
-use Rattle.dna_play.specs.KeptPlay.{all_short, arrived, ups, up_address}
+use Rattle.dna_play.specs.StoredEnd.{StoredLinks}
+use Rattle.dna_play.specs.StoredLinks.{Delivering}
+use Rattle.dna_play.specs.StoredPlay.{all_short, arrived, ups, up_address}
 use Rattle.player_end.specs.declared.fault.StepFault.{StepFault}
 use Rattle.player_end.specs.declared.fault.StepFault.TheVariants.{BadStep, Full, OutOfMemory}
 
 -- the links, and the text with a line of each message that is delivered, if each has one
-abbrev pub delivers_at : (own : ℕ) → (text : List ℕ) → Delivering → Option (KeptLinks × List ℕ)
+abbrev pub delivers_at : (own : ℕ) → (text : List ℕ) → Delivering → Option (StoredLinks × List ℕ)
 delivers_at own text d = if all_short d.messages then Some (d.links, text ++ record_lines Number (ups own d.messages)) else None
 
-abbrev pub delivers : NspValue → (text : List ℕ) → Delivering → Option (KeptLinks × List ℕ)
+abbrev pub delivers : NspValue → (text : List ℕ) → Delivering → Option (StoredLinks × List ℕ)
 delivers m text d = delivers_at (up_address (Some m)) text d
 
 -- the same of the message in a packet that was kept, if there is one
-abbrev pub arrives_as : Option NspValue → (text : List ℕ) → KeptLinks → Option (KeptLinks × List ℕ)
+abbrev pub arrives_as : Option NspValue → (text : List ℕ) → StoredLinks → Option (StoredLinks × List ℕ)
 arrives_as message text s = delivers_at (up_address message) text (arrived message s)
 
 -- the text with the lines of the messages that stand whole before these pieces, if each has one

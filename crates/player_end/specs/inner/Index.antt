@@ -6,10 +6,10 @@ use Rattle.dna_links.specs.declared.port.LinkTest.TheVariants.{HasAddress, LiveA
 use Rattle.dna_links.specs.LookUps.{is_live}
 use Rattle.dna_play.specs.LinkOwed.{Turn}
 use Rattle.dna_play.specs.NextSent.{LinkEnd, LinkChoice, Confirms, OfLink, turn_of}
-use Rattle.dna_play.specs.Kept.{KeptLinks, live_ends}
+use Rattle.dna_play.specs.StoredEnd.{StoredLinks, live_ends}
 
 -- those that live, of all that ever were
-abbrev pub live_of : KeptLinks → KeptLinks
+abbrev pub live_of : StoredLinks → StoredLinks
 live_of s = record s { links = live_ends s.links }
 
 -- how many live in front of this number: the place among those that live
@@ -23,7 +23,7 @@ among_live links (Confirms confirm) = Confirms confirm
 among_live links (OfLink number turn) = OfLink (place_among number links) turn
 
 -- the link with this number lives
-abbrev pub LivesAt : ℕ → KeptLinks → Type 0
+abbrev pub LivesAt : ℕ → StoredLinks → Type 0
 LivesAt number s = (link : LinkEnd) → slice_get s.links number ≡ Some link → is_live link.port.phase ≡ true
 
 -- no link that has ended passes

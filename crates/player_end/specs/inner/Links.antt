@@ -8,8 +8,8 @@ use Rattle.dna_links.specs.WireSegments.{LinkVariables, acknowledged_by_all}
 use Rattle.dna_links.specs.declared.port.Phase.TheVariants.{Ended}
 use Rattle.dna_play.specs.LinkOwed.{LinkOwed, Turn, lowered, nothing, retried}
 use Rattle.dna_play.specs.NextSent.{LinkEnd, turn_of}
-use Rattle.dna_play.specs.Kept.{KeptLinks}
-use Rattle.dna_play.specs.KeptLinks.{changed, no_segments}
+use Rattle.dna_play.specs.StoredEnd.{StoredLinks}
+use Rattle.dna_play.specs.StoredLinks.{changed, no_segments}
 
 -- ---- one link
 
@@ -44,6 +44,6 @@ abbrev pub turn_there : Option LinkEnd → Option Turn
 turn_there None = None
 turn_there (Some link) = turn_of link
 
-abbrev pub changed_to : ℕ → Option LinkEnd → KeptLinks → Option KeptLinks
+abbrev pub changed_to : ℕ → Option LinkEnd → StoredLinks → Option StoredLinks
 changed_to place None s = None
 changed_to place (Some link) s = Some (changed place link s)

@@ -9,7 +9,7 @@ ghost use Rattle.dna_packet.specs.Packet as packets;
 ghost use Rattle.dna_packet.specs.Nsp as nsp;
 ghost use Rattle.dna_station.specs.Book as book;
 ghost use Rattle.dna_node.specs.Content as contents;
-ghost use Rattle.dna_play.specs.KeptPlay as steps;
+ghost use Rattle.dna_play.specs.StoredPlay as steps;
 ghost use Rattle.dna_play.specs.Receipt as receipts;
 ghost use Rattle.player_end.specs.inner.Delivering.{arrives_as};
 ghost use Rattle.player_end.specs.inner.Index.{live_of};

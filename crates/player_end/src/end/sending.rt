@@ -4,7 +4,7 @@ ghost use Rattle.std.specs.Prelude.{◌≡◌, ◌<◌, ◌≤◌, ℕ, [], ◌�
 ghost use Rattle.capture.specs.declared.limit.TheConstants.{MAX_MESSAGE};
 ghost use Rattle.dna_packet.specs.Packet.{packet_bytes};
 ghost use Rattle.dna_packet.specs.Packet as packets;
-ghost use Rattle.dna_play.specs.KeptPlay as kept;
+ghost use Rattle.dna_play.specs.StoredPlay as kept;
 ghost use Rattle.dna_station.specs.Table.{WINDOW};
 ghost use Rattle.dna_station.specs.WireBook.{wire_is_new};
 ghost use Rattle.dna_play.specs.NextSent.{link_choice};

@@ -5,7 +5,7 @@ ghost use Rattle.capture.specs.declared.limit.TheConstants.{MAX_LINK, MAX_MESSAG
 ghost use Rattle.capture.specs.Entries.{record_with};
 ghost use Rattle.capture.specs.declared.hint.HintForm.TheVariants as HintForm;
 ghost use Rattle.capture.specs.Text.{record_line};
-ghost use Rattle.dna_play.specs.KeptPlay as kept;
+ghost use Rattle.dna_play.specs.StoredPlay as kept;
 ghost use Rattle.player_end.specs.Stepping.{StopMeans, with_lines};
 
 use super::End;

@@ -6,7 +6,7 @@ ghost use Rattle.dna_packet.specs.AckWord.{IsAckWord};
 ghost use Rattle.dna_packet.specs.Nsp.{segment_view};
 ghost use Rattle.dna_links.specs.LookUps as tests;
 ghost use Rattle.dna_links.specs.WireSegments.{segment_taken};
-ghost use Rattle.dna_play.specs.KeptLinks as kept;
+ghost use Rattle.dna_play.specs.StoredLinks as kept;
 ghost use Rattle.player_end.specs.inner.Links.{acknowledged};
 
 use super::LinkEnd;

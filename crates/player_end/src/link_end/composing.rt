@@ -5,7 +5,7 @@ ghost use Rattle.std.specs.Option.{option_map};
 ghost use Rattle.dna_packet.specs.Nsp.{nsp_bytes};
 ghost use Rattle.dna_play.specs.NextSent.{has_segment, turn_of};
 ghost use Rattle.dna_play.specs.Compose.{address, piece_to_send, turn_message};
-ghost use Rattle.dna_play.specs.KeptLinks as kept;
+ghost use Rattle.dna_play.specs.StoredLinks as kept;
 ghost use Rattle.player_end.specs.inner.Owing.{turn_view};
 ghost use Rattle.link_segments.specs.Piece.{slice_view};
 

@@ -6,10 +6,10 @@ ghost use Rattle.dna_packet.specs.AckWord.{IsAckWord};
 ghost use Rattle.dna_packet.specs.Nsp.{segment_view};
 ghost use Rattle.dna_packet.specs.Nsp as nsp;
 ghost use Rattle.dna_links.specs.LookUps.{is_running};
-ghost use Rattle.dna_play.specs.NextSent.{LinkEnd as KeptLink};
-ghost use Rattle.dna_play.specs.Kept.{KeptLinks};
-ghost use Rattle.dna_play.specs.KeptLinks.{arrives, message_came};
-ghost use Rattle.dna_play.specs.KeptLinks as kept;
+ghost use Rattle.dna_play.specs.NextSent.{LinkEnd as StoredLink};
+ghost use Rattle.dna_play.specs.StoredEnd.{StoredLinks};
+ghost use Rattle.dna_play.specs.StoredLinks.{arrives, message_came};
+ghost use Rattle.dna_play.specs.StoredLinks as kept;
 ghost use Rattle.player_end.specs.inner.Delivering.{delivers, delivers_at};
 ghost use Rattle.player_end.specs.inner.Index.{LivesAt, live_of, place_among};
 ghost use Rattle.player_end.specs.Stepping.{Stopped};
@@ -98,7 +98,7 @@ impl<V: Window<GivenPiece, 4096> + Drop> LinkEnds<V> {
     fn call_again_at(&mut self, number: usize)
         requires within { number < length self.old.links }
         requires lives { LivesAt number self.old }
-        ensures { (link : KeptLink) → slice_get self.old.links number ≡ Some link
+        ensures { (link : StoredLink) → slice_get self.old.links number ≡ Some link
             → live_of self.new ≡ kept.changed (place_among number self.old.links) (kept.called_again link.port.phase link) (live_of self.old) }
     {
         self.links[number].call_again();
@@ -123,7 +123,7 @@ impl<V: Window<GivenPiece, 4096> + Drop> LinkEnds<V> {
     fn confirm_at(&mut self, number: usize, far: u16) -> Result<(), AllocError>
         requires within { number < length self.old.links }
         requires lives { LivesAt number self.old }
-        ensures { (link : KeptLink) → slice_get self.old.links number ≡ Some link
+        ensures { (link : StoredLink) → slice_get self.old.links number ≡ Some link
             → OnOk result (live_of self.new ≡ kept.changed (place_among number self.old.links) (kept.confirmed far link) (live_of self.old)) }
     {
         self.fars.insert(far, number)?;
@@ -135,7 +135,7 @@ impl<V: Window<GivenPiece, 4096> + Drop> LinkEnds<V> {
     fn confirm_again_at(&mut self, number: usize)
         requires within { number < length self.old.links }
         requires lives { LivesAt number self.old }
-        ensures { (link : KeptLink) → slice_get self.old.links number ≡ Some link
+        ensures { (link : StoredLink) → slice_get self.old.links number ≡ Some link
             → live_of self.new ≡ kept.changed (place_among number self.old.links) (kept.confirmed_again (is_running link.port.phase) link)
             (live_of self.old) }
     {
@@ -168,9 +168,9 @@ impl<V: Window<GivenPiece, 4096> + Drop> LinkEnds<V> {
     // The link with these addresses, or the one in Calling with the own address, ends; the answer is whether there is one.
     #[tactic(auto, using(crate::proofs::Searching::found_ends))]
     fn end(&mut self, own: u16, far: u16) -> bool
-        ensures yes { result ≡ true → (otherwise : KeptLinks) (more : KeptLinks → KeptLinks) → kept.ends_link own far otherwise more
+        ensures yes { result ≡ true → (otherwise : StoredLinks) (more : StoredLinks → StoredLinks) → kept.ends_link own far otherwise more
             (live_of self.old) ≡ more (live_of self.new) }
-        ensures no { result ≡ false → (otherwise : KeptLinks) (more : KeptLinks → KeptLinks) → kept.ends_link own far otherwise more
+        ensures no { result ≡ false → (otherwise : StoredLinks) (more : StoredLinks → StoredLinks) → kept.ends_link own far otherwise more
             (live_of self.old) ≡ otherwise }
         ensures same { result ≡ false → self.new ≡ self.old }
     {
@@ -199,7 +199,7 @@ impl<V: Window<GivenPiece, 4096> + Drop> LinkEnds<V> {
     fn act_at(&mut self, number: usize)
         requires within { number < length self.old.links }
         requires lives { LivesAt number self.old }
-        ensures { (link : KeptLink) → slice_get self.old.links number ≡ Some link
+        ensures { (link : StoredLink) → slice_get self.old.links number ≡ Some link
             → live_of self.new ≡ kept.changed (place_among number self.old.links) (kept.acted_on link.variables link) (live_of self.old) }
     {
         self.links[number].act();
@@ -222,7 +222,7 @@ impl<V: Window<GivenPiece, 4096> + Drop> LinkEnds<V> {
         requires within { number < length self.old.links }
         requires lives { LivesAt number self.old }
         requires acks { AllByRecursion IsAckWord words.now }
-        ensures { (link : KeptLink) → slice_get self.old.links number ≡ Some link
+        ensures { (link : StoredLink) → slice_get self.old.links number ≡ Some link
             → live_of self.new ≡ kept.changed (place_among number self.old.links) (kept.took_acks words.now link) (live_of self.old) }
     {
         self.links[number].take_acks(words);
@@ -259,10 +259,10 @@ impl<V: Window<GivenPiece, 4096> + Drop> LinkEnds<V> {
         requires lives { LivesAt number self.old }
         requires acks { AllByRecursion IsAckWord segment.now.acks.items }
         requires number { segment.now.number < 4096 }
-        ensures ok { (link : KeptLink) → slice_get self.old.links number ≡ Some link → OnOk result (delivers_at segment.now.dstaddr text.old.items
+        ensures ok { (link : StoredLink) → slice_get self.old.links number ≡ Some link → OnOk result (delivers_at segment.now.dstaddr text.old.items
             (kept.delivering_at (place_among number self.old.links) (kept.took_segment (segment_view segment.now) link) (live_of self.old)) ≡ Some
             (live_of self.new, text.new.items)) }
-        ensures stop { (link : KeptLink) → slice_get self.old.links number ≡ Some link → IfErr result
+        ensures stop { (link : StoredLink) → slice_get self.old.links number ≡ Some link → IfErr result
             (λ fault. Stopped (delivers_at segment.now.dstaddr
             text.old.items (kept.delivering_at (place_among number self.old.links) (kept.took_segment (segment_view segment.now) link)
             (live_of self.old))) fault) }

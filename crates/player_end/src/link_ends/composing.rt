@@ -4,11 +4,11 @@ ghost use Rattle.std.specs.Prelude.{◌≡◌, ◌<◌, ◌≤◌, None, Some, l
 ghost use Rattle.std.specs.Option.{option_map};
 ghost use Rattle.dna_packet.specs.Nsp.{nsp_bytes};
 ghost use Rattle.dna_packet.specs.Nsp as nsp;
-ghost use Rattle.dna_play.specs.NextSent.{LinkEnd as KeptLink, first_turn, link_choice, turn_of};
+ghost use Rattle.dna_play.specs.NextSent.{LinkEnd as StoredLink, first_turn, link_choice, turn_of};
 ghost use Rattle.dna_play.specs.Compose.{link_message, message_at};
-ghost use Rattle.dna_play.specs.Kept.{live_ends};
-ghost use Rattle.dna_play.specs.KeptLinks.{after_sent};
-ghost use Rattle.dna_play.specs.KeptLinks as kept;
+ghost use Rattle.dna_play.specs.StoredEnd.{live_ends};
+ghost use Rattle.dna_play.specs.StoredLinks.{after_sent};
+ghost use Rattle.dna_play.specs.StoredLinks as kept;
 ghost use Rattle.player_end.specs.inner.Index.{AreMarked, LivesAt, among_live, live_of, place_among};
 ghost use Rattle.player_end.specs.inner.Links.{turn_there};
 ghost use Rattle.player_end.specs.inner.Owing.{link_choice_view, turn_view};
@@ -105,8 +105,8 @@ impl<V: Window<GivenPiece, 4096> + Drop> LinkEnds<V> {
     fn sent_at(&mut self, number: usize, turn: Turn) -> Result<(), AllocError>
         requires within { number < length self.old.links }
         requires lives { LivesAt number self.old }
-        requires next { (link : KeptLink) → slice_get self.old.links number ≡ Some link → turn_of link ≡ Some (turn_view turn) }
-        ensures { (link : KeptLink) → slice_get self.old.links number ≡ Some link → OnOk result (live_of self.new
+        requires next { (link : StoredLink) → slice_get self.old.links number ≡ Some link → turn_of link ≡ Some (turn_view turn) }
+        ensures { (link : StoredLink) → slice_get self.old.links number ≡ Some link → OnOk result (live_of self.new
             ≡ kept.changed (place_among number self.old.links) (kept.turn_sent (turn_view turn) link) (live_of self.old)) }
     {
         let made = self.links[number].sent(self.alloc, turn);

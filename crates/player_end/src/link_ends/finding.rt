@@ -2,8 +2,8 @@
 
 ghost use Rattle.std.specs.Prelude.{◌≡◌, ◌<◌, ℕ, Some, true, length, slice_get, IfSome};
 ghost use Rattle.dna_links.specs.LookUps as tests;
-ghost use Rattle.dna_play.specs.NextSent.{LinkEnd as KeptLink};
-ghost use Rattle.dna_play.specs.KeptLinks.{place_of};
+ghost use Rattle.dna_play.specs.NextSent.{LinkEnd as StoredLink};
+ghost use Rattle.dna_play.specs.StoredLinks.{place_of};
 ghost use Rattle.player_end.specs.inner.Addresses.{has};
 ghost use Rattle.player_end.specs.inner.Links.{passes_there};
 
@@ -21,7 +21,7 @@ pub(super) fn first_in<V: Window<GivenPiece, 4096> + Drop>(
     address: u16,
     test: LinkTest,
 ) -> Option<usize>
-    requires { (number : ℕ) (link : KeptLink) → slice_get links.now.items number ≡ Some link → tests.passes test link.port ≡ true
+    requires { (number : ℕ) (link : StoredLink) → slice_get links.now.items number ≡ Some link → tests.passes test link.port ≡ true
         → has addresses.now.pairs address number ≡ true }
     ensures number { result ≡ place_of test links.now.items }
     ensures within { IfSome result (λ number. number < length links.now.items) }

@@ -3,8 +3,8 @@
 ghost use Rattle.std.specs.Prelude.{◌≡◌, ◌<◌, true, false, None, Some, length, slice_get, OnOk};
 ghost use Rattle.dna_links.specs.LookUps.{is_live};
 ghost use Rattle.dna_play.specs.LinkOwed.{retried};
-ghost use Rattle.dna_play.specs.NextSent.{LinkEnd as KeptLink};
-ghost use Rattle.dna_play.specs.KeptLinks as kept;
+ghost use Rattle.dna_play.specs.NextSent.{LinkEnd as StoredLink};
+ghost use Rattle.dna_play.specs.StoredLinks as kept;
 ghost use Rattle.player_end.specs.inner.Index.{LivesAt, live_of, place_among};
 ghost use Rattle.player_end.specs.inner.Links.{retried_end, changed_to};
 ghost use Rattle.player_end.specs.inner.Owing.{turn_view};
@@ -38,7 +38,7 @@ impl<V: Window<GivenPiece, 4096> + Drop> LinkEnds<V> {
         requires within { number < length self.old.links }
         requires lives { LivesAt number self.old }
         requires phase { is_live phase ≡ true }
-        ensures { (link : KeptLink) → slice_get self.old.links number ≡ Some link
+        ensures { (link : StoredLink) → slice_get self.old.links number ≡ Some link
             → OnOk result (live_of self.new ≡ kept.changed (place_among number self.old.links) (kept.answered phase (turn_view turn) own link)
             (live_of self.old)) }
     {
@@ -52,7 +52,7 @@ impl<V: Window<GivenPiece, 4096> + Drop> LinkEnds<V> {
     pub fn hand_in_at(&mut self, number: usize, message: &[u8]) -> Result<(), AllocError>
         requires within { number < length self.old.links }
         requires lives { LivesAt number self.old }
-        ensures { (link : KeptLink) → slice_get self.old.links number ≡ Some link
+        ensures { (link : StoredLink) → slice_get self.old.links number ≡ Some link
             → OnOk result (live_of self.new ≡ kept.changed (place_among number self.old.links) (kept.handed message.now link) (live_of self.old)) }
     {
         let made = self.links[number].hand_in(self.alloc, message);
@@ -64,7 +64,7 @@ impl<V: Window<GivenPiece, 4096> + Drop> LinkEnds<V> {
     pub fn close_at(&mut self, number: usize)
         requires within { number < length self.old.links }
         requires lives { LivesAt number self.old }
-        ensures { (link : KeptLink) → slice_get self.old.links number ≡ Some link → live_of self.new ≡ kept.changed
+        ensures { (link : StoredLink) → slice_get self.old.links number ≡ Some link → live_of self.new ≡ kept.changed
             (place_among number self.old.links) (kept.closed link) (live_of self.old) }
     {
         self.links[number].close();
@@ -75,9 +75,9 @@ impl<V: Window<GivenPiece, 4096> + Drop> LinkEnds<V> {
     pub fn retry_at(&mut self, number: usize) -> bool
         requires within { number < length self.old.links }
         requires lives { LivesAt number self.old }
-        ensures yes { (link : KeptLink) → slice_get self.old.links number ≡ Some link → result ≡ true
+        ensures yes { (link : StoredLink) → slice_get self.old.links number ≡ Some link → result ≡ true
             → changed_to (place_among number self.old.links) (retried_end link) (live_of self.old) ≡ Some (live_of self.new) }
-        ensures no { (link : KeptLink) → slice_get self.old.links number ≡ Some link → result ≡ false → retried link.port.phase ≡ None }
+        ensures no { (link : StoredLink) → slice_get self.old.links number ≡ Some link → result ≡ false → retried link.port.phase ≡ None }
     {
         let made = self.links[number].retry();
         self.marks.mark(number);

@@ -6,8 +6,8 @@ ghost use Rattle.ddcmp_msg.specs.Message.{view};
 ghost use Rattle.ddcmp_msg.specs.Reading.{reading_view};
 ghost use Rattle.dna_station.specs.WireBook.{with_next, wire_is_next, wire_responded};
 ghost use Rattle.dna_play.specs.Owed as owing;
-ghost use Rattle.dna_play.specs.KeptStation.{after_arrival};
-ghost use Rattle.dna_play.specs.KeptStation as kept_station;
+ghost use Rattle.dna_play.specs.StoredStation.{after_arrival};
+ghost use Rattle.dna_play.specs.StoredStation as stored_station;
 ghost use Rattle.player_end.specs.inner.Owing.{debt_view};
 
 use super::{StationEnd, settle};
@@ -20,7 +20,7 @@ use wire_base::Window;
 impl<W: Window<HeldPacket, 256> + Drop> StationEnd<W> {
     /// Whether bytes that are read so are kept: there is a buffer, and their packet can be taken.
     pub fn keeps(&self, buffer: bool, reading: &Reading<'_>) -> bool
-        ensures { result ≡ kept_station.keeps buffer (reading_view reading.now) self.now }
+        ensures { result ≡ stored_station.keeps buffer (reading_view reading.now) self.now }
     {
         if !buffer {
             return false;
@@ -99,7 +99,7 @@ impl<W: Window<HeldPacket, 256> + Drop> StationEnd<W> {
 
     // Bytes that are read so came, and were kept or not: what their row does to the variables.
     fn come(&mut self, reading: &Reading<'_>, kept: bool)
-        ensures { self.new ≡ record self.old { variables = kept_station.came (reading_view reading.now) kept self.old.variables } }
+        ensures { self.new ≡ record self.old { variables = stored_station.came (reading_view reading.now) kept self.old.variables } }
     {
         match reading {
             Reading::Sound(message) => self.take(message, kept),
@@ -108,7 +108,7 @@ impl<W: Window<HeldPacket, 256> + Drop> StationEnd<W> {
     }
 
     fn take(&mut self, message: &Message<'_>, kept: bool)
-        ensures { self.new ≡ record self.old { variables = kept_station.message_came (view message.now) kept self.old.variables } }
+        ensures { self.new ≡ record self.old { variables = stored_station.message_came (view message.now) kept self.old.variables } }
     {
         match self.variables.state() {
             State::Halted => {}

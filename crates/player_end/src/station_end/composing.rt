@@ -11,7 +11,7 @@ ghost use Rattle.dna_station.specs.WireBook.{wire_is_new};
 ghost use Rattle.dna_play.specs.Compose.{packet_again};
 ghost use Rattle.dna_play.specs.Compose as composing;
 ghost use Rattle.dna_play.specs.NextSent as next;
-ghost use Rattle.dna_play.specs.KeptStation.{after_sent, variables_sent};
+ghost use Rattle.dna_play.specs.StoredStation.{after_sent, variables_sent};
 ghost use Rattle.player_end.specs.inner.Composing.{without_links};
 ghost use Rattle.player_end.specs.inner.Owing.{choice_view, link_choice_view};
 

@@ -2,7 +2,7 @@ use Rattle.std.proofs.Common.{sym}
 use Rattle.capture.specs.declared.event.Event.TheVariants as events
 use Rattle.dna_links.specs.declared.port.Phase.TheVariants.{Confirming}
 use Rattle.dna_play.specs.LinkOwed.{ConfirmTurn}
-use Rattle.dna_play.specs.KeptLinks.{answered}
+use Rattle.dna_play.specs.StoredLinks.{answered}
 use Rattle.player_end.proofs.Steps.{answers_lines}
 use Rattle.player_end.proofs.end.End.accept.Goals as goal
 

@@ -1,7 +1,7 @@
 use Rattle.std.proofs.Common.{◌≡◌, false, rules, Some, refl, sym, subst, ap, ◌∙◌}
 use Rattle.std.specs.Option.{option_map}
-use Rattle.dna_play.specs.Kept.{KeptLinks}
-use Rattle.dna_play.specs.KeptPlay.{sends, sends_choice}
+use Rattle.dna_play.specs.StoredEnd.{StoredLinks}
+use Rattle.dna_play.specs.StoredPlay.{sends, sends_choice}
 use Rattle.dna_play.specs.NextSent.{SendNew, choice, link_choice}
 use Rattle.player_end.specs.declared.choice.Choice.{Choice}
 use Rattle.player_end.specs.inner.Composing.{is_new}
@@ -15,7 +15,7 @@ use Rattle.player_end.proofs.end.End.send.Goals as goal
 pub send_new-requires-clause-next : goal.send_new-requires-clause-next
 send_new-requires-clause-next g c =
     let i = c.self.inside in
-    subst (λ (t : KeptLinks). link_choice t.confirms t.links ≡ Some (link_choice_view c.in-New.message)) (sym c.choice-next.ensures.same)
+    subst (λ (t : StoredLinks). link_choice t.confirms t.links ≡ Some (link_choice_view c.in-New.message)) (sym c.choice-next.ensures.same)
     (sym c.choice-next.ensures.choice
     ∙ chosen_message (link_choice_view c.in-New.message) i.station.variables i.station.owed (option_map link_choice_view c.choice-next.result)
     (sym c.in-Some.ensures ∙ ap (λ (x : Choice). Some (choice_view x)) c.in-New.is))
@@ -30,7 +30,7 @@ returns-in-New g c =
     let same =
     ap sends (sym c.self.view_is)
     ∙ sends_of_links end i.links refl c.choice-next.ensures.live message all
-    ∙ ap (λ (t : KeptLinks). sends_new i.head i.station t i.addresses i.passed message) (sym c.choice-next.ensures.same) in
+    ∙ ap (λ (t : StoredLinks). sends_new i.head i.station t i.addresses i.passed message) (sym c.choice-next.ensures.same) in
     record {
       ok = rw same (c.send_new.ensures.ok i.addresses i.passed);
       short = c.send_new.ensures.short;
@@ -48,7 +48,7 @@ returns-in-Strt g c =
     let same =
     ap sends (sym c.self.view_is)
     ∙ sends_others end i.links refl c.choice-next.ensures.live chosen all old
-    ∙ ap (λ (t : KeptLinks). sends_choice (end_with i.head i.station t i.addresses i.passed) (Some chosen)) (sym c.choice-next.ensures.same) in
+    ∙ ap (λ (t : StoredLinks). sends_choice (end_with i.head i.station t i.addresses i.passed) (Some chosen)) (sym c.choice-next.ensures.same) in
     record {
       ok = rw same c.send_other.ensures.ok;
       short = c.send_other.ensures.short;

@@ -1,6 +1,6 @@
 use Rattle.std.proofs.Common.{ap, ◌∙◌}
 use Rattle.dna_links.specs.declared.port.Phase.TheVariants.{Running}
-use Rattle.dna_play.specs.KeptLinks.{in_phase}
+use Rattle.dna_play.specs.StoredLinks.{in_phase}
 use Rattle.player_end.proofs.Acting.{acks_run}
 use Rattle.player_end.proofs.link_end.LinkEnd.take_acks.Goals as goal
 

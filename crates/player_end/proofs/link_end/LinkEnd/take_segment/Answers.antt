@@ -2,7 +2,7 @@ use Rattle.std.proofs.Common.{ap, ◌∙◌, List}
 use Rattle.dna_packet.specs.declared.ack_word.AckWord.{AckWord}
 use Rattle.dna_packet.specs.Nsp.{segment_view}
 use Rattle.dna_play.specs.LinkOwed.{DataAckTurn}
-use Rattle.dna_play.specs.KeptLinks.{owes, took_acks}
+use Rattle.dna_play.specs.StoredLinks.{owes, took_acks}
 use Rattle.player_end.proofs.Acting.{segment_and_acks}
 use Rattle.player_end.proofs.link_end.LinkEnd.take_segment.Goals as goal
 

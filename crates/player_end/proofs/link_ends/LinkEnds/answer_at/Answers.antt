@@ -1,7 +1,7 @@
 use Rattle.std.proofs.Common.{ap, ◌∙◌}
 use Rattle.dna_links.specs.LookUps.{is_live}
 use Rattle.dna_play.specs.NextSent.{LinkEnd}
-use Rattle.dna_play.specs.KeptLinks.{answered}
+use Rattle.dna_play.specs.StoredLinks.{answered}
 use Rattle.player_end.specs.inner.Addresses.{has}
 use Rattle.player_end.specs.inner.Owing.{turn_view}
 use Rattle.player_end.proofs.Change.{in_place, index_own, live_made}

@@ -1,7 +1,7 @@
 use Rattle.std.proofs.Common.{ap}
 use Rattle.dna_links.specs.LookUps.{is_live}
 use Rattle.dna_play.specs.NextSent.{LinkEnd}
-use Rattle.dna_play.specs.KeptLinks.{confirmed}
+use Rattle.dna_play.specs.StoredLinks.{confirmed}
 use Rattle.player_end.specs.inner.Addresses.{has}
 use Rattle.player_end.proofs.Change.{in_place, index_far, live_made}
 use Rattle.player_end.proofs.Indexed.{more_indexed}

@@ -1,4 +1,4 @@
-use Rattle.dna_play.specs.KeptLinks.{handed}
+use Rattle.dna_play.specs.StoredLinks.{handed}
 use Rattle.player_end.proofs.Change.{in_place, index_made, kept_if_ok}
 use Rattle.player_end.proofs.Keeping.{either_made, keeps_handed}
 use Rattle.player_end.proofs.link_ends.LinkEnds.hand_in_at.Goals as goal

@@ -3,7 +3,7 @@ use Rattle.std.proofs.lemmas.List.{append-nil}
 use Rattle.dna_packet.specs.Nsp.{DataSegment, segment_view}
 use Rattle.dna_links.specs.declared.port.LinkTest.TheVariants.{ActedOn}
 use Rattle.dna_play.specs.NextSent.{LinkEnd}
-use Rattle.dna_play.specs.KeptLinks.{Delivering, delivering_at, delivering_none, took_segment}
+use Rattle.dna_play.specs.StoredLinks.{Delivering, delivering_at, delivering_none, took_segment}
 use Rattle.player_end.specs.inner.Delivering.{delivers}
 use Rattle.player_end.specs.inner.Index.{live_of}
 use Rattle.player_end.specs.Stepping.{Stopped}

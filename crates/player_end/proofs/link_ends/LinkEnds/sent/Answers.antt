@@ -1,6 +1,6 @@
 use Rattle.std.proofs.Common.{◌≡◌, Some, OnOk, length, ap, arith, ◌∙◌, sym, subst}
-use Rattle.dna_play.specs.Kept.{KeptLinks}
-use Rattle.dna_play.specs.KeptLinks.{after_sent}
+use Rattle.dna_play.specs.StoredEnd.{StoredLinks}
+use Rattle.dna_play.specs.StoredLinks.{after_sent}
 use Rattle.player_end.specs.declared.choice.LinkChoice.{LinkChoice}
 use Rattle.player_end.specs.inner.Index.{among_live, live_of}
 use Rattle.player_end.specs.inner.Owing.{link_choice_view, turn_view}
@@ -27,7 +27,7 @@ returns-then-number-len g c =
     let s = c.args.self.now in
     let within = sent_within s c.in-OfLink.number (turn_view c.in-OfLink.turn)
     (c.requires ∙ ap (λ (x : LinkChoice). Some (link_choice_view x)) c.in-OfLink.is) in
-    let same = ap (λ (t : KeptLinks). length t.links) c.self-in-OfLink.view_is in
+    let same = ap (λ (t : StoredLinks). length t.links) c.self-in-OfLink.view_is in
     absurd (omega (arith, within, same, c.len.ensures, c.if-number-len.true))
 
 pub returns-else-number-len : goal.returns-else-number-len

@@ -1,4 +1,4 @@
-use Rattle.dna_play.specs.KeptLinks.{turn_sent}
+use Rattle.dna_play.specs.StoredLinks.{turn_sent}
 use Rattle.player_end.specs.inner.Owing.{turn_view}
 use Rattle.player_end.proofs.Change.{in_place, index_made, kept_if_ok}
 use Rattle.player_end.proofs.Keeping.{either_made, keeps_sent}

@@ -10,14 +10,14 @@ use Rattle.dna_station.specs.WireStation.{StationVariables, no_numbers}
 use Rattle.dna_station.specs.WireBook.{sends_packet, variables_after}
 use Rattle.dna_play.specs.Owed.{Debt, with_debt, arrival_debt, still_owed, can_take}
 use Rattle.dna_play.specs.NextSent.{Choice, after_choice}
-use Rattle.dna_play.specs.Kept.{KeptStation}
+use Rattle.dna_play.specs.StoredEnd.{StoredStation}
 
 -- after a record, with these variables: what is still owed
-abbrev pub becoming : StationVariables (Unit {0}) → KeptStation → KeptStation
+abbrev pub becoming : StationVariables (Unit {0}) → StoredStation → StoredStation
 becoming after s = record { variables = after; owed = still_owed s.variables after s.owed }
 
 -- one more thing is owed
-abbrev pub owing : Option Debt → KeptStation → KeptStation
+abbrev pub owing : Option Debt → StoredStation → StoredStation
 owing debt s = record s { owed = with_debt debt s.owed }
 
 -- ---- the user
@@ -26,7 +26,7 @@ abbrev pub variables_by : StationEvent → StationVariables (Unit {0}) → Stati
 variables_by Start k = no_numbers (state_after Start)
 variables_by Halt k = record k { state = state_after Halt }
 
-abbrev pub after_event : StationEvent → KeptStation → KeptStation
+abbrev pub after_event : StationEvent → StoredStation → StoredStation
 after_event event s = becoming (variables_by event s.variables) s
 
 -- ---- sending
@@ -37,7 +37,7 @@ variables_sent UseCause body k = k
 variables_sent SendPacket body k = sends_packet k body
 
 -- it sends this message, which it has put together by this choice
-abbrev pub after_sent : Choice → MessageValue → KeptStation → KeptStation
+abbrev pub after_sent : Choice → MessageValue → StoredStation → StoredStation
 after_sent next m s = let after = becoming (variables_sent (change_of m) (body_of m) s.variables) s in
     record after { owed = after_choice next after.owed }
 
@@ -52,14 +52,14 @@ came HeaderBad kept k = k
 came DataBad kept k = k
 came (Malformed departure) kept k = k
 
-abbrev pub after_arrival : ReadingValue → (kept : Bool) → KeptStation → KeptStation
+abbrev pub after_arrival : ReadingValue → (kept : Bool) → StoredStation → StoredStation
 after_arrival read kept s = owing (arrival_debt s.variables read kept) (becoming (came read kept s.variables) s)
 
 -- whether the packet of what came can be taken
-abbrev pub can_keep : ReadingValue → KeptStation → Bool
+abbrev pub can_keep : ReadingValue → StoredStation → Bool
 can_keep (Sound m) s = can_take s.variables m
 can_keep read s = false
 
 -- bytes that are read so are kept where there is a buffer and their packet can be taken
-abbrev pub keeps : (buffer : Bool) → ReadingValue → KeptStation → Bool
+abbrev pub keeps : (buffer : Bool) → ReadingValue → StoredStation → Bool
 keeps buffer read s = buffer && can_keep read s

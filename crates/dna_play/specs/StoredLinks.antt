@@ -19,7 +19,7 @@ use Rattle.dna_play.specs.LinkOwed as owing
 use Rattle.dna_play.specs.NextSent.{LinkEnd, LinkChoice, Confirms, OfLink, without_turn}
 use Rattle.dna_links.specs.Pieces.{next_piece}
 use Rattle.dna_play.specs.Receipt.{complete}
-use Rattle.dna_play.specs.Kept.{KeptLinks}
+use Rattle.dna_play.specs.StoredEnd.{StoredLinks}
 
 -- ---- look-ups
 
@@ -35,21 +35,21 @@ at_place links None otherwise next = otherwise
 at_place links (Some place) otherwise next = on_end place (slice_get links place) otherwise next
 
 -- goes on with the first link that passes, and its place; otherwise ..
-abbrev pub with_end : {R : Type 0} → LinkTest → KeptLinks → R → (ℕ → LinkEnd → R) → R
+abbrev pub with_end : {R : Type 0} → LinkTest → StoredLinks → R → (ℕ → LinkEnd → R) → R
 with_end test s otherwise next = at_place s.links (place_of test s.links) otherwise next
 
 -- ---- changes
 
-abbrev pub begun : LinkEnd → KeptLinks → KeptLinks
+abbrev pub begun : LinkEnd → StoredLinks → StoredLinks
 begun link s = record s { links = s.links ++ link ∷ [] }
 
-abbrev pub changed : ℕ → LinkEnd → KeptLinks → KeptLinks
+abbrev pub changed : ℕ → LinkEnd → StoredLinks → StoredLinks
 changed place link s = record s { links = slice_set s.links place link }
 
-abbrev pub ended : ℕ → KeptLinks → KeptLinks
+abbrev pub ended : ℕ → StoredLinks → StoredLinks
 ended place s = record s { links = remove s.links place }
 
-abbrev pub confirming : (dst src reason : ℕ) → KeptLinks → KeptLinks
+abbrev pub confirming : (dst src reason : ℕ) → StoredLinks → StoredLinks
 confirming dst src reason s = record s { confirms = s.confirms ++ record { dst = dst; src = src; reason = reason } ∷ [] }
 
 -- ---- one link
@@ -115,24 +115,24 @@ took_segment s link = owes DataAckTurn (acted_on (segment_taken s (acknowledged_
 -- ---- a message comes
 
 -- the link, or the one in Calling with the own address, is ended
-abbrev pub ends_link : (own far : ℕ) → (otherwise : KeptLinks) → (KeptLinks → KeptLinks) → KeptLinks → KeptLinks
+abbrev pub ends_link : (own far : ℕ) → (otherwise : StoredLinks) → (StoredLinks → StoredLinks) → StoredLinks → StoredLinks
 ends_link own far otherwise then_owes s =
     with_end (TheLink own far) s (with_end (CallingAt own) s otherwise (λ place link. then_owes (ended place s)))
     (λ place link. then_owes (ended place s))
 
-abbrev pub no_more : KeptLinks → KeptLinks
+abbrev pub no_more : StoredLinks → StoredLinks
 no_more s = s
 
-abbrev pub acts : (own far : ℕ) → (LinkEnd → LinkEnd) → KeptLinks → KeptLinks
+abbrev pub acts : (own far : ℕ) → (LinkEnd → LinkEnd) → StoredLinks → StoredLinks
 acts own far change s = with_end (ActedOn own far) s s (λ place link. changed place (change link) s)
 
-abbrev pub confirm_came : (own far : ℕ) → KeptLinks → KeptLinks
+abbrev pub confirm_came : (own far : ℕ) → StoredLinks → StoredLinks
 confirm_came own far s =
     with_end (CallingAt own) s
     (with_end (TheLink own far) s s (λ place link. changed place (confirmed_again (is_running link.port.phase) link) s))
     (λ place link. changed place (confirmed far link) s)
 
-abbrev pub message_came : NspValue → KeptLinks → KeptLinks
+abbrev pub message_came : NspValue → StoredLinks → StoredLinks
 -- CI: a new link, or by phase
 message_came (ConnectInitiate retransmitted src services info segsize user_data) s =
     with_end (LiveTo src) s (begun (called src) s) (λ place link. changed place (called_again link.port.phase link) s)
@@ -156,21 +156,21 @@ message_came (DataSegment segment) s = s
 
 -- the links, and the messages that the user gets
 pub record Delivering : Type 0 where
-  pub links : KeptLinks
+  pub links : StoredLinks
   pub messages : List (List ℕ)
 
-abbrev pub delivering_none : KeptLinks → Delivering
+abbrev pub delivering_none : StoredLinks → Delivering
 delivering_none s = record { links = s; messages = [] }
 
 abbrev pub without_whole : LinkEnd → LinkEnd
 without_whole link =
     record link { variables = record link.variables { pieces = drop (in_whole_messages link.variables.pieces) link.variables.pieces } }
 
-abbrev pub delivering_at : ℕ → LinkEnd → KeptLinks → Delivering
+abbrev pub delivering_at : ℕ → LinkEnd → StoredLinks → Delivering
 delivering_at place link s = record { links = changed place (without_whole link) s; messages = complete [] link.variables.pieces }
 
 -- a segment, in Confirming or RUN; and all others
-abbrev pub arrives : NspValue → KeptLinks → Delivering
+abbrev pub arrives : NspValue → StoredLinks → Delivering
 arrives (DataSegment segment) s =
     with_end (ActedOn segment.dstaddr segment.srcaddr) s (delivering_none s) (λ place link. delivering_at place (took_segment segment link) s)
 arrives m s = delivering_none (message_came m s)
@@ -194,10 +194,10 @@ gave_by turn link = link
 abbrev pub turn_sent : Turn → LinkEnd → LinkEnd
 turn_sent turn link = let after = gave_by turn link in record after { owed = without_turn turn after.owed }
 
-abbrev pub sent_at : ℕ → Option LinkEnd → Turn → KeptLinks → KeptLinks
+abbrev pub sent_at : ℕ → Option LinkEnd → Turn → StoredLinks → StoredLinks
 sent_at place None turn s = s
 sent_at place (Some link) turn s = changed place (turn_sent turn link) s
 
-abbrev pub after_sent : LinkChoice → KeptLinks → KeptLinks
+abbrev pub after_sent : LinkChoice → StoredLinks → StoredLinks
 after_sent (Confirms confirm) s = record s { confirms = drop 1 s.confirms }
 after_sent (OfLink place turn) s = sent_at place (slice_get s.links place) turn s

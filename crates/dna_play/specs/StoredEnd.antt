@@ -13,41 +13,41 @@ use Rattle.dna_play.specs.NextSent.{LinkEnd}
 use Rattle.dna_play.specs.Player.{End, variables_of, link_ends_of}
 
 -- The station variables, and what the station owes. No packet has a label
-pub record KeptStation : Type 0 where
+pub record StoredStation : Type 0 where
   pub variables : StationVariables (Unit {0})
   pub owed : Owed
 
 -- The links that live, with what each owes, in the order in which they began; and the DCs that are owed, the oldest first
-pub record KeptLinks : Type 0 where
+pub record StoredLinks : Type 0 where
   pub links : List LinkEnd
   pub confirms : List EndConfirm
 
-pub record KeptEnd : Type 0 where
+pub record StoredEnd : Type 0 where
   pub head : Head
-  pub station : KeptStation
-  pub links : KeptLinks
+  pub station : StoredStation
+  pub links : StoredLinks
   -- how many link addresses it has given: 1, 2, 3 and so on
   pub addresses : ℕ
   -- how many units of the other end came or were lost
   pub passed : ℕ
 
-abbrev pub new_kept_station : KeptStation
-new_kept_station = record { variables = no_numbers Halted; owed = owing.nothing }
+abbrev pub new_stored_station : StoredStation
+new_stored_station = record { variables = no_numbers Halted; owed = owing.nothing }
 
-abbrev pub no_kept_links : KeptLinks
-no_kept_links = record { links = []; confirms = [] }
+abbrev pub no_stored_links : StoredLinks
+no_stored_links = record { links = []; confirms = [] }
 
 -- before any step
-abbrev pub new_kept_end : Head → KeptEnd
-new_kept_end head = record { head = head; station = new_kept_station; links = no_kept_links; addresses = 0; passed = 0 }
+abbrev pub new_stored_end : Head → StoredEnd
+new_stored_end head = record { head = head; station = new_stored_station; links = no_stored_links; addresses = 0; passed = 0 }
 
 -- ---- what a node keeps of an end on true numbers
 
 abbrev pub live_ends : List LinkEnd → List LinkEnd
 live_ends links = filter (λ (l : LinkEnd). is_live l.port.phase) links
 
-abbrev pub kept : End → KeptEnd
-kept e = record {
+abbrev pub stored : End → StoredEnd
+stored e = record {
   head = e.half.state.head;
   station = record { variables = variables_of e.half; owed = e.owed };
   links = record { links = live_ends (link_ends_of e); confirms = e.links_owed.confirms };
