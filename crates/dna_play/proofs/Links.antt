@@ -13,7 +13,7 @@ pub mod Made
 pub mod Phases
 -- what may become of a link, of its message that is sent, and so of all
 pub mod Goes
-pub mod Turns
+pub mod Duties
 pub mod Stage
 -- pieces that wait
 pub mod WaitingPieces

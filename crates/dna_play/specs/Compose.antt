@@ -13,7 +13,7 @@ use Rattle.dna_station.specs.Station.{wire}
 use Rattle.dna_station.specs.WireStation.{HeldPacket, StationVariables}
 use Rattle.dna_links.specs.SegmentBook as book
 use Rattle.dna_links.specs.Pieces.{Piece, Unsent, next_piece, SEGSIZE}
-use Rattle.dna_play.specs.LinkOwed.{Turn, ConnectAckTurn, InitiateTurn, ConfirmTurn, DisconnectTurn, DataAckTurn, SegmentTurn}
+use Rattle.dna_play.specs.LinkOwed.{Duty, ConnectAckDuty, InitiateDuty, ConfirmDuty, DisconnectDuty, DataAckDuty, SegmentDuty}
 use Rattle.dna_play.specs.NextSent.{LinkEnd, LinkChoice, Confirms, OfLink, Choice, SendStrt, SendStack, SendNak, SendRep, SendAgain, SendNew, SendAck}
 
 -- ---- a message of the links
@@ -55,21 +55,21 @@ segment_with l p = record {
 abbrev pub ack_of : ℕ → AckWord
 ack_of number = record { qualifier = qualifiers.Ack; number = number }
 
-abbrev pub turn_message : Turn → LinkEnd → NspValue
-turn_message ConnectAckTurn l = ConnectAck (address l.port.far)
-turn_message InitiateTurn l = ConnectInitiate l.owed.initiated (address l.port.own) SERVICES INFO SEGSIZE []
-turn_message ConfirmTurn l = ConnectConfirm (address l.port.far) (address l.port.own) SERVICES INFO SEGSIZE USER_DATA
-turn_message DisconnectTurn l = DisconnectInitiate (address l.port.far) (address l.port.own) 0 USER_DATA
-turn_message DataAckTurn l = DataAck (address l.port.far) (address l.port.own) (ack_of l.variables.received ∷ [])
-turn_message SegmentTurn l = DataSegment (segment_with l (piece_to_send (slice_get l.variables.outstanding l.owed.ahead) l.variables.unsent))
+abbrev pub duty_message : Duty → LinkEnd → NspValue
+duty_message ConnectAckDuty l = ConnectAck (address l.port.far)
+duty_message InitiateDuty l = ConnectInitiate l.owed.initiated (address l.port.own) SERVICES INFO SEGSIZE []
+duty_message ConfirmDuty l = ConnectConfirm (address l.port.far) (address l.port.own) SERVICES INFO SEGSIZE USER_DATA
+duty_message DisconnectDuty l = DisconnectInitiate (address l.port.far) (address l.port.own) 0 USER_DATA
+duty_message DataAckDuty l = DataAck (address l.port.far) (address l.port.own) (ack_of l.variables.received ∷ [])
+duty_message SegmentDuty l = DataSegment (segment_with l (piece_to_send (slice_get l.variables.outstanding l.owed.ahead) l.variables.unsent))
 
-abbrev pub message_at : Option LinkEnd → Turn → Option NspValue
-message_at None turn = None
-message_at (Some link) turn = Some (turn_message turn link)
+abbrev pub message_at : Option LinkEnd → Duty → Option NspValue
+message_at None duty = None
+message_at (Some link) duty = Some (duty_message duty link)
 
 abbrev pub link_message : LinkChoice → List LinkEnd → Option NspValue
 link_message (Confirms confirm) links = Some (DisconnectConfirm confirm.dst confirm.src confirm.reason)
-link_message (OfLink number turn) links = message_at (slice_get links number) turn
+link_message (OfLink number duty) links = message_at (slice_get links number) duty
 
 -- ---- its packet: RTFLG 02, FORWARD 00, from this node to the other
 

@@ -13,13 +13,13 @@ use Rattle.dna_links.specs.WireSegments.{LinkVariables}
 use Rattle.dna_links.specs.CutSegments.{cut}
 
 -- What a link has to send: the six kinds, in the order in which they go
-pub data Turn : Type 0 where
-  ConnectAckTurn : Turn
-  InitiateTurn : Turn
-  ConfirmTurn : Turn
-  DisconnectTurn : Turn
-  DataAckTurn : Turn
-  SegmentTurn : Turn
+pub data Duty : Type 0 where
+  ConnectAckDuty : Duty
+  InitiateDuty : Duty
+  ConfirmDuty : Duty
+  DisconnectDuty : Duty
+  DataAckDuty : Duty
+  SegmentDuty : Duty
 
 -- each belongs to one phase alone: Called, Calling, Confirming, DI, and RUN twice
 pub record LinkOwed : Type 0 where
@@ -55,17 +55,17 @@ no_links_owe = record { links = []; confirms = [] }
 -- What a message newly makes the links owe
 pub data LinkDebt : Type 0 where
   NoDebt : LinkDebt
-  Owes : (number : ℕ) (turn : Turn) → LinkDebt
+  Owes : (number : ℕ) (duty : Duty) → LinkDebt
   OwesConfirm : EndConfirm → LinkDebt
 
 -- whether that is owed; segments are never owed by a flag
-abbrev pub with_turn : Turn → Bool → LinkOwed → LinkOwed
-with_turn ConnectAckTurn owes owed = record owed { connect_ack = owes }
-with_turn InitiateTurn owes owed = record owed { initiate = owes }
-with_turn ConfirmTurn owes owed = record owed { confirm = owes }
-with_turn DisconnectTurn owes owed = record owed { disconnect = owes }
-with_turn DataAckTurn owes owed = record owed { data_ack = owes }
-with_turn SegmentTurn owes owed = owed
+abbrev pub with_duty : Duty → Bool → LinkOwed → LinkOwed
+with_duty ConnectAckDuty owes owed = record owed { connect_ack = owes }
+with_duty InitiateDuty owes owed = record owed { initiate = owes }
+with_duty ConfirmDuty owes owed = record owed { confirm = owes }
+with_duty DisconnectDuty owes owed = record owed { disconnect = owes }
+with_duty DataAckDuty owes owed = record owed { data_ack = owes }
+with_duty SegmentDuty owes owed = owed
 
 abbrev pub changed_at : ℕ → (LinkOwed → LinkOwed) → Option LinkOwed → List LinkOwed → List LinkOwed
 changed_at number change None links = links
@@ -76,15 +76,15 @@ changed number change owed = record owed { links = changed_at number change (sli
 
 abbrev pub with_debt : LinkDebt → LinksOwed → LinksOwed
 with_debt NoDebt owed = owed
-with_debt (Owes number turn) owed = changed number (with_turn turn true) owed
+with_debt (Owes number duty) owed = changed number (with_duty duty true) owed
 with_debt (OwesConfirm confirm) owed = record owed { confirms = owed.confirms ++ confirm ∷ [] }
 
 -- ---- a message comes
 
 -- a CI that comes again: in Called a connect ack, in Confirming CC
 abbrev pub repeated_call_debt : ℕ → Phase → LinkDebt
-repeated_call_debt number Called = Owes number ConnectAckTurn
-repeated_call_debt number Confirming = Owes number ConfirmTurn
+repeated_call_debt number Called = Owes number ConnectAckDuty
+repeated_call_debt number Confirming = Owes number ConfirmDuty
 repeated_call_debt number phase = NoDebt
 
 abbrev pub confirm_debt : (dst src reason : ℕ) → LinkDebt
@@ -94,18 +94,18 @@ module _ {D : Type 0} where
   abbrev pub message_debt : LinksOf D → NspValue → LinkDebt
   -- CI: of a new link, or by phase
   message_debt s (ConnectInitiate retransmitted src services info segsize user_data) =
-      with_link (LiveTo src) s (Owes (length s.links) ConnectAckTurn) (λ number link. repeated_call_debt number link.port.phase)
+      with_link (LiveTo src) s (Owes (length s.links) ConnectAckDuty) (λ number link. repeated_call_debt number link.port.phase)
   -- CC that is acted on, or for a link in RUN: data ack
   message_debt s (ConnectConfirm dst src services info segsize user_data) =
       with_link (CallingAt dst) s
-      (with_link (TheLink dst src) s NoDebt (λ number link. if is_running link.port.phase then Owes number DataAckTurn else NoDebt))
-      (λ number link. Owes number DataAckTurn)
+      (with_link (TheLink dst src) s NoDebt (λ number link. if is_running link.port.phase then Owes number DataAckDuty else NoDebt))
+      (λ number link. Owes number DataAckDuty)
   -- DI: DC with its two addresses exchanged; reason 42 where it is acted on, 41 where it is not
   message_debt s (DisconnectInitiate dst src reason user_data) =
       with_link (TheLink dst src) s (with_link (CallingAt dst) s (confirm_debt src dst 41) (λ number link. confirm_debt src dst 42))
       (λ number link. confirm_debt src dst 42)
   -- segment that is acted on: data ack
-  message_debt s (DataSegment segment) = with_link (ActedOn segment.dstaddr segment.srcaddr) s NoDebt (λ number link. Owes number DataAckTurn)
+  message_debt s (DataSegment segment) = with_link (ActedOn segment.dstaddr segment.srcaddr) s NoDebt (λ number link. Owes number DataAckDuty)
   message_debt s m = NoDebt
 
 -- ---- the link's timer runs out
@@ -115,9 +115,9 @@ sent_again owed = record owed { ahead = 0 }
 
 -- Calling: CI; Confirming: CC; DI: DI; RUN: all outstanding segments go again; in other phases it can't
 abbrev pub retried : Phase → Option (LinkOwed → LinkOwed)
-retried Calling = Some (with_turn InitiateTurn true)
-retried Confirming = Some (with_turn ConfirmTurn true)
-retried Disconnecting = Some (with_turn DisconnectTurn true)
+retried Calling = Some (with_duty InitiateDuty true)
+retried Confirming = Some (with_duty ConfirmDuty true)
+retried Disconnecting = Some (with_duty DisconnectDuty true)
 retried Running = Some sent_again
 retried Called = None
 retried Ended = None

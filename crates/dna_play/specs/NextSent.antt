@@ -15,8 +15,8 @@ use Rattle.dna_links.specs.Links.{LinkOf}
 use Rattle.dna_links.specs.TrueSegments.{TrueSegments}
 use Rattle.dna_links.specs.WireSegments.{LinkVariables}
 use Rattle.dna_play.specs.Owed.{Owed, with_nak}
-use Rattle.dna_play.specs.LinkOwed.{LinkOwed, LinksOwed, EndConfirm, Turn, ConnectAckTurn, InitiateTurn, ConfirmTurn, DisconnectTurn, DataAckTurn}
-use Rattle.dna_play.specs.LinkOwed.{SegmentTurn, variables_of, with_turn, changed}
+use Rattle.dna_play.specs.LinkOwed.{LinkOwed, LinksOwed, EndConfirm, Duty, ConnectAckDuty, InitiateDuty, ConfirmDuty, DisconnectDuty, DataAckDuty}
+use Rattle.dna_play.specs.LinkOwed.{SegmentDuty, variables_of, with_duty, changed}
 
 -- ---- the links
 
@@ -37,7 +37,7 @@ pub data LinkChoice : Type 0 where
   -- the oldest DC that is owed
   Confirms : EndConfirm → LinkChoice
   -- of the link with this number
-  OfLink : (number : ℕ) (turn : Turn) → LinkChoice
+  OfLink : (number : ℕ) (duty : Duty) → LinkChoice
 
 -- an outstanding segment that is not sent in the present go yet
 abbrev pub has_repeat : LinkEnd → Bool
@@ -52,39 +52,39 @@ abbrev pub has_segment : LinkEnd → Bool
 has_segment l = is_running l.port.phase && (has_repeat l || has_new l)
 
 -- the first of the six kinds
-abbrev pub turn_of : LinkEnd → Option Turn
-turn_of l =
-    if l.owed.connect_ack then Some ConnectAckTurn else
-    if l.owed.initiate then Some InitiateTurn else
-    if l.owed.confirm then Some ConfirmTurn else
-    if l.owed.disconnect then Some DisconnectTurn else
-    if l.owed.data_ack then Some DataAckTurn else
-    if has_segment l then Some SegmentTurn else
+abbrev pub duty_of : LinkEnd → Option Duty
+duty_of l =
+    if l.owed.connect_ack then Some ConnectAckDuty else
+    if l.owed.initiate then Some InitiateDuty else
+    if l.owed.confirm then Some ConfirmDuty else
+    if l.owed.disconnect then Some DisconnectDuty else
+    if l.owed.data_ack then Some DataAckDuty else
+    if has_segment l then Some SegmentDuty else
     None
 
 -- of the first link that has any
-abbrev pub turn_or_next : ℕ → Option Turn → Option LinkChoice → Option LinkChoice
-turn_or_next number None next = next
-turn_or_next number (Some turn) next = Some (OfLink number turn)
+abbrev pub duty_or_next : ℕ → Option Duty → Option LinkChoice → Option LinkChoice
+duty_or_next number None next = next
+duty_or_next number (Some duty) next = Some (OfLink number duty)
 
-abbrev pub first_turn : (number : ℕ) → List LinkEnd → Option LinkChoice
-first_turn number [] = None
-first_turn number (link ∷ links) = turn_or_next number (turn_of link) (first_turn (number + 1) links)
+abbrev pub first_duty : (number : ℕ) → List LinkEnd → Option LinkChoice
+first_duty number [] = None
+first_duty number (link ∷ links) = duty_or_next number (duty_of link) (first_duty (number + 1) links)
 
 -- DCs come before the links
 abbrev pub link_choice : List EndConfirm → List LinkEnd → Option LinkChoice
-link_choice [] links = first_turn 0 links
+link_choice [] links = first_duty 0 links
 link_choice (confirm ∷ later) links = Some (Confirms confirm)
 
 -- sending clears what it sends
-abbrev pub without_turn : Turn → LinkOwed → LinkOwed
-without_turn InitiateTurn owed = record owed { initiate = false; initiated = true }
-without_turn SegmentTurn owed = record owed { ahead = owed.ahead + 1 }
-without_turn turn owed = with_turn turn false owed
+abbrev pub without_duty : Duty → LinkOwed → LinkOwed
+without_duty InitiateDuty owed = record owed { initiate = false; initiated = true }
+without_duty SegmentDuty owed = record owed { ahead = owed.ahead + 1 }
+without_duty duty owed = with_duty duty false owed
 
 abbrev pub after_link_choice : LinkChoice → LinksOwed → LinksOwed
 after_link_choice (Confirms confirm) owed = record owed { confirms = drop 1 owed.confirms }
-after_link_choice (OfLink number turn) owed = changed number (without_turn turn) owed
+after_link_choice (OfLink number duty) owed = changed number (without_duty duty) owed
 
 -- ---- the station
 

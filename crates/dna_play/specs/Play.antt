@@ -12,7 +12,7 @@ use Rattle.dna_links.specs.Links.{with_link}
 use Rattle.dna_node.specs.Layers.{LayersNode, LayersUnit}
 use Rattle.dna_play.specs.Script.{StepValue, Start, Halt, Timer, Send, Deliver, Refuse, Lose, Damage, Noise, Open, Accept, Reject, In, Close, Retry}
 use Rattle.dna_play.specs.Owed.{Debt, OwesStrt, timer_debt}
-use Rattle.dna_play.specs.LinkOwed.{LinkOwed, Owes, InitiateTurn, ConfirmTurn, DisconnectTurn, retried, changed}
+use Rattle.dna_play.specs.LinkOwed.{LinkOwed, Owes, InitiateDuty, ConfirmDuty, DisconnectDuty, retried, changed}
 use Rattle.dna_play.specs.NextSent.{Choice, SendNew, link_choice, after_link_choice, choice, after_choice}
 use Rattle.dna_play.specs.Compose.{message_of}
 use Rattle.dna_play.specs.Player.{End, makes, variables_of, links_of, link_ends_of}
@@ -72,15 +72,15 @@ unfoldable pub plays : End → Half LayersNode LayersUnit → StepValue → Resu
 plays own other Start = by_user own other events.Start (owing_more (Some OwesStrt))
 plays own other Halt = by_user own other events.Halt no_more
 plays own other Open =
-    giving own (λ end address. by_user end other (events.Open address) (links_owing_more (Owes (length (links_of own.half).links) InitiateTurn)))
+    giving own (λ end address. by_user end other (events.Open address) (links_owing_more (Owes (length (links_of own.half).links) InitiateDuty)))
 plays own other (Accept partner) =
-    answering own partner (λ number end address. by_user end other (events.Accept partner address) (links_owing_more (Owes number ConfirmTurn)))
+    answering own partner (λ number end address. by_user end other (events.Accept partner address) (links_owing_more (Owes number ConfirmDuty)))
 plays own other (Reject partner) =
-    answering own partner (λ number end address. by_user end other (events.Reject partner address) (links_owing_more (Owes number DisconnectTurn)))
+    answering own partner (λ number end address. by_user end other (events.Reject partner address) (links_owing_more (Owes number DisconnectDuty)))
 plays own other (In link message) = by_user own other (events.In link message) no_more
 plays own other (Close link) =
     with_link (LiveAt link) (links_of own.half) (Err BadStep)
-    (λ number found. by_user own other (events.Close link) (links_owing_more (Owes number DisconnectTurn)))
+    (λ number found. by_user own other (events.Close link) (links_owing_more (Owes number DisconnectDuty)))
 -- timers: no record
 plays own other Timer = timed own (timer_debt (variables_of own.half).state (variables_of own.half))
 plays own other (Retry link) =

@@ -13,10 +13,10 @@ use Rattle.dna_links.specs.LookUps.{passes, is_running}
 use Rattle.dna_links.specs.SegmentBook.{distance}
 use Rattle.dna_links.specs.Pieces.{Piece, none_unsent, with_message, without_piece, in_whole_messages}
 use Rattle.dna_links.specs.WireSegments.{LinkVariables, acknowledged_by_all, segment_taken}
-use Rattle.dna_play.specs.LinkOwed.{LinkOwed, EndConfirm, Turn, ConnectAckTurn, InitiateTurn, ConfirmTurn, DisconnectTurn, DataAckTurn, SegmentTurn}
-use Rattle.dna_play.specs.LinkOwed.{with_turn, same_phase, unless_left, lowered}
+use Rattle.dna_play.specs.LinkOwed.{LinkOwed, EndConfirm, Duty, ConnectAckDuty, InitiateDuty, ConfirmDuty, DisconnectDuty, DataAckDuty, SegmentDuty}
+use Rattle.dna_play.specs.LinkOwed.{with_duty, same_phase, unless_left, lowered}
 use Rattle.dna_play.specs.LinkOwed as owing
-use Rattle.dna_play.specs.NextSent.{LinkEnd, LinkChoice, Confirms, OfLink, without_turn}
+use Rattle.dna_play.specs.NextSent.{LinkEnd, LinkChoice, Confirms, OfLink, without_duty}
 use Rattle.dna_links.specs.Pieces.{next_piece}
 use Rattle.dna_play.specs.Receipt.{complete}
 use Rattle.dna_play.specs.StoredEnd.{StoredLinks}
@@ -58,17 +58,17 @@ confirming dst src reason s = record s { confirms = s.confirms ++ record { dst =
 abbrev pub no_segments : LinkVariables
 no_segments = record { unsent = none_unsent; acknowledged = 0; outstanding = []; received = 0; pieces = [] }
 
-abbrev pub owes : Turn → LinkEnd → LinkEnd
-owes turn link = record link { owed = with_turn turn true link.owed }
+abbrev pub owes : Duty → LinkEnd → LinkEnd
+owes duty link = record link { owed = with_duty duty true link.owed }
 
 -- opened here, with this own address: it owes CI
 abbrev pub opened : (own : ℕ) → LinkEnd
-opened own = owes InitiateTurn
+opened own = owes InitiateDuty
     (record { port = record { phase = Calling; opened = true; own = Some own; far = None }; variables = no_segments; owed = owing.nothing })
 
 -- begun by a CI, with this far address: it owes a connect ack
 abbrev pub called : (far : ℕ) → LinkEnd
-called far = owes ConnectAckTurn
+called far = owes ConnectAckDuty
     (record { port = record { phase = Called; opened = false; own = None; far = Some far }; variables = no_segments; owed = owing.nothing })
 
 -- a phase that was left drops what was owed
@@ -76,28 +76,28 @@ abbrev pub in_phase : Phase → LinkEnd → LinkEnd
 in_phase phase link = record link { port = record link.port { phase = phase }; owed = unless_left (same_phase link.port.phase phase) link.owed }
 
 -- the user answers its call: it gets this own address, and owes CC or DI
-abbrev pub answered : Phase → Turn → (own : ℕ) → LinkEnd → LinkEnd
-answered phase turn own link = let left = in_phase phase link in owes turn (record left { port = record left.port { own = Some own } })
+abbrev pub answered : Phase → Duty → (own : ℕ) → LinkEnd → LinkEnd
+answered phase duty own link = let left = in_phase phase link in owes duty (record left { port = record left.port { own = Some own } })
 
 abbrev pub closed : LinkEnd → LinkEnd
-closed link = owes DisconnectTurn (in_phase Disconnecting link)
+closed link = owes DisconnectDuty (in_phase Disconnecting link)
 
 abbrev pub handed : List ℕ → LinkEnd → LinkEnd
 handed message link = record link { variables = record link.variables { unsent = with_message message link.variables.unsent } }
 
 -- a CI comes again: in Called a connect ack, in Confirming CC
 abbrev pub called_again : Phase → LinkEnd → LinkEnd
-called_again Called link = owes ConnectAckTurn link
-called_again Confirming link = owes ConfirmTurn link
+called_again Called link = owes ConnectAckDuty link
+called_again Confirming link = owes ConfirmDuty link
 called_again phase link = link
 
 -- CC is acted on: to RUN with this far address; data ack
 abbrev pub confirmed : (far : ℕ) → LinkEnd → LinkEnd
-confirmed far link = let left = in_phase Running link in owes DataAckTurn (record left { port = record left.port { far = Some far } })
+confirmed far link = let left = in_phase Running link in owes DataAckDuty (record left { port = record left.port { far = Some far } })
 
 -- CC for a link in RUN: data ack
 abbrev pub confirmed_again : (running : Bool) → LinkEnd → LinkEnd
-confirmed_again true link = owes DataAckTurn link
+confirmed_again true link = owes DataAckDuty link
 confirmed_again false link = link
 
 -- Something is acted on, in Confirming or RUN: what was acknowledged is no longer among the segments sent in this go
@@ -110,7 +110,7 @@ took_acks words link = acted_on (acknowledged_by_all words link.variables) link
 
 -- and data ack
 abbrev pub took_segment : SegmentValue → LinkEnd → LinkEnd
-took_segment s link = owes DataAckTurn (acted_on (segment_taken s (acknowledged_by_all s.acks link.variables)) link)
+took_segment s link = owes DataAckDuty (acted_on (segment_taken s (acknowledged_by_all s.acks link.variables)) link)
 
 -- ---- a message comes
 
@@ -187,17 +187,17 @@ gave None link = record link {
   };
 }
 
-abbrev pub gave_by : Turn → LinkEnd → LinkEnd
-gave_by SegmentTurn link = gave (slice_get link.variables.outstanding link.owed.ahead) link
-gave_by turn link = link
+abbrev pub gave_by : Duty → LinkEnd → LinkEnd
+gave_by SegmentDuty link = gave (slice_get link.variables.outstanding link.owed.ahead) link
+gave_by duty link = link
 
-abbrev pub turn_sent : Turn → LinkEnd → LinkEnd
-turn_sent turn link = let after = gave_by turn link in record after { owed = without_turn turn after.owed }
+abbrev pub duty_sent : Duty → LinkEnd → LinkEnd
+duty_sent duty link = let after = gave_by duty link in record after { owed = without_duty duty after.owed }
 
-abbrev pub sent_at : ℕ → Option LinkEnd → Turn → StoredLinks → StoredLinks
-sent_at place None turn s = s
-sent_at place (Some link) turn s = changed place (turn_sent turn link) s
+abbrev pub sent_at : ℕ → Option LinkEnd → Duty → StoredLinks → StoredLinks
+sent_at place None duty s = s
+sent_at place (Some link) duty s = changed place (duty_sent duty link) s
 
 abbrev pub after_sent : LinkChoice → StoredLinks → StoredLinks
 after_sent (Confirms confirm) s = record s { confirms = drop 1 s.confirms }
-after_sent (OfLink place turn) s = sent_at place (slice_get s.links place) turn s
+after_sent (OfLink place duty) s = sent_at place (slice_get s.links place) duty s

@@ -20,7 +20,7 @@ use Rattle.dna_station.specs.Table.{user_refusal}
 use Rattle.dna_links.specs.LookUps.{is_connected, takes_messages}
 use Rattle.dna_play.specs.Script.{StepValue, Start, Halt, Timer, Send, Deliver, Refuse, Lose, Damage, Noise, Open, Accept, Reject, In, Close, Retry}
 use Rattle.dna_play.specs.Owed.{Debt, OwesStrt, timer_debt}
-use Rattle.dna_play.specs.LinkOwed.{LinkOwed, ConfirmTurn, DisconnectTurn, retried}
+use Rattle.dna_play.specs.LinkOwed.{LinkOwed, ConfirmDuty, DisconnectDuty, retried}
 use Rattle.dna_play.specs.NextSent.{LinkEnd, Choice, SendNew, link_choice, choice}
 use Rattle.dna_play.specs.Compose.{message_of}
 use Rattle.dna_play.specs.Stepped.{Stop, BadStep, Full}
@@ -75,10 +75,10 @@ answers e partner change event = with_end (CalledBy partner) e.links (Err BadSte
     (λ place link. giving e (λ end address. made (event address) (with_links (changed place (change address link) e.links) end)))
 
 abbrev pub accepts : StoredEnd → (partner : ℕ) → Result StoredStepped Stop
-accepts e partner = answers e partner (answered Confirming ConfirmTurn) (events.Accept partner)
+accepts e partner = answers e partner (answered Confirming ConfirmDuty) (events.Accept partner)
 
 abbrev pub rejects : StoredEnd → (partner : ℕ) → Result StoredStepped Stop
-rejects e partner = answers e partner (answered Disconnecting DisconnectTurn) (events.Reject partner)
+rejects e partner = answers e partner (answered Disconnecting DisconnectDuty) (events.Reject partner)
 
 -- a link in a phase of this kind; and a message that has a line
 abbrev pub if_so : Bool → Result StoredStepped Stop → Result StoredStepped Stop

@@ -11,13 +11,13 @@ use Rattle.dna_station.specs.declared.head.Head.{Head}
 use Rattle.dna_play.specs.HasLine.{are_bytes}
 use Rattle.dna_links.specs.Pieces.{Piece, Unsent, left_of}
 use Rattle.dna_station.specs.WireStation.{HeldPacket}
-use Rattle.dna_play.specs.LinkOwed.{Turn, ConnectAckTurn, InitiateTurn, ConfirmTurn, DisconnectTurn, DataAckTurn, SegmentTurn}
+use Rattle.dna_play.specs.LinkOwed.{Duty, ConnectAckDuty, InitiateDuty, ConfirmDuty, DisconnectDuty, DataAckDuty, SegmentDuty}
 use Rattle.dna_play.specs.NextSent.{LinkEnd, LinkChoice, Confirms, OfLink, Choice, SendStrt, SendStack, SendNak, SendRep, SendAgain, SendNew, SendAck}
 use Rattle.dna_play.specs.Compose.{SERVICES, INFO, USER_DATA, ack_of, address, link_message, message_at, message_of, new_data, no_flags, packet_again}
-use Rattle.dna_play.specs.Compose.{packet_with, piece_to_send, segment_with, turn_message}
+use Rattle.dna_play.specs.Compose.{packet_with, piece_to_send, segment_with, duty_message}
 use Rattle.dna_links.specs.Pieces.{SEGSIZE, next_piece, next_piece_of, piece_with}
 use Rattle.dna_play.specs.StoredEnd.{StoredLinks}
-use Rattle.dna_play.specs.StoredLinks.{after_sent, gave, gave_by, sent_at, turn_sent}
+use Rattle.dna_play.specs.StoredLinks.{after_sent, gave, gave_by, sent_at, duty_sent}
 use Rattle.dna_play.specs.StoredPlay.{links_sent}
 use Rattle.dna_play.proofs.Ends.UnitLines.{IsOfBytes, PacketFits, joined_bytes, packet_fits}
 use Rattle.pair_player.proofs.ByteLists.{HasBytes, front, left, taken}
@@ -95,10 +95,10 @@ module _ (l : LinkEnd) (h : VariablesFit l.variables) where
 
   -- ---- what a link sends
 
-  turn_fits : (turn : Turn) → NspFits (turn_message turn l)
-  turn_fits ConnectAckTurn =
+  duty_fits : (duty : Duty) → NspFits (duty_message duty l)
+  duty_fits ConnectAckDuty =
       let far = address l.port.far in record { are = front 0x24 (word far) (omega arith) (word_bytes far); few = omega arith }
-  turn_fits InitiateTurn = go l.owed.initiated
+  duty_fits InitiateDuty = go l.owed.initiated
     where
       rest : List ℕ
       rest = connect_fields SERVICES INFO SEGSIZE ++ []
@@ -106,22 +106,22 @@ module _ (l : LinkEnd) (h : VariablesFit l.variables) where
       go : (b : Bool) → HasBytes 1024 ((cond b 0x68 0x18) ∷ ((word 0 ++ word (address l.port.own)) ++ rest))
       go true = record { are = addressed 0x68 0 (address l.port.own) rest (omega arith) refl; few = omega arith }
       go false = record { are = addressed 0x18 0 (address l.port.own) rest (omega arith) refl; few = omega arith }
-  turn_fits ConfirmTurn = record {
+  duty_fits ConfirmDuty = record {
     are = addressed 0x28 (address l.port.far) (address l.port.own) (connect_fields SERVICES INFO SEGSIZE ++ USER_DATA) (omega arith) refl;
     few = omega arith;
   }
-  turn_fits DisconnectTurn = record {
+  duty_fits DisconnectDuty = record {
     are = addressed 0x38 (address l.port.far) (address l.port.own) (word 0 ++ USER_DATA) (omega arith) refl;
     few = omega arith;
   }
-  turn_fits DataAckTurn =
+  duty_fits DataAckDuty =
       let number = ack_word (ack_of l.variables.received) in
       record {
         are = addressed 0x04 (address l.port.far) (address l.port.own) (word number ++ []) (omega arith)
             (joined_bytes (word number) [] (word_bytes number) refl);
         few = omega arith;
       }
-  turn_fits SegmentTurn =
+  duty_fits SegmentDuty =
       let p = piece_to_send (slice_get l.variables.outstanding l.owed.ahead) l.variables.unsent in
       let number = segnum (segment_with l p).number false in
       let few = to_send.few in
@@ -134,14 +134,14 @@ module _ (l : LinkEnd) (h : VariablesFit l.variables) where
 confirm_fits : (dst src reason : ℕ) → are_bytes (0x48 ∷ ((word dst ++ word src) ++ word reason)) ≡ true
 confirm_fits dst src reason = addressed 0x48 dst src (word reason) (omega arith) (word_bytes reason)
 
-at_fits : (links : List LinkEnd) (place : ℕ) (o : Option LinkEnd) (turn : Turn) → AllFit links → slice_get links place ≡ o →
-    IfSome (message_at o turn) NspFits
-at_fits links place None turn h e = tt
-at_fits links place (Some link) turn h e = turn_fits link (there LinkFits links place link h e).segments turn
+at_fits : (links : List LinkEnd) (place : ℕ) (o : Option LinkEnd) (duty : Duty) → AllFit links → slice_get links place ≡ o →
+    IfSome (message_at o duty) NspFits
+at_fits links place None duty h e = tt
+at_fits links place (Some link) duty h e = duty_fits link (there LinkFits links place link h e).segments duty
 
 links_fit : (message : LinkChoice) (links : List LinkEnd) → AllFit links → IfSome (link_message message links) NspFits
 links_fit (Confirms confirm) links h = record { are = confirm_fits confirm.dst confirm.src confirm.reason; few = omega arith }
-links_fit (OfLink place turn) links h = at_fits links place (slice_get links place) turn h refl
+links_fit (OfLink place duty) links h = at_fits links place (slice_get links place) duty h refl
 
 -- ---- a message of the station
 
@@ -184,25 +184,25 @@ gave_fits None link h =
       refl,
     )
 
-gave_by_fits : (turn : Turn) (link : LinkEnd) → LinkFits link → LinkFits (gave_by turn link) × (wait (gave_by turn link) ≡ wait link)
-gave_by_fits SegmentTurn link h = gave_fits (slice_get link.variables.outstanding link.owed.ahead) link h
-gave_by_fits ConnectAckTurn link h = (h, refl)
-gave_by_fits InitiateTurn link h = (h, refl)
-gave_by_fits ConfirmTurn link h = (h, refl)
-gave_by_fits DisconnectTurn link h = (h, refl)
-gave_by_fits DataAckTurn link h = (h, refl)
+gave_by_fits : (duty : Duty) (link : LinkEnd) → LinkFits link → LinkFits (gave_by duty link) × (wait (gave_by duty link) ≡ wait link)
+gave_by_fits SegmentDuty link h = gave_fits (slice_get link.variables.outstanding link.owed.ahead) link h
+gave_by_fits ConnectAckDuty link h = (h, refl)
+gave_by_fits InitiateDuty link h = (h, refl)
+gave_by_fits ConfirmDuty link h = (h, refl)
+gave_by_fits DisconnectDuty link h = (h, refl)
+gave_by_fits DataAckDuty link h = (h, refl)
 
 module _ (s : StoredLinks) (h : AllFit s.links) where
-  sent_fits : (place : ℕ) (o : Option LinkEnd) (turn : Turn) → slice_get s.links place ≡ o → Leaves 0 s (sent_at place o turn s)
-  sent_fits place None turn e = stays s h
-  sent_fits place (Some link) turn e =
-      let g = gave_by_fits turn link (there LinkFits s.links place link h e) in
+  sent_fits : (place : ℕ) (o : Option LinkEnd) (duty : Duty) → slice_get s.links place ≡ o → Leaves 0 s (sent_at place o duty s)
+  sent_fits place None duty e = stays s h
+  sent_fits place (Some link) duty e =
+      let g = gave_by_fits duty link (there LinkFits s.links place link h e) in
       let same = g.1 in
-      changes s h 0 place link (turn_sent turn link) e g.0 (omega arith)
+      changes s h 0 place link (duty_sent duty link) e g.0 (omega arith)
 
   message_sent : (message : LinkChoice) → Leaves 0 s (after_sent message s)
   message_sent (Confirms confirm) = record { fits = h; few = omega arith }
-  message_sent (OfLink place turn) = sent_fits place (slice_get s.links place) turn refl
+  message_sent (OfLink place duty) = sent_fits place (slice_get s.links place) duty refl
 
   pub choice_sent : (next : Choice) → Leaves 0 s (links_sent next s)
   choice_sent (SendNew message) = message_sent message

@@ -25,7 +25,7 @@ use Rattle.dna_links.specs.LookUps.{is_connected, takes_messages}
 use Rattle.dna_play.specs.Script.{StepValue, Start, Halt, Timer, Send, Deliver, Refuse, Lose, Damage, Noise, Open, Accept, Reject, In, Close, Retry}
 use Rattle.dna_play.specs.ScriptText.{NumbersFit, most_bytes, step_bytes}
 use Rattle.dna_play.specs.Owed.{Debt, OwesStrt, timer_debt}
-use Rattle.dna_play.specs.LinkOwed.{LinkOwed, ConfirmTurn, DisconnectTurn, retried}
+use Rattle.dna_play.specs.LinkOwed.{LinkOwed, ConfirmDuty, DisconnectDuty, retried}
 use Rattle.dna_play.specs.NextSent.{Choice, LinkEnd, choice, link_choice}
 use Rattle.dna_play.specs.Compose.{message_of}
 use Rattle.dna_play.specs.Receipt.{carried, damaged, is_damage}
@@ -267,11 +267,11 @@ module _ (e : StoredEnd) (h : EndFits e) where
     plays_fit (Noise noise) numbers bytes = noise_fits noise bytes
     plays_fit Open numbers bytes = opens_fits
     plays_fit (Accept partner) numbers bytes =
-        answers_fits partner (answered Confirming ConfirmTurn) (events.Accept partner)
+        answers_fits partner (answered Confirming ConfirmDuty) (events.Accept partner)
         (λ link given_link fits. record { own_fits = given_link; segments = fits.segments }) (λ link. refl)
         (λ given_link. user_record (events.Accept partner (e.addresses + 1)) (numbers, given_link) (no_bytes MAX_MESSAGE))
     plays_fit (Reject partner) numbers bytes =
-        answers_fits partner (answered Disconnecting DisconnectTurn) (events.Reject partner)
+        answers_fits partner (answered Disconnecting DisconnectDuty) (events.Reject partner)
         (λ link given_link fits. record { own_fits = given_link; segments = fits.segments }) (λ link. refl)
         (λ given_link. user_record (events.Reject partner (e.addresses + 1)) (numbers, given_link) (no_bytes MAX_MESSAGE))
     plays_fit (In link message) numbers bytes = handed_fits link message numbers bytes

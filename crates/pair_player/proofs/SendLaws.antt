@@ -9,12 +9,12 @@ use Rattle.dna_station.specs.Table.{WINDOW}
 use Rattle.dna_station.specs.WireStation.{StationVariables}
 use Rattle.dna_station.specs.WireBook.{wire_is_new}
 use Rattle.dna_play.specs.Owed.{Owed}
-use Rattle.dna_play.specs.LinkOwed.{EndConfirm, Turn, ConnectAckTurn, InitiateTurn, ConfirmTurn, DisconnectTurn, DataAckTurn, SegmentTurn}
+use Rattle.dna_play.specs.LinkOwed.{EndConfirm, Duty, ConnectAckDuty, InitiateDuty, ConfirmDuty, DisconnectDuty, DataAckDuty, SegmentDuty}
 use Rattle.dna_play.specs.StoredEnd.{StoredEnd}
 use Rattle.dna_play.specs.Player.{End, link_ends_of, variables_of}
 use Rattle.dna_play.specs.StepRule.{HasUnit}
 use Rattle.dna_play.specs.NextSent.{Choice, LinkChoice, LinkEnd, SendAck, SendAgain, SendNak, SendRep, SendStack, SendStrt, choice, choice_in}
-use Rattle.dna_play.specs.NextSent.{data_choice, first_turn, has_segment, link_choice, lowest_nak, new_packet, or_else, turn_of, turn_or_next, when}
+use Rattle.dna_play.specs.NextSent.{data_choice, first_duty, has_segment, link_choice, lowest_nak, new_packet, or_else, duty_of, duty_or_next, when}
 use Rattle.pair_player.specs.Sending.{has_data, link_has, links_have, may_send, owes_nak, some_link_has}
 
 -- ---- one thing before another
@@ -40,22 +40,22 @@ last_so : {X : Type 0} (b : Bool) (x : X) → is_some (cond b (Some x) None) ≡
 last_so true x = refl
 last_so false x = refl
 
-link_turn : (l : LinkEnd) → is_some (turn_of l) ≡ link_has l
-link_turn l =
-    then_or l.owed.connect_ack ConnectAckTurn _ _ (then_or l.owed.initiate InitiateTurn _ _ (then_or l.owed.confirm ConfirmTurn _ _
-    (then_or l.owed.disconnect DisconnectTurn _ _ (then_or l.owed.data_ack DataAckTurn _ _ (last_so (has_segment l) SegmentTurn)))))
+link_duty : (l : LinkEnd) → is_some (duty_of l) ≡ link_has l
+link_duty l =
+    then_or l.owed.connect_ack ConnectAckDuty _ _ (then_or l.owed.initiate InitiateDuty _ _ (then_or l.owed.confirm ConfirmDuty _ _
+    (then_or l.owed.disconnect DisconnectDuty _ _ (then_or l.owed.data_ack DataAckDuty _ _ (last_so (has_segment l) SegmentDuty)))))
 
-turn_so : (number : ℕ) (o : Option Turn) (next : Option LinkChoice) → is_some (turn_or_next number o next) ≡ (is_some o || is_some next)
-turn_so number None next = refl
-turn_so number (Some turn) next = refl
+duty_so : (number : ℕ) (o : Option Duty) (next : Option LinkChoice) → is_some (duty_or_next number o next) ≡ (is_some o || is_some next)
+duty_so number None next = refl
+duty_so number (Some duty) next = refl
 
-some_turn : (number : ℕ) (links : List LinkEnd) → is_some (first_turn number links) ≡ some_link_has links
-some_turn number [] = refl
-some_turn number (link ∷ links) =
-    turn_so number (turn_of link) (first_turn (number + 1) links) ∙ ap₂ (λ (a b : Bool). a || b) (link_turn link) (some_turn (number + 1) links)
+some_duty : (number : ℕ) (links : List LinkEnd) → is_some (first_duty number links) ≡ some_link_has links
+some_duty number [] = refl
+some_duty number (link ∷ links) =
+    duty_so number (duty_of link) (first_duty (number + 1) links) ∙ ap₂ (λ (a b : Bool). a || b) (link_duty link) (some_duty (number + 1) links)
 
 links_so : (confirms : List EndConfirm) (links : List LinkEnd) → is_some (link_choice confirms links) ≡ links_have confirms links
-links_so [] links = some_turn 0 links
+links_so [] links = some_duty 0 links
 links_so (confirm ∷ later) links = refl
 
 -- ---- the station

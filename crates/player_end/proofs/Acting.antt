@@ -8,7 +8,7 @@ use Rattle.dna_links.specs.declared.port.Phase.TheVariants.{Running}
 use Rattle.dna_links.specs.SegmentBook.{REACH, distance}
 use Rattle.dna_links.specs.Pieces.{Piece, piece_of}
 use Rattle.dna_links.specs.WireSegments.{LinkVariables, acknowledged_by_all, with_pieces, segment_taken, held}
-use Rattle.dna_play.specs.LinkOwed.{LinkOwed, DataAckTurn, nothing, same_phase, unless_left, lowered}
+use Rattle.dna_play.specs.LinkOwed.{LinkOwed, DataAckDuty, nothing, same_phase, unless_left, lowered}
 use Rattle.dna_play.specs.NextSent.{LinkEnd}
 use Rattle.dna_play.specs.StoredLinks.{in_phase, acted_on, took_acks, took_segment, owes}
 use Rattle.link_segments.specs.Outstanding.{acknowledged_words}
@@ -55,11 +55,11 @@ same_acknowledged : (s : SegmentValue) (k : LinkVariables) → (segment_taken s 
 same_acknowledged s k = ap (λ (l : LinkVariables). l.acknowledged) (beside_window s (window_of k) k)
 
 pub segment_and_acks : (s : SegmentValue) (l : LinkEnd) →
-    owes DataAckTurn (took_acks s.acks (record l { variables = segment_taken s l.variables })) ≡ took_segment s l
+    owes DataAckDuty (took_acks s.acks (record l { variables = segment_taken s l.variables })) ≡ took_segment s l
 segment_and_acks s l =
-    ap (λ (after : LinkVariables). owes DataAckTurn (acted_on after (record l { variables = segment_taken s l.variables })))
+    ap (λ (after : LinkVariables). owes DataAckDuty (acted_on after (record l { variables = segment_taken s l.variables })))
     (either_order s s.acks l.variables)
-    ∙ ap (λ (n : ℕ). owes DataAckTurn (record (in_phase Running l) {
+    ∙ ap (λ (n : ℕ). owes DataAckDuty (record (in_phase Running l) {
       variables = segment_taken s (acknowledged_by_all s.acks l.variables);
       owed = lowered (distance n (segment_taken s (acknowledged_by_all s.acks l.variables)).acknowledged) (in_phase Running l).owed;
     })) (same_acknowledged s l.variables)

@@ -4,11 +4,11 @@ use Rattle.std.proofs.Common.{get_or, set, refl, sym, subst, ap, ◌∙◌, arit
 use Rattle.std.specs.Prelude.{slice_get, slice_set}
 use Rattle.std.proofs.lemmas.Option.{slice_get_read, same_Some}
 use Rattle.dna_links.specs.LookUps.{is_live}
-use Rattle.dna_play.specs.LinkOwed.{LinkOwed, EndConfirm, Turn, retried}
-use Rattle.dna_play.specs.NextSent.{LinkEnd, OfLink, link_choice, turn_of}
+use Rattle.dna_play.specs.LinkOwed.{LinkOwed, EndConfirm, Duty, retried}
+use Rattle.dna_play.specs.NextSent.{LinkEnd, OfLink, link_choice, duty_of}
 use Rattle.dna_play.specs.StoredEnd.{StoredLinks, live_ends}
 use Rattle.dna_packet.specs.Nsp.{SegmentValue}
-use Rattle.dna_play.specs.StoredLinks.{Delivering, after_sent, begun, changed, delivering_at, ended, sent_at, took_segment, turn_sent, without_whole}
+use Rattle.dna_play.specs.StoredLinks.{Delivering, after_sent, begun, changed, delivering_at, ended, sent_at, took_segment, duty_sent, without_whole}
 use Rattle.player_end.specs.declared.fault.StepFault.{StepFault}
 use Rattle.player_end.specs.declared.fault.StepFault.TheVariants.{BadStep, Full, OutOfMemory}
 use Rattle.player_end.specs.Stepping.{Stopped}
@@ -20,7 +20,7 @@ use Rattle.player_end.specs.inner.Index.{IsIndexed}
 use Rattle.player_end.proofs.Indexed.{Knows, changed_indexed, same_indexed, set_indexed}
 use Rattle.player_end.proofs.Keeping.{Keeps, same_port, as_made, keeps_acted, keeps_called, keeps_closed, keeps_confirmed, keeps_acks}
 use Rattle.player_end.proofs.Searching.{lives, place_same}
-use Rattle.player_end.proofs.Turns.{chosen_stands}
+use Rattle.player_end.proofs.Duties.{chosen_stands}
 
 pub map_ok : {A E P Q : Type 0} (r : Result A E) → (P → Q) → OnOk r P → OnOk r Q
 map_ok (Ok x) f h = f h
@@ -125,8 +125,8 @@ module _ {items : List LinkEnd} {confirms : List EndConfirm} {s : StoredLinks} {
         ((q k : ℕ) → (k ≡ n → ⊥) → c q k ≡ true → c' q k ≡ true) → {m : LinkEnd} → m ≡ gone → IsIndexed (set items n m) h' c' marks
     gone_index {h'} {c'} owns fars {m} e =
         subst (λ (k : LinkEnd). IsIndexed (set items n k) h' c' marks) (sym e)
-        (set_indexed items h c marks index n gone h' c' marks (λ q is. absurd cc) (λ q is. absurd cc) owns fars (λ turn is. absurd cc)
-        (λ turn is. absurd cc) (λ k other is. is) refl)
+        (set_indexed items h c marks index n gone h' c' marks (λ q is. absurd cc) (λ q is. absurd cc) owns fars (λ duty is. absurd cc)
+        (λ duty is. absurd cc) (λ k other is. is) refl)
 
   -- it ends
   pub ended_made : {m : LinkEnd} → m ≡ gone → live_of (with_it m) ≡ ended (place_among n s.links) (live_of s)
@@ -203,24 +203,24 @@ begun_made items confirms s is link live =
     ∙ ap (λ (t : StoredLinks). begun link (live_of t)) is
 
 -- one of them sent this
-module _ (s : StoredLinks) (n : ℕ) (turn : Turn) (chosen : link_choice s.confirms s.links ≡ Some (OfLink n turn)) where
+module _ (s : StoredLinks) (n : ℕ) (duty : Duty) (chosen : link_choice s.confirms s.links ≡ Some (OfLink n duty)) where
   pub sent_within : n < length s.links
-  sent_within = let stands = chosen_stands s.confirms s.links n turn chosen in within s.links n stands.0 stands.1
+  sent_within = let stands = chosen_stands s.confirms s.links n duty chosen in within s.links n stands.0 stands.1
     where
       within : (xs : List LinkEnd) (k : ℕ) (x : LinkEnd) → slice_get xs k ≡ Some x → k < length xs
       within [] k x e = absurd cc
       within (y ∷ xs) zero x e = omega arith
       within (y ∷ xs) (suc k) x e = let later = within xs k x e in omega (arith, later)
 
-  module _ {E : Type 0} (ended : (k : ℕ) (link : LinkEnd) (t : Turn) → slice_get s.links k ≡ Some link →
-      turn_of link ≡ Some t → is_live link.port.phase ≡ true) (r : Result (Unit {0}) E) (after : StoredLinks) where
+  module _ {E : Type 0} (ended : (k : ℕ) (link : LinkEnd) (t : Duty) → slice_get s.links k ≡ Some link →
+      duty_of link ≡ Some t → is_live link.port.phase ≡ true) (r : Result (Unit {0}) E) (after : StoredLinks) where
     pub sent_made : ((link : LinkEnd) → slice_get s.links n ≡ Some link →
-        OnOk r (after ≡ changed (place_among n s.links) (turn_sent turn link) (live_of s))) →
-        OnOk r (after ≡ after_sent (among_live s.links (OfLink n turn)) (live_of s))
+        OnOk r (after ≡ changed (place_among n s.links) (duty_sent duty link) (live_of s))) →
+        OnOk r (after ≡ after_sent (among_live s.links (OfLink n duty)) (live_of s))
     sent_made made =
-        let stands = chosen_stands s.confirms s.links n turn chosen in
-        let live = ended n stands.0 turn stands.1 stands.2 in
-        map_ok r (λ (e : after ≡ changed (place_among n s.links) (turn_sent turn stands.0) (live_of s)). e ∙ sym (
-        ap (λ (o : Option LinkEnd). sent_at (place_among n s.links) o turn (live_of s))
+        let stands = chosen_stands s.confirms s.links n duty chosen in
+        let live = ended n stands.0 duty stands.1 stands.2 in
+        map_ok r (λ (e : after ≡ changed (place_among n s.links) (duty_sent duty stands.0) (live_of s)). e ∙ sym (
+        ap (λ (o : Option LinkEnd). sent_at (place_among n s.links) o duty (live_of s))
         (ap (slice_get (live_ends s.links)) (place_same n s.links) ∙ filter_get lives s.links n stands.0 stands.1 live)
         )) (made stands.0 stands.1)

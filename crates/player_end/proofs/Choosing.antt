@@ -12,54 +12,54 @@ use Rattle.dna_play.specs.Owed.{Owed}
 use Rattle.std.proofs.lemmas.Bool.{ltb-true}
 use Rattle.dna_links.specs.Pieces.{Piece}
 use Rattle.dna_links.specs.LookUps.{is_running}
-use Rattle.dna_play.specs.LinkOwed.{EndConfirm, Turn, ConnectAckTurn, InitiateTurn, ConfirmTurn, DisconnectTurn, DataAckTurn, SegmentTurn}
+use Rattle.dna_play.specs.LinkOwed.{EndConfirm, Duty, ConnectAckDuty, InitiateDuty, ConfirmDuty, DisconnectDuty, DataAckDuty, SegmentDuty}
 use Rattle.dna_play.specs.StoredLinks.{gave}
-use Rattle.dna_play.specs.NextSent.{LinkEnd, LinkChoice, OfLink, turn_of, turn_or_next, first_turn, link_choice, has_segment, Choice, SendStrt}
+use Rattle.dna_play.specs.NextSent.{LinkEnd, LinkChoice, OfLink, duty_of, duty_or_next, first_duty, link_choice, has_segment, Choice, SendStrt}
 use Rattle.dna_play.specs.NextSent.{SendStack, SendNak, SendRep, SendAgain, SendNew, SendAck, when, or_else, new_packet, choice_in, choice}
 use Rattle.dna_links.specs.Pieces.{has_more}
 
 -- ---- a link
 
-same_link : (m n : ℕ) (t u : Turn) → ◌≡◌ {A = Option LinkChoice} (Some (OfLink m t)) (Some (OfLink n u)) → (m ≡ n) × (t ≡ u)
+same_link : (m n : ℕ) (t u : Duty) → ◌≡◌ {A = Option LinkChoice} (Some (OfLink m t)) (Some (OfLink n u)) → (m ≡ n) × (t ≡ u)
 same_link m n t u e = (cc, cc)
 
 -- what is chosen from this number on
-abbrev Chosen : ℕ → List LinkEnd → ℕ → Turn → Type 0
-Chosen number links place turn = (i : ℕ) × (place ≡ number + i) × ((link : LinkEnd) → slice_get links i ≡ Some link → turn_of link ≡ Some turn)
+abbrev Chosen : ℕ → List LinkEnd → ℕ → Duty → Type 0
+Chosen number links place duty = (i : ℕ) × (place ≡ number + i) × ((link : LinkEnd) → slice_get links i ≡ Some link → duty_of link ≡ Some duty)
 
-chosen_by : (number : ℕ) (l : LinkEnd) (links : List LinkEnd) (place : ℕ) (turn : Turn) →
-    (first_turn (number + 1) links ≡ Some (OfLink place turn) → Chosen (number + 1) links place turn) →
-    (o : Option Turn) → turn_of l ≡ o → turn_or_next number o (first_turn (number + 1) links) ≡ Some (OfLink place turn) →
-    Chosen number (l ∷ links) place turn
-chosen_by number l links place turn later (Some t) is e =
-    let same = same_link number place t turn e in
-    (0, sym same.0 ∙ (omega arith), λ link at. (let here : l ≡ link = cc in ap turn_of (sym here) ∙ is ∙ ap Some same.1))
-chosen_by number l links place turn later None is e =
+chosen_by : (number : ℕ) (l : LinkEnd) (links : List LinkEnd) (place : ℕ) (duty : Duty) →
+    (first_duty (number + 1) links ≡ Some (OfLink place duty) → Chosen (number + 1) links place duty) →
+    (o : Option Duty) → duty_of l ≡ o → duty_or_next number o (first_duty (number + 1) links) ≡ Some (OfLink place duty) →
+    Chosen number (l ∷ links) place duty
+chosen_by number l links place duty later (Some t) is e =
+    let same = same_link number place t duty e in
+    (0, sym same.0 ∙ (omega arith), λ link at. (let here : l ≡ link = cc in ap duty_of (sym here) ∙ is ∙ ap Some same.1))
+chosen_by number l links place duty later None is e =
     let next = later e in
     (suc next.0, next.1 ∙ (omega arith), λ link at. next.2 link at)
 
-first_chosen : (number : ℕ) (links : List LinkEnd) (place : ℕ) (turn : Turn) → first_turn number links ≡ Some (OfLink place turn) →
-    Chosen number links place turn
-first_chosen number [] place turn e = absurd cc
-first_chosen number (l ∷ links) place turn e = chosen_by number l links place turn (first_chosen (number + 1) links place turn) (turn_of l) refl e
+first_chosen : (number : ℕ) (links : List LinkEnd) (place : ℕ) (duty : Duty) → first_duty number links ≡ Some (OfLink place duty) →
+    Chosen number links place duty
+first_chosen number [] place duty e = absurd cc
+first_chosen number (l ∷ links) place duty e = chosen_by number l links place duty (first_chosen (number + 1) links place duty) (duty_of l) refl e
 
-pub chosen_turn : (confirms : List EndConfirm) (links : List LinkEnd) (place : ℕ) (turn : Turn) →
-    link_choice confirms links ≡ Some (OfLink place turn) →
-    (link : LinkEnd) → slice_get links place ≡ Some link → turn_of link ≡ Some turn
-chosen_turn [] links place turn e link at =
-    let chosen = first_chosen 0 links place turn e in
+pub chosen_duty : (confirms : List EndConfirm) (links : List LinkEnd) (place : ℕ) (duty : Duty) →
+    link_choice confirms links ≡ Some (OfLink place duty) →
+    (link : LinkEnd) → slice_get links place ≡ Some link → duty_of link ≡ Some duty
+chosen_duty [] links place duty e link at =
+    let chosen = first_chosen 0 links place duty e in
     let same : place ≡ chosen.0 = chosen.1 ∙ (omega arith) in
     chosen.2 link (ap (slice_get links) (sym same) ∙ at)
-chosen_turn (confirm ∷ later) links place turn e link at = absurd cc
+chosen_duty (confirm ∷ later) links place duty e link at = absurd cc
 
 -- ---- a segment
 
 -- the last of six kinds is chosen only where it may be
-last_kind : (a b c d e f : Bool) → ◌≡◌ {A = Option Turn}
-    (cond a (Some ConnectAckTurn)
-    (cond b (Some InitiateTurn) (cond c (Some ConfirmTurn)
-    (cond d (Some DisconnectTurn) (cond e (Some DataAckTurn) (cond f (Some SegmentTurn) None))))))
-    (Some SegmentTurn) → f ≡ true
+last_kind : (a b c d e f : Bool) → ◌≡◌ {A = Option Duty}
+    (cond a (Some ConnectAckDuty)
+    (cond b (Some InitiateDuty) (cond c (Some ConfirmDuty)
+    (cond d (Some DisconnectDuty) (cond e (Some DataAckDuty) (cond f (Some SegmentDuty) None))))))
+    (Some SegmentDuty) → f ≡ true
 last_kind true b c d e f is = absurd cc
 last_kind false true c d e f is = absurd cc
 last_kind false false true d e f is = absurd cc
@@ -68,7 +68,7 @@ last_kind false false false false true f is = absurd cc
 last_kind false false false false false true is = refl
 last_kind false false false false false false is = absurd cc
 
-pub segment_chosen : (l : LinkEnd) → turn_of l ≡ Some SegmentTurn → has_segment l ≡ true
+pub segment_chosen : (l : LinkEnd) → duty_of l ≡ Some SegmentDuty → has_segment l ≡ true
 segment_chosen l e = last_kind l.owed.connect_ack l.owed.initiate l.owed.confirm l.owed.disconnect l.owed.data_ack (has_segment l) e
 
 few : (a b : ℕ) (running more : Bool) → (running && (nat_lt a b || (nat_lt b 2047 && more))) ≡ true → b ≤ a → b < 2047

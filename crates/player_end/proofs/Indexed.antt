@@ -3,8 +3,8 @@ use Rattle.std.proofs.Common.{◌≡◌, ℕ, suc, ◌<◌, Bool, true, Some, Li
 use Rattle.std.proofs.Common.{inr}
 use Rattle.std.specs.Prelude.{slice_get, slice_set}
 use Rattle.dna_links.specs.LookUps.{is_live}
-use Rattle.dna_play.specs.LinkOwed.{Turn}
-use Rattle.dna_play.specs.NextSent.{LinkEnd, turn_of}
+use Rattle.dna_play.specs.LinkOwed.{Duty}
+use Rattle.dna_play.specs.NextSent.{LinkEnd, duty_of}
 use Rattle.player_end.specs.inner.Index.{IsIndexed}
 use Rattle.player_end.proofs.Places.{SetAt, PushedAt, set_length, set_here, set_else, set_at, pushed_at, push_here, push_before, push_length}
 
@@ -15,8 +15,8 @@ pub none_indexed : (h c : Knows) → IsIndexed [] h c []
 none_indexed h c = record {
   own = λ number address link e. absurd cc;
   far = λ number address link e. absurd cc;
-  marked = λ number link turn e. absurd cc;
-  lives = λ number link turn e. absurd cc;
+  marked = λ number link duty e. absurd cc;
+  lives = λ number link duty e. absurd cc;
   long = refl;
 }
 
@@ -36,15 +36,15 @@ module _ (links : List LinkEnd) (h c : Knows) (marks : List ℕ) (index : IsInde
   module _ (n : ℕ) (m : LinkEnd) (h' c' : Knows) (marks' : List ℕ) (own : (q : ℕ) → m.port.own ≡ Some q → h' q n ≡ true)
       (far : (q : ℕ) → m.port.far ≡ Some q → c' q n ≡ true) (owns : (q k : ℕ) → (k ≡ n → ⊥) → h q k ≡ true → h' q k ≡ true)
       (fars : (q k : ℕ) → (k ≡ n → ⊥) → c q k ≡ true → c' q k ≡ true) where
-    module _ (lives : (turn : Turn) → turn_of m ≡ Some turn → is_live m.port.phase ≡ true)
-        (marked : (turn : Turn) → turn_of m ≡ Some turn → slice_get marks' n ≡ Some 1)
+    module _ (lives : (duty : Duty) → duty_of m ≡ Some duty → is_live m.port.phase ≡ true)
+        (marked : (duty : Duty) → duty_of m ≡ Some duty → slice_get marks' n ≡ Some 1)
         (others : (k : ℕ) → (k ≡ n → ⊥) → slice_get marks k ≡ Some 1 → slice_get marks' k ≡ Some 1) (long : length marks' ≡ length marks) where
       pub set_indexed : IsIndexed (slice_set links n m) h' c' marks'
       set_indexed = record {
         own = λ k q y at is. own_at k q y is (set_at links n k m y at);
         far = λ k q y at is. far_at k q y is (set_at links n k m y at);
-        marked = λ k y turn at is. marked_at k y turn is (set_at links n k m y at);
-        lives = λ k y turn at is. lives_at k y turn is (set_at links n k m y at);
+        marked = λ k y duty at is. marked_at k y duty is (set_at links n k m y at);
+        lives = λ k y duty at is. lives_at k y duty is (set_at links n k m y at);
         long = long ∙ index.long ∙ sym (set_length links n m);
       }
         where
@@ -56,14 +56,14 @@ module _ (links : List LinkEnd) (h c : Knows) (marks : List ℕ) (index : IsInde
           far_at k q y is (inl p) = ap (c' q) p.0 ∙ far q (ap (λ (x : LinkEnd). x.port.far) (sym p.1) ∙ is)
           far_at k q y is (inr p) = fars q k p.1 (index.far k q y p.0 is)
 
-          marked_at : (k : ℕ) (y : LinkEnd) (turn : Turn) → turn_of y ≡ Some turn → SetAt links n m k y → slice_get marks' k ≡ Some 1
-          marked_at k y turn is (inl p) = ap (slice_get marks') p.0 ∙ marked turn (ap turn_of (sym p.1) ∙ is)
-          marked_at k y turn is (inr p) = others k p.1 (index.marked k y turn p.0 is)
+          marked_at : (k : ℕ) (y : LinkEnd) (duty : Duty) → duty_of y ≡ Some duty → SetAt links n m k y → slice_get marks' k ≡ Some 1
+          marked_at k y duty is (inl p) = ap (slice_get marks') p.0 ∙ marked duty (ap duty_of (sym p.1) ∙ is)
+          marked_at k y duty is (inr p) = others k p.1 (index.marked k y duty p.0 is)
 
-          lives_at : (k : ℕ) (y : LinkEnd) (turn : Turn) → turn_of y ≡ Some turn → SetAt links n m k y → is_live y.port.phase ≡ true
-          lives_at k y turn is (inl p) =
-              ap (λ (x : LinkEnd). is_live x.port.phase) p.1 ∙ lives turn (ap turn_of (sym p.1) ∙ is)
-          lives_at k y turn is (inr p) = index.lives k y turn p.0 is
+          lives_at : (k : ℕ) (y : LinkEnd) (duty : Duty) → duty_of y ≡ Some duty → SetAt links n m k y → is_live y.port.phase ≡ true
+          lives_at k y duty is (inl p) =
+              ap (λ (x : LinkEnd). is_live x.port.phase) p.1 ∙ lives duty (ap duty_of (sym p.1) ∙ is)
+          lives_at k y duty is (inr p) = index.lives k y duty p.0 is
 
   -- it is marked
   module _ (n : ℕ) (m : LinkEnd) (within : n < length links) (lives : is_live m.port.phase ≡ true) where
@@ -74,8 +74,8 @@ module _ (links : List LinkEnd) (h c : Knows) (marks : List ℕ) (index : IsInde
         ((q k : ℕ) → h q k ≡ true → h' q k ≡ true) → ((q k : ℕ) → c q k ≡ true → c' q k ≡ true) →
         IsIndexed (slice_set links n m) h' c' (slice_set marks n 1)
     changed_indexed h' c' own far owns fars =
-        set_indexed n m h' c' (slice_set marks n 1) own far (λ q k other. owns q k) (λ q k other. fars q k) (λ turn is. lives)
-        (λ turn is. set_here marks n 1 within_marks) (λ k other is. set_else marks n k 1 other ∙ is) (set_length marks n 1)
+        set_indexed n m h' c' (slice_set marks n 1) own far (λ q k other. owns q k) (λ q k other. fars q k) (λ duty is. lives)
+        (λ duty is. set_here marks n 1 within_marks) (λ k other is. set_else marks n k 1 other ∙ is) (set_length marks n 1)
 
     -- with the addresses that it had
     pub same_indexed : (l : LinkEnd) → slice_get links n ≡ Some l → m.port.own ≡ l.port.own → m.port.far ≡ l.port.far →
@@ -91,8 +91,8 @@ module _ (links : List LinkEnd) (h c : Knows) (marks : List ℕ) (index : IsInde
     begun_indexed = record {
       own = λ k q y at is. own_at k q y is (pushed_at links k m y at);
       far = λ k q y at is. far_at k q y is (pushed_at links k m y at);
-      marked = λ k y turn at is. marked_at k y turn is (pushed_at links k m y at);
-      lives = λ k y turn at is. lives_at k y turn is (pushed_at links k m y at);
+      marked = λ k y duty at is. marked_at k y duty is (pushed_at links k m y at);
+      lives = λ k y duty at is. lives_at k y duty is (pushed_at links k m y at);
       long = push_length marks 1 ∙ ap suc index.long ∙ sym (push_length links m);
     }
       where
@@ -104,10 +104,10 @@ module _ (links : List LinkEnd) (h c : Knows) (marks : List ℕ) (index : IsInde
         far_at k q y is (inl p) = fars q k (index.far k q y p is)
         far_at k q y is (inr p) = ap (c' q) p.0 ∙ far q (ap (λ (x : LinkEnd). x.port.far) (sym p.1) ∙ is)
 
-        marked_at : (k : ℕ) (y : LinkEnd) (turn : Turn) → turn_of y ≡ Some turn → PushedAt links m k y → slice_get (marks ++ 1 ∷ []) k ≡ Some 1
-        marked_at k y turn is (inl p) = push_before marks 1 k 1 (index.marked k y turn p is)
-        marked_at k y turn is (inr p) = ap (slice_get (marks ++ 1 ∷ [])) (p.0 ∙ sym index.long) ∙ push_here marks 1
+        marked_at : (k : ℕ) (y : LinkEnd) (duty : Duty) → duty_of y ≡ Some duty → PushedAt links m k y → slice_get (marks ++ 1 ∷ []) k ≡ Some 1
+        marked_at k y duty is (inl p) = push_before marks 1 k 1 (index.marked k y duty p is)
+        marked_at k y duty is (inr p) = ap (slice_get (marks ++ 1 ∷ [])) (p.0 ∙ sym index.long) ∙ push_here marks 1
 
-        lives_at : (k : ℕ) (y : LinkEnd) (turn : Turn) → turn_of y ≡ Some turn → PushedAt links m k y → is_live y.port.phase ≡ true
-        lives_at k y turn is (inl p) = index.lives k y turn p is
-        lives_at k y turn is (inr p) = ap (λ (x : LinkEnd). is_live x.port.phase) p.1 ∙ lives
+        lives_at : (k : ℕ) (y : LinkEnd) (duty : Duty) → duty_of y ≡ Some duty → PushedAt links m k y → is_live y.port.phase ≡ true
+        lives_at k y duty is (inl p) = index.lives k y duty p is
+        lives_at k y duty is (inr p) = ap (λ (x : LinkEnd). is_live x.port.phase) p.1 ∙ lives

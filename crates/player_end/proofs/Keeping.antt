@@ -8,9 +8,9 @@ use Rattle.dna_links.specs.declared.port.Port.{Port}
 use Rattle.dna_packet.specs.declared.ack_word.AckWord.{AckWord}
 use Rattle.dna_links.specs.LookUps.{is_live, is_running}
 use Rattle.dna_links.specs.Pieces.{Piece}
-use Rattle.dna_play.specs.LinkOwed.{Turn, ConnectAckTurn, InitiateTurn, ConfirmTurn, DisconnectTurn, DataAckTurn, SegmentTurn}
+use Rattle.dna_play.specs.LinkOwed.{Duty, ConnectAckDuty, InitiateDuty, ConfirmDuty, DisconnectDuty, DataAckDuty, SegmentDuty}
 use Rattle.dna_play.specs.NextSent.{LinkEnd}
-use Rattle.dna_play.specs.StoredLinks.{called_again, confirmed_again, acted_on, took_acks, handed, closed, turn_sent, gave, gave_by}
+use Rattle.dna_play.specs.StoredLinks.{called_again, confirmed_again, acted_on, took_acks, handed, closed, duty_sent, gave, gave_by}
 
 pub record Keeps (l m : LinkEnd) : Type 0 where
   pub live : is_live l.port.phase ≡ true → is_live m.port.phase ≡ true
@@ -61,16 +61,16 @@ gave_port : (o : Option Piece) (l : LinkEnd) → (gave o l).port ≡ l.port
 gave_port (Some p) l = refl
 gave_port None l = refl
 
-by_port : (turn : Turn) (l : LinkEnd) → (gave_by turn l).port ≡ l.port
-by_port ConnectAckTurn l = refl
-by_port InitiateTurn l = refl
-by_port ConfirmTurn l = refl
-by_port DisconnectTurn l = refl
-by_port DataAckTurn l = refl
-by_port SegmentTurn l = gave_port (slice_get l.variables.outstanding l.owed.ahead) l
+by_port : (duty : Duty) (l : LinkEnd) → (gave_by duty l).port ≡ l.port
+by_port ConnectAckDuty l = refl
+by_port InitiateDuty l = refl
+by_port ConfirmDuty l = refl
+by_port DisconnectDuty l = refl
+by_port DataAckDuty l = refl
+by_port SegmentDuty l = gave_port (slice_get l.variables.outstanding l.owed.ahead) l
 
-pub keeps_sent : (turn : Turn) (l : LinkEnd) → Keeps l (turn_sent turn l)
-keeps_sent turn l = same_port (by_port turn l)
+pub keeps_sent : (duty : Duty) (l : LinkEnd) → Keeps l (duty_sent duty l)
+keeps_sent duty l = same_port (by_port duty l)
 
 pub keeps_acted : (l : LinkEnd) → Keeps l (acted_on l.variables l)
 keeps_acted l = record { live = λ h. refl; own = refl; far = refl }

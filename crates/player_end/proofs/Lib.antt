@@ -7,7 +7,7 @@ pub mod Marked
 pub mod Indexed
 pub mod Finding
 pub mod Keeping
-pub mod Turns
+pub mod Duties
 pub mod Searching
 pub mod Answered
 pub mod Choosing

@@ -27,7 +27,7 @@ place_same (suc n) (link ∷ links) = ap (λ (k : ℕ). cond (lives link) (suc k
 
 pub among_same : (links : List LinkEnd) (c : LinkChoice) → among_live links c ≡ choices.among_live links c
 among_same links (Confirms confirm) = refl
-among_same links (OfLink n turn) = ap (λ (k : ℕ). OfLink k turn) (place_same n links)
+among_same links (OfLink n duty) = ap (λ (k : ℕ). OfLink k duty) (place_same n links)
 
 pub among_chosen : (links : List LinkEnd) (o : Option LinkChoice) → option_map (among_live links) o ≡ option_map (choices.among_live links) o
 among_chosen links None = refl

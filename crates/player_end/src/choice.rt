@@ -1,6 +1,6 @@
 //! What an end sends next, before it is put together.
 
-use crate::turn::Turn;
+use crate::duty::Duty;
 use ddcmp_msg::NakReason;
 
 /// The two addresses and the reason of a DC.
@@ -17,7 +17,7 @@ pub enum LinkChoice {
     /// The oldest DC that is owed.
     Confirms(EndConfirm),
     /// Of the link with this number: as many links began before it.
-    OfLink { number: usize, turn: Turn },
+    OfLink { number: usize, duty: Duty },
 }
 
 /// The next unit.

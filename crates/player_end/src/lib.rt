@@ -9,6 +9,7 @@
 mod addresses;
 mod choice;
 mod debt;
+mod duty;
 mod end;
 mod fault;
 mod given_piece;
@@ -20,7 +21,6 @@ mod marks;
 mod owed;
 mod owed_confirm;
 mod station_end;
-mod turn;
 
 pub use end::End;
 pub use fault::StepFault;

@@ -5,15 +5,15 @@ ghost use Rattle.dna_play.specs.LinkOwed as model;
 ghost use Rattle.dna_play.specs.StoredLinks.{no_segments};
 ghost use Rattle.dna_play.specs.StoredLinks as kept;
 ghost use Rattle.player_end.specs.inner.Links.{gone, retried_end};
-ghost use Rattle.player_end.specs.inner.Owing.{turn_view};
+ghost use Rattle.player_end.specs.inner.Owing.{duty_view};
 
 mod acting;
 mod composing;
 mod delivering;
 
+use crate::duty::Duty;
 use crate::given_piece::GivenPiece;
 use crate::link_owed::LinkOwed;
-use crate::turn::Turn;
 use dna_links::{Phase, Port};
 use link_segments::{Outstanding, Received, Unsent};
 use std::alloc::{AllocError, Global};
@@ -66,7 +66,7 @@ impl<V: Window<GivenPiece, 4096> + Drop> LinkEnd<V> {
             far: None,
         };
         let mut link = LinkEnd::empty(alloc, port);
-        link.owe(Turn::Initiate);
+        link.owe(Duty::Initiate);
         link
     }
 
@@ -81,7 +81,7 @@ impl<V: Window<GivenPiece, 4096> + Drop> LinkEnd<V> {
             far: Some(far),
         };
         let mut link = LinkEnd::empty(alloc, port);
-        link.owe(Turn::ConnectAck);
+        link.owe(Duty::ConnectAck);
         link
     }
 
@@ -122,10 +122,10 @@ impl<V: Window<GivenPiece, 4096> + Drop> LinkEnd<V> {
     // ---- its user and its timer
 
     /// This is owed.
-    pub fn owe(&mut self, turn: Turn)
-        ensures { self.new ≡ kept.owes (turn_view turn) self.old }
+    pub fn owe(&mut self, duty: Duty)
+        ensures { self.new ≡ kept.owes (duty_view duty) self.old }
     {
-        self.owed.owe(turn);
+        self.owed.owe(duty);
     }
 
     /// It goes to this phase, and if that is another one it owes nothing.
@@ -138,12 +138,12 @@ impl<V: Window<GivenPiece, 4096> + Drop> LinkEnd<V> {
     }
 
     /// The user answers its call, by which it goes to this phase: it gets this own address, and owes this.
-    pub fn answer(&mut self, phase: Phase, turn: Turn, own: u16)
-        ensures { self.new ≡ kept.answered phase (turn_view turn) own self.old }
+    pub fn answer(&mut self, phase: Phase, duty: Duty, own: u16)
+        ensures { self.new ≡ kept.answered phase (duty_view duty) own self.old }
     {
         self.go_to(phase);
         self.port.own = Some(own);
-        self.owed.owe(turn);
+        self.owed.owe(duty);
     }
 
     /// The user closes it: it owes DI.
@@ -151,7 +151,7 @@ impl<V: Window<GivenPiece, 4096> + Drop> LinkEnd<V> {
         ensures { self.new ≡ kept.closed self.old }
     {
         self.go_to(Phase::Disconnecting);
-        self.owed.owe(Turn::Disconnect);
+        self.owed.owe(Duty::Disconnect);
     }
 
     /// A message is handed in. Where memory for it is refused, nothing changes.
@@ -170,9 +170,9 @@ impl<V: Window<GivenPiece, 4096> + Drop> LinkEnd<V> {
         ensures same { result ≡ false → self.new ≡ self.old }
     {
         match self.port.phase {
-            Phase::Calling => self.owed.owe(Turn::Initiate),
-            Phase::Confirming => self.owed.owe(Turn::Confirm),
-            Phase::Disconnecting => self.owed.owe(Turn::Disconnect),
+            Phase::Calling => self.owed.owe(Duty::Initiate),
+            Phase::Confirming => self.owed.owe(Duty::Confirm),
+            Phase::Disconnecting => self.owed.owe(Duty::Disconnect),
             Phase::Running => self.owed.send_again(),
             Phase::Called | Phase::Ended => return false,
         }

@@ -1,11 +1,11 @@
 //! What one link of an end owes.
 
 ghost use Rattle.std.specs.Prelude.{◌≡◌, ◌+◌, ◌-◌, ◌<◌, ◌^◌, true};
-ghost use Rattle.dna_play.specs.LinkOwed.{lowered, nothing, sent_again, unless_left, with_turn};
-ghost use Rattle.dna_play.specs.NextSent.{without_turn};
-ghost use Rattle.player_end.specs.inner.Owing.{has_turn, turn_view};
+ghost use Rattle.dna_play.specs.LinkOwed.{lowered, nothing, sent_again, unless_left, with_duty};
+ghost use Rattle.dna_play.specs.NextSent.{without_duty};
+ghost use Rattle.player_end.specs.inner.Owing.{has_duty, duty_view};
 
-use crate::turn::Turn;
+use crate::duty::Duty;
 use std::marker::Model;
 
 /// What one link of an end owes, each thing once, and how many of its outstanding segments are sent in the present go. A contract sees it
@@ -65,16 +65,16 @@ impl LinkOwed {
     }
 
     /// Whether a flag says that this is owed; segments are never owed by a flag.
-    pub fn owes(&self, turn: Turn) -> bool
-        ensures { result ≡ has_turn (turn_view turn) self.now }
+    pub fn owes(&self, duty: Duty) -> bool
+        ensures { result ≡ has_duty (duty_view duty) self.now }
     {
-        match turn {
-            Turn::ConnectAck => self.connect_ack,
-            Turn::Initiate => self.initiate,
-            Turn::Confirm => self.confirm,
-            Turn::Disconnect => self.disconnect,
-            Turn::DataAck => self.data_ack,
-            Turn::Segment => false,
+        match duty {
+            Duty::ConnectAck => self.connect_ack,
+            Duty::Initiate => self.initiate,
+            Duty::Confirm => self.confirm,
+            Duty::Disconnect => self.disconnect,
+            Duty::DataAck => self.data_ack,
+            Duty::Segment => false,
         }
     }
 
@@ -93,38 +93,38 @@ impl LinkOwed {
     }
 
     /// This is owed.
-    pub fn owe(&mut self, turn: Turn)
-        ensures owed { self.new ≡ with_turn (turn_view turn) true self.old }
+    pub fn owe(&mut self, duty: Duty)
+        ensures owed { self.new ≡ with_duty (duty_view duty) true self.old }
         ensures ahead { self.new.ahead ≡ self.old.ahead }
     {
-        self.set(turn, true);
+        self.set(duty, true);
     }
 
-    fn set(&mut self, turn: Turn, owes: bool)
-        ensures { self.new ≡ with_turn (turn_view turn) owes self.old }
+    fn set(&mut self, duty: Duty, owes: bool)
+        ensures { self.new ≡ with_duty (duty_view duty) owes self.old }
     {
-        match turn {
-            Turn::ConnectAck => self.connect_ack = owes,
-            Turn::Initiate => self.initiate = owes,
-            Turn::Confirm => self.confirm = owes,
-            Turn::Disconnect => self.disconnect = owes,
-            Turn::DataAck => self.data_ack = owes,
-            Turn::Segment => {}
+        match duty {
+            Duty::ConnectAck => self.connect_ack = owes,
+            Duty::Initiate => self.initiate = owes,
+            Duty::Confirm => self.confirm = owes,
+            Duty::Disconnect => self.disconnect = owes,
+            Duty::DataAck => self.data_ack = owes,
+            Duty::Segment => {}
         }
     }
 
     /// This was sent.
-    pub fn sent(&mut self, turn: Turn)
+    pub fn sent(&mut self, duty: Duty)
         requires { self.old.ahead < 2 ^ 63 }
-        ensures { self.new ≡ without_turn (turn_view turn) self.old }
+        ensures { self.new ≡ without_duty (duty_view duty) self.old }
     {
-        match turn {
-            Turn::Initiate => {
+        match duty {
+            Duty::Initiate => {
                 self.initiate = false;
                 self.initiated = true;
             }
-            Turn::Segment => self.ahead += 1,
-            _ => self.set(turn, false),
+            Duty::Segment => self.ahead += 1,
+            _ => self.set(duty, false),
         }
     }
 

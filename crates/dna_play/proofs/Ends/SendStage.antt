@@ -10,17 +10,17 @@ use Rattle.dna_links.specs.TrueSegments.{TrueSegments, Numbers, true_segments}
 use Rattle.dna_links.specs.TrueLinks.{Links, links_sent}
 use Rattle.dna_links.specs.CutSegments.{IsOrdered}
 use Rattle.dna_links.specs.Runs.{SentMessage}
-use Rattle.dna_play.specs.LinkOwed.{LinkOwed, Turn, SegmentTurn, variables_of, all_still_owed}
-use Rattle.dna_play.specs.NextSent.{LinkEnd, LinkChoice, Choice, SendNew, without_turn, after_link_choice}
+use Rattle.dna_play.specs.LinkOwed.{LinkOwed, Duty, SegmentDuty, variables_of, all_still_owed}
+use Rattle.dna_play.specs.NextSent.{LinkEnd, LinkChoice, Choice, SendNew, without_duty, after_link_choice}
 use Rattle.dna_play.specs.Compose.{message_of}
 use Rattle.dna_play.specs.Player.{End, station_of, links_of, link_ends_of, after_record}
 use Rattle.dna_play.specs.Player as player
 use Rattle.dna_play.specs.Play.{after_sending}
 use Rattle.two_nodes.proofs.NumberedSteps.{at_pushed}
 use Rattle.dna_links.proofs.Tables.Outcomes.{sent_did, SentDid}
-use Rattle.dna_play.proofs.Links.Choices.{end_of, IsAsked, OfTurn, OfConfirm}
-use Rattle.dna_play.proofs.Links.Fits.{IsPlain, turn_plain}
-use Rattle.dna_play.proofs.Links.Owing.{sent_turn_fits, ahead_less}
+use Rattle.dna_play.proofs.Links.Choices.{end_of, IsAsked, OfDuty, OfConfirm}
+use Rattle.dna_play.proofs.Links.Fits.{IsPlain, duty_plain}
+use Rattle.dna_play.proofs.Links.Owing.{sent_duty_fits, ahead_less}
 use Rattle.dna_play.proofs.Ends.UnitLines.{IsOfBytes}
 use Rattle.dna_play.proofs.Ends.SendMakes.{sent_left, again_after, first_after}
 use Rattle.dna_play.proofs.Ends.StationStage.{sent_stage, sent_packets}
@@ -28,7 +28,7 @@ use Rattle.dna_play.proofs.Links.Stage.{LinkHolds, left_links, sent_holds, first
 use Rattle.dna_play.proofs.Ends.Stage.{Stage, Known, station_stage}
 use Rattle.dna_links.proofs.Runs.Sides.{set_same}
 use Rattle.dna_play.specs.StoredLinks.{gave_by}
-use Rattle.dna_play.proofs.Links.Turns.{TurnMade, turn_made, gave_ahead}
+use Rattle.dna_play.proofs.Links.Duties.{DutyMade, duty_made, gave_ahead}
 
 module _ (own other : End) (h : Stage own) (known : Known own other) where
   abbrev s : Links
@@ -54,7 +54,7 @@ module _ (own other : End) (h : Stage own) (known : Known own other) where
 
   -- a message that is asked is of the player
   message_plain : (c : LinkChoice) (message : NspValue) → IsAsked s.links own.links_owed c message → IsPlain message
-  message_plain c message (OfTurn number turn l o there owes due) = turn_plain l o turn (h.links.fit number l there).segments
+  message_plain c message (OfDuty number duty l o there owes due) = duty_plain l o duty (h.links.fit number l there).segments
   message_plain c message (OfConfirm confirm first) = tt
 
   -- what is sent is owed no more
@@ -64,24 +64,24 @@ module _ (own other : End) (h : Stage own) (known : Known own other) where
       LinkHolds made.links.links own.addresses (after_link_choice one (left_links s.links made.links.links own.links_owed))
   asked_holds one message (OfConfirm confirm first) made did holds =
       first_sent_holds made.links.links own.addresses (left_links s.links made.links.links own.links_owed) holds
-  asked_holds one message (OfTurn number turn l o there owes due) made did holds =
-      let t = turn_made s made number l o there (ordered number l there) (h.links.fit number l there).shape (h.links.owes number l o there owes)
-      known.addressed.distinct turn due did in
-      change_holds made.links.links own.addresses (left_links s.links made.links.links own.links_owed) holds number (without_turn turn)
-      (λ k left at then_owes. sent_turn_fits k left turn (λ seg. more t k left at then_owes seg) (holds.owes number k left at then_owes))
+  asked_holds one message (OfDuty number duty l o there owes due) made did holds =
+      let t = duty_made s made number l o there (ordered number l there) (h.links.fit number l there).shape (h.links.owes number l o there owes)
+      known.addressed.distinct duty due did in
+      change_holds made.links.links own.addresses (left_links s.links made.links.links own.links_owed) holds number (without_duty duty)
+      (λ k left at then_owes. sent_duty_fits k left duty (λ seg. more t k left at then_owes seg) (holds.owes number k left at then_owes))
     where
       -- a segment that has gone is among those sent in this go
-      more : TurnMade s made number l o turn → (k : LinkOf TrueSegments) (left : LinkOwed) → slice_get made.links.links number ≡ Some k →
-          slice_get (all_still_owed s.links made.links.links own.links_owed.links) number ≡ Some left → turn ≡ SegmentTurn →
+      more : DutyMade s made number l o duty → (k : LinkOf TrueSegments) (left : LinkOwed) → slice_get made.links.links number ≡ Some k →
+          slice_get (all_still_owed s.links made.links.links own.links_owed.links) number ≡ Some left → duty ≡ SegmentDuty →
           left.ahead + 1 ≤ length (variables_of k).outstanding
       more t k left at then_owes seg =
           let is : t.left ≡ k = same_Some t.left k (sym (ap (λ (x : Links). slice_get x.links number) t.links
           ∙ set_same s.links number l t.left there)
           ∙ at) in
           let gone = gave_ahead l o (ordered number l there) (h.links.owes number l o there owes).ahead in
-          let counted : length (variables_of k).outstanding ≡ length (gave_by SegmentTurn (end_of l o)).variables.outstanding =
+          let counted : length (variables_of k).outstanding ≡ length (gave_by SegmentDuty (end_of l o)).variables.outstanding =
           ap (λ (x : LinkOf TrueSegments). length (variables_of x).outstanding) (sym is)
-          ∙ ap (λ (x : LinkEnd). length x.variables.outstanding) (t.is ∙ ap (λ (x : Turn). gave_by x (end_of l o)) seg) in
+          ∙ ap (λ (x : LinkEnd). length x.variables.outstanding) (t.is ∙ ap (λ (x : Duty). gave_by x (end_of l o)) seg) in
           let less = ahead_less s.links made.links.links own.links_owed.links number k o left at owes then_owes in
           omega arith
 

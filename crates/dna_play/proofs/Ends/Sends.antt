@@ -27,9 +27,9 @@ use Rattle.dna_station.proofs.Cut.Sending.{all_length, sending_refusal_same, fir
 use Rattle.dna_station.proofs.Cut.Node.{unlabelled_bodies}
 use Rattle.dna_play.proofs.Ends.StationPays.{IsChosen, ByStrt, ByStack, ByNak, ByRep, ByAgain, ByNew, ByAck, chosen, chosen_may, put_is}
 use Rattle.dna_links.proofs.Runs.Owners.{there_is}
-use Rattle.dna_play.proofs.Links.Choices.{LinksPay, IsAsked, OfTurn, OfConfirm, asked_of, asked_may}
-use Rattle.dna_play.proofs.Links.Fits.{turn_plain}
-use Rattle.dna_play.proofs.Ends.UnitLines.{IsOfBytes, packet_fits, MessageFits, confirm_fits, turn_message_fits}
+use Rattle.dna_play.proofs.Links.Choices.{LinksPay, IsAsked, OfDuty, OfConfirm, asked_of, asked_may}
+use Rattle.dna_play.proofs.Links.Fits.{duty_plain}
+use Rattle.dna_play.proofs.Ends.UnitLines.{IsOfBytes, packet_fits, MessageFits, confirm_fits, duty_message_fits}
 use Rattle.dna_play.proofs.Ends.SendMakes.{sent_left, is_made, again_after, sends_old, first_after, packet_of, packet_sent, sends_new, put_of_bytes}
 use Rattle.dna_play.proofs.Ends.SendMakes.{data_of_bytes}
 use Rattle.dna_play.proofs.Ends.Stage.{Stage, Known}
@@ -77,9 +77,9 @@ module _ (own other : End) (h : Stage own) (theirs : Stage other) (known : Known
       let o = known.addressed.far i l at a e in let less = known.others.highest o.number a o.owns in let few = theirs.few in omega arith
 
   message_fits : (c : LinkChoice) (message : NspValue) → IsAsked (links_of own.half).links own.links_owed c message → MessageFits message
-  message_fits c message (OfTurn number turn l o there owes due) =
-      turn_message_fits l o (own_small number l there l.port.own refl) (far_small number l there l.port.far refl) turn
-      (turn_plain l o turn (h.links.fit number l there).segments)
+  message_fits c message (OfDuty number duty l o there owes due) =
+      duty_message_fits l o (own_small number l there l.port.own refl) (far_small number l there l.port.far refl) duty
+      (duty_plain l o duty (h.links.fit number l there).segments)
   message_fits c message (OfConfirm confirm first) =
       let small = (h.links.confirms 0 confirm first).small in confirm_fits confirm.dst confirm.src confirm.reason small.dst small.src small.reason
 

@@ -23,7 +23,7 @@ use Rattle.dna_links.specs.Captures.{given_address}
 use Rattle.dna_links.specs.Runs.{SentMessage}
 use Rattle.dna_node.specs.Layers.{stations, LayersUnit}
 use Rattle.dna_play.specs.Owed.{Debt, timer_debt, OwesStrt, Owed}
-use Rattle.dna_play.specs.LinkOwed.{LinkOwed, InitiateTurn, ConfirmTurn, DisconnectTurn, retried, changed, LinkDebt, LinksOwed}
+use Rattle.dna_play.specs.LinkOwed.{LinkOwed, InitiateDuty, ConfirmDuty, DisconnectDuty, retried, changed, LinkDebt, LinksOwed}
 use Rattle.dna_play.specs.Player.{End, station_of, links_of, after_record, new_end}
 use Rattle.dna_play.specs.Player as player
 use Rattle.dna_play.specs.Stepped.{owing_more, Stop, Stepped, links_owing_more}
@@ -35,7 +35,7 @@ use Rattle.dna_links.proofs.Tables.Outcomes.{user_did}
 use Rattle.dna_play.proofs.Once.Addresses.{LinkList, AreAddressed}
 use Rattle.dna_play.proofs.Links.Pays.{OwedFits}
 use Rattle.dna_play.proofs.Links.Fits.{EventFits, IsPlain}
-use Rattle.dna_play.proofs.Links.Owing.{turn_fits, ahead_owes}
+use Rattle.dna_play.proofs.Links.Owing.{duty_fits, ahead_owes}
 use Rattle.dna_play.proofs.Ends.SendMakes.{PacketsFit}
 use Rattle.dna_play.proofs.Ends.StationStage.{StationPays, unchanged_stage, start_stage, halt_stage, event_packets}
 use Rattle.dna_play.proofs.Links.Stage.{LinkHolds, same_holds, user_holds, change_holds, DebtHolds, debt_holds}
@@ -147,13 +147,13 @@ module _ (e : End) (h : Stage e) where
   retried_fits : (l : LinkOf TrueSegments) (o : LinkOwed) (phase : Phase) → l.port.phase ≡ phase → (change : LinkOwed → LinkOwed) →
       retried phase ≡ Some change → OwedFits l o → OwedFits l (change o)
   retried_fits l o Calling is change e' f =
-      subst (λ (c : LinkOwed → LinkOwed). OwedFits l (c o)) (same_Some _ change e') (turn_fits l o InitiateTurn is f)
+      subst (λ (c : LinkOwed → LinkOwed). OwedFits l (c o)) (same_Some _ change e') (duty_fits l o InitiateDuty is f)
   retried_fits l o Confirming is change e' f =
-      subst (λ (c : LinkOwed → LinkOwed). OwedFits l (c o)) (same_Some _ change e') (turn_fits l o ConfirmTurn is f)
+      subst (λ (c : LinkOwed → LinkOwed). OwedFits l (c o)) (same_Some _ change e') (duty_fits l o ConfirmDuty is f)
   retried_fits l o Disconnecting is change e' f =
-      subst (λ (c : LinkOwed → LinkOwed). OwedFits l (c o)) (same_Some _ change e') (turn_fits l o DisconnectTurn is f)
+      subst (λ (c : LinkOwed → LinkOwed). OwedFits l (c o)) (same_Some _ change e') (duty_fits l o DisconnectDuty is f)
   retried_fits l o Running is change e' f = subst (λ (c : LinkOwed → LinkOwed). OwedFits l (c o)) (same_Some _ change e')
-      (record { turns = λ turn e. f.turns turn (ahead_owes turn 0 o e); ahead = omega arith })
+      (record { duties = λ duty e. f.duties duty (ahead_owes duty 0 o e); ahead = omega arith })
   retried_fits l o phase is change e' f = absurd cc
 
   pub retry_stage : (number : ℕ) (link : LinkOf TrueSegments) (change : LinkOwed → LinkOwed) → slice_get (links_of e.half).links number ≡ Some link →

@@ -24,9 +24,9 @@ use Rattle.dna_links.specs.Links.{LinkOf}
 use Rattle.dna_links.specs.TrueSegments.{TrueSegments}
 use Rattle.dna_node.specs.Content.{message_in, content_of, content}
 use Rattle.dna_play.specs.HasLine.{are_bytes, has_line}
-use Rattle.dna_play.specs.LinkOwed.{LinkOwed, Turn, ConnectAckTurn, InitiateTurn, ConfirmTurn, DisconnectTurn, DataAckTurn, SegmentTurn, variables_of}
+use Rattle.dna_play.specs.LinkOwed.{LinkOwed, Duty, ConnectAckDuty, InitiateDuty, ConfirmDuty, DisconnectDuty, DataAckDuty, SegmentDuty, variables_of}
 use Rattle.dna_play.specs.NextSent.{LinkEnd}
-use Rattle.dna_play.specs.Compose.{SERVICES, INFO, USER_DATA, address, packet_with, piece_to_send, segment_with, ack_of, turn_message}
+use Rattle.dna_play.specs.Compose.{SERVICES, INFO, USER_DATA, address, packet_with, piece_to_send, segment_with, ack_of, duty_message}
 use Rattle.dna_links.specs.Pieces.{SEGSIZE}
 use Rattle.dna_play.proofs.Played.PlayLines.{bytes_told}
 use Rattle.dna_play.proofs.Links.Fits.{IsPlain}
@@ -177,15 +177,15 @@ module _ (l : LinkOf TrueSegments) (owed : LinkOwed) (own_small : address l.port
   addressed_bytes flag a b rest l e = front flag ((word a ++ word b) ++ rest) l (joined_bytes (word a ++ word b) rest (addresses_bytes a b) e)
 
   -- what is put together of it fits
-  pub turn_message_fits : (turn : Turn) → IsPlain (turn_message turn it) → MessageFits (turn_message turn it)
-  turn_message_fits ConnectAckTurn plain =
+  pub duty_message_fits : (duty : Duty) → IsPlain (duty_message duty it) → MessageFits (duty_message duty it)
+  duty_message_fits ConnectAckDuty plain =
       record {
         is_nsp = (tt, far_small);
         bytes = front 0x24 (word (address l.port.far)) (omega arith) (word_are_bytes (address l.port.far));
         short =
             omega arith;
       }
-  turn_message_fits InitiateTurn plain = go owed.initiated
+  duty_message_fits InitiateDuty plain = go owed.initiated
     where
       go : (b : Bool) → MessageFits (ConnectInitiate b (address l.port.own) SERVICES INFO SEGSIZE [])
       go true = record {
@@ -200,17 +200,17 @@ module _ (l : LinkOf TrueSegments) (owed : LinkOwed) (own_small : address l.port
             addressed_bytes 0x18 0 (address l.port.own) (connect_fields SERVICES INFO SEGSIZE ++ []) (omega arith) refl;
         short = omega arith;
       }
-  turn_message_fits ConfirmTurn plain = record {
+  duty_message_fits ConfirmDuty plain = record {
     is_nsp = (tt, ((far_small, own_small), (omega arith, omega arith, omega arith)));
     bytes = addressed_bytes 0x28 (address l.port.far) (address l.port.own) (connect_fields SERVICES INFO SEGSIZE ++ USER_DATA) (omega arith) refl;
     short = omega arith;
   }
-  turn_message_fits DisconnectTurn plain = record {
+  duty_message_fits DisconnectDuty plain = record {
     is_nsp = (tt, ((far_small, own_small), omega arith));
     bytes = addressed_bytes 0x38 (address l.port.far) (address l.port.own) (word 0 ++ USER_DATA) (omega arith) refl;
     short = omega arith;
   }
-  turn_message_fits DataAckTurn plain =
+  duty_message_fits DataAckDuty plain =
       let number = ack_word (ack_of it.variables.received) in
       record {
         is_nsp = (((omega arith, tt), omega arith), ((far_small, own_small), omega arith));
@@ -218,7 +218,7 @@ module _ (l : LinkOf TrueSegments) (owed : LinkOwed) (own_small : address l.port
             (joined_bytes (word number) [] (word_are_bytes number) refl);
         short = omega arith;
       }
-  turn_message_fits SegmentTurn plain =
+  duty_message_fits SegmentDuty plain =
       let p = piece_to_send (slice_get it.variables.outstanding owed.ahead) it.variables.unsent in
       let s = segment_with it p in
       let short = plain.short in

@@ -14,7 +14,7 @@ use Rattle.dna_links.specs.Links.{LinkOf, LinkTruth, check, with_link, begun, ch
 use Rattle.dna_links.specs.Arriving.{PartnerRule, is_for, is_of_pair, called, confirmed, running, message_arrived, ends_link}
 use Rattle.dna_links.specs.TrueSegments.{TrueSegments, Numbers, true_segments}
 use Rattle.dna_links.specs.TrueLinks.{Links}
-use Rattle.dna_play.specs.LinkOwed.{LinkDebt, NoDebt, Owes, ConnectAckTurn, DataAckTurn, repeated_call_debt, confirm_debt, message_debt}
+use Rattle.dna_play.specs.LinkOwed.{LinkDebt, NoDebt, Owes, ConnectAckDuty, DataAckDuty, repeated_call_debt, confirm_debt, message_debt}
 use Rattle.dna_links.proofs.Tables.Outcomes.{looked, checked}
 use Rattle.dna_links.proofs.Runs.Sides.{set_same}
 use Rattle.two_nodes.proofs.NumberedSteps.{at_pushed}
@@ -59,18 +59,18 @@ module _ (s : Links) (most : ℕ) (rule : PartnerRule) (truth : LinkTruth Number
   repeated_fits number phase here = tt
 
   again_fits : (number : ℕ) (phase : Phase) → InPhase number phase left.links → (b : Bool) → is_running phase ≡ b →
-      Leaves (cond b (Owes number DataAckTurn) NoDebt)
+      Leaves (cond b (Owes number DataAckDuty) NoDebt)
   again_fits number Running here true e = here
   again_fits number phase here true e = absurd cc
   again_fits number phase here false e = tt
 
   -- a CC for a link in RUN
   abbrev again_debt : (dst src : ℕ) → LinkDebt
-  again_debt dst src = with_link (TheLink dst src) s NoDebt (λ number link. cond (is_running link.port.phase) (Owes number DataAckTurn) NoDebt)
+  again_debt dst src = with_link (TheLink dst src) s NoDebt (λ number link. cond (is_running link.port.phase) (Owes number DataAckDuty) NoDebt)
 
   running_fits : (dst src : ℕ) → ◌≡◌ {A = Result Links LinkRefusal} (Ok s) (Ok left) → Leaves (again_debt dst src)
   running_fits dst src e = looked (TheLink dst src) s NoDebt
-      (λ number link. cond (is_running link.port.phase) (Owes number DataAckTurn) NoDebt) _ refl
+      (λ number link. cond (is_running link.port.phase) (Owes number DataAckDuty) NoDebt) _ refl
       (λ none f. subst Leaves f tt)
       (λ number link found f. subst Leaves f
       (again_fits number link.port.phase (left_as (InPhase number link.port.phase) s (as_it_is s number link found.there) e)
@@ -79,22 +79,22 @@ module _ (s : Links) (most : ℕ) (rule : PartnerRule) (truth : LinkTruth Number
   pub came_debt : (m : NspValue) → EndsHold s most rule m → message_arrived true_segments rule s m truth ≡ Ok left → Leaves (message_debt s m)
   came_debt (ConnectInitiate retransmitted src services info segsize user_data) ends e =
       looked (LiveTo src) s (Ok (begun (called true_segments rule src segsize truth.tag) s)) (λ number link. Ok s) (Ok left) e
-      (λ none e. subst Leaves (sym (without_found s (LiveTo src) (Owes (length s.links) ConnectAckTurn)
+      (λ none e. subst Leaves (sym (without_found s (LiveTo src) (Owes (length s.links) ConnectAckDuty)
       (λ number link. repeated_call_debt number link.port.phase) none))
       (left_as (InPhase (length s.links) Called) (begun (called true_segments rule src segsize truth.tag) s)
       (when_pushed s (called true_segments rule src segsize truth.tag)) e))
       (λ number link found e. subst Leaves (sym
-      (with_found s (LiveTo src) number link (Owes (length s.links) ConnectAckTurn)
+      (with_found s (LiveTo src) number link (Owes (length s.links) ConnectAckDuty)
       (λ number link. repeated_call_debt number link.port.phase) found))
       (repeated_fits number link.port.phase (left_as (InPhase number link.port.phase) s (as_it_is s number link found.there) e)))
   came_debt (ConnectConfirm dst src services info segsize user_data) ends e =
       looked (CallingAt dst) s (Ok s) (λ number link. check (rule (is_for number truth.tag)) CrossedLink
       (Ok (changed number (confirmed true_segments rule src segsize truth.tag link) s))) (Ok left) e
-      (λ none e. subst Leaves (sym (without_found s (CallingAt dst) (again_debt dst src) (λ number link. Owes number DataAckTurn) none))
+      (λ none e. subst Leaves (sym (without_found s (CallingAt dst) (again_debt dst src) (λ number link. Owes number DataAckDuty) none))
       (running_fits dst src e))
       (λ number link found e.
       let c = checked _ _ _ left e in
-      subst Leaves (sym (with_found s (CallingAt dst) number link (again_debt dst src) (λ number link. Owes number DataAckTurn) found))
+      subst Leaves (sym (with_found s (CallingAt dst) number link (again_debt dst src) (λ number link. Owes number DataAckDuty) found))
       (left_as (InPhase number Running) (changed number (confirmed true_segments rule src segsize truth.tag link) s)
       (when_set s number link (confirmed true_segments rule src segsize truth.tag link) found.there) c.1))
   came_debt (DisconnectInitiate dst src reason user_data) ends e =
@@ -112,10 +112,10 @@ module _ (s : Links) (most : ℕ) (rule : PartnerRule) (truth : LinkTruth Number
       (λ number link. check (rule (is_of_pair number link.partner truth.tag)) CrossedLink
       (Ok (changed number (running true_segments rule (λ l. true_segments.takes_segment segment truth.known l.segments) link) s))) (Ok left) e
       (λ none e. subst Leaves
-      (sym (without_found s (ActedOn segment.dstaddr segment.srcaddr) NoDebt (λ number link. Owes number DataAckTurn) none)) tt)
+      (sym (without_found s (ActedOn segment.dstaddr segment.srcaddr) NoDebt (λ number link. Owes number DataAckDuty) none)) tt)
       (λ number link found e.
       let c = checked _ _ _ left e in
-      subst Leaves (sym (with_found s (ActedOn segment.dstaddr segment.srcaddr) number link NoDebt (λ number link. Owes number DataAckTurn) found))
+      subst Leaves (sym (with_found s (ActedOn segment.dstaddr segment.srcaddr) number link NoDebt (λ number link. Owes number DataAckDuty) found))
       (left_as (InPhase number Running)
       (changed number (running true_segments rule (λ l. true_segments.takes_segment segment truth.known l.segments) link) s)
       (when_set s number link (running true_segments rule (λ l. true_segments.takes_segment segment truth.known l.segments) link) found.there) c.1))

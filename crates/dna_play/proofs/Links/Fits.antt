@@ -13,8 +13,8 @@ use Rattle.dna_links.specs.Links.{LinkOf}
 use Rattle.dna_links.specs.User.{LinkEventValue, In}
 use Rattle.dna_links.specs.TrueSegments.{TrueSegments, true_segments}
 use Rattle.dna_play.specs.HasLine.{are_bytes}
-use Rattle.dna_play.specs.LinkOwed.{LinkOwed, Turn, ConnectAckTurn, InitiateTurn, ConfirmTurn, DisconnectTurn, DataAckTurn, SegmentTurn, variables_of}
-use Rattle.dna_play.specs.Compose.{piece_to_send, turn_message}
+use Rattle.dna_play.specs.LinkOwed.{LinkOwed, Duty, ConnectAckDuty, InitiateDuty, ConfirmDuty, DisconnectDuty, DataAckDuty, SegmentDuty, variables_of}
+use Rattle.dna_play.specs.Compose.{piece_to_send, duty_message}
 use Rattle.two_nodes.proofs.NumberedSteps.{slice_get-drop}
 use Rattle.dna_links.proofs.Tables.Outcomes.{Connects}
 use Rattle.dna_play.proofs.Once.Addresses.{LinkList}
@@ -96,14 +96,14 @@ abbrev pub EventFits : LinkEventValue → Type 0
 EventFits (In link message) = are_bytes message ≡ true
 EventFits event = Unit {0}
 
-pub turn_plain : (l : LinkOf TrueSegments) (owed : LinkOwed) (turn : Turn) → SegmentsFit l.segments →
-    IsPlain (turn_message turn (record { port = l.port; variables = variables_of l; owed = owed }))
-turn_plain l owed ConnectAckTurn h = tt
-turn_plain l owed InitiateTurn h = refl
-turn_plain l owed ConfirmTurn h = refl
-turn_plain l owed DisconnectTurn h = tt
-turn_plain l owed DataAckTurn h = tt
-turn_plain l owed SegmentTurn h = go (slice_get (variables_of l).outstanding owed.ahead) refl
+pub duty_plain : (l : LinkOf TrueSegments) (owed : LinkOwed) (duty : Duty) → SegmentsFit l.segments →
+    IsPlain (duty_message duty (record { port = l.port; variables = variables_of l; owed = owed }))
+duty_plain l owed ConnectAckDuty h = tt
+duty_plain l owed InitiateDuty h = refl
+duty_plain l owed ConfirmDuty h = refl
+duty_plain l owed DisconnectDuty h = tt
+duty_plain l owed DataAckDuty h = tt
+duty_plain l owed SegmentDuty h = go (slice_get (variables_of l).outstanding owed.ahead) refl
   where
     go : (o : Option Piece) → slice_get (variables_of l).outstanding owed.ahead ≡ o → PieceFits (piece_to_send o l.segments.unsent)
     go None at = next_fits l.segments.unsent h.unsent

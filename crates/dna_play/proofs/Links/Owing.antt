@@ -11,10 +11,10 @@ use Rattle.dna_links.specs.SegmentBook.{distance}
 use Rattle.dna_links.specs.TrueSegments.{TrueSegments, highest_given}
 use Rattle.dna_links.specs.TrueLinks.{Links}
 use Rattle.dna_links.specs.CutSegments.{IsOrdered}
-use Rattle.dna_play.specs.LinkOwed.{LinkOwed, LinksOwed, nothing, Turn, ConnectAckTurn, InitiateTurn, ConfirmTurn, DisconnectTurn, DataAckTurn}
-use Rattle.dna_play.specs.LinkOwed.{SegmentTurn, with_turn, changed_at, same_phase, unless_left, variables_of, still_owed, all_still_owed}
+use Rattle.dna_play.specs.LinkOwed.{LinkOwed, LinksOwed, nothing, Duty, ConnectAckDuty, InitiateDuty, ConfirmDuty, DisconnectDuty, DataAckDuty}
+use Rattle.dna_play.specs.LinkOwed.{SegmentDuty, with_duty, changed_at, same_phase, unless_left, variables_of, still_owed, all_still_owed}
 use Rattle.dna_play.specs.LinkOwed as owing
-use Rattle.dna_play.specs.NextSent.{without_turn}
+use Rattle.dna_play.specs.NextSent.{without_duty}
 use Rattle.dna_links.proofs.Tables.Numbers.{distance_ahead}
 use Rattle.dna_links.proofs.Runs.Sides.{at_set}
 use Rattle.dna_play.proofs.Once.Addresses.{LinkList}
@@ -37,17 +37,17 @@ same_is Disconnecting Disconnecting e = refl
 same_is Ended Ended e = refl
 same_is p q e = absurd cc
 
-owes_nothing : (turn : Turn) → is_owed turn nothing ≡ true → ⊥
-owes_nothing ConnectAckTurn e = cc
-owes_nothing turn e = cc
+owes_nothing : (duty : Duty) → is_owed duty nothing ≡ true → ⊥
+owes_nothing ConnectAckDuty e = cc
+owes_nothing duty e = cc
 
 nothing_fits : (l : LinkOf TrueSegments) → OwedFits l nothing
-nothing_fits l = record { turns = λ turn e. absurd (owes_nothing turn e); ahead = omega arith }
+nothing_fits l = record { duties = λ duty e. absurd (owes_nothing duty e); ahead = omega arith }
 
 -- how many are sent in this go is no flag
-pub ahead_owes : (turn : Turn) (n : ℕ) (o : LinkOwed) → is_owed turn (record o { ahead = n }) ≡ true → is_owed turn o ≡ true
-ahead_owes ConnectAckTurn n o e = e
-ahead_owes turn n o e = e
+pub ahead_owes : (duty : Duty) (n : ℕ) (o : LinkOwed) → is_owed duty (record o { ahead = n }) ≡ true → is_owed duty o ≡ true
+ahead_owes ConnectAckDuty n o e = e
+ahead_owes duty n o e = e
 
 still_fits : (l k : LinkOf TrueSegments) (o : LinkOwed) → IsOrdered l.segments → SegmentsMove l.segments k.segments → OwedFits l o →
     OwedFits k (still_owed l k o)
@@ -67,39 +67,39 @@ still_fits l k o ordered moves fits = go (same_phase l.port.phase k.port.phase) 
         let d = left in let ahead = fits.ahead in let before = length-drop l.segments.acknowledged l.segments.given in
         let after = length-drop k.segments.acknowledged k.segments.given in
         let least = moves.least in let given = moves.given in
-        record { turns = λ turn e. is ∙ fits.turns turn (ahead_owes turn (o.ahead - lowered_by) o e); ahead = omega arith }
-    go false same = record { turns = λ turn e. absurd (owes_nothing turn (ahead_owes turn (0 - lowered_by) nothing e)); ahead = omega arith }
+        record { duties = λ duty e. is ∙ fits.duties duty (ahead_owes duty (o.ahead - lowered_by) o e); ahead = omega arith }
+    go false same = record { duties = λ duty e. absurd (owes_nothing duty (ahead_owes duty (0 - lowered_by) nothing e)); ahead = omega arith }
 
--- a flag is raised, or a turn is sent: the others stay
-raised_owes : (l : LinkOf TrueSegments) (o : LinkOwed) (turn other : Turn) → l.port.phase ≡ phase_of turn → OwedFits l o →
-    is_owed other (with_turn turn true o) ≡ true → l.port.phase ≡ phase_of other
-raised_owes l o ConnectAckTurn ConnectAckTurn is f e = is
-raised_owes l o InitiateTurn InitiateTurn is f e = is
-raised_owes l o ConfirmTurn ConfirmTurn is f e = is
-raised_owes l o DisconnectTurn DisconnectTurn is f e = is
-raised_owes l o DataAckTurn DataAckTurn is f e = is
-raised_owes l o turn other is f e = f.turns other e
+-- a flag is raised, or a duty is sent: the others stay
+raised_owes : (l : LinkOf TrueSegments) (o : LinkOwed) (duty other : Duty) → l.port.phase ≡ phase_of duty → OwedFits l o →
+    is_owed other (with_duty duty true o) ≡ true → l.port.phase ≡ phase_of other
+raised_owes l o ConnectAckDuty ConnectAckDuty is f e = is
+raised_owes l o InitiateDuty InitiateDuty is f e = is
+raised_owes l o ConfirmDuty ConfirmDuty is f e = is
+raised_owes l o DisconnectDuty DisconnectDuty is f e = is
+raised_owes l o DataAckDuty DataAckDuty is f e = is
+raised_owes l o duty other is f e = f.duties other e
 
-sent_owes : (o : LinkOwed) (turn other : Turn) → is_owed other (without_turn turn o) ≡ true → is_owed other o ≡ true
-sent_owes o ConnectAckTurn ConnectAckTurn e = absurd cc
-sent_owes o InitiateTurn InitiateTurn e = absurd cc
-sent_owes o ConfirmTurn ConfirmTurn e = absurd cc
-sent_owes o DisconnectTurn DisconnectTurn e = absurd cc
-sent_owes o DataAckTurn DataAckTurn e = absurd cc
-sent_owes o SegmentTurn other e = ahead_owes other (o.ahead + 1) o e
-sent_owes o turn other e = e
+sent_owes : (o : LinkOwed) (duty other : Duty) → is_owed other (without_duty duty o) ≡ true → is_owed other o ≡ true
+sent_owes o ConnectAckDuty ConnectAckDuty e = absurd cc
+sent_owes o InitiateDuty InitiateDuty e = absurd cc
+sent_owes o ConfirmDuty ConfirmDuty e = absurd cc
+sent_owes o DisconnectDuty DisconnectDuty e = absurd cc
+sent_owes o DataAckDuty DataAckDuty e = absurd cc
+sent_owes o SegmentDuty other e = ahead_owes other (o.ahead + 1) o e
+sent_owes o duty other e = e
 
-pub turn_fits : (l : LinkOf TrueSegments) (o : LinkOwed) (turn : Turn) → l.port.phase ≡ phase_of turn → OwedFits l o →
-    OwedFits l (with_turn turn true o)
-turn_fits l o SegmentTurn is f = f
-turn_fits l o turn is f = record { turns = λ other e. raised_owes l o turn other is f e; ahead = f.ahead }
+pub duty_fits : (l : LinkOf TrueSegments) (o : LinkOwed) (duty : Duty) → l.port.phase ≡ phase_of duty → OwedFits l o →
+    OwedFits l (with_duty duty true o)
+duty_fits l o SegmentDuty is f = f
+duty_fits l o duty is f = record { duties = λ other e. raised_owes l o duty other is f e; ahead = f.ahead }
 
 -- what is sent is owed no more
-pub sent_turn_fits : (l : LinkOf TrueSegments) (o : LinkOwed) (turn : Turn) →
-    (turn ≡ SegmentTurn → o.ahead + 1 ≤ length (variables_of l).outstanding) →
-    OwedFits l o → OwedFits l (without_turn turn o)
-sent_turn_fits l o SegmentTurn more f = record { turns = λ other e. f.turns other (sent_owes o SegmentTurn other e); ahead = more refl }
-sent_turn_fits l o turn more f = record { turns = λ other e. f.turns other (sent_owes o turn other e); ahead = f.ahead }
+pub sent_duty_fits : (l : LinkOf TrueSegments) (o : LinkOwed) (duty : Duty) →
+    (duty ≡ SegmentDuty → o.ahead + 1 ≤ length (variables_of l).outstanding) →
+    OwedFits l o → OwedFits l (without_duty duty o)
+sent_duty_fits l o SegmentDuty more f = record { duties = λ other e. f.duties other (sent_owes o SegmentDuty other e); ahead = more refl }
+sent_duty_fits l o duty more f = record { duties = λ other e. f.duties other (sent_owes o duty other e); ahead = f.ahead }
 
 -- ---- all links
 

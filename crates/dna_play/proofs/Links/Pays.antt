@@ -19,10 +19,10 @@ use Rattle.dna_links.specs.Sending.{Sent, unchanged, in_its_phase, carries, in_r
 use Rattle.dna_links.specs.TrueSegments.{TrueSegments, Numbers, true_segments, sends_segment}
 use Rattle.dna_links.specs.TrueLinks.{Links}
 use Rattle.dna_links.specs.CutSegments.{IsOrdered, IsAnswered}
-use Rattle.dna_play.specs.LinkOwed.{LinkOwed, Turn, ConnectAckTurn, InitiateTurn, ConfirmTurn, DisconnectTurn, DataAckTurn, SegmentTurn, variables_of}
-use Rattle.dna_play.specs.NextSent.{LinkEnd, has_new, has_repeat, has_segment, turn_of}
+use Rattle.dna_play.specs.LinkOwed.{LinkOwed, Duty, ConnectAckDuty, InitiateDuty, ConfirmDuty, DisconnectDuty, DataAckDuty, SegmentDuty, variables_of}
+use Rattle.dna_play.specs.NextSent.{LinkEnd, has_new, has_repeat, has_segment, duty_of}
 use Rattle.dna_links.specs.Pieces.{has_more, SEGSIZE, Piece}
-use Rattle.dna_play.specs.Compose.{ack_of, address, piece_to_send, segment_with, turn_message}
+use Rattle.dna_play.specs.Compose.{ack_of, address, piece_to_send, segment_with, duty_message}
 use Rattle.dna_links.proofs.Runs.Reads.{at_is}
 use Rattle.dna_links.proofs.Tables.Outcomes.{IsFound, looked, position_none}
 use Rattle.dna_play.proofs.Once.Addresses.{LinkList, AreAddressed}
@@ -39,49 +39,49 @@ fits_in phase l = is_some l.port.own && (is_some l.port.far && eqb l.segsize SEG
 abbrev pub Fits : LinkOf TrueSegments → Type 0
 Fits l = fits_in l.port.phase l ≡ true
 
--- whether a turn is owed by its flag; segments never are
-abbrev pub is_owed : Turn → LinkOwed → Bool
-is_owed ConnectAckTurn owed = owed.connect_ack
-is_owed InitiateTurn owed = owed.initiate
-is_owed ConfirmTurn owed = owed.confirm
-is_owed DisconnectTurn owed = owed.disconnect
-is_owed DataAckTurn owed = owed.data_ack
-is_owed SegmentTurn owed = false
+-- whether a duty is owed by its flag; segments never are
+abbrev pub is_owed : Duty → LinkOwed → Bool
+is_owed ConnectAckDuty owed = owed.connect_ack
+is_owed InitiateDuty owed = owed.initiate
+is_owed ConfirmDuty owed = owed.confirm
+is_owed DisconnectDuty owed = owed.disconnect
+is_owed DataAckDuty owed = owed.data_ack
+is_owed SegmentDuty owed = false
 
--- the phase that each turn belongs to
-abbrev pub phase_of : Turn → Phase
-phase_of ConnectAckTurn = Called
-phase_of InitiateTurn = Calling
-phase_of ConfirmTurn = Confirming
-phase_of DisconnectTurn = Disconnecting
-phase_of DataAckTurn = Running
-phase_of SegmentTurn = Running
+-- the phase that each duty belongs to
+abbrev pub phase_of : Duty → Phase
+phase_of ConnectAckDuty = Called
+phase_of InitiateDuty = Calling
+phase_of ConfirmDuty = Confirming
+phase_of DisconnectDuty = Disconnecting
+phase_of DataAckDuty = Running
+phase_of SegmentDuty = Running
 
 -- what a link owes is what its phase lets it send, and no more segments are sent in a go than are outstanding
 pub record OwedFits (l : LinkOf TrueSegments) (owed : LinkOwed) : Type 0 where
-  pub turns : (turn : Turn) → is_owed turn owed ≡ true → l.port.phase ≡ phase_of turn
+  pub duties : (duty : Duty) → is_owed duty owed ≡ true → l.port.phase ≡ phase_of duty
   pub ahead : owed.ahead ≤ length (variables_of l).outstanding
 
--- ---- what a turn says of its link
+-- ---- what a duty says of its link
 
-pub data IsDue (l : LinkEnd) : Turn → Type 0 where
-  DueFlag : {turn : Turn} → is_owed turn l.owed ≡ true → IsDue l turn
-  DueSegment : is_running l.port.phase ≡ true → (has_repeat l || has_new l) ≡ true → IsDue l SegmentTurn
+pub data IsDue (l : LinkEnd) : Duty → Type 0 where
+  DueFlag : {duty : Duty} → is_owed duty l.owed ≡ true → IsDue l duty
+  DueSegment : is_running l.port.phase ≡ true → (has_repeat l || has_new l) ≡ true → IsDue l SegmentDuty
 
-module _ (l : LinkEnd) (turn : Turn) where
-  one_due : (b : Bool) (x : Turn) (rest : Option Turn) → (b ≡ true → IsDue l x) → (rest ≡ Some turn → IsDue l turn) →
-      cond b (Some x) rest ≡ Some turn → IsDue l turn
-  one_due true x rest due next e = subst (IsDue l) (same_Some x turn e) (due refl)
+module _ (l : LinkEnd) (duty : Duty) where
+  one_due : (b : Bool) (x : Duty) (rest : Option Duty) → (b ≡ true → IsDue l x) → (rest ≡ Some duty → IsDue l duty) →
+      cond b (Some x) rest ≡ Some duty → IsDue l duty
+  one_due true x rest due next e = subst (IsDue l) (same_Some x duty e) (due refl)
   one_due false x rest due next e = next e
 
-  pub turn_due : turn_of l ≡ Some turn → IsDue l turn
-  turn_due e =
-      one_due l.owed.connect_ack ConnectAckTurn _ (λ is. DueFlag is)
-      (one_due l.owed.initiate InitiateTurn _ (λ is. DueFlag is)
-      (one_due l.owed.confirm ConfirmTurn _ (λ is. DueFlag is)
-      (one_due l.owed.disconnect DisconnectTurn _ (λ is. DueFlag is)
-      (one_due l.owed.data_ack DataAckTurn _ (λ is. DueFlag is)
-      (one_due (has_segment l) SegmentTurn None
+  pub duty_due : duty_of l ≡ Some duty → IsDue l duty
+  duty_due e =
+      one_due l.owed.connect_ack ConnectAckDuty _ (λ is. DueFlag is)
+      (one_due l.owed.initiate InitiateDuty _ (λ is. DueFlag is)
+      (one_due l.owed.confirm ConfirmDuty _ (λ is. DueFlag is)
+      (one_due l.owed.disconnect DisconnectDuty _ (λ is. DueFlag is)
+      (one_due l.owed.data_ack DataAckDuty _ (λ is. DueFlag is)
+      (one_due (has_segment l) SegmentDuty None
       (λ is. let p = and_parts (is_running l.port.phase) (has_repeat l || has_new l) is in DueSegment p.0 p.1) (λ none. absurd cc)))))) e
 
 -- an address that is known, and RUN
@@ -198,7 +198,7 @@ module _ (s : Links) where
     abbrev it : LinkEnd
     it = record { port = l.port; variables = variables_of l; owed = owed }
 
-    segment_may : l.port.phase ≡ Running → (has_repeat it || has_new it) ≡ true → MaySendIt (turn_message SegmentTurn it)
+    segment_may : l.port.phase ≡ Running → (has_repeat it || has_new it) ≡ true → MaySendIt (duty_message SegmentDuty it)
     segment_may is due =
         let f = in_it Running is in let p = and_parts _ _ f in let q = and_parts (is_some l.port.far) (eqb l.segsize SEGSIZE) p.1 in
         let found = both Running is refl p.0 p.1 in
@@ -225,9 +225,9 @@ module _ (s : Links) where
             sent_may _ found running m.0 m.1
 
     -- what is due may be sent
-    pub due_may : (turn : Turn) → IsDue it turn → MaySendIt (turn_message turn it)
-    due_may ConnectAckTurn (DueFlag is) =
-        let phase = pays.turns ConnectAckTurn is in
+    pub due_may : (duty : Duty) → IsDue it duty → MaySendIt (duty_message duty it)
+    due_may ConnectAckDuty (DueFlag is) =
+        let phase = pays.duties ConnectAckDuty is in
         let p = and_parts (not l.port.opened) _ (in_it Called phase) in
         some_found (BegunBy far) n l there
         (ap₂ (λ (b c : Bool). b && c) (ap is_live phase) (ap₂ (λ (b c : Bool). b && c) p.0 (at_it l.port.far (and_parts _ _ p.1).0)))
@@ -236,25 +236,25 @@ module _ (s : Links) where
           with_found (BegunBy far) number link (Err NoLink)
               (λ number link. Ok (unchanged true_segments s number link)) found,
         ))
-    due_may InitiateTurn (DueFlag is) =
-        let phase = pays.turns InitiateTurn is in
+    due_may InitiateDuty (DueFlag is) =
+        let phase = pays.duties InitiateDuty is in
         let p = and_parts l.port.opened (is_some l.port.own) (in_it Calling phase) in
         (_, phase_may (OpenedAt own) is_calling n l (opened_at (ap is_live phase) p.0 p.1) (ap is_calling phase))
-    due_may ConfirmTurn (DueFlag is) =
-        let phase = pays.turns ConfirmTurn is in
+    due_may ConfirmDuty (DueFlag is) =
+        let phase = pays.duties ConfirmDuty is in
         let p = and_parts (is_some l.port.own) _ (in_it Confirming phase) in
         (_, phase_may (TheLink own far) is_confirming n l (both Confirming phase refl p.0 p.1) (ap is_confirming phase))
-    due_may DisconnectTurn (DueFlag is) =
-        let phase = pays.turns DisconnectTurn is in
+    due_may DisconnectDuty (DueFlag is) =
+        let phase = pays.duties DisconnectDuty is in
         let p = and_parts (is_some l.port.own) _ (in_it Disconnecting phase) in
         (_, phase_may (TheLink own far) is_disconnecting n l (both Disconnecting phase refl p.0 p.1) (ap is_disconnecting phase))
-    due_may DataAckTurn (DueFlag is) =
-        let phase = pays.turns DataAckTurn is in
+    due_may DataAckDuty (DueFlag is) =
+        let phase = pays.duties DataAckDuty is in
         let p = and_parts (is_some l.port.own) _ (in_it Running phase) in
         let m = data_ack_may l.segments ordered answered in (
           _,
           run_may own far n l (λ link. true_segments.sends_acks (ack_of it.variables.received ∷ []) link.segments) (both Running phase refl p.0 p.1)
               (ap is_running phase) m.0 m.1,
         )
-    due_may SegmentTurn (DueFlag is) = absurd cc
-    due_may SegmentTurn (DueSegment running due) = segment_may (running_is l.port.phase running) due
+    due_may SegmentDuty (DueFlag is) = absurd cc
+    due_may SegmentDuty (DueSegment running due) = segment_may (running_is l.port.phase running) due

@@ -13,7 +13,7 @@ use Rattle.dna_links.specs.TrueLinks.{Links}
 use Rattle.dna_links.specs.CutSegments.{IsOrdered}
 use Rattle.dna_links.specs.Captures.{given_address}
 use Rattle.dna_play.specs.LinkOwed as owing
-use Rattle.dna_play.specs.LinkOwed.{LinkOwed, LinksOwed, EndConfirm, LinkDebt, NoDebt, Owes, OwesConfirm, with_turn, with_debt, all_still_owed}
+use Rattle.dna_play.specs.LinkOwed.{LinkOwed, LinksOwed, EndConfirm, LinkDebt, NoDebt, Owes, OwesConfirm, with_duty, with_debt, all_still_owed}
 use Rattle.dna_links.proofs.Runs.Sides.{all_pushed, all_set, at_set}
 use Rattle.dna_play.proofs.Once.Orderly.{IsHigher, higher}
 use Rattle.dna_links.proofs.Tables.Outcomes as outcomes
@@ -22,7 +22,7 @@ use Rattle.dna_links.proofs.Tables.Outcomes.{EndsCalled, Segment, Acks, Ignores,
 use Rattle.dna_play.proofs.Once.Addresses.{LinkList, AreAddressed, freed_same}
 use Rattle.dna_play.proofs.Links.Pays.{OwedFits, fits_in, phase_of}
 use Rattle.dna_play.proofs.Links.Fits.{AllFit, EventFits, IsPlain, LinkFits, empty_fits, plain_size}
-use Rattle.dna_play.proofs.Links.Owing.{AllOwed, Moves, turn_fits, all_still, one_changed, same_move, set_move, push_move}
+use Rattle.dna_play.proofs.Links.Owing.{AllOwed, Moves, duty_fits, all_still, one_changed, same_move, set_move, push_move}
 use Rattle.dna_play.proofs.Links.Confirms.{IsDone, IsPast}
 use Rattle.std.proofs.lemmas.Bool.{and_parts}
 use Rattle.std.proofs.lemmas.Option.{same_Some}
@@ -159,15 +159,15 @@ InPhase number phase links = (k : LinkOf TrueSegments) → slice_get links numbe
 -- what may be owed newly
 abbrev pub DebtHolds : LinkList → (most : ℕ) → LinkDebt → Type 0
 DebtHolds links most NoDebt = Unit {0}
-DebtHolds links most (Owes number turn) = InPhase number (phase_of turn) links
+DebtHolds links most (Owes number duty) = InPhase number (phase_of duty) links
 DebtHolds links most (OwesConfirm confirm) = ConfirmHolds links most confirm
 
 module _ (links : LinkList) (most : ℕ) (owed : LinksOwed) (h : LinkHolds links most owed) where
   pub debt_holds : (debt : LinkDebt) → DebtHolds links most debt → LinkHolds links most (with_debt debt owed)
   debt_holds NoDebt new = h
-  debt_holds (Owes number turn) new = record {
+  debt_holds (Owes number duty) new = record {
     fit = h.fit;
-    owes = one_changed links number (with_turn turn true) owed (λ l o at owes. turn_fits l o turn (new l at) (h.owes number l o at owes)) h.owes;
+    owes = one_changed links number (with_duty duty true) owed (λ l o at owes. duty_fits l o duty (new l at) (h.owes number l o at owes)) h.owes;
     confirms = h.confirms;
   }
   debt_holds (OwesConfirm confirm) new = record {

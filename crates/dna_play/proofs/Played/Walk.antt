@@ -15,9 +15,9 @@ use Rattle.dna_links.specs.declared.port.LinkTest.TheVariants.{LiveAt, CalledBy}
 use Rattle.dna_play.specs.Script.{StepValue, Start, Halt, Timer, Send, Deliver, Refuse, Lose, Damage, Noise, Open, Accept, Reject, In, Close, Retry}
 use Rattle.dna_play.specs.PlayRun.{starts_now}
 use Rattle.dna_play.specs.Owed.{Debt, OwesStrt, timer_debt}
-use Rattle.dna_play.specs.LinkOwed.{LinkOwed, LinksOwed, LinkDebt, NoDebt, Owes, OwesConfirm, InitiateTurn, ConfirmTurn, DisconnectTurn, with_debt}
+use Rattle.dna_play.specs.LinkOwed.{LinkOwed, LinksOwed, LinkDebt, NoDebt, Owes, OwesConfirm, InitiateDuty, ConfirmDuty, DisconnectDuty, with_debt}
 use Rattle.dna_play.specs.LinkOwed.{changed, changed_at, retried}
-use Rattle.dna_play.specs.NextSent.{Choice, SendNew, LinkChoice, Confirms, OfLink, without_turn, after_link_choice, choice, link_choice}
+use Rattle.dna_play.specs.NextSent.{Choice, SendNew, LinkChoice, Confirms, OfLink, without_duty, after_link_choice, choice, link_choice}
 use Rattle.dna_play.specs.Compose.{message_of}
 use Rattle.dna_play.specs.Player.{End, makes, links_of, variables_of, link_ends_of, after_record}
 use Rattle.dna_play.specs.Stepped.{Stop, Stepped, made, owing_more, links_owing_more}
@@ -39,12 +39,12 @@ changed_counted n change owed = go (slice_get owed.links n)
 
 debt_counted : (debt : LinkDebt) (owed : LinksOwed) → length (with_debt debt owed).links ≡ length owed.links
 debt_counted NoDebt owed = refl
-debt_counted (Owes number turn) owed = changed_counted number _ owed
+debt_counted (Owes number duty) owed = changed_counted number _ owed
 debt_counted (OwesConfirm confirm) owed = refl
 
 choice_counted : (c : LinkChoice) (owed : LinksOwed) → length (after_link_choice c owed).links ≡ length owed.links
 choice_counted (Confirms confirm) owed = refl
-choice_counted (OfLink number turn) owed = changed_counted number (without_turn turn) owed
+choice_counted (OfLink number duty) owed = changed_counted number (without_duty duty) owed
 
 -- what is added leaves the node, its addresses and the count of what its links owe as they are; so many units pass
 pub record Adds (more : End → End) (units : ℕ) : Type 0 where
@@ -202,19 +202,19 @@ module _ (own : End) (other : PlayHalf) where
       let hurt = damaged place value bytes in receives_comes sent hurt (reading hurt) (can_keep own (reading hurt))))
   plays_comes (Noise bytes) = let r = recorded.Noise bytes in made_comes own other 0 0 own r (heard own (reading bytes))
       (record { half = refl; passed = refl; order = quiet own r refl refl }) (adds_owed (heard own (reading bytes)) (λ e. refl)) none_sent
-  plays_comes Open = given_comes (Owes (length (links_of own.half).links) InitiateTurn) (λ address. events.Open address)
+  plays_comes Open = given_comes (Owes (length (links_of own.half).links) InitiateDuty) (λ address. events.Open address)
       (record { counted = refl; rise = (omega arith, tt); top = refl })
   plays_comes (Accept partner) = link_case (AllOf (Comes own other 0 0)) (CalledBy partner) (links_of own.half) _ (λ none. tt)
-      (λ number link found. given_comes (Owes number ConfirmTurn) (λ address. events.Accept partner address)
+      (λ number link found. given_comes (Owes number ConfirmDuty) (λ address. events.Accept partner address)
       (record { counted = refl; rise = (omega arith, tt); top = refl }))
   plays_comes (Reject partner) = link_case (AllOf (Comes own other 0 0)) (CalledBy partner) (links_of own.half) _ (λ none. tt)
-      (λ number link found. given_comes (Owes number DisconnectTurn) (λ address. events.Reject partner address)
+      (λ number link found. given_comes (Owes number DisconnectDuty) (λ address. events.Reject partner address)
       (record { counted = refl; rise = (omega arith, tt); top = refl }))
   plays_comes (In link message) =
       user_comes 0 (events.In link message) no_more (record { counted = refl; rise = (tt, tt); top = refl }) (adds_owed no_more (λ e. refl))
   plays_comes (Close address) = link_case (AllOf (Comes own other 0 0)) (LiveAt address) (links_of own.half) _ (λ none. tt)
-      (λ number link found. user_comes 0 (events.Close address) (links_owing_more (Owes number DisconnectTurn))
-      (record { counted = refl; rise = (tt, tt); top = refl }) (adds_link_debt (Owes number DisconnectTurn)))
+      (λ number link found. user_comes 0 (events.Close address) (links_owing_more (Owes number DisconnectDuty))
+      (record { counted = refl; rise = (tt, tt); top = refl }) (adds_link_debt (Owes number DisconnectDuty)))
   plays_comes (Retry address) = link_case (AllOf (Comes own other 0 0)) (LiveAt address) (links_of own.half) _ (λ none. tt)
       (λ number link found. retrying_comes number (retried link.port.phase))
 

@@ -12,8 +12,8 @@ use Rattle.dna_station.specs.Table.{WINDOW}
 use Rattle.dna_station.specs.WireStation.{StationVariables}
 use Rattle.dna_station.specs.WireBook.{wire_is_new}
 use Rattle.dna_play.specs.Owed.{Owed}
-use Rattle.dna_play.specs.LinkOwed.{EndConfirm, Turn}
-use Rattle.dna_play.specs.NextSent.{LinkEnd, LinkChoice, Confirms, OfLink, turn_of, turn_or_next, first_turn, link_choice, Choice, SendStrt}
+use Rattle.dna_play.specs.LinkOwed.{EndConfirm, Duty}
+use Rattle.dna_play.specs.NextSent.{LinkEnd, LinkChoice, Confirms, OfLink, duty_of, duty_or_next, first_duty, link_choice, Choice, SendStrt}
 use Rattle.dna_play.specs.NextSent.{SendStack, SendNak, SendRep, SendAgain, SendNew, SendAck, when, or_else, lowest_nak, new_packet, data_choice}
 use Rattle.dna_play.specs.NextSent.{choice_in, choice}
 use Rattle.dna_play.specs.Compose.{new_data, message_at, link_message, message_of}
@@ -25,15 +25,15 @@ lives l = is_live l.port.phase
 
 -- a link that has ended has nothing to send
 abbrev pub NoneOfEnded : List LinkEnd → Type 0
-NoneOfEnded ends = (i : ℕ) (e : LinkEnd) (turn : Turn) → slice_get ends i ≡ Some e → turn_of e ≡ Some turn → lives e ≡ true
+NoneOfEnded ends = (i : ℕ) (e : LinkEnd) (duty : Duty) → slice_get ends i ≡ Some e → duty_of e ≡ Some duty → lives e ≡ true
 
--- ---- the first link that has a turn
+-- ---- the first link that has a duty
 
 -- of all, and of those that live, where these are counted from
-pub data SameTurn (ends : List LinkEnd) (from kept_from : ℕ) (all live : Option LinkChoice) : Type 0 where
-  NoTurn : all ≡ None → live ≡ None → SameTurn ends from kept_from all live
-  OneTurn : (n : ℕ) (e : LinkEnd) (turn : Turn) → slice_get ends n ≡ Some e → turn_of e ≡ Some turn → all ≡ Some (OfLink (from + n) turn) →
-      live ≡ Some (OfLink (kept_from + place_in lives n ends) turn) → SameTurn ends from kept_from all live
+pub data SameDuty (ends : List LinkEnd) (from kept_from : ℕ) (all live : Option LinkChoice) : Type 0 where
+  NoDuty : all ≡ None → live ≡ None → SameDuty ends from kept_from all live
+  OneDuty : (n : ℕ) (e : LinkEnd) (duty : Duty) → slice_get ends n ≡ Some e → duty_of e ≡ Some duty → all ≡ Some (OfLink (from + n) duty) →
+      live ≡ Some (OfLink (kept_from + place_in lives n ends) duty) → SameDuty ends from kept_from all live
 
 no_further : (from : ℕ) → from ≡ from + 0
 no_further from = omega arith
@@ -41,42 +41,42 @@ no_further from = omega arith
 one_further : (from n : ℕ) → from + 1 + n ≡ from + suc n
 one_further from n = omega arith
 
-same_turn : (ends : List LinkEnd) (from kept_from : ℕ) → NoneOfEnded ends →
-    SameTurn ends from kept_from (first_turn from ends) (first_turn kept_from (live_ends ends))
-same_turn [] from kept_from ended = NoTurn refl refl
-same_turn (first ∷ ends) from kept_from ended =
-    go (turn_of first) refl (lives first) refl (same_turn ends (from + 1) (kept_from + 1) (λ i. ended (suc i)))
-    (same_turn ends (from + 1) kept_from (λ i. ended (suc i)))
+same_duty : (ends : List LinkEnd) (from kept_from : ℕ) → NoneOfEnded ends →
+    SameDuty ends from kept_from (first_duty from ends) (first_duty kept_from (live_ends ends))
+same_duty [] from kept_from ended = NoDuty refl refl
+same_duty (first ∷ ends) from kept_from ended =
+    go (duty_of first) refl (lives first) refl (same_duty ends (from + 1) (kept_from + 1) (λ i. ended (suc i)))
+    (same_duty ends (from + 1) kept_from (λ i. ended (suc i)))
   where
     -- one that lives, and has none
-    behind : turn_of first ≡ None → lives first ≡ true →
-        SameTurn ends (from + 1) (kept_from + 1) (first_turn (from + 1) ends) (first_turn (kept_from + 1) (live_ends ends)) →
-        SameTurn (first ∷ ends) from kept_from (first_turn (from + 1) ends) (first_turn kept_from (first ∷ live_ends ends))
-    behind none live (NoTurn all kept) =
-        NoTurn all (ap (λ (o : Option Turn). turn_or_next kept_from o (first_turn (kept_from + 1) (live_ends ends))) none ∙ kept)
-    behind none live (OneTurn n e turn there has all kept) =
-        OneTurn (suc n) e turn there has (all ∙ ap (λ (k : ℕ). Some (OfLink k turn)) (one_further from n))
-        (ap (λ (o : Option Turn). turn_or_next kept_from o (first_turn (kept_from + 1) (live_ends ends))) none ∙ kept
-        ∙ ap (λ (k : ℕ). Some (OfLink k turn)) (one_further kept_from (place_in lives n ends))
-        ∙ ap (λ (b : Bool). Some (OfLink (kept_from + cond b (suc (place_in lives n ends)) (place_in lives n ends)) turn)) (sym live))
+    behind : duty_of first ≡ None → lives first ≡ true →
+        SameDuty ends (from + 1) (kept_from + 1) (first_duty (from + 1) ends) (first_duty (kept_from + 1) (live_ends ends)) →
+        SameDuty (first ∷ ends) from kept_from (first_duty (from + 1) ends) (first_duty kept_from (first ∷ live_ends ends))
+    behind none live (NoDuty all kept) =
+        NoDuty all (ap (λ (o : Option Duty). duty_or_next kept_from o (first_duty (kept_from + 1) (live_ends ends))) none ∙ kept)
+    behind none live (OneDuty n e duty there has all kept) =
+        OneDuty (suc n) e duty there has (all ∙ ap (λ (k : ℕ). Some (OfLink k duty)) (one_further from n))
+        (ap (λ (o : Option Duty). duty_or_next kept_from o (first_duty (kept_from + 1) (live_ends ends))) none ∙ kept
+        ∙ ap (λ (k : ℕ). Some (OfLink k duty)) (one_further kept_from (place_in lives n ends))
+        ∙ ap (λ (b : Bool). Some (OfLink (kept_from + cond b (suc (place_in lives n ends)) (place_in lives n ends)) duty)) (sym live))
 
     -- one that has ended
-    beside : lives first ≡ false → SameTurn ends (from + 1) kept_from (first_turn (from + 1) ends) (first_turn kept_from (live_ends ends)) →
-        SameTurn (first ∷ ends) from kept_from (first_turn (from + 1) ends) (first_turn kept_from (live_ends ends))
-    beside over (NoTurn all kept) = NoTurn all kept
-    beside over (OneTurn n e turn there has all kept) =
-        OneTurn (suc n) e turn there has (all ∙ ap (λ (k : ℕ). Some (OfLink k turn)) (one_further from n))
-        (kept ∙ ap (λ (b : Bool). Some (OfLink (kept_from + cond b (suc (place_in lives n ends)) (place_in lives n ends)) turn)) (sym over))
+    beside : lives first ≡ false → SameDuty ends (from + 1) kept_from (first_duty (from + 1) ends) (first_duty kept_from (live_ends ends)) →
+        SameDuty (first ∷ ends) from kept_from (first_duty (from + 1) ends) (first_duty kept_from (live_ends ends))
+    beside over (NoDuty all kept) = NoDuty all kept
+    beside over (OneDuty n e duty there has all kept) =
+        OneDuty (suc n) e duty there has (all ∙ ap (λ (k : ℕ). Some (OfLink k duty)) (one_further from n))
+        (kept ∙ ap (λ (b : Bool). Some (OfLink (kept_from + cond b (suc (place_in lives n ends)) (place_in lives n ends)) duty)) (sym over))
 
-    go : (o : Option Turn) → turn_of first ≡ o → (b : Bool) → lives first ≡ b →
-        SameTurn ends (from + 1) (kept_from + 1) (first_turn (from + 1) ends) (first_turn (kept_from + 1) (live_ends ends)) →
-        SameTurn ends (from + 1) kept_from (first_turn (from + 1) ends) (first_turn kept_from (live_ends ends)) →
-        SameTurn (first ∷ ends) from kept_from (turn_or_next from o (first_turn (from + 1) ends))
-        (first_turn kept_from (cond b (first ∷ live_ends ends) (live_ends ends)))
-    go (Some turn) is true live with_it without = OneTurn 0 first turn refl is (ap (λ (k : ℕ). Some (OfLink k turn)) (no_further from))
-        (ap (λ (o : Option Turn). turn_or_next kept_from o (first_turn (kept_from + 1) (live_ends ends))) is
-        ∙ ap (λ (k : ℕ). Some (OfLink k turn)) (no_further kept_from))
-    go (Some turn) is false over with_it without = absurd (never (ended 0 first turn refl is) over)
+    go : (o : Option Duty) → duty_of first ≡ o → (b : Bool) → lives first ≡ b →
+        SameDuty ends (from + 1) (kept_from + 1) (first_duty (from + 1) ends) (first_duty (kept_from + 1) (live_ends ends)) →
+        SameDuty ends (from + 1) kept_from (first_duty (from + 1) ends) (first_duty kept_from (live_ends ends)) →
+        SameDuty (first ∷ ends) from kept_from (duty_or_next from o (first_duty (from + 1) ends))
+        (first_duty kept_from (cond b (first ∷ live_ends ends) (live_ends ends)))
+    go (Some duty) is true live with_it without = OneDuty 0 first duty refl is (ap (λ (k : ℕ). Some (OfLink k duty)) (no_further from))
+        (ap (λ (o : Option Duty). duty_or_next kept_from o (first_duty (kept_from + 1) (live_ends ends))) is
+        ∙ ap (λ (k : ℕ). Some (OfLink k duty)) (no_further kept_from))
+    go (Some duty) is false over with_it without = absurd (never (ended 0 first duty refl is) over)
       where
         never : lives first ≡ true → lives first ≡ false → ⊥
         never live over = cc
@@ -88,22 +88,22 @@ same_turn (first ∷ ends) from kept_from ended =
 -- the same, of the link at its place among those that live
 abbrev pub among_live : List LinkEnd → LinkChoice → LinkChoice
 among_live ends (Confirms confirm) = Confirms confirm
-among_live ends (OfLink number turn) = OfLink (place_in lives number ends) turn
+among_live ends (OfLink number duty) = OfLink (place_in lives number ends) duty
 
 pub link_choice_live : (confirms : List EndConfirm) (ends : List LinkEnd) → NoneOfEnded ends →
     link_choice confirms (live_ends ends) ≡ option_map (among_live ends) (link_choice confirms ends)
 link_choice_live (confirm ∷ later) ends ended = refl
-link_choice_live [] ends ended = go (same_turn ends 0 0 ended)
+link_choice_live [] ends ended = go (same_duty ends 0 0 ended)
   where
     from_zero : (n : ℕ) → 0 + n ≡ n
     from_zero n = omega arith
 
-    go : SameTurn ends 0 0 (first_turn 0 ends) (first_turn 0 (live_ends ends)) →
-        first_turn 0 (live_ends ends) ≡ option_map (among_live ends) (first_turn 0 ends)
-    go (NoTurn all kept) = kept ∙ sym (ap (option_map (among_live ends)) all)
-    go (OneTurn n e turn there has all kept) =
-        kept ∙ ap (λ (k : ℕ). Some (OfLink k turn)) (from_zero (place_in lives n ends))
-        ∙ sym (ap (option_map (among_live ends)) (all ∙ ap (λ (k : ℕ). Some (OfLink k turn)) (from_zero n)))
+    go : SameDuty ends 0 0 (first_duty 0 ends) (first_duty 0 (live_ends ends)) →
+        first_duty 0 (live_ends ends) ≡ option_map (among_live ends) (first_duty 0 ends)
+    go (NoDuty all kept) = kept ∙ sym (ap (option_map (among_live ends)) all)
+    go (OneDuty n e duty there has all kept) =
+        kept ∙ ap (λ (k : ℕ). Some (OfLink k duty)) (from_zero (place_in lives n ends))
+        ∙ sym (ap (option_map (among_live ends)) (all ∙ ap (λ (k : ℕ). Some (OfLink k duty)) (from_zero n)))
 
 -- ---- what is chosen
 
@@ -160,13 +160,13 @@ module _ (ends : List LinkEnd) where
 -- a link that is named lives
 abbrev pub NamesLive : List LinkEnd → LinkChoice → Type 0
 NamesLive ends (Confirms confirm) = Unit {0}
-NamesLive ends (OfLink number turn) = (e : LinkEnd) × (slice_get ends number ≡ Some e) × (lives e ≡ true)
+NamesLive ends (OfLink number duty) = (e : LinkEnd) × (slice_get ends number ≡ Some e) × (lives e ≡ true)
 
 pub link_message_live : (ends : List LinkEnd) (c : LinkChoice) → NamesLive ends c → link_message (among_live ends c) (live_ends ends) ≡ link_message c
     ends
 link_message_live ends (Confirms confirm) named = refl
-link_message_live ends (OfLink number turn) named =
-    ap (λ (o : Option LinkEnd). message_at o turn) (filter_get lives ends number named.0 named.1 named.2 ∙ sym named.1)
+link_message_live ends (OfLink number duty) named =
+    ap (λ (o : Option LinkEnd). message_at o duty) (filter_get lives ends number named.0 named.1 named.2 ∙ sym named.1)
 
 pub message_live : (ends : List LinkEnd) (c : Choice) → ((one : LinkChoice) → c ≡ SendNew one → NamesLive ends one) →
     (head : Head) (k : StationVariables (Unit {0})) →

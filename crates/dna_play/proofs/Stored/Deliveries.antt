@@ -97,7 +97,7 @@ got_stage e number l messages there h = record {
   pays = h.pays;
   packets = h.packets;
   links = segments_hold (links_of e.half).links e.addresses e.links_owed h.links number l (segments_got l.segments messages) there
-      (same_numbers l.segments (segments_got l.segments messages) refl refl refl) (λ o fits. record { turns = fits.turns; ahead = fits.ahead });
+      (same_numbers l.segments (segments_got l.segments messages) refl refl refl) (λ o fits. record { duties = fits.duties; ahead = fits.ahead });
   plain = h.plain;
   few = h.few;
   ahead = h.ahead;

@@ -30,7 +30,7 @@ use Rattle.dna_play.proofs.Stored.Timers.{stored_silent}
 use Rattle.dna_play.specs.HasLine.{has_line, are_bytes}
 use Rattle.dna_play.specs.StoredEnd.{StoredLinks, stored}
 use Rattle.dna_play.specs.StoredPlay.{StoredStepped, if_so, with_links}
-use Rattle.dna_play.specs.LinkOwed.{LinkOwed, NoDebt, Owes, DisconnectTurn, retried, with_turn}
+use Rattle.dna_play.specs.LinkOwed.{LinkOwed, NoDebt, Owes, DisconnectDuty, retried, with_duty}
 use Rattle.dna_play.specs.Play.{by_user, plays, retrying, no_more}
 use Rattle.dna_play.specs.Player.{End, links_of}
 use Rattle.dna_play.specs.Script.{Close, Retry, In}
@@ -150,26 +150,26 @@ module _ (own other : End) (now : StoredNow own other) where
         (b : Bool) → is_connected l.port.phase ≡ b → IsRight own other (Close address)
         (if_so b (keeping.made (events.Close address)
         (with_links (stored_link.changed (place own other now n) (stored_link.closed (end_of l o)) (stored own).links) (stored own))))
-        (by_user own other.half (events.Close address) (links_owing_more (Owes n DisconnectTurn)))
+        (by_user own other.half (events.Close address) (links_owing_more (Owes n DisconnectDuty)))
     closes_by n l o found owes true may =
         let left = in_phase Disconnecting l in
-        event_right own other now (Close address) (events.Close address) (of_links.Close address) refl (changed n left links) (Owes n DisconnectTurn)
+        event_right own other now (Close address) (events.Close address) (of_links.Close address) refl (changed n left links) (Owes n DisconnectDuty)
         (stored_link.changed (place own other now n) (stored_link.closed (end_of l o)) (stored own).links)
         (close_line address linked) tt tt now.stage.few
         (close_goes links address n l found may) (when_set links n l left found.there)
         (record_changed links.links own.links_owed n l o found.there owes (live_at_lives address l.port found.passed) now.counted left
-        (with_turn DisconnectTurn true) refl
-        ∙ ap (λ (x : LinkOwed). stored_link.changed (place own other now n) (end_of left (with_turn DisconnectTurn true x)) (stored own).links)
+        (with_duty DisconnectDuty true) refl
+        ∙ ap (λ (x : LinkOwed). stored_link.changed (place own other now n) (end_of left (with_duty DisconnectDuty true x)) (stored own).links)
         (still_in_phase l left o refl))
         (has_link address n l Connected found (connected_is l.port.phase may)) (never_full own other (Close address) refl)
     closes_by n l o found owes false may = refused_right own other now (Close address) (events.Close address) (of_links.Close address) refl
-        (links_owing_more (Owes n DisconnectTurn)) (λ left did. never_closes n l found may left did)
+        (links_owing_more (Owes n DisconnectDuty)) (λ left did. never_closes n l found may left did)
         (λ asks. differ (is_connected l.port.phase) (connected_when l.port.phase (its_phase address n l Connected connected_live found asks)).0 may)
 
     pub close_right : IsRight own other (Close address) (keeping.closes (stored own) address) (plays own other.half (Close address))
     unfolding plays
     close_right = look_right own other now (Close address) (LiveAt address) (live_at_lives address)
-        (λ number found. by_user own other.half (events.Close address) (links_owing_more (Owes number DisconnectTurn)))
+        (λ number found. by_user own other.half (events.Close address) (links_owing_more (Owes number DisconnectDuty)))
         (λ at link. if_so (is_connected link.port.phase)
         (keeping.made (events.Close address) (with_links (stored_link.changed at (stored_link.closed link) (stored own).links) (stored own))))
         (none_live address Connected connected_live) (λ n l o found owes. closes_by n l o found owes (is_connected l.port.phase) refl)

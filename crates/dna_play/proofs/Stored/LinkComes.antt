@@ -17,7 +17,7 @@ use Rattle.dna_links.specs.WireSegments.{LinkVariables, WireSegments, acknowledg
 use Rattle.dna_links.specs.TrueLinks.{Links}
 use Rattle.dna_links.specs.CutSegments.{cut, IsOrdered}
 use Rattle.dna_links.specs.CutLinks.{ArrivesNear}
-use Rattle.dna_play.specs.LinkOwed.{LinkOwed, LinksOwed, LinkDebt, NoDebt, Owes, ConnectAckTurn, ConfirmTurn, DataAckTurn, Turn, with_turn, with_debt}
+use Rattle.dna_play.specs.LinkOwed.{LinkOwed, LinksOwed, LinkDebt, NoDebt, Owes, ConnectAckDuty, ConfirmDuty, DataAckDuty, Duty, with_duty, with_debt}
 use Rattle.dna_play.specs.LinkOwed.{repeated_call_debt, confirm_debt, message_debt, still_owed}
 use Rattle.dna_play.specs.NextSent.{LinkEnd}
 use Rattle.dna_play.specs.StoredEnd.{StoredLinks}
@@ -80,10 +80,10 @@ module _ (rule : PartnerRule) (s : Links) (owed : LinksOwed) (counted : Counted 
   module _ (n : ℕ) (l : LinkOf TrueSegments) (o : LinkOwed) (test : LinkTest) (needs : NeedsLife test) (found : IsFound test s n l)
       (owes : slice_get owed.links n ≡ Some o) where
     -- but this link owes more
-    owes_more : (turn : Turn) → after_all s (Owes n turn) ≡ keeping.changed (place n) (keeping.owes turn (end_of l o)) live
-    owes_more turn =
-        ap (λ (w : LinksOwed). stored_links s.links (with_debt (Owes n turn) w)) (left_same s.links owed counted)
-        ∙ owed_set s.links owed n l o found.there owes (needs l.port found.passed) (with_turn turn true)
+    owes_more : (duty : Duty) → after_all s (Owes n duty) ≡ keeping.changed (place n) (keeping.owes duty (end_of l o)) live
+    owes_more duty =
+        ap (λ (w : LinksOwed). stored_links s.links (with_debt (Owes n duty) w)) (left_same s.links owed counted)
+        ∙ owed_set s.links owed n l o found.there owes (needs l.port found.passed) (with_duty duty true)
 
     -- and this link stays as it is
     stays : after_all s NoDebt ≡ keeping.changed (place n) (end_of l o) live
@@ -100,24 +100,24 @@ module _ (rule : PartnerRule) (s : Links) (owed : LinksOwed) (counted : Counted 
   call_again : (n : ℕ) (l : LinkOf TrueSegments) (o : LinkOwed) (far : ℕ) → IsFound (LiveTo far) s n l →
       slice_get owed.links n ≡ Some o → (phase : Phase) →
       after_all s (repeated_call_debt n phase) ≡ keeping.changed (place n) (keeping.called_again phase (end_of l o)) live
-  call_again n l o far found owes Called = owes_more n l o (LiveTo far) (live_to_lives far) found owes ConnectAckTurn
-  call_again n l o far found owes Confirming = owes_more n l o (LiveTo far) (live_to_lives far) found owes ConfirmTurn
+  call_again n l o far found owes Called = owes_more n l o (LiveTo far) (live_to_lives far) found owes ConnectAckDuty
+  call_again n l o far found owes Confirming = owes_more n l o (LiveTo far) (live_to_lives far) found owes ConfirmDuty
   call_again n l o far found owes phase = stays n l o (LiveTo far) (live_to_lives far) found owes
 
   call_kept : (src segsize : ℕ) →
       with_link {R = Result Links LinkRefusal} (LiveTo src) s (Ok (begun (called true_segments rule src segsize truth.tag) s)) (λ number link. Ok s)
       ≡ Ok left →
-      after (with_link (LiveTo src) s (Owes (length s.links) ConnectAckTurn) (λ number link. repeated_call_debt number link.port.phase))
+      after (with_link (LiveTo src) s (Owes (length s.links) ConnectAckDuty) (λ number link. repeated_call_debt number link.port.phase))
       ≡ keeping.with_end (LiveTo src) live (keeping.begun (keeping.called src) live)
       (λ at link. keeping.changed at (keeping.called_again link.port.phase link) live)
   call_kept src segsize e =
       let new = called true_segments rule src segsize truth.tag in
-      look_kept (LiveTo src) (live_to_lives src) s owed counted after (Owes (length s.links) ConnectAckTurn)
+      look_kept (LiveTo src) (live_to_lives src) s owed counted after (Owes (length s.links) ConnectAckDuty)
       (λ number link. repeated_call_debt number link.port.phase) (keeping.begun (keeping.called src) live)
       (λ at link. keeping.changed at (keeping.called_again link.port.phase link) live)
-      (λ none. leaves (begun new s) (Owes (length s.links) ConnectAckTurn) (keeping.begun (keeping.called src) live)
+      (λ none. leaves (begun new s) (Owes (length s.links) ConnectAckDuty) (keeping.begun (keeping.called src) live)
       (sym (without_found s (LiveTo src) (Ok (begun new s)) (λ number link. Ok s) none) ∙ e)
-      (record_begun s.links owed counted new (with_turn ConnectAckTurn true) refl))
+      (record_begun s.links owed counted new (with_duty ConnectAckDuty true) refl))
       (λ n l o found owes. leaves s (repeated_call_debt n l.port.phase)
       (keeping.changed (place n) (keeping.called_again l.port.phase (end_of l o)) live)
       (sym (with_found s (LiveTo src) n l (Ok (begun new s)) (λ number link. Ok s) found) ∙ e) (call_again n l o src found owes l.port.phase))
@@ -125,30 +125,30 @@ module _ (rule : PartnerRule) (s : Links) (owed : LinksOwed) (counted : Counted 
   -- ---- CC
 
   again_kept : (dst src : ℕ) → ◌≡◌ {A = Result Links LinkRefusal} (Ok s) (Ok left) →
-      after (with_link (TheLink dst src) s NoDebt (λ number link. cond (is_running link.port.phase) (Owes number DataAckTurn) NoDebt))
+      after (with_link (TheLink dst src) s NoDebt (λ number link. cond (is_running link.port.phase) (Owes number DataAckDuty) NoDebt))
       ≡ keeping.with_end (TheLink dst src) live live (λ at link. keeping.changed at (keeping.confirmed_again (is_running link.port.phase) link) live)
   again_kept dst src e = look_kept (TheLink dst src) (the_link_lives dst src) s owed counted after NoDebt
-      (λ number link. cond (is_running link.port.phase) (Owes number DataAckTurn) NoDebt) live
+      (λ number link. cond (is_running link.port.phase) (Owes number DataAckDuty) NoDebt) live
       (λ at link. keeping.changed at (keeping.confirmed_again (is_running link.port.phase) link) live)
       (λ none. leaves s NoDebt live e stay)
-      (λ n l o found owes. leaves s (cond (is_running l.port.phase) (Owes n DataAckTurn) NoDebt)
+      (λ n l o found owes. leaves s (cond (is_running l.port.phase) (Owes n DataAckDuty) NoDebt)
       (keeping.changed (place n) (keeping.confirmed_again (is_running l.port.phase) (end_of l o)) live) e
       (go n l o found owes (is_running l.port.phase)))
     where
       go : (n : ℕ) (l : LinkOf TrueSegments) (o : LinkOwed) → IsFound (TheLink dst src) s n l → slice_get owed.links n ≡ Some o → (b : Bool) →
-          after_all s (cond b (Owes n DataAckTurn) NoDebt) ≡ keeping.changed (place n) (keeping.confirmed_again b (end_of l o)) live
-      go n l o found owes true = owes_more n l o (TheLink dst src) (the_link_lives dst src) found owes DataAckTurn
+          after_all s (cond b (Owes n DataAckDuty) NoDebt) ≡ keeping.changed (place n) (keeping.confirmed_again b (end_of l o)) live
+      go n l o found owes true = owes_more n l o (TheLink dst src) (the_link_lives dst src) found owes DataAckDuty
       go n l o found owes false = stays n l o (TheLink dst src) (the_link_lives dst src) found owes
 
   confirm_kept : (dst src segsize : ℕ) →
       with_link (CallingAt dst) s (Ok s) (λ number link. check (rule (is_for number truth.tag)) CrossedLink
       (Ok (changed number (confirmed true_segments rule src segsize truth.tag link) s))) ≡ Ok left →
       after (with_link (CallingAt dst) s
-      (with_link (TheLink dst src) s NoDebt (λ number link. cond (is_running link.port.phase) (Owes number DataAckTurn) NoDebt))
-      (λ number link. Owes number DataAckTurn)) ≡ keeping.confirm_came dst src live
+      (with_link (TheLink dst src) s NoDebt (λ number link. cond (is_running link.port.phase) (Owes number DataAckDuty) NoDebt))
+      (λ number link. Owes number DataAckDuty)) ≡ keeping.confirm_came dst src live
   confirm_kept dst src segsize e = look_kept (CallingAt dst) (calling_at_lives dst) s owed counted after
-      (with_link (TheLink dst src) s NoDebt (λ number link. cond (is_running link.port.phase) (Owes number DataAckTurn) NoDebt))
-      (λ number link. Owes number DataAckTurn)
+      (with_link (TheLink dst src) s NoDebt (λ number link. cond (is_running link.port.phase) (Owes number DataAckDuty) NoDebt))
+      (λ number link. Owes number DataAckDuty)
       (keeping.with_end (TheLink dst src) live live (λ at link. keeping.changed at (keeping.confirmed_again (is_running link.port.phase) link) live))
       (λ at link. keeping.changed at (keeping.confirmed src link) live)
       (λ none. again_kept dst src (sym (without_found s (CallingAt dst) (Ok s) goes_on none) ∙ e)) acted
@@ -158,14 +158,14 @@ module _ (rule : PartnerRule) (s : Links) (owed : LinksOwed) (counted : Counted 
           (Ok (changed number (confirmed true_segments rule src segsize truth.tag link) s))
 
       acted : (n : ℕ) (l : LinkOf TrueSegments) (o : LinkOwed) → IsFound (CallingAt dst) s n l → slice_get owed.links n ≡ Some o →
-          after (Owes n DataAckTurn) ≡ keeping.changed (place n) (keeping.confirmed src (end_of l o)) live
+          after (Owes n DataAckDuty) ≡ keeping.changed (place n) (keeping.confirmed src (end_of l o)) live
       acted n l o found owes =
           let k = confirmed true_segments rule src segsize truth.tag l in
           let c = checked (rule (is_for n truth.tag)) CrossedLink (Ok (changed n k s)) left
           (sym (with_found s (CallingAt dst) n l (Ok s) goes_on found) ∙ e) in
-          leaves (changed n k s) (Owes n DataAckTurn) (keeping.changed (place n) (keeping.confirmed src (end_of l o)) live) c.1
-          (record_changed s.links owed n l o found.there owes (calling_at_lives dst l.port found.passed) counted k (with_turn DataAckTurn true) refl
-          ∙ ap (λ (still : LinkOwed). keeping.changed (place n) (end_of k (with_turn DataAckTurn true still)) live) (still_in_phase l k o refl))
+          leaves (changed n k s) (Owes n DataAckDuty) (keeping.changed (place n) (keeping.confirmed src (end_of l o)) live) c.1
+          (record_changed s.links owed n l o found.there owes (calling_at_lives dst l.port found.passed) counted k (with_duty DataAckDuty true) refl
+          ∙ ap (λ (still : LinkOwed). keeping.changed (place n) (end_of k (with_duty DataAckDuty true still)) live) (still_in_phase l k o refl))
 
   -- ---- DI, DC
 

@@ -32,7 +32,7 @@ use Rattle.dna_play.proofs.Stored.Made.{s, place, known, StoredBy, event_right}
 use Rattle.dna_play.proofs.Stored.Now.{StoredNow}
 use Rattle.dna_play.specs.HasLine.{has_line}
 use Rattle.dna_play.specs.StoredEnd.{stored}
-use Rattle.dna_play.specs.LinkOwed.{LinkOwed, Owes, InitiateTurn, ConfirmTurn, DisconnectTurn, with_turn, Turn}
+use Rattle.dna_play.specs.LinkOwed.{LinkOwed, Owes, InitiateDuty, ConfirmDuty, DisconnectDuty, with_duty, Duty}
 use Rattle.dna_play.specs.Play.{by_user, giving, plays, with_address}
 use Rattle.dna_play.specs.Player.{End, links_of}
 use Rattle.dna_play.specs.Script.{Open, Accept, Reject, StepValue}
@@ -66,14 +66,14 @@ module _ (own other : End) (now : StoredNow own other) where
   pub open_right : IsRight own other Open (keeping.opens (stored own)) (plays own other.half Open)
   unfolding plays
   open_right = giving_right own other now Open
-      (λ end address. by_user end other.half (events.Open address) (links_owing_more (Owes (length links.links) InitiateTurn)))
+      (λ end address. by_user end other.half (events.Open address) (links_owing_more (Owes (length links.links) InitiateDuty)))
       (λ end address. keeping.made (events.Open address) (with_links (stored_link.begun (stored_link.opened address) (stored own).links) end)) refl tt
       (λ less.
       let left = of_links.opened true_segments next in
-      event_right own other now Open (events.Open next) (of_links.Open next) refl (begun left links) (Owes (length links.links) InitiateTurn)
+      event_right own other now Open (events.Open next) (of_links.Open next) refl (begun left links) (Owes (length links.links) InitiateDuty)
       (stored_link.begun (stored_link.opened next) (stored own).links) (open_line next (next_address less)) tt (omega arith) (omega arith)
       (open_goes links others own.addresses (known own other now).addressed next (omega arith)) (when_pushed links left)
-      (record_begun links.links own.links_owed now.counted left (with_turn InitiateTurn true) refl) tt (not_full Open less))
+      (record_begun links.links own.links_owed now.counted left (with_duty InitiateDuty true) refl) tt (not_full Open less))
 
   -- ---- a call is answered
 
@@ -90,56 +90,56 @@ module _ (own other : End) (now : StoredNow own other) where
       (λ number link found. let e = sym none ∙ found.found in cc)
 
   -- with this event, which leads to this phase, and makes the link owe this
-  module _ (partner : ℕ) (step : StepValue) (event : ℕ → Event) (value : ℕ → LinkEventValue) (phase : Phase) (turn : Turn)
+  module _ (partner : ℕ) (step : StepValue) (event : ℕ → Event) (value : ℕ → LinkEventValue) (phase : Phase) (duty : Duty)
       (gives : gives_address step ≡ true) (may : IsCalled own partner → Asks own other.half step)
       (asked : Asks own other.half step → IsCalled own partner) (is : (address : ℕ) → link_event (event address) ≡ Some (value address))
-      (given : given_address (value next) ≡ Some next) (fits : EventFits (value next)) (lives : is_live phase ≡ true) (of : phase ≡ phase_of turn)
+      (given : given_address (value next) ≡ Some next) (fits : EventFits (value next)) (lives : is_live phase ≡ true) (of : phase ≡ phase_of duty)
       (lined : IsLink next → has_line (User (event next)) ≡ true)
       (goes : (number : ℕ) (link : LinkOf TrueSegments) → IsFound (CalledBy partner) links number link → own.addresses < next →
       links_user links (value next) ≡ Ok (changed number (of_links.answered true_segments phase next link) links)) where
     one_answered : (n : ℕ) (l : LinkOf TrueSegments) (o : LinkOwed) → IsFound (CalledBy partner) links n l →
         slice_get own.links_owed.links n ≡ Some o →
         IsRight own other step (keeping.giving (stored own) (λ end address. keeping.made (event address)
-        (with_links (stored_link.changed (place own other now n) (stored_link.answered phase turn address (end_of l o)) (stored own).links) end)))
-        (giving own (λ end address. by_user end other.half (event address) (links_owing_more (Owes n turn))))
+        (with_links (stored_link.changed (place own other now n) (stored_link.answered phase duty address (end_of l o)) (stored own).links) end)))
+        (giving own (λ end address. by_user end other.half (event address) (links_owing_more (Owes n duty))))
     one_answered n l o found owes = giving_right own other now step
-        (λ end address. by_user end other.half (event address) (links_owing_more (Owes n turn)))
+        (λ end address. by_user end other.half (event address) (links_owing_more (Owes n duty)))
         (λ end address. keeping.made (event address)
-        (with_links (stored_link.changed (place own other now n) (stored_link.answered phase turn address (end_of l o)) (stored own).links) end))
+        (with_links (stored_link.changed (place own other now n) (stored_link.answered phase duty address (end_of l o)) (stored own).links) end))
         gives (may (called_from partner n l found)) (λ less.
         let left = of_links.answered true_segments phase next l in
         let given_next : higher own.addresses (given_address (value next)) ≡ next = ap (higher own.addresses) given in
-        let stored_left = stored_link.changed (place own other now n) (stored_link.answered phase turn next (end_of l o)) (stored own).links in
+        let stored_left = stored_link.changed (place own other now n) (stored_link.answered phase duty next (end_of l o)) (stored own).links in
         subst (λ (top : ℕ). IsRight own other step (keeping.made (event next) (StoredBy own other now top stored_left))
-        (by_user (with_address own top) other.half (event next) (links_owing_more (Owes n turn)))) given_next
-        (event_right own other now step (event next) (value next) (is next) (changed n left links) (Owes n turn) stored_left
+        (by_user (with_address own top) other.half (event next) (links_owing_more (Owes n duty)))) given_next
+        (event_right own other now step (event next) (value next) (is next) (changed n left links) (Owes n duty) stored_left
         (lined (next_address less))
         fits (subst (IsHigher own.addresses) (sym given) (omega arith)) (omega arith) (goes n l found (omega arith))
         (subst (λ (p : Phase). InPhase n p (changed n left links).links) of (when_set links n l left found.there))
         (record_changed links.links own.links_owed n l o found.there owes (called_by_lives partner l.port found.passed) now.counted left
-        (with_turn turn true) lives
-        ∙ ap (λ (x : LinkOwed). stored_link.changed (place own other now n) (end_of left (with_turn turn true x)) (stored own).links)
+        (with_duty duty true) lives
+        ∙ ap (λ (x : LinkOwed). stored_link.changed (place own other now n) (end_of left (with_duty duty true x)) (stored own).links)
         (still_in_phase l left o refl)) (may (called_from partner n l found)) (not_full step less)))
 
-    answer_right : IsRight own other step (keeping.answers (stored own) partner (stored_link.answered phase turn) event)
+    answer_right : IsRight own other step (keeping.answers (stored own) partner (stored_link.answered phase duty) event)
         (with_link (CalledBy partner) links (Err BadStep)
-        (λ number link. giving own (λ end address. by_user end other.half (event address) (links_owing_more (Owes number turn)))))
+        (λ number link. giving own (λ end address. by_user end other.half (event address) (links_owing_more (Owes number duty)))))
     answer_right = look_right own other now step (CalledBy partner) (called_by_lives partner)
-        (λ number link. giving own (λ end address. by_user end other.half (event address) (links_owing_more (Owes number turn))))
+        (λ number link. giving own (λ end address. by_user end other.half (event address) (links_owing_more (Owes number duty))))
         (λ at link. keeping.giving (stored own) (λ end address. keeping.made (event address)
-        (with_links (stored_link.changed at (stored_link.answered phase turn address link) (stored own).links) end)))
+        (with_links (stored_link.changed at (stored_link.answered phase duty address link) (stored own).links) end)))
         (λ none asks. nobody_calls partner none (asked asks)) one_answered
 
   pub accept_right : (partner : ℕ) → IsLink partner →
       IsRight own other (Accept partner) (keeping.accepts (stored own) partner) (plays own other.half (Accept partner))
   unfolding plays
-  accept_right partner far = answer_right partner (Accept partner) (events.Accept partner) (of_links.Accept partner) Confirming ConfirmTurn refl
+  accept_right partner far = answer_right partner (Accept partner) (events.Accept partner) (of_links.Accept partner) Confirming ConfirmDuty refl
       (λ asks. asks) (λ asks. asks) (λ address. refl) refl tt refl refl (λ near. accept_line partner next far near)
       (λ number link found less. accept_goes links others own.addresses (known own other now).addressed partner next number link found less)
 
   pub reject_right : (partner : ℕ) → IsLink partner →
       IsRight own other (Reject partner) (keeping.rejects (stored own) partner) (plays own other.half (Reject partner))
   unfolding plays
-  reject_right partner far = answer_right partner (Reject partner) (events.Reject partner) (of_links.Reject partner) Disconnecting DisconnectTurn refl
+  reject_right partner far = answer_right partner (Reject partner) (events.Reject partner) (of_links.Reject partner) Disconnecting DisconnectDuty refl
       (λ asks. asks) (λ asks. asks) (λ address. refl) refl tt refl refl (λ near. reject_line partner next far near)
       (λ number link found less. reject_goes links others own.addresses (known own other now).addressed partner next number link found less)

@@ -27,7 +27,7 @@ use Rattle.dna_links.specs.CutLinks.{ArrivesNear}
 use Rattle.dna_station.specs.Station.{Station}
 use Rattle.dna_play.specs.HasLine.{numbers_fit, are_bytes}
 use Rattle.dna_play.specs.Owed.{Debt, all_acknowledged}
-use Rattle.dna_play.specs.LinkOwed.{LinkOwed, LinksOwed, LinkDebt, NoDebt, Owes, DataAckTurn, with_turn, with_debt, variables_of, still_owed}
+use Rattle.dna_play.specs.LinkOwed.{LinkOwed, LinksOwed, LinkDebt, NoDebt, Owes, DataAckDuty, with_duty, with_debt, variables_of, still_owed}
 use Rattle.dna_play.specs.NextSent.{LinkEnd}
 use Rattle.dna_play.specs.Player.{End, links_of, after_record}
 use Rattle.dna_play.specs.Player as player
@@ -119,7 +119,7 @@ module _ (own : End) (other : PlayHalf) (counted : Counted (links_of own.half).l
     take_kept place link = delivering_at place (took_segment segment link) live
 
     abbrev owes_ack : ℕ → LinkOf TrueSegments → LinkDebt
-    owes_ack number link = Owes number DataAckTurn
+    owes_ack number link = Owes number DataAckDuty
 
     abbrev after : Links → End
     after links = left_end own station debt (Some (DataSegment segment)) links
@@ -142,7 +142,7 @@ module _ (own : End) (other : PlayHalf) (counted : Counted (links_of own.half).l
         x = changed n k s
 
         abbrev left_owes : LinkOwed
-        left_owes = with_turn DataAckTurn true (still_owed l k o)
+        left_owes = with_duty DataAckDuty true (still_owed l k o)
 
         at : has_both l.port segment.dstaddr segment.srcaddr ≡ true
         at = (and_parts (is_connected l.port.phase) (has_both l.port segment.dstaddr segment.srcaddr) found.passed).1
@@ -156,10 +156,10 @@ module _ (own : End) (other : PlayHalf) (counted : Counted (links_of own.half).l
         owed_is : (after x).links_owed ≡ with_owed (slice_set owed.links n left_owes) owed
         owed_is =
             ap (λ (d : LinkDebt). with_debt d (left_links s.links x.links owed)) (with_found s test n l NoDebt owes_ack found)
-            ∙ left_changed s.links owed counted n l k o found.there owes (with_turn DataAckTurn true)
+            ∙ left_changed s.links owed counted n l k o found.there owes (with_duty DataAckDuty true)
 
         took : end_of k left_owes ≡ took_segment segment (end_of l o)
-        took = ap (of_links.owes DataAckTurn)
+        took = ap (of_links.owes DataAckDuty)
             (acted_end l (takes_segment segment truth.known l.segments) o (segment_taken segment (acknowledged_by_all segment.acks (variables_of l)))
             same)
 

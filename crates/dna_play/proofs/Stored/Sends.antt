@@ -17,8 +17,8 @@ use Rattle.dna_station.specs.WireStation.{StationVariables}
 use Rattle.dna_node.specs.Layers.{LayersUnit, LayersTruth}
 use Rattle.dna_station.specs.StationBook as station_book
 use Rattle.dna_play.specs.Script.{Send}
-use Rattle.dna_play.specs.LinkOwed.{LinkOwed, LinksOwed, EndConfirm, Turn, ConnectAckTurn}
-use Rattle.dna_play.specs.NextSent.{LinkEnd, LinkChoice, Confirms, OfLink, link_choice, without_turn, after_link_choice, Choice, SendNew, choice}
+use Rattle.dna_play.specs.LinkOwed.{LinkOwed, LinksOwed, EndConfirm, Duty, ConnectAckDuty}
+use Rattle.dna_play.specs.NextSent.{LinkEnd, LinkChoice, Confirms, OfLink, link_choice, without_duty, after_link_choice, Choice, SendNew, choice}
 use Rattle.dna_play.specs.NextSent.{after_choice}
 use Rattle.dna_play.specs.Compose.{message_of}
 use Rattle.dna_play.specs.Player.{End, makes, links_of, station_of, link_ends_of, after_record}
@@ -35,8 +35,8 @@ use Rattle.dna_play.specs.StoredRun.{bytes_of, stored_stepped}
 use Rattle.dna_play.proofs.Played.Steps.{PlayHalf}
 use Rattle.dna_play.proofs.Played.Facts.{Facts}
 use Rattle.dna_links.proofs.Tables.Outcomes.{SentDid, sent_did}
-use Rattle.dna_play.proofs.Links.Pays.{phase_of, OwedFits, IsDue, DueFlag, DueSegment, turn_due, running_is}
-use Rattle.dna_play.proofs.Links.Choices.{end_at, end_of, IsAsked, OfTurn, OfConfirm}
+use Rattle.dna_play.proofs.Links.Pays.{phase_of, OwedFits, IsDue, DueFlag, DueSegment, duty_due, running_is}
+use Rattle.dna_play.proofs.Links.Choices.{end_at, end_of, IsAsked, OfDuty, OfConfirm}
 use Rattle.dna_play.proofs.Links.Stage.{left_links}
 use Rattle.dna_play.proofs.Ends.SendMakes.{sent_left, again_after, first_after}
 use Rattle.dna_play.proofs.Ends.Sends.{Goes, GoesOld, GoesNew, goes}
@@ -46,20 +46,20 @@ use Rattle.dna_play.proofs.Stored.LiveLinks.{stored_links, place_among, live_the
 use Rattle.dna_play.proofs.Stored.Now.{StoredNow, facts_of}
 use Rattle.dna_play.proofs.Stored.Stations.{station_sent}
 use Rattle.dna_play.proofs.Stored.Choices.{lives, NoneOfEnded, among_live, link_choice_live, stored_choice, choice_live, NamesLive, message_live}
-use Rattle.dna_play.proofs.Links.Turns.{TurnMade, turn_made, links_stay}
+use Rattle.dna_play.proofs.Links.Duties.{DutyMade, duty_made, links_stay}
 use Rattle.dna_play.proofs.Stored.Right.{IsRight, never_full}
 use Rattle.dna_play.proofs.Ends.SendStage.{stage_again, stage_first}
 
--- ---- what a turn says of its link
+-- ---- what a duty says of its link
 
-phase_lives : (turn : Turn) → is_live (phase_of turn) ≡ true
-phase_lives ConnectAckTurn = refl
-phase_lives turn = refl
+phase_lives : (duty : Duty) → is_live (phase_of duty) ≡ true
+phase_lives ConnectAckDuty = refl
+phase_lives duty = refl
 
 -- only a link that lives has one
-due_lives : (l : LinkOf TrueSegments) (o : LinkOwed) → OwedFits l o → (turn : Turn) → IsDue (end_of l o) turn → is_live l.port.phase ≡ true
-due_lives l o fits turn (DueFlag owed) = ap is_live (fits.turns turn owed) ∙ phase_lives turn
-due_lives l o fits turn (DueSegment running due) = ap is_live (running_is l.port.phase running)
+due_lives : (l : LinkOf TrueSegments) (o : LinkOwed) → OwedFits l o → (duty : Duty) → IsDue (end_of l o) duty → is_live l.port.phase ≡ true
+due_lives l o fits duty (DueFlag owed) = ap is_live (fits.duties duty owed) ∙ phase_lives duty
+due_lives l o fits duty (DueSegment running due) = ap is_live (running_is l.port.phase running)
 
 -- ---- the bytes of the unit
 
@@ -100,11 +100,11 @@ module _ (own other : End) (now : StoredNow own other) where
   facts = facts_of now
 
   ended : NoneOfEnded (link_ends_of own)
-  ended i e turn there has =
+  ended i e duty there has =
       let at = end_at s.links owed.links i e there in
       subst (λ (x : LinkEnd). lives x ≡ true) at.is
-      (due_lives at.link at.owes (now.stage.links.owes i at.link at.owes at.there at.owed_there) turn
-      (subst (λ (x : LinkEnd). IsDue x turn) (sym at.is) (turn_due e turn has)))
+      (due_lives at.link at.owes (now.stage.links.owes i at.link at.owes at.there at.owed_there) duty
+      (subst (λ (x : LinkEnd). IsDue x duty) (sym at.is) (duty_due e duty has)))
 
   -- ---- the links
 
@@ -112,21 +112,21 @@ module _ (own other : End) (now : StoredNow own other) where
     abbrev left : LinksOwed
     left = left_links s.links sent.links.links owed
 
-    -- the link that has a turn
-    of_link : (number : ℕ) (turn : Turn) (l : LinkOf TrueSegments) (o : LinkOwed) → slice_get s.links number ≡ Some l →
+    -- the link that has a duty
+    of_link : (number : ℕ) (duty : Duty) (l : LinkOf TrueSegments) (o : LinkOwed) → slice_get s.links number ≡ Some l →
         slice_get owed.links number ≡ Some o →
-        is_live l.port.phase ≡ true → TurnMade s sent number l o turn →
-        stored_links sent.links.links (after_link_choice (OfLink number turn) left) ≡ of_links.after_sent
-        (among_live (link_ends_of own) (OfLink number turn)) (stored own).links
-    of_link number turn l o there owes live t =
+        is_live l.port.phase ≡ true → DutyMade s sent number l o duty →
+        stored_links sent.links.links (after_link_choice (OfLink number duty) left) ≡ of_links.after_sent
+        (among_live (link_ends_of own) (OfLink number duty)) (stored own).links
+    of_link number duty l o there owes live t =
         let place = place_among s.links owed number in
         let phase = ap (λ (port : Port). port.phase) t.port in
-        ap (λ (x : Links). stored_links x.links (after_link_choice (OfLink number turn) (left_links s.links x.links owed))) t.links
-        ∙ record_changed s.links owed number l o there owes live now.counted t.left (without_turn turn) (ap is_live phase ∙ live)
+        ap (λ (x : Links). stored_links x.links (after_link_choice (OfLink number duty) (left_links s.links x.links owed))) t.links
+        ∙ record_changed s.links owed number l o there owes live now.counted t.left (without_duty duty) (ap is_live phase ∙ live)
         ∙ ap (λ (x : LinkEnd). of_links.changed place x (stored own).links)
-        (ap (λ (x : LinkOwed). end_of t.left (without_turn turn x)) (still_same l t.left o phase t.acknowledged)
-        ∙ ap (λ (x : LinkEnd). record x { owed = without_turn turn x.owed }) t.is)
-        ∙ ap (λ (x : Option LinkEnd). sent_at place x turn (stored own).links) (sym (live_there s.links owed number l o there owes live))
+        (ap (λ (x : LinkOwed). end_of t.left (without_duty duty x)) (still_same l t.left o phase t.acknowledged)
+        ∙ ap (λ (x : LinkEnd). record x { owed = without_duty duty x.owed }) t.is)
+        ∙ ap (λ (x : Option LinkEnd). sent_at place x duty (stored own).links) (sym (live_there s.links owed number l o there owes live))
 
     -- the oldest DC
     confirm_kept : (confirm : EndConfirm) → slice_get owed.confirms 0 ≡ Some confirm →
@@ -146,14 +146,14 @@ module _ (own other : End) (now : StoredNow own other) where
 
     one_kept : (one : LinkChoice) (message : NspValue) → IsAsked s.links owed one message → SentDid true_segments s message sent → OneKept one
     one_kept one message (OfConfirm confirm first) did = record { named = tt; links = confirm_kept confirm first did }
-    one_kept one message (OfTurn number turn l o there owes due) did =
+    one_kept one message (OfDuty number duty l o there owes due) did =
         let fits = now.stage.links.owes number l o there owes in
-        let live = due_lives l o fits turn due in
+        let live = due_lives l o fits duty due in
         record {
           named = (end_of l o, ends_get s.links owed.links number l o there owes, live);
-          links = of_link number turn l o there owes live
-              (turn_made s sent number l o there (facts.known.numbers number l there).0 (now.stage.links.fit number l there).shape fits
-              facts.known.addressed.distinct turn due did);
+          links = of_link number duty l o there owes live
+              (duty_made s sent number l o there (facts.known.numbers number l there).0 (now.stage.links.fit number l there).shape fits
+              facts.known.addressed.distinct duty due did);
         }
 
   -- ---- the choice

@@ -20,11 +20,11 @@ use Rattle.dna_rows.proofs.Units.{CI, CC_2, DI, DC_42, DATA_ACK, ack, SEGMENT, c
 use Rattle.dna_rows.proofs.Links.Steps.{NODE_A, NODE_B}
 
 -- What a side does: its user, a packet that is first sent with this message or with none, or the packet at this place that is kept
-data Turn : Type 0 where
-  Does : (event : LinkEventValue) → Turn
-  First : (bytes : List ℕ) → Turn
-  FirstNone : Turn
-  Kept : (place : ℕ) → Turn
+data Duty : Type 0 where
+  Does : (event : LinkEventValue) → Duty
+  First : (bytes : List ℕ) → Duty
+  FirstNone : Duty
+  Kept : (place : ℕ) → Duty
 
 record Made (own other : LinkSide) : Type 0 where
   pub events : List LinkEventValue
@@ -59,11 +59,11 @@ module _ (own other : LinkSide) where
   ahead_made place true e = stored_made place _ (leb-true own.front place e) refl
   ahead_made place false e = None
 
-  abbrev turn_made : Turn → Option (Made own other)
-  turn_made (Does event) = does_made event _ refl
-  turn_made (First bytes) = first_made (nsp_at bytes)
-  turn_made FirstNone = Some (record { events = []; left = _; step = SendsNone })
-  turn_made (Kept place) = ahead_made place _ refl
+  abbrev duty_made : Duty → Option (Made own other)
+  duty_made (Does event) = does_made event _ refl
+  duty_made (First bytes) = first_made (nsp_at bytes)
+  duty_made FirstNone = Some (record { events = []; left = _; step = SendsNone })
+  duty_made (Kept place) = ahead_made place _ refl
 
 -- all that was made from this world on
 record Ran (start : LinkWorld) : Type 0 where
@@ -82,21 +82,21 @@ ran_b r (Some m) = Some (record { world = _; of_a = _; of_b = _; reached = ByB r
 
 record Step : Type 0 where
   pub at : Side
-  pub turn : Turn
+  pub turn : Duty
 
-abbrev one_more : {start : LinkWorld} → Ran start → (at : Side) → Turn → Option (Ran start)
-one_more r A turn = ran_a r (turn_made r.world.a r.world.b turn)
-one_more r B turn = ran_b r (turn_made r.world.b r.world.a turn)
+abbrev one_more : {start : LinkWorld} → Ran start → (at : Side) → Duty → Option (Ran start)
+one_more r A turn = ran_a r (duty_made r.world.a r.world.b turn)
+one_more r B turn = ran_b r (duty_made r.world.b r.world.a turn)
 
 abbrev all_more : {start : LinkWorld} → Option (Ran start) → List Step → Option (Ran start)
 all_more None steps = None
 all_more (Some r) [] = Some r
 all_more (Some r) (step ∷ steps) = all_more (one_more r step.at step.turn) steps
 
-abbrev a : Turn → Step
+abbrev a : Duty → Step
 a turn = record { at = A; turn = turn }
 
-abbrev b : Turn → Step
+abbrev b : Duty → Step
 b turn = record { at = B; turn = turn }
 
 abbrev new : LinkWorld

@@ -16,10 +16,10 @@ use Rattle.dna_station.specs.WireStation.{HeldPacket, StationVariables}
 use Rattle.dna_play.specs.Script.{Start, Send, Deliver, Open, Accept}
 use Rattle.dna_play.specs.Owed.{Owed, arrival_debt}
 use Rattle.dna_play.specs.Owed as owing
-use Rattle.dna_play.specs.LinkOwed.{LinkOwed, DataAckTurn, SegmentTurn}
+use Rattle.dna_play.specs.LinkOwed.{LinkOwed, DataAckDuty, SegmentDuty}
 use Rattle.dna_play.specs.LinkOwed as links_owing
-use Rattle.dna_play.specs.NextSent.{LinkEnd, turn_of, OfLink, choice, SendAgain, SendNew, SendAck, SendRep}
-use Rattle.dna_play.specs.Compose.{turn_message, message_of, no_flags}
+use Rattle.dna_play.specs.NextSent.{LinkEnd, duty_of, OfLink, choice, SendAgain, SendNew, SendAck, SendRep}
+use Rattle.dna_play.specs.Compose.{duty_message, message_of, no_flags}
 use Rattle.dna_play.specs.Play.{plays}
 use Rattle.dna_play.specs.Player.{End, new_end}
 use Rattle.dna_play.specs.Stepped.{Stop, BadStep, Full, Stepped}
@@ -78,9 +78,9 @@ records_of (Err stop) = Err stop
 record Rows : Type 0 where
   -- ---- the station
   -- a new packet while 254 are outstanding, and none while 255 are
-  room_for_one : choice (station 0 0 254 254) owes_ack (Some (OfLink 0 SegmentTurn)) ≡ Some (SendNew (OfLink 0 SegmentTurn))
-  no_room : choice (station 0 0 255 255) owes_ack (Some (OfLink 0 SegmentTurn)) ≡ Some SendAck
-  repeats_when_full : choice (station 0 0 255 254) owes_ack (Some (OfLink 0 SegmentTurn)) ≡ Some SendAgain
+  room_for_one : choice (station 0 0 254 254) owes_ack (Some (OfLink 0 SegmentDuty)) ≡ Some (SendNew (OfLink 0 SegmentDuty))
+  no_room : choice (station 0 0 255 255) owes_ack (Some (OfLink 0 SegmentDuty)) ≡ Some SendAck
+  repeats_when_full : choice (station 0 0 255 254) owes_ack (Some (OfLink 0 SegmentDuty)) ≡ Some SendAgain
   -- number 256 is 0 on the line, and so is the highest given in a REP; RESP is R
   number_across_the_wrap : message_of SendAgain head_1 (station 7 255 1 0) [] ≡ Some (Data no_flags 7 0 (5 ∷ []))
   rep_across_the_wrap : message_of SendRep head_1 (station 7 254 2 2) [] ≡ Some (Rep no_flags 0)
@@ -89,13 +89,13 @@ record Rows : Type 0 where
   bad_data_in_istrt : arrival_debt (record (station 0 0 0 0) { state = states.Istrt }) DataBad false ≡ None
   -- ---- links
   -- a new segment while 2,046 are outstanding, and none while 2,047 are
-  room_for_a_segment : turn_of (link 0 2046 2046) ≡ Some SegmentTurn
-  no_room_for_a_segment : turn_of (link 0 2047 2047) ≡ None
-  repeats_a_segment_when_full : turn_of (link 0 2047 2046) ≡ Some SegmentTurn
+  room_for_a_segment : duty_of (link 0 2046 2046) ≡ Some SegmentDuty
+  no_room_for_a_segment : duty_of (link 0 2047 2047) ≡ None
+  repeats_a_segment_when_full : duty_of (link 0 2047 2046) ≡ Some SegmentDuty
   -- number 4,096 is 0 on the line, new and again; a data ack has R
-  segment_across_the_wrap : nsp_bytes (turn_message SegmentTurn (link 4095 0 0)) ≡ hex (codes "6002000100000062")
-  segment_again_across_the_wrap : nsp_bytes (turn_message SegmentTurn (link 4094 3 1)) ≡ hex (codes "6002000100000061")
-  data_ack_below_the_wrap : nsp_bytes (turn_message DataAckTurn (link 0 0 0)) ≡ hex (codes "0402000100ff8f")
+  segment_across_the_wrap : nsp_bytes (duty_message SegmentDuty (link 4095 0 0)) ≡ hex (codes "6002000100000062")
+  segment_again_across_the_wrap : nsp_bytes (duty_message SegmentDuty (link 4094 3 1)) ≡ hex (codes "6002000100000061")
+  data_ack_below_the_wrap : nsp_bytes (duty_message DataAckDuty (link 0 0 0)) ≡ hex (codes "0402000100ff8f")
   -- ---- pieces: 512 bytes of a message, or all that is left
   longest_message_in_one : next_piece (unsent false 512) ≡ record { begins = true; ends = true; body = replicate 512 7 }
   first_of_two : next_piece (unsent false 513) ≡ record { begins = true; ends = false; body = replicate 512 7 }

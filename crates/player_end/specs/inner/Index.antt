@@ -4,8 +4,8 @@ use Rattle.std.specs.Prelude.{◌≡◌, ℕ, zero, suc, Bool, true, false, List
 use Rattle.dna_links.specs.declared.port.LinkTest.{LinkTest}
 use Rattle.dna_links.specs.declared.port.LinkTest.TheVariants.{HasAddress, LiveAt, TheLink, LiveTo, OpenedAt, CallingAt, CalledBy, BegunBy, ActedOn}
 use Rattle.dna_links.specs.LookUps.{is_live}
-use Rattle.dna_play.specs.LinkOwed.{Turn}
-use Rattle.dna_play.specs.NextSent.{LinkEnd, LinkChoice, Confirms, OfLink, turn_of}
+use Rattle.dna_play.specs.LinkOwed.{Duty}
+use Rattle.dna_play.specs.NextSent.{LinkEnd, LinkChoice, Confirms, OfLink, duty_of}
 use Rattle.dna_play.specs.StoredEnd.{StoredLinks, live_ends}
 
 -- those that live, of all that ever were
@@ -20,7 +20,7 @@ place_among (suc n) (link ∷ links) = if is_live link.port.phase then suc (plac
 
 abbrev pub among_live : List LinkEnd → LinkChoice → LinkChoice
 among_live links (Confirms confirm) = Confirms confirm
-among_live links (OfLink number turn) = OfLink (place_among number links) turn
+among_live links (OfLink number duty) = OfLink (place_among number links) duty
 
 -- the link with this number lives
 abbrev pub LivesAt : ℕ → StoredLinks → Type 0
@@ -51,7 +51,7 @@ far_asked test = None
 
 -- each link that has something to send is marked
 abbrev pub AreMarked : List LinkEnd → (marks : List ℕ) → Type 0
-AreMarked links marks = (number : ℕ) (link : LinkEnd) (turn : Turn) → slice_get links number ≡ Some link → turn_of link ≡ Some turn →
+AreMarked links marks = (number : ℕ) (link : LinkEnd) (duty : Duty) → slice_get links number ≡ Some link → duty_of link ≡ Some duty →
     slice_get marks number ≡ Some 1
 
 pub record IsIndexed (links : List LinkEnd) (owns fars : (address number : ℕ) → Bool) (marks : List ℕ) : Type 0 where
@@ -60,7 +60,7 @@ pub record IsIndexed (links : List LinkEnd) (owns fars : (address number : ℕ) 
   pub far : (number address : ℕ) (link : LinkEnd) → slice_get links number ≡ Some link → link.port.far ≡ Some address → fars address number ≡ true
   pub marked : AreMarked links marks
   -- a link that has something to send lives
-  pub lives : (number : ℕ) (link : LinkEnd) (turn : Turn) → slice_get links number ≡ Some link → turn_of link ≡ Some turn →
+  pub lives : (number : ℕ) (link : LinkEnd) (duty : Duty) → slice_get links number ≡ Some link → duty_of link ≡ Some duty →
       is_live link.port.phase ≡ true
   -- each has a mark
   pub long : length marks ≡ length links

@@ -6,8 +6,8 @@ use Rattle.dna_links.specs.LookUps.{passes}
 use Rattle.dna_links.specs.SegmentBook.{distance}
 use Rattle.dna_links.specs.WireSegments.{LinkVariables, acknowledged_by_all}
 use Rattle.dna_links.specs.declared.port.Phase.TheVariants.{Ended}
-use Rattle.dna_play.specs.LinkOwed.{LinkOwed, Turn, lowered, nothing, retried}
-use Rattle.dna_play.specs.NextSent.{LinkEnd, turn_of}
+use Rattle.dna_play.specs.LinkOwed.{LinkOwed, Duty, lowered, nothing, retried}
+use Rattle.dna_play.specs.NextSent.{LinkEnd, duty_of}
 use Rattle.dna_play.specs.StoredEnd.{StoredLinks}
 use Rattle.dna_play.specs.StoredLinks.{changed, no_segments}
 
@@ -40,9 +40,9 @@ passes_there test None = false
 passes_there test (Some link) = passes test link.port
 
 -- what it has to send, if there is one
-abbrev pub turn_there : Option LinkEnd → Option Turn
-turn_there None = None
-turn_there (Some link) = turn_of link
+abbrev pub duty_there : Option LinkEnd → Option Duty
+duty_there None = None
+duty_there (Some link) = duty_of link
 
 abbrev pub changed_to : ℕ → Option LinkEnd → StoredLinks → Option StoredLinks
 changed_to place None s = None

@@ -5,8 +5,8 @@ use Rattle.dna_play.specs.LinkOwed as model
 use Rattle.dna_play.specs.NextSent as next
 use Rattle.player_end.specs.declared.debt.Debt as rust
 use Rattle.player_end.specs.declared.debt.Debt.TheVariants as debts
-use Rattle.player_end.specs.declared.turn.Turn.{Turn}
-use Rattle.player_end.specs.declared.turn.Turn.TheVariants as turns
+use Rattle.player_end.specs.declared.duty.Duty.{Duty}
+use Rattle.player_end.specs.declared.duty.Duty.TheVariants as duties
 use Rattle.player_end.specs.declared.choice.EndConfirm.{EndConfirm}
 use Rattle.player_end.specs.declared.choice.LinkChoice.{LinkChoice}
 use Rattle.player_end.specs.declared.choice.LinkChoice.TheVariants as link_choices
@@ -20,20 +20,20 @@ debt_view debts.Ack = OwesAck
 debt_view debts.Rep = OwesRep
 debt_view (debts.Nak reason) = OwesNak reason
 
-abbrev pub turn_view : Turn → model.Turn
-turn_view turns.ConnectAck = model.ConnectAckTurn
-turn_view turns.Initiate = model.InitiateTurn
-turn_view turns.Confirm = model.ConfirmTurn
-turn_view turns.Disconnect = model.DisconnectTurn
-turn_view turns.DataAck = model.DataAckTurn
-turn_view turns.Segment = model.SegmentTurn
+abbrev pub duty_view : Duty → model.Duty
+duty_view duties.ConnectAck = model.ConnectAckDuty
+duty_view duties.Initiate = model.InitiateDuty
+duty_view duties.Confirm = model.ConfirmDuty
+duty_view duties.Disconnect = model.DisconnectDuty
+duty_view duties.DataAck = model.DataAckDuty
+duty_view duties.Segment = model.SegmentDuty
 
 abbrev pub confirm_view : EndConfirm → model.EndConfirm
 confirm_view confirm = record { dst = confirm.dst; src = confirm.src; reason = confirm.reason }
 
 abbrev pub link_choice_view : LinkChoice → next.LinkChoice
 link_choice_view (link_choices.Confirms confirm) = next.Confirms (confirm_view confirm)
-link_choice_view (link_choices.OfLink number turn) = next.OfLink number (turn_view turn)
+link_choice_view (link_choices.OfLink number duty) = next.OfLink number (duty_view duty)
 
 abbrev pub choice_view : Choice → next.Choice
 choice_view choices.Strt = next.SendStrt
@@ -45,10 +45,10 @@ choice_view (choices.New message) = next.SendNew (link_choice_view message)
 choice_view choices.Ack = next.SendAck
 
 -- whether a flag says that this is owed
-abbrev pub has_turn : model.Turn → model.LinkOwed → Bool
-has_turn model.ConnectAckTurn owed = owed.connect_ack
-has_turn model.InitiateTurn owed = owed.initiate
-has_turn model.ConfirmTurn owed = owed.confirm
-has_turn model.DisconnectTurn owed = owed.disconnect
-has_turn model.DataAckTurn owed = owed.data_ack
-has_turn model.SegmentTurn owed = false
+abbrev pub has_duty : model.Duty → model.LinkOwed → Bool
+has_duty model.ConnectAckDuty owed = owed.connect_ack
+has_duty model.InitiateDuty owed = owed.initiate
+has_duty model.ConfirmDuty owed = owed.confirm
+has_duty model.DisconnectDuty owed = owed.disconnect
+has_duty model.DataAckDuty owed = owed.data_ack
+has_duty model.SegmentDuty owed = false

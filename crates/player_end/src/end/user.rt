@@ -9,10 +9,10 @@ ghost use Rattle.dna_play.specs.StoredPlay as kept;
 ghost use Rattle.player_end.specs.Stepping.{StopMeans, with_lines};
 
 use super::End;
+use crate::duty::Duty;
 use crate::fault::StepFault;
 use crate::given_piece::GivenPiece;
 use crate::held_packet::HeldPacket;
-use crate::turn::Turn;
 use capture::{Entry, MAX_LINK, MAX_MESSAGE, put_line};
 use dna_links::{LinkTest, Phase};
 use dna_station::State;
@@ -106,7 +106,7 @@ impl<W: Window<HeldPacket, 256> + Drop, V: Window<GivenPiece, 4096> + Drop> End<
         put(text, Entry::Accept { partner, link }, &[])?;
         let Ok(()) = self
             .links
-            .answer_at(number, Phase::Confirming, Turn::Confirm, link)
+            .answer_at(number, Phase::Confirming, Duty::Confirm, link)
         else {
             return Err(StepFault::OutOfMemory);
         };
@@ -131,7 +131,7 @@ impl<W: Window<HeldPacket, 256> + Drop, V: Window<GivenPiece, 4096> + Drop> End<
         put(text, Entry::Reject { partner, link }, &[])?;
         let Ok(()) = self
             .links
-            .answer_at(number, Phase::Disconnecting, Turn::Disconnect, link)
+            .answer_at(number, Phase::Disconnecting, Duty::Disconnect, link)
         else {
             return Err(StepFault::OutOfMemory);
         };

@@ -10,8 +10,8 @@ ghost use Rattle.dna_play.specs.StoredLinks as kept;
 ghost use Rattle.player_end.specs.inner.Links.{acknowledged};
 
 use super::LinkEnd;
+use crate::duty::Duty;
 use crate::given_piece::GivenPiece;
-use crate::turn::Turn;
 use dna_links::Phase;
 use dna_packet::{AckWord, Segment};
 use link_segments::{Piece, REACH, is_running};
@@ -24,8 +24,8 @@ impl<V: Window<GivenPiece, 4096> + Drop> LinkEnd<V> {
         ensures { self.new ≡ kept.called_again self.old.port.phase self.old }
     {
         match self.port.phase {
-            Phase::Called => self.owed.owe(Turn::ConnectAck),
-            Phase::Confirming => self.owed.owe(Turn::Confirm),
+            Phase::Called => self.owed.owe(Duty::ConnectAck),
+            Phase::Confirming => self.owed.owe(Duty::Confirm),
             Phase::Calling | Phase::Running | Phase::Disconnecting | Phase::Ended => {}
         }
     }
@@ -36,7 +36,7 @@ impl<V: Window<GivenPiece, 4096> + Drop> LinkEnd<V> {
     {
         self.go_to(Phase::Running);
         self.port.far = Some(far);
-        self.owed.owe(Turn::DataAck);
+        self.owed.owe(Duty::DataAck);
     }
 
     /// A CC comes for it and is not acted on: in RUN it owes a data acknowledgement.
@@ -44,7 +44,7 @@ impl<V: Window<GivenPiece, 4096> + Drop> LinkEnd<V> {
         ensures { self.new ≡ kept.confirmed_again (tests.is_running self.old.port.phase) self.old }
     {
         if is_running(self.port.phase) {
-            self.owed.owe(Turn::DataAck);
+            self.owed.owe(Duty::DataAck);
         }
     }
 
@@ -87,7 +87,7 @@ impl<V: Window<GivenPiece, 4096> + Drop> LinkEnd<V> {
     {
         self.hold(alloc, segment)?;
         self.take_acks(segment.acks.as_slice());
-        self.owe(Turn::DataAck);
+        self.owe(Duty::DataAck);
         Ok(())
     }
 

@@ -3,15 +3,15 @@
 ghost use Rattle.std.specs.Prelude.{◌≡◌, ◌<◌, ◌≤◌, true, length, slice_get, OnOk, OnErr, IfOk};
 ghost use Rattle.std.specs.Option.{option_map};
 ghost use Rattle.dna_packet.specs.Nsp.{nsp_bytes};
-ghost use Rattle.dna_play.specs.NextSent.{has_segment, turn_of};
-ghost use Rattle.dna_play.specs.Compose.{address, piece_to_send, turn_message};
+ghost use Rattle.dna_play.specs.NextSent.{has_segment, duty_of};
+ghost use Rattle.dna_play.specs.Compose.{address, piece_to_send, duty_message};
 ghost use Rattle.dna_play.specs.StoredLinks as kept;
-ghost use Rattle.player_end.specs.inner.Owing.{turn_view};
+ghost use Rattle.player_end.specs.inner.Owing.{duty_view};
 ghost use Rattle.link_segments.specs.Piece.{slice_view};
 
 use super::LinkEnd;
+use crate::duty::Duty;
 use crate::given_piece::GivenPiece;
-use crate::turn::Turn;
 use arrayvec::ArrayVec;
 use dna_packet::{
     AckQualifier, AckWord, ConnectAck, ConnectConfirm, ConnectInitiate, DataAck,
@@ -35,26 +35,26 @@ const USER_DATA: [u8; 1] = [0];
 
 impl<V: Window<GivenPiece, 4096> + Drop> LinkEnd<V> {
     /// What it has to send: the first of connect ack, CI, CC, DI, data ack and a segment.
-    pub fn turn(&self) -> Option<Turn>
-        ensures { option_map turn_view result ≡ turn_of self.now }
+    pub fn duty(&self) -> Option<Duty>
+        ensures { option_map duty_view result ≡ duty_of self.now }
     {
-        if self.owed.owes(Turn::ConnectAck) {
-            return Some(Turn::ConnectAck);
+        if self.owed.owes(Duty::ConnectAck) {
+            return Some(Duty::ConnectAck);
         }
-        if self.owed.owes(Turn::Initiate) {
-            return Some(Turn::Initiate);
+        if self.owed.owes(Duty::Initiate) {
+            return Some(Duty::Initiate);
         }
-        if self.owed.owes(Turn::Confirm) {
-            return Some(Turn::Confirm);
+        if self.owed.owes(Duty::Confirm) {
+            return Some(Duty::Confirm);
         }
-        if self.owed.owes(Turn::Disconnect) {
-            return Some(Turn::Disconnect);
+        if self.owed.owes(Duty::Disconnect) {
+            return Some(Duty::Disconnect);
         }
-        if self.owed.owes(Turn::DataAck) {
-            return Some(Turn::DataAck);
+        if self.owed.owes(Duty::DataAck) {
+            return Some(Duty::DataAck);
         }
         if self.has_segment() {
-            return Some(Turn::Segment);
+            return Some(Duty::Segment);
         }
         None
     }
@@ -106,12 +106,12 @@ impl<V: Window<GivenPiece, 4096> + Drop> LinkEnd<V> {
     }
 
     /// The bytes of its message of this kind. `AllocError` where there is no memory for them.
-    pub fn message(&self, alloc: Global, turn: Turn) -> Result<Vec<u8>, AllocError>
-        ensures bytes { IfOk result (λ bytes. bytes.items ≡ nsp_bytes (turn_message (turn_view turn) self.now)) }
+    pub fn message(&self, alloc: Global, duty: Duty) -> Result<Vec<u8>, AllocError>
+        ensures bytes { IfOk result (λ bytes. bytes.items ≡ nsp_bytes (duty_message (duty_view duty) self.now)) }
         ensures short { IfOk result (λ bytes. length bytes.items ≤ 1024) }
     {
-        match turn {
-            Turn::ConnectAck => {
+        match duty {
+            Duty::ConnectAck => {
                 write_nsp(
                     alloc,
                     &Nsp::ConnectAck(ConnectAck {
@@ -119,7 +119,7 @@ impl<V: Window<GivenPiece, 4096> + Drop> LinkEnd<V> {
                     }),
                 )
             }
-            Turn::Initiate => {
+            Duty::Initiate => {
                 write_nsp(
                     alloc,
                     &Nsp::ConnectInitiate(ConnectInitiate {
@@ -132,7 +132,7 @@ impl<V: Window<GivenPiece, 4096> + Drop> LinkEnd<V> {
                     }),
                 )
             }
-            Turn::Confirm => {
+            Duty::Confirm => {
                 write_nsp(
                     alloc,
                     &Nsp::ConnectConfirm(ConnectConfirm {
@@ -145,7 +145,7 @@ impl<V: Window<GivenPiece, 4096> + Drop> LinkEnd<V> {
                     }),
                 )
             }
-            Turn::Disconnect => {
+            Duty::Disconnect => {
                 write_nsp(
                     alloc,
                     &Nsp::DisconnectInitiate(DisconnectInitiate {
@@ -156,13 +156,13 @@ impl<V: Window<GivenPiece, 4096> + Drop> LinkEnd<V> {
                     }),
                 )
             }
-            Turn::DataAck => self.data_ack(alloc),
-            Turn::Segment => self.segment(alloc),
+            Duty::DataAck => self.data_ack(alloc),
+            Duty::Segment => self.segment(alloc),
         }
     }
 
     fn data_ack(&self, alloc: Global) -> Result<Vec<u8>, AllocError>
-        ensures bytes { IfOk result (λ bytes. bytes.items ≡ nsp_bytes (turn_message (turn_view Turn.DataAck) self.now)) }
+        ensures bytes { IfOk result (λ bytes. bytes.items ≡ nsp_bytes (duty_message (duty_view Duty.DataAck) self.now)) }
         ensures short { IfOk result (λ bytes. length bytes.items ≤ 1024) }
     {
         let mut acks = ArrayVec::new();
@@ -181,7 +181,7 @@ impl<V: Window<GivenPiece, 4096> + Drop> LinkEnd<V> {
     }
 
     fn segment(&self, alloc: Global) -> Result<Vec<u8>, AllocError>
-        ensures bytes { IfOk result (λ bytes. bytes.items ≡ nsp_bytes (turn_message (turn_view Turn.Segment) self.now)) }
+        ensures bytes { IfOk result (λ bytes. bytes.items ≡ nsp_bytes (duty_message (duty_view Duty.Segment) self.now)) }
         ensures short { IfOk result (λ bytes. length bytes.items ≤ 1024) }
     {
         let piece = self.piece();
@@ -207,30 +207,30 @@ impl<V: Window<GivenPiece, 4096> + Drop> LinkEnd<V> {
     /// Its message of this kind, which it sends next, was sent. A segment that was not given yet gets the next number; where its memory
     /// is refused, nothing changes.
     #[tactic(auto, using(crate::proofs::Choosing::segments))]
-    pub fn sent(&mut self, alloc: Global, turn: Turn) -> Result<(), AllocError>
-        requires { turn_of self.old ≡ Some (turn_view turn) }
-        ensures ok { OnOk result (self.new ≡ kept.turn_sent (turn_view turn) self.old) }
+    pub fn sent(&mut self, alloc: Global, duty: Duty) -> Result<(), AllocError>
+        requires { duty_of self.old ≡ Some (duty_view duty) }
+        ensures ok { OnOk result (self.new ≡ kept.duty_sent (duty_view duty) self.old) }
         ensures err { OnErr result (self.new ≡ self.old) }
     {
-        self.give_by(alloc, turn)?;
-        self.owed.sent(turn);
+        self.give_by(alloc, duty)?;
+        self.owed.sent(duty);
         Ok(())
     }
 
     #[tactic(auto, using(crate::proofs::Choosing::segments))]
-    fn give_by(&mut self, alloc: Global, turn: Turn) -> Result<(), AllocError>
-        requires { turn_of self.old ≡ Some (turn_view turn) }
-        ensures given { OnOk result (self.new ≡ kept.gave_by (turn_view turn) self.old) }
-        ensures next { turn ≡ Turn.Segment → OnOk result (self.new.owed.ahead < length self.new.variables.outstanding) }
+    fn give_by(&mut self, alloc: Global, duty: Duty) -> Result<(), AllocError>
+        requires { duty_of self.old ≡ Some (duty_view duty) }
+        ensures given { OnOk result (self.new ≡ kept.gave_by (duty_view duty) self.old) }
+        ensures next { duty ≡ Duty.Segment → OnOk result (self.new.owed.ahead < length self.new.variables.outstanding) }
         ensures err { OnErr result (self.new ≡ self.old) }
     {
-        match turn {
-            Turn::Segment => self.give(alloc),
-            Turn::ConnectAck => Ok(()),
-            Turn::Initiate => Ok(()),
-            Turn::Confirm => Ok(()),
-            Turn::Disconnect => Ok(()),
-            Turn::DataAck => Ok(()),
+        match duty {
+            Duty::Segment => self.give(alloc),
+            Duty::ConnectAck => Ok(()),
+            Duty::Initiate => Ok(()),
+            Duty::Confirm => Ok(()),
+            Duty::Disconnect => Ok(()),
+            Duty::DataAck => Ok(()),
         }
     }
 

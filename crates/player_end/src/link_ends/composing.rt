@@ -4,21 +4,21 @@ ghost use Rattle.std.specs.Prelude.{◌≡◌, ◌<◌, ◌≤◌, None, Some, l
 ghost use Rattle.std.specs.Option.{option_map};
 ghost use Rattle.dna_packet.specs.Nsp.{nsp_bytes};
 ghost use Rattle.dna_packet.specs.Nsp as nsp;
-ghost use Rattle.dna_play.specs.NextSent.{LinkEnd as StoredLink, first_turn, link_choice, turn_of};
+ghost use Rattle.dna_play.specs.NextSent.{LinkEnd as StoredLink, first_duty, link_choice, duty_of};
 ghost use Rattle.dna_play.specs.Compose.{link_message, message_at};
 ghost use Rattle.dna_play.specs.StoredEnd.{live_ends};
 ghost use Rattle.dna_play.specs.StoredLinks.{after_sent};
 ghost use Rattle.dna_play.specs.StoredLinks as kept;
 ghost use Rattle.player_end.specs.inner.Index.{AreMarked, LivesAt, among_live, live_of, place_among};
-ghost use Rattle.player_end.specs.inner.Links.{turn_there};
-ghost use Rattle.player_end.specs.inner.Owing.{link_choice_view, turn_view};
+ghost use Rattle.player_end.specs.inner.Links.{duty_there};
+ghost use Rattle.player_end.specs.inner.Owing.{link_choice_view, duty_view};
 
 use super::LinkEnds;
 use crate::choice::{EndConfirm, LinkChoice};
+use crate::duty::Duty;
 use crate::given_piece::GivenPiece;
 use crate::link_end::LinkEnd;
 use crate::marks::Marks;
-use crate::turn::Turn;
 use dna_packet::{DisconnectConfirm, Nsp, write_nsp};
 use std::alloc::AllocError;
 use wire_base::Window;
@@ -33,7 +33,7 @@ impl<V: Window<GivenPiece, 4096> + Drop> LinkEnds<V> {
     {
         match self.confirms.front() {
             Some(confirm) => Some(LinkChoice::Confirms(confirm.get())),
-            None => first_turn(&self.links, &mut self.marks),
+            None => first_duty(&self.links, &mut self.marks),
         }
     }
 
@@ -50,19 +50,19 @@ impl<V: Window<GivenPiece, 4096> + Drop> LinkEnds<V> {
                 let bytes = self.confirm_message(confirm)?;
                 Ok(Some(bytes))
             }
-            LinkChoice::OfLink { number, turn } => self.message_of(number, turn),
+            LinkChoice::OfLink { number, duty } => self.message_of(number, duty),
         }
     }
 
-    // The bytes of the message of a turn of the link with this number, if there is one.
-    fn message_of(&self, number: usize, turn: Turn) -> Result<Option<Vec<u8>>, AllocError>
+    // The bytes of the message of a duty of the link with this number, if there is one.
+    fn message_of(&self, number: usize, duty: Duty) -> Result<Option<Vec<u8>>, AllocError>
         ensures message { IfOk result (λ message. option_map (λ bytes. bytes.items) message
-            ≡ option_map nsp_bytes (message_at (slice_get self.now.links number) (turn_view turn))) }
+            ≡ option_map nsp_bytes (message_at (slice_get self.now.links number) (duty_view duty))) }
         ensures short { IfOk result (λ message. IfSome message (λ bytes. length bytes.items ≤ 1024)) }
     {
         match self.links.get(number) {
             Some(link) => {
-                let bytes = link.message(self.alloc, turn)?;
+                let bytes = link.message(self.alloc, duty)?;
                 Ok(Some(bytes))
             }
             None => Ok(None),
@@ -93,36 +93,36 @@ impl<V: Window<GivenPiece, 4096> + Drop> LinkEnds<V> {
                 self.confirms.pop_front();
                 Ok(())
             }
-            LinkChoice::OfLink { number, turn } => {
+            LinkChoice::OfLink { number, duty } => {
                 if number >= self.links.len() {
                     return Ok(());
                 }
-                self.sent_at(number, turn)
+                self.sent_at(number, duty)
             }
         }
     }
 
-    fn sent_at(&mut self, number: usize, turn: Turn) -> Result<(), AllocError>
+    fn sent_at(&mut self, number: usize, duty: Duty) -> Result<(), AllocError>
         requires within { number < length self.old.links }
         requires lives { LivesAt number self.old }
-        requires next { (link : StoredLink) → slice_get self.old.links number ≡ Some link → turn_of link ≡ Some (turn_view turn) }
+        requires next { (link : StoredLink) → slice_get self.old.links number ≡ Some link → duty_of link ≡ Some (duty_view duty) }
         ensures { (link : StoredLink) → slice_get self.old.links number ≡ Some link → OnOk result (live_of self.new
-            ≡ kept.changed (place_among number self.old.links) (kept.turn_sent (turn_view turn) link) (live_of self.old)) }
+            ≡ kept.changed (place_among number self.old.links) (kept.duty_sent (duty_view duty) link) (live_of self.old)) }
     {
-        let made = self.links[number].sent(self.alloc, turn);
+        let made = self.links[number].sent(self.alloc, duty);
         self.marks.mark(number);
         made
     }
 }
 
 // What the first link has to send that has anything. Links that were found to have nothing are marked no more.
-fn first_turn<V: Window<GivenPiece, 4096> + Drop>(
+fn first_duty<V: Window<GivenPiece, 4096> + Drop>(
     links: &Vec<LinkEnd<V>>,
     marks: &mut Marks,
 ) -> Option<LinkChoice>
     requires marked { AreMarked links.now.items marks.old.marks.items }
     requires long { length marks.old.marks.items ≡ length links.now.items }
-    ensures turn { option_map link_choice_view result ≡ first_turn 0 links.now.items }
+    ensures duty { option_map link_choice_view result ≡ first_duty 0 links.now.items }
     ensures marked { AreMarked links.now.items marks.new.marks.items }
     ensures long { length marks.new.marks.items ≡ length links.now.items }
 {
@@ -131,8 +131,8 @@ fn first_turn<V: Window<GivenPiece, 4096> + Drop>(
         let Some(number) = marks.first() else {
             return None;
         };
-        if let Some(turn) = turn_at(links, number) {
-            return Some(LinkChoice::OfLink { number, turn });
+        if let Some(duty) = duty_at(links, number) {
+            return Some(LinkChoice::OfLink { number, duty });
         }
         marks.unmark(number);
         from = number + 1;
@@ -141,14 +141,14 @@ fn first_turn<V: Window<GivenPiece, 4096> + Drop>(
 }
 
 // What the link with this number has to send, if there is one.
-fn turn_at<V: Window<GivenPiece, 4096> + Drop>(
+fn duty_at<V: Window<GivenPiece, 4096> + Drop>(
     links: &Vec<LinkEnd<V>>,
     number: usize,
-) -> Option<Turn>
-    ensures { option_map turn_view result ≡ turn_there (slice_get links.now.items number) }
+) -> Option<Duty>
+    ensures { option_map duty_view result ≡ duty_there (slice_get links.now.items number) }
 {
     match links.get(number) {
-        Some(link) => link.turn(),
+        Some(link) => link.duty(),
         None => None,
     }
 }

@@ -7,12 +7,12 @@ ghost use Rattle.dna_play.specs.NextSent.{LinkEnd as StoredLink};
 ghost use Rattle.dna_play.specs.StoredLinks as kept;
 ghost use Rattle.player_end.specs.inner.Index.{LivesAt, live_of, place_among};
 ghost use Rattle.player_end.specs.inner.Links.{retried_end, changed_to};
-ghost use Rattle.player_end.specs.inner.Owing.{turn_view};
+ghost use Rattle.player_end.specs.inner.Owing.{duty_view};
 
 use super::LinkEnds;
+use crate::duty::Duty;
 use crate::given_piece::GivenPiece;
 use crate::link_end::LinkEnd;
-use crate::turn::Turn;
 use dna_links::Phase;
 use std::alloc::AllocError;
 use wire_base::Window;
@@ -32,18 +32,18 @@ impl<V: Window<GivenPiece, 4096> + Drop> LinkEnds<V> {
         &mut self,
         number: usize,
         phase: Phase,
-        turn: Turn,
+        duty: Duty,
         own: u16,
     ) -> Result<(), AllocError>
         requires within { number < length self.old.links }
         requires lives { LivesAt number self.old }
         requires phase { is_live phase ≡ true }
         ensures { (link : StoredLink) → slice_get self.old.links number ≡ Some link
-            → OnOk result (live_of self.new ≡ kept.changed (place_among number self.old.links) (kept.answered phase (turn_view turn) own link)
+            → OnOk result (live_of self.new ≡ kept.changed (place_among number self.old.links) (kept.answered phase (duty_view duty) own link)
             (live_of self.old)) }
     {
         self.owns.insert(own, number)?;
-        self.links[number].answer(phase, turn, own);
+        self.links[number].answer(phase, duty, own);
         self.marks.mark(number);
         Ok(())
     }

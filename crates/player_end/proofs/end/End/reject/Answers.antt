@@ -1,13 +1,13 @@
 use Rattle.std.proofs.Common.{sym}
 use Rattle.capture.specs.declared.event.Event.TheVariants as events
 use Rattle.dna_links.specs.declared.port.Phase.TheVariants.{Disconnecting}
-use Rattle.dna_play.specs.LinkOwed.{DisconnectTurn}
+use Rattle.dna_play.specs.LinkOwed.{DisconnectDuty}
 use Rattle.dna_play.specs.StoredLinks.{answered}
 use Rattle.player_end.proofs.Steps.{answers_lines}
 use Rattle.player_end.proofs.end.End.reject.Goals as goal
 
 pub returns-clause-ok : goal.returns-clause-ok
 returns-clause-ok g c =
-    answers_lines c.self.inside.links c.self.view_is c.args.partner (answered Disconnecting DisconnectTurn) (events.Reject c.args.partner)
+    answers_lines c.self.inside.links c.self.view_is c.args.partner (answered Disconnecting DisconnectDuty) (events.Reject c.args.partner)
     (sym c.in-Some.ensures.number) c.in-Some.ensures.link c.in-Some-next_address.ensures.next c.in-Some-next_address.ensures.room
     c.answer_at.new.self c.args.text.now.items (c.in-Ok.ensures _ c.in-Some.ensures.link) c.in_ok-put.ensures.ok

@@ -3,7 +3,7 @@ use Rattle.dna_links.specs.LookUps.{is_live}
 use Rattle.dna_play.specs.NextSent.{LinkEnd}
 use Rattle.dna_play.specs.StoredLinks.{answered}
 use Rattle.player_end.specs.inner.Addresses.{has}
-use Rattle.player_end.specs.inner.Owing.{turn_view}
+use Rattle.player_end.specs.inner.Owing.{duty_view}
 use Rattle.player_end.proofs.Change.{in_place, index_own, live_made}
 use Rattle.player_end.proofs.Indexed.{more_indexed}
 use Rattle.player_end.proofs.link_ends.LinkEnds.answer_at.Goals as goal
@@ -24,5 +24,5 @@ invariant_of-self-2 g c =
 pub returns : goal.returns
 returns g c =
     live_made (in_place c.self.view_is c.requires.within c.index_mut.ensures.value c.requires.lives)
-    (answered c.args.phase (turn_view c.args.turn) c.args.own) c.answer.ensures
+    (answered c.args.phase (duty_view c.args.duty) c.args.own) c.answer.ensures
     (ap (λ (k : LinkEnd). is_live k.port.phase) c.answer.ensures ∙ c.requires.phase)

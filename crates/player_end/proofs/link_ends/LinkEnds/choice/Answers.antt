@@ -1,4 +1,4 @@
-use Rattle.player_end.proofs.Turns.{chosen_among}
+use Rattle.player_end.proofs.Duties.{chosen_among}
 use Rattle.player_end.proofs.link_ends.LinkEnds.choice.Goals as goal
 
 pub returns-in-None-clause-live : goal.returns-in-None-clause-live

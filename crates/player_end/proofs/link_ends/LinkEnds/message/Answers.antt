@@ -2,7 +2,7 @@ use Rattle.std.proofs.Common.{subst, ap, ◌∙◌}
 use Rattle.dna_play.specs.Compose.{link_message}
 use Rattle.player_end.specs.declared.choice.LinkChoice.{LinkChoice}
 use Rattle.player_end.specs.inner.Owing.{link_choice_view}
-use Rattle.player_end.proofs.Turns.{AllSilent, message_among}
+use Rattle.player_end.proofs.Duties.{AllSilent, message_among}
 use Rattle.player_end.proofs.link_ends.LinkEnds.message.Goals as goal
 
 pub returns-in-OfLink-clause-message : goal.returns-in-OfLink-clause-message

@@ -2,7 +2,7 @@
 
 /// What a link may have to send, in the order in which it is sent (NSP 4.0, port states).
 #[derive(Clone, Copy, Debug, PartialEq, Eq)]
-pub enum Turn {
+pub enum Duty {
     ConnectAck,
     Initiate,
     Confirm,

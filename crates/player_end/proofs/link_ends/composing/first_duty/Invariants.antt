@@ -1,7 +1,7 @@
 use Rattle.std.proofs.Common.{◌≡◌, ◌-◌, length}
 use Rattle.player_end.specs.inner.Index.{AreMarked}
 use Rattle.player_end.specs.inner.Marks.{IsUnmarkedBelow}
-use Rattle.player_end.proofs.link_ends.composing.first_turn.Given as goal
+use Rattle.player_end.proofs.link_ends.composing.first_duty.Given as goal
 
 abbrev pub invariant-loop-from : goal.invariant-loop-from
 invariant-loop-from g l =

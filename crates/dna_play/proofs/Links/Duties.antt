@@ -19,9 +19,9 @@ use Rattle.dna_links.specs.Sending.{Sent, segment_of}
 use Rattle.dna_links.specs.TrueSegments.{TrueSegments, Numbers, true_segments, is_new, sends_segment, sends_acks}
 use Rattle.dna_links.specs.TrueLinks.{Links}
 use Rattle.dna_links.specs.CutSegments.{IsOrdered}
-use Rattle.dna_play.specs.LinkOwed.{LinkOwed, Turn, ConnectAckTurn, InitiateTurn, ConfirmTurn, DisconnectTurn, DataAckTurn, SegmentTurn, variables_of}
+use Rattle.dna_play.specs.LinkOwed.{LinkOwed, Duty, ConnectAckDuty, InitiateDuty, ConfirmDuty, DisconnectDuty, DataAckDuty, SegmentDuty, variables_of}
 use Rattle.dna_play.specs.NextSent.{LinkEnd}
-use Rattle.dna_play.specs.Compose.{ack_of, address, piece_to_send, segment_with, turn_message}
+use Rattle.dna_play.specs.Compose.{ack_of, address, piece_to_send, segment_with, duty_message}
 use Rattle.dna_play.specs.StoredLinks.{gave, gave_by}
 use Rattle.dna_play.proofs.Links.SegmentsDid.{SegmentDid, GivesIt, GivesAgain, segment_did, acks_did}
 use Rattle.dna_links.proofs.Tables.Outcomes.{has_numbers, IsFound, SentDid, OfNone, Stays, EndsCalled, Segment, Acks}
@@ -71,7 +71,7 @@ module _ (l : LinkOf TrueSegments) (o : LinkOwed) (ordered : IsOrdered l.segment
       go (Some p) at g (GivesAgain last old) = refl
 
   -- then it is among those sent in this go
-  pub gave_ahead : o.ahead + 1 ≤ length (gave_by SegmentTurn (end_of l o)).variables.outstanding
+  pub gave_ahead : o.ahead + 1 ≤ length (gave_by SegmentDuty (end_of l o)).variables.outstanding
   gave_ahead = go (slice_get (variables_of l).outstanding o.ahead) refl
     where
       go : (again : Option Piece) → slice_get (variables_of l).outstanding o.ahead ≡ again →
@@ -140,19 +140,19 @@ module _ (s : Links) (distinct : (i j a : ℕ) → OwnsIn s.links i a → OwnsIn
   acks_run dst acks made (EndsCalled far reason number link none is found) = absurd cc
   acks_run dst acks made (Segment segment number link sent is found run does) = absurd cc
 
--- ---- what each turn makes of its link
+-- ---- what each duty makes of its link
 
-pub record TurnMade (s : Links) (made : Sent TrueSegments Numbers) (n : ℕ) (l : LinkOf TrueSegments) (o : LinkOwed) (turn : Turn) : Type 0 where
+pub record DutyMade (s : Links) (made : Sent TrueSegments Numbers) (n : ℕ) (l : LinkOf TrueSegments) (o : LinkOwed) (duty : Duty) : Type 0 where
   pub left : LinkOf TrueSegments
   pub links : made.links ≡ changed n left s
   pub port : left.port ≡ l.port
   pub acknowledged : left.segments.acknowledged ≡ l.segments.acknowledged
-  pub is : end_of left o ≡ gave_by turn (end_of l o)
+  pub is : end_of left o ≡ gave_by duty (end_of l o)
 
 module _ (s : Links) (made : Sent TrueSegments Numbers) (n : ℕ) (l : LinkOf TrueSegments) (o : LinkOwed) (there : slice_get s.links n ≡ Some l) where
   -- one that leaves its link as it is
-  unmoved : (turn : Turn) → gave_by turn (end_of l o) ≡ end_of l o → made.links ≡ s → TurnMade s made n l o turn
-  unmoved turn none same = record {
+  unmoved : (duty : Duty) → gave_by duty (end_of l o) ≡ end_of l o → made.links ≡ s → DutyMade s made n l o duty
+  unmoved duty none same = record {
     left = l;
     links = same ∙ ap (λ (all : LinkList). record s { links = all }) (sym (set_back s.links n l there));
     port = refl;
@@ -170,18 +170,18 @@ module _ (s : Links) (made : Sent TrueSegments Numbers) (n : ℕ) (l : LinkOf Tr
 
   module _ (ordered : IsOrdered l.segments) (shape : Fits l) (owes : OwedFits l o)
       (distinct : (i j a : ℕ) → OwnsIn s.links i a → OwnsIn s.links j a → i ≡ j) where
-    pub turn_made : (turn : Turn) → IsDue (end_of l o) turn → SentDid true_segments s (turn_message turn (end_of l o)) made →
-        TurnMade s made n l o turn
-    turn_made ConnectAckTurn due did =
-        unmoved ConnectAckTurn refl (links_stay s (turn_message ConnectAckTurn (end_of l o)) refl (λ dst reason e. cc) made did)
-    turn_made InitiateTurn due did =
-        unmoved InitiateTurn refl (links_stay s (turn_message InitiateTurn (end_of l o)) refl (λ dst reason e. cc) made did)
-    turn_made ConfirmTurn due did = unmoved ConfirmTurn refl (links_stay s (turn_message ConfirmTurn (end_of l o)) refl (λ dst reason e. cc) made did)
-    turn_made DisconnectTurn due did =
-        unmoved DisconnectTurn refl (links_stay s (turn_message DisconnectTurn (end_of l o)) refl (λ dst reason e. cc) made did)
-    turn_made DataAckTurn (DueFlag owed) did =
+    pub duty_made : (duty : Duty) → IsDue (end_of l o) duty → SentDid true_segments s (duty_message duty (end_of l o)) made →
+        DutyMade s made n l o duty
+    duty_made ConnectAckDuty due did =
+        unmoved ConnectAckDuty refl (links_stay s (duty_message ConnectAckDuty (end_of l o)) refl (λ dst reason e. cc) made did)
+    duty_made InitiateDuty due did =
+        unmoved InitiateDuty refl (links_stay s (duty_message InitiateDuty (end_of l o)) refl (λ dst reason e. cc) made did)
+    duty_made ConfirmDuty due did = unmoved ConfirmDuty refl (links_stay s (duty_message ConfirmDuty (end_of l o)) refl (λ dst reason e. cc) made did)
+    duty_made DisconnectDuty due did =
+        unmoved DisconnectDuty refl (links_stay s (duty_message DisconnectDuty (end_of l o)) refl (λ dst reason e. cc) made did)
+    duty_made DataAckDuty (DueFlag owed) did =
         let words = ack_of (variables_of l).received ∷ [] in
-        let r = acks_run s distinct n l there (address l.port.own) (run_owns shape (owes.turns DataAckTurn owed)) (address l.port.far)
+        let r = acks_run s distinct n l there (address l.port.own) (run_owns shape (owes.duties DataAckDuty owed)) (address l.port.far)
         words made did in
         let d = acks_did l.segments words r.sent r.is in
         record {
@@ -191,8 +191,8 @@ module _ (s : Links) (made : Sent TrueSegments Numbers) (n : ℕ) (l : LinkOf Tr
           acknowledged = ap (λ (g : TrueSegments). g.acknowledged) d.1;
           is = ap (λ (g : TrueSegments). end_of (with_segments g l) o) d.1;
         }
-    turn_made SegmentTurn (DueFlag owed) did = absurd cc
-    turn_made SegmentTurn (DueSegment running due) did =
+    duty_made SegmentDuty (DueFlag owed) did = absurd cc
+    duty_made SegmentDuty (DueSegment running due) did =
         let again = slice_get (variables_of l).outstanding o.ahead in
         let segment = segment_with (end_of l o) (piece_to_send again l.segments.unsent) in
         let r = segment_run s distinct n l there (address l.port.own) (run_owns shape (running_is l.port.phase running)) segment refl made did in
