@@ -19,14 +19,14 @@ use Rattle.dna_station.specs.declared.refusal.StepRefusal.TheVariants.{HintOrder
 use Rattle.dna_station.specs.Table.{row, user_refusal, counts_damage}
 use Rattle.dna_station.specs.Book as arriving
 use Rattle.dna_station.specs.Book.{damaged_by, keep_refusal}
-use Rattle.dna_station.specs.Causes.{with_cause}
+use Rattle.dna_station.specs.NakCauses.{with_cause}
 use Rattle.dna_station.specs.Line.{damage}
 use Rattle.dna_station.specs.Machine.{noise_comes, unless_refused}
 use Rattle.dna_station.specs.WireStation.{StationVariables, WireStation, wire_after_event}
 use Rattle.dna_station.specs.WireBook.{wire_book, wire_sending_refusal, wire_after_sending, wire_arrival_refusal, wire_after_arrival, wire_tag}
 use Rattle.dna_station.specs.WireBook.{wire_is_new}
 use Rattle.dna_links.specs.declared.tag.LinkTag.{LinkTag}
-use Rattle.dna_station.specs.Rules.{of_any_period}
+use Rattle.dna_station.specs.PeriodRule.{of_any_period}
 use Rattle.dna_node.specs.Alone.{StepAlone, Makes, Refuses, station_end, step_alone, sent_alone, comes_alone, unknown_period}
 use Rattle.dna_node.specs.Alone.{unless_wrong, then_unless_wrong, if_kept, meets, ThisEnd}
 use Rattle.dna_node.specs.Alone as alone

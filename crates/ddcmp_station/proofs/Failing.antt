@@ -9,7 +9,7 @@ use Rattle.std.proofs.lemmas.Slice.Eq.{bytes_eq-Decides}
 use Rattle.ddcmp_msg.specs.Message.{MessageValue, Data, Ack, Nak, Rep, Strt, Stack}
 use Rattle.ddcmp_msg.specs.declared.nak_reason.NakReason.{NakReason}
 use Rattle.dna_station.specs.declared.refusal.StationRefusal.{StationRefusal}
-use Rattle.dna_station.specs.Causes.{has_cause}
+use Rattle.dna_station.specs.NakCauses.{has_cause}
 use Rattle.dna_station.specs.Table.{WINDOW, Check, checks, refusal_of}
 use Rattle.dna_station.specs.Table as table
 use Rattle.dna_station.specs.Book.{first_failed, failed}

@@ -4,7 +4,7 @@ use Rattle.dna_station.specs.declared.refusal.StationRefusal.{StationRefusal}
 use Rattle.dna_station.specs.declared.refusal.StationRefusal.TheVariants.{CrossedPeriod}
 use Rattle.dna_station.specs.declared.tag.Tag.{Tag}
 use Rattle.dna_station.specs.Table as table
-use Rattle.dna_station.specs.Rules.{is_period, meets, of_period}
+use Rattle.dna_station.specs.PeriodRule.{is_period, meets, of_period}
 use Rattle.dna_station.specs.Book.{ArrivalValue, Sound, HeaderBad, DataBad, keep_refusal, takes_by}
 use Rattle.dna_station.specs.WireStation.{WireStation}
 use Rattle.dna_station.specs.WireBook.{wire_arrival_refusal, wire_book, wire_tag}

@@ -4,7 +4,7 @@ use borrow.Author.Tests.{ltb-true}
 use Rattle.ddcmp_msg.specs.declared.flags.Flags.{Flags}
 use Rattle.ddcmp_msg.specs.declared.nak_reason.NakReason.{NakReason}
 use Rattle.ddcmp_msg.specs.Message.{Data, Nak}
-use Rattle.dna_station.specs.Causes.{has_cause}
+use Rattle.dna_station.specs.NakCauses.{has_cause}
 use Rattle.dna_station.specs.Table.{WINDOW}
 use Rattle.dna_station.specs.WireStation.{WireStation}
 use Rattle.dna_station.specs.WireBook.{wire_is_new, wire_passes, wire_sending_refusal}

@@ -10,7 +10,7 @@ use Rattle.dna_station.specs.declared.refusal.StationRefusal.TheVariants.{WrongK
 use Rattle.dna_station.specs.declared.tag.Tag.{Tag}
 use Rattle.dna_station.specs.Table.{Check, checks, Needs, Anything, Fresh, OfPair, row}
 use Rattle.dna_station.specs.Table as table
-use Rattle.dna_station.specs.Rules.{meets}
+use Rattle.dna_station.specs.PeriodRule.{meets}
 use Rattle.dna_station.specs.Book.{ArrivalValue, Sound, HeaderBad, DataBad, resp_of, num_of, body_of, takes_by}
 use Rattle.dna_station.specs.Station.{wire}
 use Rattle.dna_station.specs.WireStation.{HeldPacket, WireStation}

@@ -1,7 +1,7 @@
 //! What a station may answer with a NAK.
 
 ghost use Rattle.std.specs.Prelude.{◌≡◌, ◌+◌, ◌^◌, ◌<◌, ◌≤◌, true};
-ghost use Rattle.dna_station.specs.Causes.{no_causes, with_cause, has_cause, without_cause};
+ghost use Rattle.dna_station.specs.NakCauses.{no_causes, with_cause, has_cause, without_cause};
 ghost use Rattle.ddcmp_station.specs.View.{open_of};
 ghost use Rattle.ddcmp_station.specs.inner.Counts.{open_causes};
 
@@ -20,7 +20,7 @@ pub struct Causes {
 }
 
 impl Model for Causes {
-    ghost use Rattle.dna_station.specs.Causes.{Causes};
+    ghost use Rattle.dna_station.specs.NakCauses.{Causes};
 
     ghost Value = { Causes };
 

@@ -1,7 +1,7 @@
 -- What links deliver, beside what was handed in at their partners.
 use Rattle.std.specs.Prelude.{◌≡◌, ℕ, Option, Some, None, List, [], ◌∷◌, ◌++◌, slice_get, if◌then◌else◌}
 use Rattle.two_nodes.specs.Beginning.{BeginsWith}
-use Rattle.dna_links.specs.Pieces.{Piece}
+use Rattle.dna_links.specs.Segmentation.{Piece}
 use Rattle.dna_links.specs.Links.{LinkOf}
 use Rattle.dna_links.specs.TrueSegments.{TrueSegments}
 use Rattle.dna_links.specs.TrueLinks.{Links}

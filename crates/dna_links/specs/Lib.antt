@@ -1,6 +1,6 @@
 -- What a reader must believe of the links of a node: which link is meant, pieces of messages, and what the tables ask of the segments of a link
 pub mod LookUps
-pub mod Pieces
+pub mod Segmentation
 pub mod SegmentBook
 -- the links and their three tables
 pub mod Links

@@ -7,8 +7,8 @@ use Rattle.dna_packet.specs.declared.ack_word.AckWord.{AckWord}
 use Rattle.dna_packet.specs.Nsp.{SegmentValue}
 use Rattle.dna_station.specs.declared.link_refusal.LinkRefusal.{LinkRefusal}
 use Rattle.dna_station.specs.declared.link_refusal.LinkRefusal.TheVariants.{WrongSegment, WrongAck, SegmentTooLong, LinkWindowFull}
-use Rattle.dna_links.specs.Pieces.{Piece, piece_of, same_piece, Unsent, none_unsent, with_message, is_next_piece, without_piece, in_order, hold}
-use Rattle.dna_links.specs.Pieces.{Whole, next_message}
+use Rattle.dna_links.specs.Segmentation.{Piece, piece_of, same_piece, Unsent, none_unsent, with_message, is_next_piece, without_piece, in_order, hold}
+use Rattle.dna_links.specs.Segmentation.{Whole, next_message}
 use Rattle.dna_links.specs.SegmentBook.{SegmentBook, Sending, REACH, wire, distance, is_of_data}
 use Rattle.dna_links.specs.Links.{check}
 

@@ -18,7 +18,7 @@ use Rattle.dna_station.specs.declared.refusal.StepRefusal.{StepRefusal}
 use Rattle.dna_station.specs.declared.link_refusal.LinkRefusal.{LinkRefusal}
 use Rattle.dna_station.specs.Table.{user_refusal, Change, SendPacket, change_of}
 use Rattle.dna_node.proofs.Events.{by_event}
-use Rattle.dna_node.specs.Rules.{judged}
+use Rattle.dna_node.specs.TagRules.{judged}
 use Rattle.dna_station.specs.Station.{Station, PastPeriod, packets_of, all_given, after_event}
 use Rattle.dna_station.specs.Truth.{Truth, tag_of}
 use Rattle.dna_station.specs.Book.{ArrivalValue, Sound, HeaderBad, DataBad, body_of}

@@ -19,7 +19,7 @@ use Rattle.capture.specs.declared.record.Record.{Record}
 use Rattle.dna_station.specs.declared.head.Head.{Head}
 use Rattle.dna_station.specs.declared.state.StationEvent.TheVariants.{Start, Halt}
 use Rattle.dna_station.specs.Table.{counts_damage, change_of, row}
-use Rattle.dna_node.specs.Rules.{judged}
+use Rattle.dna_node.specs.TagRules.{judged}
 use Rattle.dna_station.specs.Station.{Station, PastPeriod, past, packets_of, all_given, after_event}
 use Rattle.dna_station.specs.Truth.{Truth, place_of}
 use Rattle.dna_station.specs.Book.{ArrivalValue, Sound, HeaderBad, DataBad, body_of}

@@ -10,7 +10,7 @@ use Rattle.capture.specs.declared.record.Record.{Record}
 use Rattle.capture.specs.declared.record.Record.TheVariants.{Received}
 use Rattle.dna_station.specs.declared.head.Head.{Head}
 use Rattle.dna_station.specs.Table.{SendPacket, change_of}
-use Rattle.dna_node.specs.Rules.{judged}
+use Rattle.dna_node.specs.TagRules.{judged}
 use Rattle.dna_station.specs.Book.{Sound}
 use Rattle.dna_station.specs.StationBook.{arrival_refusal, after_arrival}
 use Rattle.dna_station.specs.Line.{SentUnit}

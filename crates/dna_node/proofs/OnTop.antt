@@ -25,7 +25,7 @@ use Rattle.dna_station.specs.declared.refusal.StepRefusal.{StepRefusal}
 use Rattle.dna_station.specs.declared.refusal.StepRefusal.TheVariants.{HintOrder}
 use Rattle.dna_station.specs.declared.link_refusal.LinkRefusal.{LinkRefusal}
 use Rattle.dna_station.specs.Table.{user_refusal, counts_damage}
-use Rattle.dna_node.specs.Rules.{Rules, judged}
+use Rattle.dna_node.specs.TagRules.{Rules, judged}
 use Rattle.dna_station.specs.Station.{Station, after_event}
 use Rattle.dna_station.specs.Truth.{Truth}
 use Rattle.dna_station.specs.Book.{ArrivalValue, Sound, HeaderBad, DataBad, body_of}

@@ -16,10 +16,10 @@ use Rattle.dna_station.specs.declared.link_refusal.LinkRefusal.TheVariants.{Cros
 use Rattle.dna_station.specs.Book.{Sound, HeaderBad, DataBad}
 use Rattle.dna_station.specs.Line.{damage}
 use Rattle.dna_station.specs.Machine.{Machine, NodeOf, noise_comes}
-use Rattle.dna_station.specs.Rules.{of_any_period}
+use Rattle.dna_station.specs.PeriodRule.{of_any_period}
 use Rattle.dna_station.specs.WireStation.{WireStation}
 use Rattle.dna_station.specs.WireNode.{WireNode, wire_machine, new_wire_node}
-use Rattle.dna_node.specs.Rules.{by_bytes}
+use Rattle.dna_node.specs.TagRules.{by_bytes}
 use Rattle.dna_node.specs.WireLayers.{WireLayers, LayersTag, WireLayersNode, of_no_link, wire_layers_machine, new_wire_layers_node}
 use Rattle.dna_node.specs.Accusing.{wrong_unit, wrong_taken, wrong_response_of}
 

@@ -6,7 +6,7 @@ use Rattle.two_nodes.specs.Nodes as any
 use Rattle.capture.specs.declared.record.Record.{Record}
 use Rattle.dna_station.specs.declared.head.Head.{Head}
 use Rattle.dna_station.specs.declared.refusal.StepRefusal.{StepRefusal}
-use Rattle.dna_station.specs.Rules.{of_period}
+use Rattle.dna_station.specs.PeriodRule.{of_period}
 use Rattle.dna_station.specs.Line.{UnitOf}
 use Rattle.dna_station.specs.Machine.{Machine, NodeOf, pair_of}
 use Rattle.dna_station.specs.Station.{Station, new_station}
@@ -15,7 +15,7 @@ use Rattle.dna_station.specs.Node.{station_machine}
 use Rattle.dna_station.specs.Offered.{Delivers}
 use Rattle.dna_links.specs.Delivery.{DeliversLinks}
 use Rattle.dna_links.specs.Captures.{AreUpFrom}
-use Rattle.dna_node.specs.Rules.{judged}
+use Rattle.dna_node.specs.TagRules.{judged}
 use Rattle.dna_node.specs.Layers.{Layers, LayersTruth, layers_machine, new_layers_node}
 use Rattle.dna_node.specs.LayersPair.{link_events}
 

@@ -9,7 +9,7 @@ use Rattle.dna_station.specs.declared.refusal.StepRefusal.{StepRefusal}
 use Rattle.dna_station.specs.declared.refusal.StepRefusal.TheVariants.{Links as OfLinks}
 use Rattle.dna_station.specs.declared.link_refusal.LinkRefusal.{LinkRefusal}
 use Rattle.dna_station.specs.Table.{Change, SendPacket, change_of}
-use Rattle.dna_node.specs.Rules.{Rules}
+use Rattle.dna_node.specs.TagRules.{Rules}
 use Rattle.dna_station.specs.Book.{ArrivalValue, Sound, HeaderBad, DataBad, body_of}
 use Rattle.dna_station.specs.Station.{Station, new_station}
 use Rattle.dna_station.specs.StationBook.{gives_number}

@@ -6,7 +6,7 @@ use Rattle.capture.specs.declared.record.Record.{Record}
 use Rattle.capture.specs.declared.record.Record.TheVariants.{Sent, Received, Noise, User}
 use Rattle.dna_station.specs.declared.head.Head.{Head}
 use Rattle.dna_station.specs.declared.refusal.StepRefusal.{StepRefusal}
-use Rattle.dna_node.specs.Rules.{judged}
+use Rattle.dna_node.specs.TagRules.{judged}
 use Rattle.dna_station.specs.Machine.{pair_of}
 use Rattle.dna_links.specs.User.{LinkEventValue}
 use Rattle.dna_links.specs.Runs.{LinkSide, LinkWorld, new_world, Reached}

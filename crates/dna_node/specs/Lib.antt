@@ -1,5 +1,5 @@
 -- What a reader must believe of a node over both layers: the two rules that a judge alone asks, and what a packet carries
-pub mod Rules
+pub mod TagRules
 pub mod Content
 -- the node on true numbers, and as a program keeps it
 pub mod Layers

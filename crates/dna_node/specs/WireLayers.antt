@@ -11,7 +11,7 @@ use Rattle.dna_links.specs.declared.tag.LinkTag.{LinkTag}
 use Rattle.dna_station.specs.declared.refusal.StepRefusal.{StepRefusal}
 use Rattle.dna_station.specs.declared.refusal.StepRefusal.TheVariants.{Links as OfLinks}
 use Rattle.dna_station.specs.declared.link_refusal.LinkRefusal.{LinkRefusal}
-use Rattle.dna_node.specs.Rules.{Rules, judged}
+use Rattle.dna_node.specs.TagRules.{Rules, judged}
 use Rattle.dna_station.specs.Book.{ArrivalValue, Sound, HeaderBad, DataBad, body_of}
 use Rattle.dna_station.specs.WireStation.{WireStation, new_wire_station, wire_after_label}
 use Rattle.dna_station.specs.WireBook.{gives_new, label_again}

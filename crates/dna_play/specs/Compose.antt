@@ -12,7 +12,7 @@ use Rattle.dna_station.specs.declared.head.Head.{Head}
 use Rattle.dna_station.specs.Station.{wire}
 use Rattle.dna_station.specs.WireStation.{HeldPacket, StationVariables}
 use Rattle.dna_links.specs.SegmentBook as book
-use Rattle.dna_links.specs.Pieces.{Piece, Unsent, next_piece, SEGSIZE}
+use Rattle.dna_links.specs.Segmentation.{Piece, Unsent, next_piece, SEGSIZE}
 use Rattle.dna_play.specs.LinkOwed.{Duty, ConnectAckDuty, InitiateDuty, ConfirmDuty, DisconnectDuty, DataAckDuty, SegmentDuty}
 use Rattle.dna_play.specs.NextSent.{LinkEnd, LinkChoice, Confirms, OfLink, Choice, SendStrt, SendStack, SendNak, SendRep, SendAgain, SendNew, SendAck}
 

@@ -9,7 +9,7 @@ use Rattle.dna_station.specs.Table.{WINDOW}
 use Rattle.dna_station.specs.WireStation.{StationVariables}
 use Rattle.dna_station.specs.WireBook.{wire_is_new}
 use Rattle.dna_links.specs.LookUps.{is_running}
-use Rattle.dna_links.specs.Pieces.{has_more}
+use Rattle.dna_links.specs.Segmentation.{has_more}
 use Rattle.dna_links.specs.SegmentBook.{REACH}
 use Rattle.dna_links.specs.Links.{LinkOf}
 use Rattle.dna_links.specs.TrueSegments.{TrueSegments}

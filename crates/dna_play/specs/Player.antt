@@ -5,7 +5,7 @@ use Rattle.two_nodes.specs.Nodes.{Answer, Half, Outcome, Made, Waits, Refused, a
 use Rattle.capture.specs.declared.record.Record.{Record}
 use Rattle.dna_station.specs.declared.head.Head.{Head}
 use Rattle.dna_station.specs.declared.refusal.StepRefusal.{StepRefusal}
-use Rattle.dna_node.specs.Rules.{by_bytes}
+use Rattle.dna_node.specs.TagRules.{by_bytes}
 use Rattle.dna_station.specs.Station.{Station}
 use Rattle.dna_station.specs.Cut.{cut}
 use Rattle.dna_station.specs.WireStation.{StationVariables}

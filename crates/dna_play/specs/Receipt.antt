@@ -10,7 +10,7 @@ use Rattle.capture.specs.declared.record.Record.TheVariants.{Received, Noise, Us
 use Rattle.dna_station.specs.declared.refusal.StepRefusal.{StepRefusal}
 use Rattle.dna_links.specs.declared.port.LinkTest.TheVariants.{ActedOn}
 use Rattle.dna_station.specs.Book.{body_of}
-use Rattle.dna_links.specs.Pieces.{Piece}
+use Rattle.dna_links.specs.Segmentation.{Piece}
 use Rattle.dna_links.specs.Links.{Carried, with_link}
 use Rattle.dna_links.specs.TrueLinks.{Links}
 use Rattle.dna_node.specs.Content.{content}

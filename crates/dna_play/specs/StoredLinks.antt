@@ -11,13 +11,13 @@ use Rattle.dna_links.specs.declared.port.LinkTest.{LinkTest}
 use Rattle.dna_links.specs.declared.port.LinkTest.TheVariants.{TheLink, LiveTo, CallingAt, ActedOn}
 use Rattle.dna_links.specs.LookUps.{passes, is_running}
 use Rattle.dna_links.specs.SegmentBook.{distance}
-use Rattle.dna_links.specs.Pieces.{Piece, none_unsent, with_message, without_piece, in_whole_messages}
+use Rattle.dna_links.specs.Segmentation.{Piece, none_unsent, with_message, without_piece, in_whole_messages}
 use Rattle.dna_links.specs.WireSegments.{LinkVariables, acknowledged_by_all, segment_taken}
 use Rattle.dna_play.specs.LinkOwed.{LinkOwed, EndConfirm, Duty, ConnectAckDuty, InitiateDuty, ConfirmDuty, DisconnectDuty, DataAckDuty, SegmentDuty}
 use Rattle.dna_play.specs.LinkOwed.{with_duty, same_phase, unless_left, lowered}
 use Rattle.dna_play.specs.LinkOwed as owing
 use Rattle.dna_play.specs.NextSent.{LinkEnd, LinkChoice, Confirms, OfLink, without_duty}
-use Rattle.dna_links.specs.Pieces.{next_piece}
+use Rattle.dna_links.specs.Segmentation.{next_piece}
 use Rattle.dna_play.specs.Receipt.{complete}
 use Rattle.dna_play.specs.StoredEnd.{StoredLinks}
 

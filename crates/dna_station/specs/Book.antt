@@ -9,7 +9,7 @@ use Rattle.dna_station.specs.declared.refusal.StationRefusal.{StationRefusal}
 use Rattle.dna_station.specs.declared.refusal.StationRefusal.TheVariants.{WrongState, WrongKeep, CrossedPeriod}
 use Rattle.dna_station.specs.declared.tag.Tag.{Tag}
 use Rattle.dna_station.specs.Table.{Check, refusal_of, checks, Change, change_of, Effect, TakePacket, row, counts_damage}
-use Rattle.dna_station.specs.Rules.{PeriodRule, meets}
+use Rattle.dna_station.specs.PeriodRule.{PeriodRule, meets}
 
 -- the fields of a message: its RESP, its NUM and its data, and 0 or nothing where it has none
 abbrev pub resp_of : MessageValue → ℕ

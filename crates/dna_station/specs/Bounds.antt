@@ -3,7 +3,7 @@ use Rattle.std.specs.Prelude.{◌≡◌, ℕ, ◌+◌, ◌<◌, ◌≤◌, true,
 use Rattle.two_nodes.specs.Nodes.{Half}
 use Rattle.ddcmp_msg.specs.Message.{MessageValue}
 use Rattle.dna_station.specs.Table.{WINDOW, Effect, Respond, TakePacket, AnswerRep, row}
-use Rattle.dna_station.specs.Rules.{of_period}
+use Rattle.dna_station.specs.PeriodRule.{of_period}
 use Rattle.dna_station.specs.Station.{Station, given, wire}
 use Rattle.dna_station.specs.Truth.{Truth}
 use Rattle.dna_station.specs.Book.{resp_of, num_of}

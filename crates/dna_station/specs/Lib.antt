@@ -1,7 +1,7 @@
 -- What a reader must believe of a station: the causes of a NAK, its tables, the rule on periods, and how the tables are gone by
-pub mod Causes
+pub mod NakCauses
 pub mod Table
-pub mod Rules
+pub mod PeriodRule
 pub mod Book
 -- the station on true numbers, and what the words of the tables mean there
 pub mod Station

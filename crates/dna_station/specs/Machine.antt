@@ -14,7 +14,7 @@ use Rattle.dna_station.specs.declared.refusal.StationRefusal.{StationRefusal}
 use Rattle.dna_station.specs.declared.refusal.StepRefusal.{StepRefusal}
 use Rattle.dna_station.specs.declared.refusal.StepRefusal.TheVariants.{NotAMessage, HintOrder, Undetected, NotNoise, Station as OfStation}
 use Rattle.dna_station.specs.Table.{user_refusal}
-use Rattle.dna_station.specs.Rules.{PeriodRule}
+use Rattle.dna_station.specs.PeriodRule.{PeriodRule}
 use Rattle.dna_station.specs.Book.{ArrivalValue, Book, sending_refusal_by, after_sending_by, arrival_refusal_by, after_arrival_by}
 use Rattle.dna_station.specs.Line.{UnitOf, coming, damage}
 

@@ -3,7 +3,7 @@ use Rattle.dna_station.specs.declared.head.Head.{Head}
 use Rattle.capture.specs.declared.record.Record.{Record}
 use Rattle.dna_station.specs.declared.refusal.StepRefusal.{StepRefusal}
 use Rattle.two_nodes.specs.Nodes.{Answer}
-use Rattle.dna_station.specs.Rules.{PeriodRule}
+use Rattle.dna_station.specs.PeriodRule.{PeriodRule}
 use Rattle.dna_station.specs.Station.{Station, new_station}
 use Rattle.dna_station.specs.StationBook.{station_book}
 use Rattle.dna_station.specs.Truth.{Truth}

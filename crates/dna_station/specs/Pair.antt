@@ -6,7 +6,7 @@ use Rattle.two_nodes.specs.Nodes as any
 use Rattle.capture.specs.declared.record.Record.{Record}
 use Rattle.dna_station.specs.declared.head.Head.{Head}
 use Rattle.dna_station.specs.declared.refusal.StepRefusal.{StepRefusal}
-use Rattle.dna_station.specs.Rules.{of_period}
+use Rattle.dna_station.specs.PeriodRule.{of_period}
 use Rattle.dna_station.specs.Line.{SentUnit}
 use Rattle.dna_station.specs.Machine.{pair_of}
 use Rattle.dna_station.specs.Node.{Node, new_node, station_machine}

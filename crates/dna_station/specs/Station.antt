@@ -6,7 +6,7 @@ use Rattle.dna_station.specs.declared.state.State.{State}
 use Rattle.dna_station.specs.declared.state.State.TheVariants.{Halted}
 use Rattle.dna_station.specs.declared.state.StationEvent.{StationEvent}
 use Rattle.dna_station.specs.declared.state.StationEvent.TheVariants.{Start, Halt}
-use Rattle.dna_station.specs.Causes.{Causes, no_causes}
+use Rattle.dna_station.specs.NakCauses.{Causes, no_causes}
 use Rattle.dna_station.specs.Table.{state_after}
 
 -- What a period that is over came to: its partner, all packets given in it, and all packets taken. No check and no step of the station goes by

@@ -5,11 +5,11 @@ use Rattle.std.specs.Str.{bytes_eq}
 use Rattle.ddcmp_msg.specs.Message.{MessageValue}
 use Rattle.ddcmp_msg.specs.declared.nak_reason.NakReason.TheVariants.{RepResponse, NoBuffer}
 use Rattle.dna_station.specs.declared.refusal.StationRefusal.{StationRefusal}
-use Rattle.dna_station.specs.Causes.{with_cause, may_nak, after_nak}
+use Rattle.dna_station.specs.NakCauses.{with_cause, may_nak, after_nak}
 use Rattle.dna_station.specs.Table.{WINDOW, Check, RespIsLast, CauseIsOpen, SomeOutstanding, NumIsHighest, NumIsNext, RoomIfNew, AsFirstGiven}
 use Rattle.dna_station.specs.Table.{Change, Nothing, UseCause, SendPacket, change_of, Effect, GoTo, TakePartner, Respond, SetBack, TakePacket}
 use Rattle.dna_station.specs.Table.{AnswerRep}
-use Rattle.dna_station.specs.Rules.{PeriodRule}
+use Rattle.dna_station.specs.PeriodRule.{PeriodRule}
 use Rattle.dna_station.specs.Station.{Station, given, wire, after_event}
 use Rattle.dna_station.specs.Truth.{Truth, tag_of, truth_after}
 use Rattle.dna_station.specs.Book.{Book, ArrivalValue, resp_of, num_of, body_of, sending_refusal_by, after_sending_by, arrival_refusal_by}

@@ -9,11 +9,11 @@ use Rattle.ddcmp_msg.specs.declared.nak_reason.NakReason.{NakReason}
 use Rattle.ddcmp_msg.specs.declared.nak_reason.NakReason.TheVariants.{RepResponse, NoBuffer}
 use Rattle.dna_station.specs.declared.refusal.StationRefusal.{StationRefusal}
 use Rattle.dna_station.specs.declared.tag.Tag.{Tag}
-use Rattle.dna_station.specs.Causes.{Causes, with_cause, may_nak, after_nak}
+use Rattle.dna_station.specs.NakCauses.{Causes, with_cause, may_nak, after_nak}
 use Rattle.dna_station.specs.Table.{WINDOW, Check, RespIsLast, CauseIsOpen, SomeOutstanding, NumIsHighest, NumIsNext, RoomIfNew, AsFirstGiven}
 use Rattle.dna_station.specs.Table.{Change, Nothing, UseCause, SendPacket, change_of, Effect, GoTo, TakePartner, Respond, SetBack, TakePacket}
 use Rattle.dna_station.specs.Table.{AnswerRep}
-use Rattle.dna_station.specs.Rules.{PeriodRule}
+use Rattle.dna_station.specs.PeriodRule.{PeriodRule}
 use Rattle.dna_station.specs.Station.{wire}
 use Rattle.dna_station.specs.Book.{Book, ArrivalValue, Sound, HeaderBad, DataBad, resp_of, num_of, body_of, sending_refusal_by, after_sending_by}
 use Rattle.dna_station.specs.Book.{arrival_refusal_by, after_arrival_by, takes_by}

@@ -8,7 +8,7 @@ use Rattle.capture.specs.declared.event.Event.{Event}
 use Rattle.dna_station.specs.declared.head.Head.{Head}
 use Rattle.dna_station.specs.declared.tag.Tag.{Tag}
 use Rattle.dna_station.specs.declared.refusal.StepRefusal.{StepRefusal}
-use Rattle.dna_station.specs.Rules.{PeriodRule, of_period}
+use Rattle.dna_station.specs.PeriodRule.{PeriodRule, of_period}
 use Rattle.dna_station.specs.Line.{UnitOf, SentUnit}
 use Rattle.dna_station.specs.Machine.{Machine, NodeOf, user_step, sent_step, receives, step, pair_of, station_alone}
 use Rattle.dna_station.specs.Node.{Node}

@@ -5,7 +5,7 @@ use Rattle.dna_station.specs.declared.state.State.{State}
 use Rattle.dna_station.specs.declared.state.State.TheVariants.{Halted}
 use Rattle.dna_station.specs.declared.state.StationEvent.{StationEvent}
 use Rattle.dna_station.specs.declared.state.StationEvent.TheVariants.{Start, Halt}
-use Rattle.dna_station.specs.Causes.{Causes, no_causes}
+use Rattle.dna_station.specs.NakCauses.{Causes, no_causes}
 use Rattle.dna_station.specs.Table.{state_after}
 
 -- a packet that is not acknowledged, and the label that the node put beside it, if it did

@@ -11,7 +11,7 @@ ghost use Rattle.dna_station.specs.declared.tag.Tag.{Tag};
 ghost use Rattle.dna_station.specs.Station.{Station, new_station, given, all_given, after_event};
 ghost use Rattle.dna_station.specs.Delivery.{AreAmong, CarriesItsPacket, DeliversFrom, all_taken, delivered, taken_by_period};
 ghost use Rattle.dna_station.specs.Offered.{Delivers, given_by_period, offered};
-ghost use Rattle.dna_station.specs.Rules.{PeriodRule, of_period};
+ghost use Rattle.dna_station.specs.PeriodRule.{PeriodRule, of_period};
 ghost use Rattle.dna_station.specs.Truth.{Truth};
 ghost use Rattle.dna_station.specs.Book.{ArrivalValue};
 ghost use Rattle.dna_station.specs.Book as arriving;

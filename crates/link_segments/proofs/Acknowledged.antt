@@ -5,7 +5,7 @@ use Rattle.std.proofs.lemmas.List.{drop_more}
 use Rattle.wire_base.specs.Window.{WindowView}
 use Rattle.dna_packet.specs.declared.ack_word.AckWord.{AckWord}
 use Rattle.dna_links.specs.SegmentBook.{is_of_data, distance}
-use Rattle.dna_links.specs.Pieces.{Piece}
+use Rattle.dna_links.specs.Segmentation.{Piece}
 use Rattle.dna_links.specs.WireSegments.{LinkVariables, acknowledged_by_all, acknowledged_to as kept_to}
 use Rattle.link_segments.specs.Outstanding.{acknowledged_to, acknowledged_word, acknowledged_words}
 use Rattle.link_segments.proofs.AckWords.{first_in_range, later_in_range}

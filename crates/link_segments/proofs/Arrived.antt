@@ -7,7 +7,7 @@ use Rattle.std.proofs.Math.Seq.{drop-append_seam, take-append_seam}
 use Rattle.std.specs.Str.{bytes_eq}
 use Rattle.std.specs.Bool.{one_answer}
 use Rattle.std.proofs.lemmas.Slice.Eq.{bytes_eq-Decides}
-use Rattle.dna_links.specs.Pieces.{Piece, Whole, in_order, hold, next_message, with_piece, in_whole_messages, one_more}
+use Rattle.dna_links.specs.Segmentation.{Piece, Whole, in_order, hold, next_message, with_piece, in_whole_messages, one_more}
 use Rattle.link_segments.specs.Received.{piece_at, is_missing_at, pieces_if, pieces_of, delivered_pieces, without_front, count_of, next_count}
 use Rattle.link_segments.specs.Received.{more_pieces}
 

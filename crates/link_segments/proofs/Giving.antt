@@ -4,8 +4,8 @@ use Rattle.std.proofs.Common.{arith, length-take, length-drop, le-leb}
 use Rattle.std.specs.Prelude.{nat_le, not}
 use Rattle.std.proofs.lemmas.Bool.{lt-leb}
 use Rattle.std.proofs.lemmas.List.{drop-drop, take_all}
-use Rattle.dna_links.specs.Pieces.{Piece, Unsent, left_of, without_piece}
-use Rattle.dna_links.specs.Pieces.{next_piece, piece_with}
+use Rattle.dna_links.specs.Segmentation.{Piece, Unsent, left_of, without_piece}
+use Rattle.dna_links.specs.Segmentation.{next_piece, piece_with}
 use Rattle.link_segments.specs.inner.Unsent.{without_given}
 
 -- ---- the piece

@@ -3,7 +3,7 @@ use Rattle.std.proofs.Common.{◌≡◌, ℕ, ◌+◌, ◌-◌, ◌<◌, Bool, t
 use Rattle.std.specs.Prelude.{nat_le}
 use Rattle.dna_packet.specs.Nsp.{SegmentValue}
 use Rattle.dna_links.specs.SegmentBook.{REACH, wire, distance}
-use Rattle.dna_links.specs.Pieces.{Piece, piece_of, in_order}
+use Rattle.dna_links.specs.Segmentation.{Piece, piece_of, in_order}
 use Rattle.dna_links.specs.WireSegments.{LinkVariables, with_pieces, with_segment, segment_taken, held}
 use Rattle.link_segments.specs.Received.{is_missing_at}
 use Rattle.link_segments.proofs.Arrived.{hold_there}

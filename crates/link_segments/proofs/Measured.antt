@@ -2,7 +2,7 @@
 use Rattle.std.proofs.Common.{◌≡◌, ℕ, ◌+◌, ◌-◌, ◌^◌, ◌≤◌, Bool, true, false, cond, Option, Some, None, List, [], ◌∷◌, ◌++◌, length, drop}
 use Rattle.std.proofs.Common.{refl, sym, ap, ◌∙◌, arith, length-append, zero-add}
 use Rattle.std.specs.Prelude.{min}
-use Rattle.dna_links.specs.Pieces.{Piece, Whole, in_order, next_message, with_piece}
+use Rattle.dna_links.specs.Segmentation.{Piece, Whole, in_order, next_message, with_piece}
 use Rattle.link_segments.specs.Received.{piece_at, length_of, next_length, more_bytes}
 use Rattle.link_segments.proofs.Arrived.{in_order-drop, step, Stops, NoMore, Missing, stops}
 

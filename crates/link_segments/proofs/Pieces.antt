@@ -3,7 +3,7 @@ use Rattle.std.proofs.Common.{◌≡◌, ℕ, ◌-◌, ◌≤◌, Bool, true, fa
 use Rattle.std.proofs.Common.{length-drop}
 use Rattle.std.specs.Str.{bytes_eq}
 use Rattle.std.proofs.lemmas.Slice.Eq.{bytes_eq-Decides}
-use Rattle.dna_links.specs.Pieces.{Piece, is_piece_of, is_next_piece}
+use Rattle.dna_links.specs.Segmentation.{Piece, is_piece_of, is_next_piece}
 use Rattle.link_segments.specs.inner.Unsent.{without_given}
 
 -- a test that passes with another one passes

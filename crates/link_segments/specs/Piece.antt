@@ -1,5 +1,5 @@
 -- What a contract sees of a piece whose data lie elsewhere.
-use Rattle.dna_links.specs.Pieces.{Piece}
+use Rattle.dna_links.specs.Segmentation.{Piece}
 use Rattle.link_segments.specs.declared.piece.PieceSlice.{PieceSlice}
 
 abbrev pub slice_view : PieceSlice → Piece

@@ -3,7 +3,7 @@ use Rattle.std.specs.Prelude.{ℕ, ◌+◌, ◌-◌, ◌^◌, min, Bool, true, f
 use Rattle.std.specs.Prelude.{Some, None, List, slice_get, is_some, not, if◌then◌else◌, take, drop, length}
 use Rattle.std.specs.Option.{option_flatten}
 use Rattle.std.specs.Str.{bytes_eq}
-use Rattle.dna_links.specs.Pieces.{Piece, Whole, next_message}
+use Rattle.dna_links.specs.Segmentation.{Piece, Whole, next_message}
 
 abbrev pub pieces_if : Bool → ℕ → Option ℕ
 pieces_if true pieces = Some pieces

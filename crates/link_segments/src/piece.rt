@@ -2,7 +2,7 @@
 
 ghost use Rattle.std.specs.Prelude.{◌≡◌, IfOk};
 ghost use Rattle.dna_packet.specs.Nsp.{segment_view};
-ghost use Rattle.dna_links.specs.Pieces.{piece_of, same_piece};
+ghost use Rattle.dna_links.specs.Segmentation.{piece_of, same_piece};
 
 use dna_packet::Segment;
 use std::alloc::{AllocError, Global};
@@ -19,7 +19,7 @@ pub struct Piece {
 }
 
 impl Model for Piece {
-    ghost use Rattle.dna_links.specs.Pieces.{Piece};
+    ghost use Rattle.dna_links.specs.Segmentation.{Piece};
 
     ghost Value = { Piece };
 

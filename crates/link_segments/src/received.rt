@@ -3,8 +3,8 @@
 ghost use Rattle.std.specs.Prelude.{◌≡◌, ◌+◌, ◌-◌, ◌^◌, ◌<◌, ◌≤◌, ◌==◌, ◌++◌, ◌∷◌, [], true, None, Some, length, drop, take, replicate};
 ghost use Rattle.std.specs.Prelude.{option_copied, OnOk, OnErr, IfOk, IfSome};
 ghost use Rattle.std.specs.VecDeque.{deque_len, deque_capacity};
-ghost use Rattle.dna_links.specs.Pieces.{in_order, in_whole_messages};
-ghost use Rattle.dna_links.specs.Pieces as spec;
+ghost use Rattle.dna_links.specs.Segmentation.{in_order, in_whole_messages};
+ghost use Rattle.dna_links.specs.Segmentation as spec;
 ghost use Rattle.link_segments.specs.Received as received;
 ghost use Rattle.link_segments.specs.Received.{delivered_pieces, is_missing_at, next_count, next_length};
 
@@ -23,7 +23,7 @@ pub struct Received {
 
 impl Model for Received {
     ghost use Rattle.std.specs.Prelude.{◌≡◌, List, Option};
-    ghost use Rattle.dna_links.specs.Pieces.{Piece, in_order};
+    ghost use Rattle.dna_links.specs.Segmentation.{Piece, in_order};
 
     ghost Value = { List (Option Piece) };
 

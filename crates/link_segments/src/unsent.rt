@@ -2,11 +2,11 @@
 
 ghost use Rattle.std.specs.Prelude.{◌≡◌, ◌≤◌, true, length, slice_get, option_copied, OnOk, OnErr};
 ghost use Rattle.dna_packet.specs.Nsp.{segment_view};
-ghost use Rattle.dna_links.specs.Pieces as spec;
-ghost use Rattle.dna_links.specs.Pieces.{has_more};
-ghost use Rattle.dna_links.specs.Pieces.{next_piece};
+ghost use Rattle.dna_links.specs.Segmentation as spec;
+ghost use Rattle.dna_links.specs.Segmentation.{has_more};
+ghost use Rattle.dna_links.specs.Segmentation.{next_piece};
 ghost use Rattle.link_segments.specs.Piece.{slice_view};
-ghost use Rattle.dna_links.specs.Pieces.{piece_of, none_unsent, with_message, is_next_piece, without_piece};
+ghost use Rattle.dna_links.specs.Segmentation.{piece_of, none_unsent, with_message, is_next_piece, without_piece};
 
 use crate::PieceSlice;
 use dna_packet::Segment;
@@ -32,7 +32,7 @@ pub struct Unsent {
 
 impl Model for Unsent {
     ghost use Rattle.link_segments.specs.inner.Unsent.{without_given, given_fits};
-    ghost use Rattle.dna_links.specs.Pieces.{Unsent};
+    ghost use Rattle.dna_links.specs.Segmentation.{Unsent};
 
     ghost Value = { Unsent };
 

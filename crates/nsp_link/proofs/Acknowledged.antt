@@ -2,7 +2,7 @@
 use Rattle.std.proofs.Common.{◌≡◌, ℕ, Bool, Option, List, sym, ap, ◌∙◌}
 use Rattle.wire_base.specs.Window.{WindowView}
 use Rattle.dna_packet.specs.declared.ack_word.AckWord.{AckWord}
-use Rattle.dna_links.specs.Pieces.{Piece, Unsent}
+use Rattle.dna_links.specs.Segmentation.{Piece, Unsent}
 use Rattle.dna_links.specs.WireSegments.{LinkVariables, WireSegments, LastSent, takes_acks}
 use Rattle.link_segments.specs.Outstanding.{acknowledged_words}
 use Rattle.link_segments.proofs.Acknowledged.{same_words}

@@ -1,7 +1,7 @@
 -- A message that is delivered, by the pieces that it came in.
 use Rattle.std.proofs.Common.{◌≡◌, ℕ, ◌+◌, ◌≤◌, Bool, true, false, cond, Option, Some, None, List, [], ◌∷◌, drop, refl, ap, arith}
 use Rattle.std.specs.Str.{bytes_eq}
-use Rattle.dna_links.specs.Pieces.{Piece, Whole, in_order, next_message, with_piece}
+use Rattle.dna_links.specs.Segmentation.{Piece, Whole, in_order, next_message, with_piece}
 use Rattle.dna_links.specs.WireSegments.{WireSegments, delivers, delivers_whole, delivered_as}
 use Rattle.link_segments.specs.Received.{pieces_if, pieces_of, delivered_pieces}
 

@@ -1,7 +1,7 @@
 -- A link that has ended with nothing left to deliver keeps nothing.
 use Rattle.std.proofs.Common.{◌≡◌, true, Option, List, [], ◌∷◌, length, eqb, refl, sym, ap, ◌∙◌, arith}
 use Rattle.std.proofs.lemmas.Bool.{eqb-true}
-use Rattle.dna_links.specs.Pieces.{Piece}
+use Rattle.dna_links.specs.Segmentation.{Piece}
 use Rattle.dna_links.specs.WireSegments.{WireSegments, empty, with_pieces_alone, ends}
 
 none_alone : (pieces : List (Option Piece)) → eqb (length pieces) 0 ≡ true → empty ≡ with_pieces_alone pieces

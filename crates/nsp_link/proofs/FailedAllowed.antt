@@ -11,7 +11,7 @@ use Rattle.dna_links.specs.Arriving.{is_for, is_of_pair}
 use Rattle.dna_links.specs.SegmentBook.{REACH, distance, wire}
 use Rattle.dna_links.specs.Links.{LinkOf, number_of}
 use Rattle.dna_links.specs.LookUps.{passes}
-use Rattle.dna_links.specs.Pieces.{Piece, Unsent, Whole, alike, is_next_of, is_next_piece, is_piece_of, same_piece}
+use Rattle.dna_links.specs.Segmentation.{Piece, Unsent, Whole, alike, is_next_of, is_next_piece, is_piece_of, same_piece}
 use Rattle.dna_links.specs.WireSegments.{LastSent, WireSegments, highest_given, is_ahead, is_behind, last_named, moved_to}
 use Rattle.dna_links.specs.WireLinks.{WireLinks}
 use Rattle.nsp_link.specs.inner.Index.{passes_in}

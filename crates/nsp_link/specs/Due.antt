@@ -5,7 +5,7 @@ use Rattle.dna_packet.specs.Nsp.{SegmentValue}
 use Rattle.dna_links.specs.declared.port.LinkTest.TheVariants.{HasAddress, TheLink}
 use Rattle.dna_links.specs.SegmentBook.{distance}
 use Rattle.dna_links.specs.Links.{with_link}
-use Rattle.dna_links.specs.Pieces.{Piece}
+use Rattle.dna_links.specs.Segmentation.{Piece}
 use Rattle.dna_links.specs.WireSegments.{WireSegments, is_new, highest_given}
 use Rattle.dna_links.specs.WireLinks.{WireLinks}
 use Rattle.link_segments.specs.Received.{piece_at}

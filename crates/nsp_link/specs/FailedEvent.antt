@@ -8,7 +8,7 @@ use Rattle.dna_links.specs.declared.port.LinkTest.{LinkTest}
 use Rattle.dna_links.specs.declared.port.LinkTest.TheVariants.{HasAddress, LiveAt, CalledBy}
 use Rattle.dna_links.specs.Links.{LinkOf, with_link}
 use Rattle.dna_links.specs.LookUps.{is_connected, takes_messages}
-use Rattle.dna_links.specs.Pieces.{Piece, Whole, next_message}
+use Rattle.dna_links.specs.Segmentation.{Piece, Whole, next_message}
 use Rattle.dna_links.specs.User.{LinkEventValue, Open, Accept, Reject, In, Up, Close}
 use Rattle.dna_links.specs.WireSegments.{WireSegments}
 use Rattle.dna_links.specs.WireLinks.{WireLinks}

@@ -14,7 +14,7 @@ use Rattle.dna_links.specs.declared.port.LinkTest.{LinkTest}
 use Rattle.dna_links.specs.declared.port.LinkTest.TheVariants.{TheLink, OpenedAt, BegunBy}
 use Rattle.dna_links.specs.SegmentBook.{REACH, wire, distance, is_of_data}
 use Rattle.dna_links.specs.Links.{LinkOf, Carried, with_link}
-use Rattle.dna_links.specs.Pieces.{Piece, piece_of, same_piece, Unsent, is_next_piece}
+use Rattle.dna_links.specs.Segmentation.{Piece, piece_of, same_piece, Unsent, is_next_piece}
 use Rattle.dna_links.specs.WireSegments.{WireSegments, LastSent, last_named, last_of, is_new, highest_given}
 use Rattle.dna_links.specs.WireLinks.{WireLinks}
 use Rattle.nsp_link.specs.Missing.{missing}

@@ -2,7 +2,7 @@
 use Rattle.std.specs.Prelude.{ℕ, ◌+◌, ◌-◌, Bool, ◌&&◌, ◌||◌, nat_lt, nat_le}
 use Rattle.dna_packet.specs.Nsp.{SegmentValue}
 use Rattle.dna_links.specs.SegmentBook.{REACH, distance}
-use Rattle.dna_links.specs.Pieces.{piece_of, in_order}
+use Rattle.dna_links.specs.Segmentation.{piece_of, in_order}
 use Rattle.dna_links.specs.WireSegments.{LinkVariables, WireSegments, highest_given, is_repeat, segment_taken}
 use Rattle.link_segments.specs.Received.{is_missing_at}
 

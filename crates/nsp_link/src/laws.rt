@@ -5,7 +5,7 @@ ghost use Rattle.dna_links.specs.CutSegments.{IsOrdered};
 ghost use Rattle.dna_links.specs.CutLinks.{cut_link};
 ghost use Rattle.dna_links.specs.Links.{Carried, LinkOf, number_of};
 ghost use Rattle.dna_links.specs.LookUps.{is_live, passes};
-ghost use Rattle.dna_links.specs.Pieces.{Piece, Unsent, Whole, is_next_piece, same_piece};
+ghost use Rattle.dna_links.specs.Segmentation.{Piece, Unsent, Whole, is_next_piece, same_piece};
 ghost use Rattle.dna_links.specs.TrueSegments.{TrueSegments};
 ghost use Rattle.dna_links.specs.declared.tag.LinkTag.{LinkTag};
 ghost use Rattle.dna_links.specs.declared.port.LinkTest.{LinkTest};

@@ -5,7 +5,7 @@ ghost use Rattle.std.specs.Prelude.{if◌then◌else◌};
 ghost use Rattle.std.specs.List.{AllByRecursion};
 ghost use Rattle.dna_packet.specs.AckWord.{IsAckWord};
 ghost use Rattle.dna_packet.specs.Nsp.{segment_view};
-ghost use Rattle.dna_links.specs.Pieces.{piece_of};
+ghost use Rattle.dna_links.specs.Segmentation.{piece_of};
 ghost use Rattle.dna_links.specs.SegmentBook.{wire, distance};
 ghost use Rattle.dna_links.specs.WireSegments.{empty, hands_in, delivers, sends_acks, sends_segment, sends_new, sends_again, is_repeat};
 ghost use Rattle.dna_links.specs.WireSegments.{takes_segment, takes_acks, ends, sending};

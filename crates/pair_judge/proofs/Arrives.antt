@@ -8,7 +8,7 @@ use Rattle.dna_station.specs.declared.refusal.StepRefusal.{StepRefusal}
 use Rattle.dna_station.specs.Book.{ArrivalValue, Sound, HeaderBad, DataBad, body_of, takes_by}
 use Rattle.dna_node.specs.Content.{content}
 use Rattle.dna_station.specs.Machine.{unless_refused}
-use Rattle.dna_node.specs.Rules.{Rules}
+use Rattle.dna_node.specs.TagRules.{Rules}
 use Rattle.dna_station.specs.WireStation.{WireStation}
 use Rattle.dna_station.specs.WireBook.{wire_book, wire_arrival_refusal, wire_after_arrival, wire_taken}
 use Rattle.dna_node.specs.WireLayers.{WireLayers, tag_or_none, wire_keeps_packet, wire_meets_on, to_wire_station, wire_layers_machine}

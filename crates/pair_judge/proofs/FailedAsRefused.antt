@@ -34,7 +34,7 @@ use Rattle.dna_links.specs.WireLinks.{wire_links_arrived, wire_links_sent, wire_
 use Rattle.dna_node.specs.declared.finding.Cause.{Cause}
 use Rattle.dna_node.specs.declared.finding.Cause.TheVariants.{Step}
 use Rattle.dna_node.specs.Content.{content, content_of, is_returned, message_in}
-use Rattle.dna_node.specs.Rules.{judged}
+use Rattle.dna_node.specs.TagRules.{judged}
 use Rattle.dna_node.specs.WireLayers.{LayersTag, WireLayers, tag_or_none, to_wire_station, wire_keeps, wire_keeps_packet, wire_layers_machine}
 use Rattle.dna_node.specs.WireLayers.{wire_meets_on, wire_sends_again, wire_sends_first, wire_sends_on, with_tag, with_wire_links, with_wire_station}
 use Rattle.nsp_link.specs.FailedArrival as arrives

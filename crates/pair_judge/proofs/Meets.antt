@@ -11,7 +11,7 @@ use Rattle.dna_station.specs.Book.{ArrivalValue}
 use Rattle.dna_station.specs.WireStation.{WireStation}
 use Rattle.dna_station.specs.WireBook.{wire_arrival_refusal, wire_after_arrival, wire_taken}
 use Rattle.dna_node.specs.Content.{content}
-use Rattle.dna_node.specs.Rules.{Rules}
+use Rattle.dna_node.specs.TagRules.{Rules}
 use Rattle.dna_node.specs.WireLayers.{WireLayers, tag_or_none, wire_keeps_packet, wire_layers_machine, with_wire_links}
 use Rattle.pair_judge.specs.inner.Steps.{with_link}
 use Rattle.pair_judge.proofs.Arrives.{arrives_kept}

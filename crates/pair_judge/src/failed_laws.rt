@@ -5,7 +5,7 @@ ghost use Rattle.capture.specs.declared.event.Event.{Event};
 ghost use Rattle.ddcmp_msg.specs.Message.{MessageValue};
 ghost use Rattle.dna_station.specs.Book.{ArrivalValue};
 ghost use Rattle.dna_node.specs.WireLayers.{LayersTag, WireLayers, wire_layers_machine};
-ghost use Rattle.dna_node.specs.Rules.{judged};
+ghost use Rattle.dna_node.specs.TagRules.{judged};
 ghost use Rattle.pair_judge.specs.FailedCheck.{cause_in, cause_of, failed_arrival, failed_message, failed_user};
 
 /// The check that a message, an arrival or an event does not pass is the one for which both layers refuse it: none where they make it.

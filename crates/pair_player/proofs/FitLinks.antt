@@ -17,10 +17,10 @@ use Rattle.dna_links.specs.declared.port.LinkTest.TheVariants.{ActedOn, CallingA
 use Rattle.dna_play.specs.HasLine.{are_bytes}
 use Rattle.dna_links.specs.SegmentBook.{REACH, distance, is_of_data}
 use Rattle.dna_links.specs.LookUps.{has_both, is_at, is_connected, is_running, passes}
-use Rattle.dna_links.specs.Pieces.{Piece, piece_of}
+use Rattle.dna_links.specs.Segmentation.{Piece, piece_of}
 use Rattle.dna_links.specs.WireSegments.{LinkVariables, acknowledged_by, acknowledged_by_all, acknowledged_to, held, segment_taken, with_pieces}
 use Rattle.dna_play.specs.NextSent.{LinkEnd}
-use Rattle.dna_links.specs.Pieces.{SEGSIZE}
+use Rattle.dna_links.specs.Segmentation.{SEGSIZE}
 use Rattle.dna_play.specs.StoredEnd.{StoredLinks}
 use Rattle.dna_play.specs.StoredLinks.{Delivering, acted_on, acts, arrives, at_place, begun, called, called_again, changed, confirm_came, confirmed}
 use Rattle.dna_play.specs.StoredLinks.{confirmed_again, confirming, delivering_at, delivering_none, ended, ends_link, message_came, no_more, on_end}

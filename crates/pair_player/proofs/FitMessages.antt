@@ -9,13 +9,13 @@ use Rattle.dna_packet.specs.AckWord.{ack_word}
 use Rattle.dna_packet.specs.Nsp.{NspValue, connect_fields, nsp_bytes, segment_flag, segnum}
 use Rattle.dna_station.specs.declared.head.Head.{Head}
 use Rattle.dna_play.specs.HasLine.{are_bytes}
-use Rattle.dna_links.specs.Pieces.{Piece, Unsent, left_of}
+use Rattle.dna_links.specs.Segmentation.{Piece, Unsent, left_of}
 use Rattle.dna_station.specs.WireStation.{HeldPacket}
 use Rattle.dna_play.specs.LinkOwed.{Duty, ConnectAckDuty, InitiateDuty, ConfirmDuty, DisconnectDuty, DataAckDuty, SegmentDuty}
 use Rattle.dna_play.specs.NextSent.{LinkEnd, LinkChoice, Confirms, OfLink, Choice, SendStrt, SendStack, SendNak, SendRep, SendAgain, SendNew, SendAck}
 use Rattle.dna_play.specs.Compose.{SERVICES, INFO, USER_DATA, ack_of, address, link_message, message_at, message_of, new_data, no_flags, packet_again}
 use Rattle.dna_play.specs.Compose.{packet_with, piece_to_send, segment_with, duty_message}
-use Rattle.dna_links.specs.Pieces.{SEGSIZE, next_piece, next_piece_of, piece_with}
+use Rattle.dna_links.specs.Segmentation.{SEGSIZE, next_piece, next_piece_of, piece_with}
 use Rattle.dna_play.specs.StoredEnd.{StoredLinks}
 use Rattle.dna_play.specs.StoredLinks.{after_sent, gave, gave_by, sent_at, duty_sent}
 use Rattle.dna_play.specs.StoredPlay.{links_sent}

@@ -3,7 +3,7 @@ use Rattle.std.proofs.Common.{◌≡◌, ℕ, zero, suc, ◌+◌, ◌≤◌, Boo
 use Rattle.std.specs.Prelude.{drop, length}
 use Rattle.std.specs.List.{AllByRecursion}
 use Rattle.dna_play.specs.HasLine.{are_bytes}
-use Rattle.dna_links.specs.Pieces.{Piece, hold, in_whole_messages, one_more}
+use Rattle.dna_links.specs.Segmentation.{Piece, hold, in_whole_messages, one_more}
 use Rattle.dna_play.specs.Receipt.{complete}
 use Rattle.dna_play.proofs.Ends.UnitLines.{joined_bytes}
 

@@ -9,7 +9,7 @@ use Rattle.dna_play.specs.LinkOwed.{LinkOwed, lowered}
 use Rattle.dna_play.specs.NextSent.{LinkEnd}
 use Rattle.dna_packet.specs.declared.ack_word.AckWord.{AckWord}
 use Rattle.dna_links.specs.SegmentBook.{is_of_data, distance}
-use Rattle.dna_links.specs.Pieces.{Piece}
+use Rattle.dna_links.specs.Segmentation.{Piece}
 use Rattle.dna_links.specs.WireSegments.{LinkVariables, acknowledged_by_all}
 use Rattle.link_segments.specs.Outstanding.{acknowledged_to, acknowledged_word, acknowledged_words}
 use Rattle.link_segments.proofs.Acknowledged.{with_window, same_words}

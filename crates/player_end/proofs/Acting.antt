@@ -6,7 +6,7 @@ use Rattle.dna_packet.specs.declared.ack_word.AckWord.{AckWord}
 use Rattle.dna_packet.specs.Nsp.{SegmentValue}
 use Rattle.dna_links.specs.declared.port.Phase.TheVariants.{Running}
 use Rattle.dna_links.specs.SegmentBook.{REACH, distance}
-use Rattle.dna_links.specs.Pieces.{Piece, piece_of}
+use Rattle.dna_links.specs.Segmentation.{Piece, piece_of}
 use Rattle.dna_links.specs.WireSegments.{LinkVariables, acknowledged_by_all, with_pieces, segment_taken, held}
 use Rattle.dna_play.specs.LinkOwed.{LinkOwed, DataAckDuty, nothing, same_phase, unless_left, lowered}
 use Rattle.dna_play.specs.NextSent.{LinkEnd}

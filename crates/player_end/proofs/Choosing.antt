@@ -10,13 +10,13 @@ use Rattle.dna_station.specs.WireStation.{StationVariables}
 use Rattle.dna_station.specs.WireBook.{wire_is_new}
 use Rattle.dna_play.specs.Owed.{Owed}
 use Rattle.std.proofs.lemmas.Bool.{ltb-true}
-use Rattle.dna_links.specs.Pieces.{Piece}
+use Rattle.dna_links.specs.Segmentation.{Piece}
 use Rattle.dna_links.specs.LookUps.{is_running}
 use Rattle.dna_play.specs.LinkOwed.{EndConfirm, Duty, ConnectAckDuty, InitiateDuty, ConfirmDuty, DisconnectDuty, DataAckDuty, SegmentDuty}
 use Rattle.dna_play.specs.StoredLinks.{gave}
 use Rattle.dna_play.specs.NextSent.{LinkEnd, LinkChoice, OfLink, duty_of, duty_or_next, first_duty, link_choice, has_segment, Choice, SendStrt}
 use Rattle.dna_play.specs.NextSent.{SendStack, SendNak, SendRep, SendAgain, SendNew, SendAck, when, or_else, new_packet, choice_in, choice}
-use Rattle.dna_links.specs.Pieces.{has_more}
+use Rattle.dna_links.specs.Segmentation.{has_more}
 
 -- ---- a link
 

@@ -7,7 +7,7 @@ use Rattle.std.proofs.lemmas.List.{append-nil, drop-drop}
 use Rattle.capture.specs.declared.limit.TheConstants.{MAX_MESSAGE}
 use Rattle.capture.specs.declared.hint.HintForm.TheVariants.{Number}
 use Rattle.capture.specs.Text.{record_lines}
-use Rattle.dna_links.specs.Pieces.{Piece, Whole, with_piece, next_message, in_whole_messages, one_more}
+use Rattle.dna_links.specs.Segmentation.{Piece, Whole, with_piece, next_message, in_whole_messages, one_more}
 use Rattle.dna_play.specs.Receipt.{complete}
 use Rattle.dna_play.specs.StoredPlay.{all_short, ups}
 use Rattle.player_end.specs.declared.fault.StepFault.{StepFault}

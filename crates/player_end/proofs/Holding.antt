@@ -2,7 +2,7 @@
 use Rattle.std.proofs.Common.{◌≡◌, ℕ, ◌+◌, ◌-◌, ◌<◌, false, ap}
 use Rattle.dna_packet.specs.Nsp.{SegmentValue}
 use Rattle.dna_links.specs.SegmentBook.{distance}
-use Rattle.dna_links.specs.Pieces.{in_order}
+use Rattle.dna_links.specs.Segmentation.{in_order}
 use Rattle.dna_play.specs.NextSent.{LinkEnd}
 use Rattle.dna_links.specs.WireSegments.{LinkVariables, segment_taken}
 use Rattle.link_segments.specs.Received.{is_missing_at}

@@ -7,7 +7,7 @@ use Rattle.dna_links.specs.declared.port.Phase.TheVariants.{Calling, Called, Con
 use Rattle.dna_links.specs.declared.port.Port.{Port}
 use Rattle.dna_packet.specs.declared.ack_word.AckWord.{AckWord}
 use Rattle.dna_links.specs.LookUps.{is_live, is_running}
-use Rattle.dna_links.specs.Pieces.{Piece}
+use Rattle.dna_links.specs.Segmentation.{Piece}
 use Rattle.dna_play.specs.LinkOwed.{Duty, ConnectAckDuty, InitiateDuty, ConfirmDuty, DisconnectDuty, DataAckDuty, SegmentDuty}
 use Rattle.dna_play.specs.NextSent.{LinkEnd}
 use Rattle.dna_play.specs.StoredLinks.{called_again, confirmed_again, acted_on, took_acks, handed, closed, duty_sent, gave, gave_by}

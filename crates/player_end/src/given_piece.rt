@@ -18,7 +18,7 @@ pub struct GivenPiece {
 
 impl Model for GivenPiece {
     ghost use Rattle.std.specs.Prelude.{◌≤◌, length};
-    ghost use Rattle.dna_links.specs.Pieces.{Piece};
+    ghost use Rattle.dna_links.specs.Segmentation.{Piece};
 
     ghost Value = { Piece };
 

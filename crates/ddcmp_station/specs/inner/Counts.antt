@@ -1,6 +1,6 @@
 -- Counts that a station keeps, added up.
 use Rattle.std.specs.Prelude.{ℕ, ◌+◌}
-use Rattle.dna_station.specs.Causes.{Causes}
+use Rattle.dna_station.specs.NakCauses.{Causes}
 
 -- all open causes
 abbrev pub open_causes : Causes → ℕ

@@ -4,10 +4,10 @@ ghost use Rattle.std.specs.Prelude.{◌≡◌, ◌+◌, ◌^◌, ◌<◌, ◌≤
 ghost use Rattle.std.specs.Option.{option_copied};
 ghost use Rattle.ddcmp_msg.specs.Message.{view};
 ghost use Rattle.ddcmp_msg.specs.declared.nak_reason.NakReason.TheVariants as nak;
-ghost use Rattle.dna_station.specs.Causes.{with_cause};
+ghost use Rattle.dna_station.specs.NakCauses.{with_cause};
 ghost use Rattle.dna_station.specs.Table.{row};
-ghost use Rattle.dna_station.specs.Rules.{meets};
-ghost use Rattle.dna_station.specs.Rules as rules;
+ghost use Rattle.dna_station.specs.PeriodRule.{meets};
+ghost use Rattle.dna_station.specs.PeriodRule as rules;
 ghost use Rattle.dna_station.specs.Book.{num_of, has_packet, keep_refusal, damaged_by};
 ghost use Rattle.dna_station.specs.Book as arriving;
 ghost use Rattle.dna_station.specs.WireStation.{load};

@@ -2,7 +2,7 @@
 
 ghost use Rattle.std.specs.Prelude.{◌≡◌, ◌+◌, ◌==◌, None, Some, true, not, nat_lt, if◌then◌else◌, length, option_map, slice_get};
 ghost use Rattle.ddcmp_msg.specs.Message.{view};
-ghost use Rattle.dna_station.specs.Causes.{has_cause};
+ghost use Rattle.dna_station.specs.NakCauses.{has_cause};
 ghost use Rattle.dna_station.specs.Station.{wire};
 ghost use Rattle.dna_station.specs.Table.{WINDOW, checks};
 ghost use Rattle.dna_station.specs.WireBook.{is_held_packet, wire_is_new, wire_sending_refusal};

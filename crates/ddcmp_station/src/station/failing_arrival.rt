@@ -2,7 +2,7 @@
 
 ghost use Rattle.std.specs.Prelude.{◌≡◌, if◌then◌else◌, Some, false, option_map};
 ghost use Rattle.ddcmp_msg.specs.Message.{view};
-ghost use Rattle.dna_station.specs.Rules.{of_period};
+ghost use Rattle.dna_station.specs.PeriodRule.{of_period};
 ghost use Rattle.dna_station.specs.Book as arriving;
 ghost use Rattle.dna_station.specs.WireBook.{wire_arrival_refusal};
 ghost use Rattle.ddcmp_station.specs.Arrival.{arrival_view};

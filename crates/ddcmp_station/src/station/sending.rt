@@ -3,7 +3,7 @@
 ghost use Rattle.std.specs.Prelude.{◌≡◌, ◌<◌, ◌≤◌, ◌==◌, ◌+◌, ◌∷◌, [], IsTrue, true, false, None, Some, if◌then◌else◌, length, not, nat_lt};
 ghost use Rattle.std.specs.Prelude.{slice_get, IfOk, OnOk, OnErr, IfErr};
 ghost use Rattle.ddcmp_msg.specs.Message.{view};
-ghost use Rattle.dna_station.specs.Causes.{has_cause};
+ghost use Rattle.dna_station.specs.NakCauses.{has_cause};
 ghost use Rattle.dna_station.specs.Table.{WINDOW, checks};
 ghost use Rattle.dna_station.specs.Book.{failed};
 ghost use Rattle.dna_station.specs.Station.{wire};

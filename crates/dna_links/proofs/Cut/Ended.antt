@@ -3,7 +3,7 @@ use Rattle.std.proofs.Common.{◌≡◌, ℕ, zero, suc, ◌+◌, ◌≤◌, Boo
 use Rattle.std.proofs.Common.{arith, option_map, drop-drop}
 use Rattle.std.specs.Str.{bytes_eq}
 use Rattle.std.proofs.lemmas.List.{drop-take}
-use Rattle.dna_links.specs.Pieces.{Piece, Whole, with_piece, next_message, one_more, in_whole_messages}
+use Rattle.dna_links.specs.Segmentation.{Piece, Whole, with_piece, next_message, one_more, in_whole_messages}
 use Rattle.dna_links.specs.TrueSegments.{TrueSegments, delivered_as, delivers_whole, delivers}
 use Rattle.dna_links.specs.WireSegments.{WireSegments, with_pieces_alone, ends}
 use Rattle.dna_links.specs.WireSegments as kept

@@ -1,6 +1,6 @@
 -- Pieces that are held at their places, from the first on and from the first that is not delivered on.
 use Rattle.std.proofs.Common.{◌≡◌, ℕ, zero, suc, ◌-◌, ◌<◌, ◌≤◌, Option, Some, None, List, [], ◌∷◌, drop, refl, ap, ◌∙◌, arith}
-use Rattle.dna_links.specs.Pieces.{Piece, in_order, hold}
+use Rattle.dna_links.specs.Segmentation.{Piece, in_order, hold}
 
 -- a piece that came in order comes again: nothing changes
 pub hold_again : (place : ℕ) (p : Piece) (xs : List (Option Piece)) → place < in_order xs → hold place p xs ≡ xs

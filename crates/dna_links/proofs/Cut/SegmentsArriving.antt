@@ -5,7 +5,7 @@ use Rattle.std.specs.Str.{bytes_eq}
 use Rattle.std.proofs.lemmas.Bool.{cases_lt, lt-leb, and_parts, ltb-true, leb-true}
 use Rattle.dna_packet.specs.declared.ack_word.AckWord.{AckWord}
 use Rattle.dna_packet.specs.Nsp.{SegmentValue}
-use Rattle.dna_links.specs.Pieces.{Piece, piece_of, in_order, hold, Whole, next_message}
+use Rattle.dna_links.specs.Segmentation.{Piece, piece_of, in_order, hold, Whole, next_message}
 use Rattle.dna_links.specs.SegmentBook.{REACH, wire, distance, is_of_data}
 use Rattle.dna_links.specs.TrueSegments.{TrueSegments, Numbers, highest_given, highest_received, delivered_as, delivers_whole, delivers}
 use Rattle.dna_links.specs.TrueSegments.{acknowledged_through}

@@ -9,7 +9,7 @@ use Rattle.dna_packet.specs.declared.ack_word.AckWord.{AckWord}
 use Rattle.dna_packet.specs.Nsp.{SegmentValue}
 use Rattle.dna_station.specs.declared.link_refusal.LinkRefusal.{LinkRefusal}
 use Rattle.dna_station.specs.declared.link_refusal.LinkRefusal.TheVariants.{WrongSegment, SegmentTooLong, LinkWindowFull}
-use Rattle.dna_links.specs.Pieces.{Piece, piece_of, is_next_piece, without_piece}
+use Rattle.dna_links.specs.Segmentation.{Piece, piece_of, is_next_piece, without_piece}
 use Rattle.dna_links.specs.SegmentBook.{Sending, REACH, wire, distance, is_of_data}
 use Rattle.dna_links.specs.Links.{check}
 use Rattle.dna_links.specs.TrueSegments.{TrueSegments, Numbers, Named, highest_given, highest_received, named, with_number, with_first, all_named}

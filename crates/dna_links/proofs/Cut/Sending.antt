@@ -14,7 +14,7 @@ use Rattle.dna_links.specs.declared.port.Phase.TheVariants.{Ended}
 use Rattle.dna_links.specs.declared.port.LinkTest.{LinkTest}
 use Rattle.dna_links.specs.declared.port.LinkTest.TheVariants.{TheLink, OpenedAt, CalledBy, BegunBy}
 use Rattle.dna_links.specs.LookUps.{is_live, is_calling, is_called, is_confirming, is_running, is_disconnecting, is_at, has_both}
-use Rattle.dna_links.specs.Pieces.{Piece, in_whole_messages}
+use Rattle.dna_links.specs.Segmentation.{Piece, in_whole_messages}
 use Rattle.dna_links.specs.SegmentBook.{Sending}
 use Rattle.dna_links.specs.Links.{LinkOf, LinksOf, Carried, check, with_link, changed, in_phase, with_segments, ended}
 use Rattle.dna_links.specs.Sending.{Sent, of_no_link, unchanged, ending, in_its_phase, confirms_end, carries, in_run, segment_of, message_sent}

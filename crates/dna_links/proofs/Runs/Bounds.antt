@@ -9,7 +9,7 @@ use Rattle.dna_packet.specs.declared.ack_word.AckWord.{AckWord}
 use Rattle.dna_packet.specs.AckWord.{IsAckWord}
 use Rattle.dna_packet.specs.Nsp.{NspValue, DataSegment, DataAck, IsInRange}
 use Rattle.two_nodes.specs.Beginning.{BeginsWith}
-use Rattle.dna_links.specs.Pieces.{Piece, in_order}
+use Rattle.dna_links.specs.Segmentation.{Piece, in_order}
 use Rattle.dna_links.specs.SegmentBook.{wire, is_of_data}
 use Rattle.dna_links.specs.Links.{LinkOf}
 use Rattle.dna_links.specs.User.{LinkEventValue}

@@ -6,7 +6,7 @@ use Rattle.dna_packet.specs.declared.ack_word.AckWord.{AckWord}
 use Rattle.dna_packet.specs.Nsp.{SegmentValue, DataSegment, DataAck}
 use Rattle.dna_links.specs.declared.port.Port.{Port}
 use Rattle.dna_links.specs.LookUps.{is_calling}
-use Rattle.dna_links.specs.Pieces.{Piece, in_order}
+use Rattle.dna_links.specs.Segmentation.{Piece, in_order}
 use Rattle.dna_links.specs.Links.{LinkOf, with_segments}
 use Rattle.dna_links.specs.TrueSegments.{TrueSegments, highest_given, highest_received}
 use Rattle.dna_links.specs.Runs.{SentMessage}

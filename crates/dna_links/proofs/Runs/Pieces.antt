@@ -8,8 +8,9 @@ use Rattle.std.proofs.lemmas.Bool.{and_parts}
 use Rattle.std.proofs.lemmas.Slice.Eq.{bytes_eq-Decides}
 use Rattle.two_nodes.proofs.Order.{slice_get-append}
 use Rattle.two_nodes.specs.Beginning.{BeginsWith}
-use Rattle.dna_links.specs.Pieces.{Piece, alike, Unsent, is_piece_of, is_next_of, is_next_piece, left_of, without_piece, hold, Whole, with_piece}
-use Rattle.dna_links.specs.Pieces.{next_message}
+use Rattle.dna_links.specs.Segmentation.{Piece, alike, Unsent, is_piece_of, is_next_of, is_next_piece, left_of, without_piece, hold, Whole}
+use Rattle.dna_links.specs.Segmentation.{with_piece}
+use Rattle.dna_links.specs.Segmentation.{next_message}
 use Rattle.dna_links.specs.TrueSegments.{TrueSegments, hands_in, delivered_as, delivers_whole, delivers}
 use Rattle.dna_links.specs.Delivery.{whole, unfinished, with_begun, IsCut}
 

@@ -10,7 +10,7 @@ use Rattle.dna_packet.specs.declared.ack_word.AckWord.{AckWord}
 use Rattle.dna_packet.specs.Nsp.{SegmentValue}
 use Rattle.dna_station.specs.declared.link_refusal.LinkRefusal.{LinkRefusal}
 use Rattle.dna_station.specs.declared.link_refusal.LinkRefusal.TheVariants.{WrongSegment, SegmentTooLong, LinkWindowFull}
-use Rattle.dna_links.specs.Pieces.{Piece, piece_of, alike, same_piece, in_order, is_next_piece, without_piece}
+use Rattle.dna_links.specs.Segmentation.{Piece, piece_of, alike, same_piece, in_order, is_next_piece, without_piece}
 use Rattle.dna_links.specs.SegmentBook.{Sending, REACH, wire, distance}
 use Rattle.dna_links.specs.Delivery.{IsCut}
 use Rattle.dna_links.specs.TrueSegments.{TrueSegments, Numbers, highest_given, highest_received, Named, all_named, sending, acks_named}

@@ -8,7 +8,7 @@ use Rattle.dna_packet.specs.declared.ack_word.AckWord.{AckWord}
 use Rattle.dna_packet.specs.Nsp.{SegmentValue, DataSegment, DataAck}
 use Rattle.dna_links.specs.declared.port.Phase.TheVariants.{Running, Ended}
 use Rattle.dna_links.specs.LookUps.{is_calling, is_at}
-use Rattle.dna_links.specs.Pieces.{Piece, in_order}
+use Rattle.dna_links.specs.Segmentation.{Piece, in_order}
 use Rattle.dna_links.specs.Links.{LinkOf, Carried, LinkTruth, begun, changed, in_phase, with_segments, ended}
 use Rattle.dna_links.specs.User.{LinkEventValue}
 use Rattle.dna_links.specs.Sending.{Sent, truth_of}

@@ -8,7 +8,7 @@ use Rattle.dna_packet.specs.Nsp.{SegmentValue}
 use Rattle.dna_links.specs.declared.tag.LinkTag.{LinkTag}
 use Rattle.dna_links.specs.declared.port.Phase.TheVariants.{Running}
 use Rattle.dna_links.specs.LookUps.{is_at}
-use Rattle.dna_links.specs.Pieces.{Piece, piece_of, in_order, hold}
+use Rattle.dna_links.specs.Segmentation.{Piece, piece_of, in_order, hold}
 use Rattle.dna_links.specs.Links.{LinkOf, in_phase, with_segments}
 use Rattle.dna_links.specs.Arriving.{are_same, is_of_pair}
 use Rattle.dna_links.specs.TrueSegments.{TrueSegments, highest_given, highest_received, acknowledged_through}

@@ -13,7 +13,7 @@ use Rattle.dna_station.specs.declared.refusal.StepRefusal.{StepRefusal}
 use Rattle.dna_station.specs.declared.refusal.StepRefusal.TheVariants.{Links as OfLinks}
 use Rattle.dna_links.specs.declared.port.LinkTest.{LinkTest}
 use Rattle.dna_links.specs.declared.port.LinkTest.TheVariants.{ActedOn}
-use Rattle.dna_links.specs.Pieces.{Piece}
+use Rattle.dna_links.specs.Segmentation.{Piece}
 use Rattle.dna_links.specs.LookUps.{passes, is_connected, has_both}
 use Rattle.dna_links.specs.SegmentBook.{REACH, wire, distance, is_of_data}
 use Rattle.dna_links.specs.Links.{LinkOf, Carried, LinkTruth, check, number_of, on_link, at_number, with_link, changed}

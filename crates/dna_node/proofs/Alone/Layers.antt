@@ -16,7 +16,7 @@ use Rattle.dna_station.specs.Table.{user_refusal}
 use Rattle.dna_station.specs.Book.{Sound, HeaderBad, DataBad, body_of, meets_by, takes_by, keep_refusal}
 use Rattle.dna_station.specs.WireStation.{WireStation, wire_after_event, wire_after_label}
 use Rattle.dna_station.specs.WireBook.{wire_book, wire_tag, wire_after_sending, wire_sending_refusal, wire_after_arrival, gives_new}
-use Rattle.dna_station.specs.Rules.{of_period}
+use Rattle.dna_station.specs.PeriodRule.{of_period}
 use Rattle.dna_station.specs.Machine.{unless_refused}
 use Rattle.dna_links.specs.Links.{Carried}
 use Rattle.dna_links.specs.User.{LinkEventValue}
@@ -25,7 +25,7 @@ use Rattle.dna_links.specs.Arriving.{of_partner, of_anyone}
 use Rattle.dna_links.specs.WireSegments.{WireSegments, wire_segments}
 use Rattle.dna_links.specs.WireLinks.{WireLinks, wire_links_user, wire_links_sent, wire_links_arrived}
 use Rattle.dna_node.proofs.Events.{by_event}
-use Rattle.dna_node.specs.Rules.{judged, by_bytes}
+use Rattle.dna_node.specs.TagRules.{judged, by_bytes}
 use Rattle.dna_node.specs.Content.{content}
 use Rattle.dna_node.specs.WireLayers.{WireLayers, LayersTag, of_no_link, with_wire_station, with_wire_links, first_tagged, with_tag}
 use Rattle.dna_node.specs.WireLayers.{wire_sends_first}

@@ -26,7 +26,7 @@ use Rattle.dna_links.specs.Runs.{SentMessage}
 use Rattle.dna_links.specs.Arriving.{of_partner}
 use Rattle.dna_links.specs.CutLinks.{cut_links}
 use Rattle.dna_links.specs.WireLinks.{WireLinks, wire_links_arrived}
-use Rattle.dna_node.specs.Rules.{judged}
+use Rattle.dna_node.specs.TagRules.{judged}
 use Rattle.dna_node.specs.Content.{content}
 use Rattle.dna_node.specs.Layers.{Layers, LayersNode, LayersUnit, unit_of_station}
 use Rattle.dna_node.specs.WireLayers.{WireLayers, with_wire_links, tag_or_none, wire_keeps_packet, wire_meets_on}

@@ -19,7 +19,7 @@ use Rattle.dna_station.specs.declared.refusal.StepRefusal.{StepRefusal}
 use Rattle.dna_station.specs.declared.refusal.StepRefusal.TheVariants.{HintOrder, Station as OfStation}
 use Rattle.dna_station.specs.Table.{user_refusal}
 use Rattle.dna_station.specs.Book.{ArrivalValue, Sound, HeaderBad, DataBad, meets_by, takes_by, keep_refusal}
-use Rattle.dna_station.specs.Rules.{of_period, of_any_period}
+use Rattle.dna_station.specs.PeriodRule.{of_period, of_any_period}
 use Rattle.dna_station.specs.Station.{Station}
 use Rattle.dna_station.specs.Truth.{Truth}
 use Rattle.dna_station.specs.WireStation.{WireStation, wire_after_event}

@@ -1,7 +1,7 @@
 -- What a record alone tells of its step over both layers.
 use Rattle.two_nodes.specs.Past.{BothTell}
 use Rattle.dna_station.specs.inner.Tells.{machine_tells}
-use Rattle.dna_node.specs.Rules.{judged}
+use Rattle.dna_node.specs.TagRules.{judged}
 use Rattle.dna_node.specs.Layers.{layers_machine}
 use Rattle.dna_node.specs.LayersPair.{layers_pair}
 use Rattle.dna_node.specs.WireLayers.{wire_layers_machine, wire_layers_pair}

@@ -5,7 +5,7 @@ use Rattle.ddcmp_msg.specs.declared.nak_reason.NakReason.{NakReason}
 use Rattle.ddcmp_msg.specs.declared.nak_reason.NakReason.TheVariants.{HeaderCheck, DataCheck, RepResponse, NoBuffer}
 use Rattle.dna_station.specs.declared.state.State.{State}
 use Rattle.dna_station.specs.declared.state.State.TheVariants.{Running}
-use Rattle.dna_station.specs.Causes.{Causes, with_cause, has_cause, without_cause}
+use Rattle.dna_station.specs.NakCauses.{Causes, with_cause, has_cause, without_cause}
 use Rattle.dna_station.specs.WireStation.{StationVariables}
 use Rattle.dna_play.specs.Owed.{Owed, nothing, Debt, OwesStrt, OwesStack, OwesAck, OwesRep, OwesNak, with_nak, with_debt, same_state, unless_left}
 use Rattle.dna_play.specs.Owed.{all_acknowledged, timer_debt, still_owed}

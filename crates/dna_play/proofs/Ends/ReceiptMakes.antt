@@ -34,7 +34,7 @@ use Rattle.dna_links.specs.Arriving.{of_anyone, message_arrived}
 use Rattle.dna_links.specs.TrueSegments.{TrueSegments, Numbers, true_segments}
 use Rattle.dna_links.specs.TrueLinks.{Links, links_arrived}
 use Rattle.dna_links.specs.Runs.{SentMessage}
-use Rattle.dna_node.specs.Rules.{by_bytes}
+use Rattle.dna_node.specs.TagRules.{by_bytes}
 use Rattle.dna_node.specs.Layers.{Layers, LayersTruth, LayersNode, LayersUnit, with_links, to_station, keeps, meets_on, layers_machine, stations}
 use Rattle.dna_node.specs.Layers.{unit_of_station}
 use Rattle.dna_play.specs.Owed.{can_take}

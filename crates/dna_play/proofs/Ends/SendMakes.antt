@@ -26,7 +26,7 @@ use Rattle.dna_links.specs.Sending as links_sending
 use Rattle.dna_links.specs.Sending.{message_sent}
 use Rattle.dna_links.specs.TrueSegments.{TrueSegments, Numbers, true_segments}
 use Rattle.dna_links.specs.TrueLinks.{links_sent}
-use Rattle.dna_node.specs.Rules.{by_bytes}
+use Rattle.dna_node.specs.TagRules.{by_bytes}
 use Rattle.dna_node.specs.Content.{content}
 use Rattle.dna_node.specs.Layers.{Layers, LayersTruth, first_sent, with_message, sends_first, sends_again, sends_on, layers_machine}
 use Rattle.dna_play.specs.NextSent.{LinkEnd, LinkChoice, Choice, SendNew}

@@ -11,7 +11,7 @@ use Rattle.dna_station.specs.declared.state.State.{State}
 use Rattle.dna_station.specs.declared.state.State.TheVariants.{Halted, Istrt, Astrt, Running}
 use Rattle.dna_station.specs.declared.state.StationEvent.TheVariants as events
 use Rattle.dna_station.specs.declared.tag.Tag.{Tag}
-use Rattle.dna_station.specs.Causes.{with_cause, has_cause}
+use Rattle.dna_station.specs.NakCauses.{with_cause, has_cause}
 use Rattle.dna_station.specs.Table.{Effect, Respond, TakePacket, AnswerRep, row, counts_damage}
 use Rattle.dna_station.specs.Book.{Sound, num_of, resp_of, has_packet, damaged_by}
 use Rattle.dna_station.specs.Station.{wire}

@@ -11,7 +11,7 @@ use Rattle.dna_packet.specs.Nsp.{NspValue}
 use Rattle.dna_station.specs.declared.head.Head.{Head}
 use Rattle.dna_station.specs.declared.state.State.{State}
 use Rattle.dna_station.specs.declared.state.State.TheVariants.{Halted, Istrt, Astrt, Running}
-use Rattle.dna_station.specs.Causes.{Causes, has_cause}
+use Rattle.dna_station.specs.NakCauses.{Causes, has_cause}
 use Rattle.dna_station.specs.Table.{WINDOW, Check, checks, RespIsLast, CauseIsOpen, SomeOutstanding, NumIsHighest, NumIsNext, RoomIfNew, AsFirstGiven}
 use Rattle.dna_station.specs.Table.{refusal_of}
 use Rattle.dna_station.specs.Book.{first_failed, failed}

@@ -27,7 +27,7 @@ use Rattle.dna_play.specs.HasLine.{are_bytes, has_line}
 use Rattle.dna_play.specs.LinkOwed.{LinkOwed, Duty, ConnectAckDuty, InitiateDuty, ConfirmDuty, DisconnectDuty, DataAckDuty, SegmentDuty, variables_of}
 use Rattle.dna_play.specs.NextSent.{LinkEnd}
 use Rattle.dna_play.specs.Compose.{SERVICES, INFO, USER_DATA, address, packet_with, piece_to_send, segment_with, ack_of, duty_message}
-use Rattle.dna_links.specs.Pieces.{SEGSIZE}
+use Rattle.dna_links.specs.Segmentation.{SEGSIZE}
 use Rattle.dna_play.proofs.Played.PlayLines.{bytes_told}
 use Rattle.dna_play.proofs.Links.Fits.{IsPlain}
 

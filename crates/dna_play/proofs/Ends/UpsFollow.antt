@@ -10,7 +10,7 @@ use Rattle.capture.specs.declared.record.Record.TheVariants.{User}
 use Rattle.dna_station.specs.declared.link_refusal.LinkRefusal.TheVariants.{NoLink}
 use Rattle.dna_links.specs.declared.port.LinkTest.TheVariants.{HasAddress, ActedOn}
 use Rattle.dna_links.specs.LookUps.{is_at}
-use Rattle.dna_links.specs.Pieces.{Piece, Whole, with_piece, next_message}
+use Rattle.dna_links.specs.Segmentation.{Piece, Whole, with_piece, next_message}
 use Rattle.dna_links.specs.Links.{LinkOf, changed, with_segments}
 use Rattle.dna_links.specs.User.{Up, delivered}
 use Rattle.dna_links.specs.TrueSegments.{TrueSegments, true_segments, delivered_as, delivers_whole, delivers}

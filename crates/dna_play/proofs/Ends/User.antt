@@ -13,7 +13,7 @@ use Rattle.dna_station.specs.Station.{after_event}
 use Rattle.dna_station.specs.Machine.{does, unless_refused}
 use Rattle.dna_links.specs.User.{LinkEventValue}
 use Rattle.dna_links.specs.TrueLinks.{Links, links_user}
-use Rattle.dna_node.specs.Rules.{by_bytes}
+use Rattle.dna_node.specs.TagRules.{by_bytes}
 use Rattle.dna_node.specs.Content.{link_event}
 use Rattle.dna_node.specs.Layers.{with_station, with_links, user_on}
 use Rattle.dna_play.specs.HasLine.{has_line}

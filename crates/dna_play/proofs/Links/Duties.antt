@@ -13,7 +13,7 @@ use Rattle.dna_links.specs.declared.port.Phase.TheVariants.{Running}
 use Rattle.dna_links.specs.declared.port.LinkTest.TheVariants.{TheLink}
 use Rattle.dna_links.specs.LookUps.{is_live, is_at, has_both}
 use Rattle.dna_links.specs.SegmentBook.{Sending}
-use Rattle.dna_links.specs.Pieces.{Piece, without_piece, next_piece}
+use Rattle.dna_links.specs.Segmentation.{Piece, without_piece, next_piece}
 use Rattle.dna_links.specs.Links.{LinkOf, changed, with_segments}
 use Rattle.dna_links.specs.Sending.{Sent, segment_of}
 use Rattle.dna_links.specs.TrueSegments.{TrueSegments, Numbers, true_segments, is_new, sends_segment, sends_acks}

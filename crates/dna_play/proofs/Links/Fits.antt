@@ -8,7 +8,7 @@ use Rattle.dna_packet.specs.Nsp.{NspValue, DataSegment, ConnectInitiate, Connect
 use Rattle.dna_links.specs.declared.port.Phase.{Phase}
 use Rattle.dna_links.specs.declared.port.Phase.TheVariants.{Calling, Called, Confirming, Running}
 use Rattle.dna_links.specs.LookUps.{is_called, is_calling, is_connected}
-use Rattle.dna_links.specs.Pieces.{Piece, piece_of, Unsent, left_of, SEGSIZE, piece_with, next_piece_of, next_piece}
+use Rattle.dna_links.specs.Segmentation.{Piece, piece_of, Unsent, left_of, SEGSIZE, piece_with, next_piece_of, next_piece}
 use Rattle.dna_links.specs.Links.{LinkOf}
 use Rattle.dna_links.specs.User.{LinkEventValue, In}
 use Rattle.dna_links.specs.TrueSegments.{TrueSegments, true_segments}

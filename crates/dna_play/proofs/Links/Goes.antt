@@ -11,7 +11,7 @@ use Rattle.dna_links.specs.declared.tag.LinkTag.{LinkTag}
 use Rattle.dna_links.specs.declared.port.Phase.{Phase}
 use Rattle.dna_links.specs.declared.port.Phase.TheVariants.{Calling, Running}
 use Rattle.dna_links.specs.LookUps.{is_live, is_at, is_called, is_calling, is_connected}
-use Rattle.dna_links.specs.Pieces.{Piece, piece_of, Unsent, SEGSIZE}
+use Rattle.dna_links.specs.Segmentation.{Piece, piece_of, Unsent, SEGSIZE}
 use Rattle.dna_links.specs.SegmentBook.{Sending}
 use Rattle.dna_links.specs.Links.{LinkOf, in_phase, with_segments, ended}
 use Rattle.dna_links.specs.User.{answered}

@@ -19,7 +19,7 @@ use Rattle.dna_links.specs.User as users
 use Rattle.dna_links.specs.TrueSegments.{TrueSegments, true_segments}
 use Rattle.dna_links.specs.TrueLinks.{Links, links_user}
 use Rattle.dna_station.specs.Machine.{does}
-use Rattle.dna_node.specs.Rules.{by_bytes}
+use Rattle.dna_node.specs.TagRules.{by_bytes}
 use Rattle.dna_node.specs.Content.{link_event}
 use Rattle.dna_node.specs.Layers.{with_links, user_on}
 use Rattle.dna_play.specs.HasLine.{has_line}

@@ -21,7 +21,7 @@ use Rattle.dna_links.specs.TrueLinks.{Links}
 use Rattle.dna_links.specs.CutSegments.{IsOrdered, IsAnswered}
 use Rattle.dna_play.specs.LinkOwed.{LinkOwed, Duty, ConnectAckDuty, InitiateDuty, ConfirmDuty, DisconnectDuty, DataAckDuty, SegmentDuty, variables_of}
 use Rattle.dna_play.specs.NextSent.{LinkEnd, has_new, has_repeat, has_segment, duty_of}
-use Rattle.dna_links.specs.Pieces.{has_more, SEGSIZE, Piece}
+use Rattle.dna_links.specs.Segmentation.{has_more, SEGSIZE, Piece}
 use Rattle.dna_play.specs.Compose.{ack_of, address, piece_to_send, segment_with, duty_message}
 use Rattle.dna_links.proofs.Runs.Reads.{at_is}
 use Rattle.dna_links.proofs.Tables.Outcomes.{IsFound, looked, position_none}

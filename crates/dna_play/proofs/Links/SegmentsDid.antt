@@ -5,7 +5,7 @@ use Rattle.dna_packet.specs.declared.ack_word.AckWord.{AckWord}
 use Rattle.dna_packet.specs.Nsp.{SegmentValue}
 use Rattle.dna_station.specs.declared.link_refusal.LinkRefusal.{LinkRefusal}
 use Rattle.dna_station.specs.declared.link_refusal.LinkRefusal.TheVariants.{WrongSegment, SegmentTooLong, LinkWindowFull}
-use Rattle.dna_links.specs.Pieces.{piece_of, is_next_piece, without_piece}
+use Rattle.dna_links.specs.Segmentation.{piece_of, is_next_piece, without_piece}
 use Rattle.dna_links.specs.SegmentBook.{Sending, REACH, wire, distance}
 use Rattle.dna_links.specs.TrueSegments.{TrueSegments, Numbers, Named, all_named, acks_named, segment_named, sends_new, sends_again, sends_segment}
 use Rattle.dna_links.specs.TrueSegments.{sends_acks, sending, highest_given, highest_received, is_repeat, is_new}

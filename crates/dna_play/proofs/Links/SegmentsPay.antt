@@ -11,8 +11,8 @@ use Rattle.std.proofs.lemmas.Slice.Eq.{bytes_eq-Decides}
 use Rattle.dna_station.specs.declared.link_refusal.LinkRefusal.{LinkRefusal}
 use Rattle.dna_station.specs.declared.link_refusal.LinkRefusal.TheVariants.{WrongSegment, SegmentTooLong, LinkWindowFull}
 use Rattle.dna_links.specs.declared.port.Port.{Port}
-use Rattle.dna_links.specs.Pieces.{Piece, alike, same_piece, Unsent, is_piece_of, is_next_piece, without_piece, has_more, SEGSIZE, piece_with}
-use Rattle.dna_links.specs.Pieces.{next_piece_of, next_piece}
+use Rattle.dna_links.specs.Segmentation.{Piece, alike, same_piece, Unsent, is_piece_of, is_next_piece, without_piece, has_more, SEGSIZE, piece_with}
+use Rattle.dna_links.specs.Segmentation.{next_piece_of, next_piece}
 use Rattle.dna_links.specs.SegmentBook.{Sending, REACH, wire, distance}
 use Rattle.dna_links.specs.Links.{check}
 use Rattle.dna_links.specs.TrueSegments.{TrueSegments, Numbers, Named, highest_given, highest_received, named, with_first, all_named, sending}

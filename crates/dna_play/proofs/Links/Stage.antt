@@ -30,7 +30,7 @@ use Rattle.dna_links.specs.declared.port.Phase.{Phase}
 use Rattle.dna_links.specs.declared.port.Phase.TheVariants.{Confirming, Disconnecting}
 use Rattle.dna_links.specs.declared.port.LinkTest.TheVariants.{CalledBy}
 use Rattle.dna_links.specs.LookUps.{is_at, is_called, is_calling, is_connected, has_both}
-use Rattle.dna_links.specs.Pieces.{SEGSIZE}
+use Rattle.dna_links.specs.Segmentation.{SEGSIZE}
 use Rattle.dna_play.proofs.Links.SegmentsDid.{segment_did}
 use Rattle.dna_play.proofs.Links.Goes.{Goes, segments_go, ended_goes, answered_goes, connected_goes, runs_on, confirmed_goes, stays_as_it_is}
 use Rattle.dna_play.proofs.Links.Goes.{handed_goes, delivered_goes, acks_go, segment_goes, took_acks, took_segment, SegmentsGo}

@@ -9,7 +9,7 @@ use Rattle.dna_packet.specs.Nsp.{NspValue, SegmentValue}
 use Rattle.dna_links.specs.declared.port.Phase.{Phase}
 use Rattle.dna_links.specs.declared.port.Phase.TheVariants.{Confirming, Disconnecting, Running}
 use Rattle.dna_links.specs.declared.port.LinkTest.TheVariants.{HasAddress}
-use Rattle.dna_links.specs.Pieces.{Piece, piece_of, hold, Whole, with_piece, next_message}
+use Rattle.dna_links.specs.Segmentation.{Piece, piece_of, hold, Whole, with_piece, next_message}
 use Rattle.dna_links.specs.Links.{LinkOf, LinkTruth, changed, in_phase, with_segments, ended, forgotten, freed}
 use Rattle.dna_links.specs.User.{LinkEventValue, opened, answered}
 use Rattle.dna_links.specs.Sending.{Sent}

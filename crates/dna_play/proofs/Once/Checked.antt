@@ -22,8 +22,8 @@ use Rattle.dna_station.specs.declared.state.State.TheVariants.{Halted, Istrt, As
 use Rattle.dna_station.specs.declared.refusal.StationRefusal.TheVariants.{CrossedPeriod}
 use Rattle.dna_station.specs.declared.refusal.StepRefusal.TheVariants.{HintOrder}
 use Rattle.dna_station.specs.Table.{row, Row, ignored}
-use Rattle.dna_station.specs.Rules.{meets}
-use Rattle.dna_node.specs.Rules.{judged, by_bytes}
+use Rattle.dna_station.specs.PeriodRule.{meets}
+use Rattle.dna_node.specs.TagRules.{judged, by_bytes}
 use Rattle.dna_station.specs.Station.{Station}
 use Rattle.dna_station.specs.Truth.{tag_of}
 use Rattle.dna_station.specs.Book.{Sound, has_packet, keep_refusal}

@@ -4,7 +4,7 @@ use Rattle.ddcmp_msg.specs.Message.{MessageValue, Data, Ack, Nak, Rep, Strt, Sta
 use Rattle.dna_station.specs.declared.state.State.{State}
 use Rattle.dna_station.specs.declared.state.State.TheVariants.{Halted, Istrt, Astrt, Running}
 use Rattle.dna_station.specs.Table.{row, Fresh, OfPair, Row, ignored}
-use Rattle.dna_station.specs.Rules.{is_period, meets}
+use Rattle.dna_station.specs.PeriodRule.{is_period, meets}
 use Rattle.dna_station.specs.Station.{Station}
 use Rattle.dna_station.specs.Truth.{tag_of}
 use Rattle.dna_station.specs.Line.{SentUnit}

@@ -16,7 +16,7 @@ use Rattle.dna_station.specs.declared.state.State.TheVariants.{Halted, Istrt, As
 use Rattle.dna_station.specs.declared.state.StationEvent.{StationEvent}
 use Rattle.dna_station.specs.declared.state.StationEvent.TheVariants.{Start, Halt}
 use Rattle.dna_station.specs.Table.{Check, checks, Respond, TakePacket, AnswerRep, counts_damage, row, Row, ignored}
-use Rattle.dna_node.specs.Rules.{judged}
+use Rattle.dna_node.specs.TagRules.{judged}
 use Rattle.dna_station.specs.Delivery.{begins}
 use Rattle.dna_station.specs.Station.{Station, after_event}
 use Rattle.dna_station.specs.Truth.{Truth}

@@ -10,7 +10,7 @@ use Rattle.ddcmp_msg.specs.Reading as read_as
 use Rattle.dna_packet.specs.Nsp.{NspValue}
 use Rattle.capture.specs.declared.record.Record.{Record}
 use Rattle.capture.specs.Range.{IsNode}
-use Rattle.dna_node.specs.Rules.{judged}
+use Rattle.dna_node.specs.TagRules.{judged}
 use Rattle.dna_station.specs.declared.head.Head.{Head}
 use Rattle.dna_station.specs.Book.{Sound, body_of}
 use Rattle.dna_station.specs.StationBook.{arrival_refusal}

@@ -14,7 +14,7 @@ use Rattle.capture.specs.declared.record.Record.TheVariants.{Sent, Received, Noi
 use Rattle.capture.proofs.SoFarLaws.{All-behind}
 use Rattle.capture.specs.Range.{IsLink, IsRecord}
 use Rattle.two_nodes.specs.Beginning.{BeginsWith}
-use Rattle.dna_links.specs.Pieces.{Piece}
+use Rattle.dna_links.specs.Segmentation.{Piece}
 use Rattle.dna_links.specs.Links.{LinkOf}
 use Rattle.dna_links.specs.User.{LinkEventValue, Open, Accept, Reject, In}
 use Rattle.dna_links.specs.TrueSegments.{TrueSegments}

@@ -2,7 +2,7 @@
 use Rattle.std.proofs.Common.{◌≡◌, List, refl, ◌∙◌}
 use Rattle.two_nodes.specs.Nodes.{Half, World, Run, Done, OfA, OfB}
 use Rattle.capture.specs.declared.record.Record.{Record}
-use Rattle.dna_node.specs.Rules.{Rules, judged}
+use Rattle.dna_node.specs.TagRules.{Rules, judged}
 use Rattle.dna_links.specs.Bounds.{AreLinksBounded}
 use Rattle.dna_links.specs.Runs.{LinkSide}
 use Rattle.dna_node.specs.Layers.{LayersNode, LayersUnit}

@@ -8,7 +8,7 @@ use Rattle.capture.specs.declared.record.Record.{Record}
 use Rattle.capture.specs.Range.{IsRecord}
 use Rattle.capture.proofs.SoFarLaws.{All-push}
 use Rattle.dna_station.specs.declared.refusal.StepRefusal.{StepRefusal}
-use Rattle.dna_node.specs.Rules.{by_bytes}
+use Rattle.dna_node.specs.TagRules.{by_bytes}
 use Rattle.dna_node.specs.Layers.{LayersNode, LayersUnit}
 use Rattle.dna_node.specs.LayersPair.{layers_start}
 use Rattle.dna_play.specs.Script.{StepValue, ScriptStep, Script}

@@ -7,7 +7,7 @@ use Rattle.ddcmp_msg.specs.Message.{MessageValue}
 use Rattle.capture.specs.declared.record.Record.{Record}
 use Rattle.capture.specs.declared.record.Record.TheVariants.{Sent}
 use Rattle.capture.specs.Range.{IsRecord}
-use Rattle.dna_node.specs.Rules.{judged}
+use Rattle.dna_node.specs.TagRules.{judged}
 use Rattle.dna_node.specs.Layers.{LayersTruth, LayersNode, LayersUnit, first_sent, sends_again}
 use Rattle.dna_node.specs.LayersPair.{layers_pair}
 use Rattle.dna_node.proofs.OnTop.{sent_by, OnTop, ByStation, ByLinks, Again, First, Receipt, Counted, Unheard, follows}

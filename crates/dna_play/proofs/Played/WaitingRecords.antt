@@ -8,7 +8,7 @@ use Rattle.dna_links.specs.Arriving.{of_anyone}
 use Rattle.dna_links.specs.Runs.{SentMessage}
 use Rattle.dna_links.specs.TrueSegments.{true_segments}
 use Rattle.dna_links.specs.TrueLinks.{Links}
-use Rattle.dna_node.specs.Rules.{by_bytes}
+use Rattle.dna_node.specs.TagRules.{by_bytes}
 use Rattle.dna_play.specs.Player.{makes, links_of}
 use Rattle.dna_links.proofs.Tables.Outcomes.{user_did, sent_did, arrived_did}
 use Rattle.dna_node.proofs.OnTop.{FirstSent, NoMessage, Message, IsMet, NotKept, KeptNone, KeptOne, OnTop, ByStation, ByLinks, Again, First, Receipt}

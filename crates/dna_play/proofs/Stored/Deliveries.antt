@@ -8,7 +8,7 @@ use Rattle.capture.specs.declared.event.Event.TheVariants as events
 use Rattle.capture.specs.declared.record.Record.{Record}
 use Rattle.capture.specs.declared.record.Record.TheVariants.{User}
 use Rattle.dna_links.specs.LookUps.{is_at}
-use Rattle.dna_links.specs.Pieces.{Piece, Whole, next_message, in_whole_messages}
+use Rattle.dna_links.specs.Segmentation.{Piece, Whole, next_message, in_whole_messages}
 use Rattle.dna_links.specs.Links.{LinkOf, changed, with_segments}
 use Rattle.dna_links.specs.User as of_links
 use Rattle.dna_links.specs.TrueSegments.{TrueSegments}

@@ -5,7 +5,7 @@ use Rattle.capture.specs.declared.record.Record.TheVariants.{Noise}
 use Rattle.ddcmp_msg.specs.Reading as read_as
 use Rattle.ddcmp_msg.specs.Reading.{ReadingValue, reading}
 use Rattle.dna_node.specs.Layers.{layers_machine}
-use Rattle.dna_node.specs.Rules.{by_bytes}
+use Rattle.dna_node.specs.TagRules.{by_bytes}
 use Rattle.dna_play.proofs.Ends.DamagedUnits.{ShownDamage, OfHeader, OfData, read_of, arrival_of}
 use Rattle.dna_play.proofs.Ends.Stage.{Stage, Known, station_stage}
 use Rattle.dna_play.proofs.Ends.StationStage.{damage_stage, arrived_packets}

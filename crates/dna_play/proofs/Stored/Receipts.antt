@@ -10,7 +10,7 @@ use Rattle.capture.specs.declared.limit.TheConstants.{MAX_HINT}
 use Rattle.capture.specs.declared.record.Record.{Record}
 use Rattle.capture.specs.declared.record.Record.TheVariants.{Received}
 use Rattle.dna_station.specs.declared.refusal.StationRefusal.TheVariants.{CrossedPeriod}
-use Rattle.dna_node.specs.Rules.{judged}
+use Rattle.dna_node.specs.TagRules.{judged}
 use Rattle.dna_station.specs.Book.{Sound, keep_refusal}
 use Rattle.dna_station.specs.Bounds.{IsWithin}
 use Rattle.dna_station.specs.Station.{Station}

@@ -16,7 +16,7 @@ use Rattle.dna_links.specs.declared.port.Phase.TheVariants.{Running}
 use Rattle.dna_links.specs.declared.port.LinkTest.{LinkTest}
 use Rattle.dna_links.specs.declared.port.LinkTest.TheVariants.{ActedOn}
 use Rattle.dna_links.specs.LookUps.{is_connected, is_at, has_both}
-use Rattle.dna_links.specs.Pieces.{Piece, in_whole_messages}
+use Rattle.dna_links.specs.Segmentation.{Piece, in_whole_messages}
 use Rattle.dna_links.specs.Links.{LinkOf, LinkTruth, check, number_of, at_number, changed, in_phase, with_segments}
 use Rattle.dna_links.specs.Arriving.{of_partner, is_of_pair, running, message_arrived}
 use Rattle.dna_links.specs.TrueSegments.{TrueSegments, Numbers, takes_segment, true_segments}

@@ -5,7 +5,7 @@ use Rattle.ddcmp_msg.specs.Reading.{ReadingValue}
 use Rattle.ddcmp_msg.specs.Reading as read_as
 use Rattle.ddcmp_msg.specs.declared.nak_reason.NakReason.TheVariants.{HeaderCheck, DataCheck}
 use Rattle.dna_station.specs.declared.tag.Tag.{Tag}
-use Rattle.dna_station.specs.Causes.{Causes, with_cause}
+use Rattle.dna_station.specs.NakCauses.{Causes, with_cause}
 use Rattle.dna_station.specs.Table.{Change, Nothing, change_of, Effect, row, counts_damage}
 use Rattle.dna_station.specs.Bounds.{IsOrdered, IsWithin}
 use Rattle.dna_station.specs.Book.{Sound, HeaderBad, DataBad, body_of}

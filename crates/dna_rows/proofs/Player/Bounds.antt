@@ -11,7 +11,7 @@ use Rattle.capture.specs.declared.event.Event.TheVariants as event
 use Rattle.dna_links.specs.declared.port.Phase.TheVariants.{Running}
 use Rattle.dna_station.specs.declared.state.State.TheVariants as states
 use Rattle.dna_node.specs.Layers.{LayersNode, LayersUnit}
-use Rattle.dna_links.specs.Pieces.{Piece, Unsent, next_piece}
+use Rattle.dna_links.specs.Segmentation.{Piece, Unsent, next_piece}
 use Rattle.dna_station.specs.WireStation.{HeldPacket, StationVariables}
 use Rattle.dna_play.specs.Script.{Start, Send, Deliver, Open, Accept}
 use Rattle.dna_play.specs.Owed.{Owed, arrival_debt}

@@ -6,7 +6,7 @@ use Rattle.dna_station.specs.declared.state.State.{State}
 use Rattle.dna_station.specs.declared.state.State.TheVariants.{Halted, Istrt, Astrt, Running}
 use Rattle.dna_station.specs.declared.tag.Tag.{Tag}
 use Rattle.dna_station.specs.Table.{Row, OfPair, ignored, Effect, GoTo, TakePartner, Respond, SetBack, TakePacket, AnswerRep, row}
-use Rattle.dna_station.specs.Rules.{is_period, meets}
+use Rattle.dna_station.specs.PeriodRule.{is_period, meets}
 use Rattle.dna_station.specs.Book.{has_packet}
 use Rattle.dna_station.specs.Station.{Station}
 use Rattle.dna_station.specs.Truth.{tag_of}

@@ -8,7 +8,7 @@ use Rattle.ddcmp_msg.specs.declared.nak_reason.NakReason.{NakReason}
 use Rattle.ddcmp_msg.specs.declared.nak_reason.NakReason.TheVariants.{HeaderCheck, DataCheck}
 use Rattle.dna_station.specs.declared.state.State.{State}
 use Rattle.dna_station.specs.Table.{WINDOW, Effect, GoTo, TakePartner, Respond, SetBack, TakePacket, AnswerRep, row, counts_damage}
-use Rattle.dna_station.specs.Rules.{of_period}
+use Rattle.dna_station.specs.PeriodRule.{of_period}
 use Rattle.dna_station.specs.Station.{Station, given}
 use Rattle.dna_station.specs.Truth.{Truth}
 use Rattle.dna_station.specs.Book.{ArrivalValue, Sound, HeaderBad, DataBad}

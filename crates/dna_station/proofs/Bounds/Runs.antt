@@ -4,7 +4,7 @@ use Rattle.two_nodes.specs.Nodes.{Half, World, Run}
 use Rattle.two_nodes.specs.Kept.{IsKept}
 use Rattle.capture.specs.declared.record.Record.{Record}
 use Rattle.dna_station.specs.declared.head.Head.{Head}
-use Rattle.dna_station.specs.Rules.{of_period}
+use Rattle.dna_station.specs.PeriodRule.{of_period}
 use Rattle.dna_station.specs.Line.{SentUnit}
 use Rattle.dna_station.specs.Node.{Node, new_node}
 use Rattle.dna_station.specs.Station.{new_station}

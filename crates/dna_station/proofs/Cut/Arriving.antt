@@ -7,9 +7,9 @@ use Rattle.ddcmp_msg.specs.Message.{MessageValue}
 use Rattle.ddcmp_msg.specs.declared.nak_reason.NakReason.{NakReason}
 use Rattle.ddcmp_msg.specs.declared.nak_reason.NakReason.TheVariants.{HeaderCheck, DataCheck, RepResponse, NoBuffer}
 use Rattle.dna_station.specs.declared.refusal.StationRefusal.TheVariants.{CrossedPeriod}
-use Rattle.dna_station.specs.Causes.{with_cause}
+use Rattle.dna_station.specs.NakCauses.{with_cause}
 use Rattle.dna_station.specs.Table.{Effect, GoTo, TakePartner, Respond, SetBack, TakePacket, AnswerRep, row, counts_damage}
-use Rattle.dna_station.specs.Rules.{PeriodRule}
+use Rattle.dna_station.specs.PeriodRule.{PeriodRule}
 use Rattle.dna_station.specs.Book.{Sound, HeaderBad, DataBad, num_of, body_of, has_packet, keep_refusal}
 use Rattle.dna_station.specs.Station.{Station, given, wire}
 use Rattle.dna_station.specs.Truth.{Truth}

@@ -8,7 +8,7 @@ use Rattle.dna_station.specs.declared.state.State.TheVariants.{Halted, Istrt, As
 use Rattle.dna_station.specs.declared.state.StationEvent.{StationEvent}
 use Rattle.dna_station.specs.declared.state.StationEvent.TheVariants.{Start, Halt}
 use Rattle.dna_station.specs.declared.tag.Tag.{Tag}
-use Rattle.dna_station.specs.Causes.{Causes, with_cause, without_cause}
+use Rattle.dna_station.specs.NakCauses.{Causes, with_cause, without_cause}
 use Rattle.dna_station.specs.Table.{Row, ignored, Effect, TakePacket, AnswerRep, row, counts_damage}
 use Rattle.dna_station.specs.Book.{ArrivalValue, Sound, HeaderBad, DataBad, num_of}
 use Rattle.dna_station.specs.WireStation.{WireStation, wire_after_event, load}

@@ -12,7 +12,7 @@ use Rattle.dna_station.specs.declared.state.StationEvent.TheVariants.{Start, Hal
 use Rattle.dna_station.specs.declared.refusal.StationRefusal.{StationRefusal}
 use Rattle.dna_station.specs.declared.refusal.StationRefusal.TheVariants.{CrossedPeriod}
 use Rattle.dna_station.specs.Table.{user_refusal, Change, SendPacket, change_of}
-use Rattle.dna_station.specs.Rules.{of_period}
+use Rattle.dna_station.specs.PeriodRule.{of_period}
 use Rattle.dna_station.specs.Book.{ArrivalValue, Sound, HeaderBad, DataBad, body_of, keep_refusal}
 use Rattle.dna_station.specs.Station.{Station, after_event}
 use Rattle.dna_station.specs.Truth.{Truth, tag_of}

@@ -11,7 +11,7 @@ use Rattle.capture.specs.declared.record.Record.TheVariants.{Received}
 use Rattle.dna_station.specs.declared.state.StationEvent.TheVariants.{Start, Halt}
 use Rattle.dna_station.specs.Station.{Station, PastPeriod, past, after_event}
 use Rattle.dna_station.specs.Delivery.{periods, taken_by_period, packet_in, in_last, with_period, delivered_by, delivered}
-use Rattle.dna_station.specs.Rules.{of_period}
+use Rattle.dna_station.specs.PeriodRule.{of_period}
 use Rattle.dna_station.specs.Truth.{Truth}
 use Rattle.dna_station.specs.Book.{ArrivalValue, HeaderBad, DataBad, Sound}
 use Rattle.dna_station.specs.StationBook.{after_sending, arrival_refusal, after_arrival}

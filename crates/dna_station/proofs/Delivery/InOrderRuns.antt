@@ -10,7 +10,7 @@ use Rattle.dna_station.specs.declared.head.Head.{Head}
 use Rattle.dna_station.specs.declared.state.StationEvent.TheVariants.{Start, Halt}
 use Rattle.dna_station.specs.Station.{Station, new_station, past, all_given, after_event}
 use Rattle.dna_station.specs.Delivery.{AreAmong, DeliversFrom, all_taken, periods, delivered, taken_by_period}
-use Rattle.dna_station.specs.Rules.{of_period}
+use Rattle.dna_station.specs.PeriodRule.{of_period}
 use Rattle.dna_station.specs.StationBook.{station_book, after_sending, after_arrival}
 use Rattle.dna_station.specs.Line.{SentUnit}
 use Rattle.dna_station.specs.Node.{Node, new_node}

@@ -13,7 +13,7 @@ use Rattle.dna_station.specs.declared.state.StationEvent.TheVariants.{Start, Hal
 use Rattle.dna_station.specs.Station.{Station, PastPeriod, past, given, wire, after_event}
 use Rattle.dna_station.specs.Delivery.{periods, in_last, with_period}
 use Rattle.dna_station.specs.Offered.{offers, present, offered_by, offered, given_by_period}
-use Rattle.dna_station.specs.Rules.{of_period}
+use Rattle.dna_station.specs.PeriodRule.{of_period}
 use Rattle.dna_station.specs.StationBook.{is_new, sending_refusal, after_sending, with_packet, after_arrival}
 use Rattle.dna_station.specs.Bounds.{IsOrdered}
 use Rattle.dna_station.specs.Line.{SentUnit}

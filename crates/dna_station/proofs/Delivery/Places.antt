@@ -9,7 +9,7 @@ use Rattle.ddcmp_msg.specs.Message.{MessageValue, Data}
 use Rattle.capture.specs.declared.record.Record.{Record}
 use Rattle.dna_station.specs.declared.state.StationEvent.TheVariants.{Start, Halt}
 use Rattle.dna_station.specs.Station.{Station, PastPeriod, past, packets_of, all_given, after_event}
-use Rattle.dna_station.specs.Rules.{of_period}
+use Rattle.dna_station.specs.PeriodRule.{of_period}
 use Rattle.dna_station.specs.Truth.{Truth}
 use Rattle.dna_station.specs.StationBook.{is_new, sending_refusal, after_sending, with_packet, truth_of, after_arrival}
 use Rattle.dna_station.specs.Delivery.{CarriesItsPacket}

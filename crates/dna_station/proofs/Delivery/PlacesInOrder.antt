@@ -16,7 +16,7 @@ use Rattle.capture.specs.declared.record.Record.TheVariants.{Sent, Received, Noi
 use Rattle.dna_station.specs.declared.head.Head.{Head}
 use Rattle.dna_station.specs.declared.state.StationEvent.TheVariants.{Start, Halt}
 use Rattle.dna_station.specs.Station.{Station, PastPeriod, past, packets_of, after_event}
-use Rattle.dna_station.specs.Rules.{of_period}
+use Rattle.dna_station.specs.PeriodRule.{of_period}
 use Rattle.dna_station.specs.Truth.{number_of, place_of}
 use Rattle.dna_station.specs.StationBook.{station_book, after_sending, after_arrival}
 use Rattle.dna_station.specs.Delivery.{periods}

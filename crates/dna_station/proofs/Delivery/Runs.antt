@@ -9,7 +9,7 @@ use Rattle.capture.specs.declared.record.Record.{Record}
 use Rattle.dna_station.specs.Station.{Station, PastPeriod, new_station, past}
 use Rattle.dna_station.specs.Delivery.{periods, IsDelivered, DeliversFrom}
 use Rattle.two_nodes.specs.Beginning.{BeginsWith}
-use Rattle.dna_station.specs.Rules.{of_period}
+use Rattle.dna_station.specs.PeriodRule.{of_period}
 use Rattle.dna_station.specs.Truth.{Truth}
 use Rattle.dna_station.specs.StationBook.{station_book, after_arrival}
 use Rattle.dna_station.specs.Line.{SentUnit}

@@ -14,7 +14,7 @@ use Rattle.dna_station.specs.declared.state.StationEvent.{StationEvent}
 use Rattle.dna_station.specs.declared.state.StationEvent.TheVariants.{Start, Halt}
 use Rattle.dna_station.specs.declared.refusal.StationRefusal.TheVariants.{CrossedPeriod}
 use Rattle.dna_station.specs.Table.{Change, Nothing, SendPacket, change_of, Effect, TakePartner, Respond, TakePacket, AnswerRep, row, counts_damage}
-use Rattle.dna_station.specs.Rules.{of_period}
+use Rattle.dna_station.specs.PeriodRule.{of_period}
 use Rattle.dna_station.specs.Station.{Station, PastPeriod, past, given, after_event}
 use Rattle.dna_station.specs.Delivery.{periods, IsDelivered}
 use Rattle.two_nodes.specs.Beginning.{BeginsWith}

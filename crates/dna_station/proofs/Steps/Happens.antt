@@ -20,7 +20,7 @@ use Rattle.dna_station.specs.declared.refusal.StationRefusal.{StationRefusal}
 use Rattle.dna_station.specs.declared.refusal.StepRefusal.{StepRefusal}
 use Rattle.dna_station.specs.declared.refusal.StepRefusal.TheVariants.{HintOrder}
 use Rattle.dna_station.specs.Table.{user_refusal, counts_damage}
-use Rattle.dna_station.specs.Rules.{PeriodRule}
+use Rattle.dna_station.specs.PeriodRule.{PeriodRule}
 use Rattle.dna_station.specs.Station.{after_event}
 use Rattle.dna_station.specs.Delivery.{begins}
 use Rattle.dna_station.specs.Truth.{Truth}

@@ -6,7 +6,7 @@ use Rattle.ddcmp_msg.specs.Message.{MessageValue}
 use Rattle.ddcmp_msg.specs.Reading.{ReadingValue, reading, Sound}
 use Rattle.capture.specs.declared.record.Record.TheVariants.{Sent, Received, Noise, User}
 use Rattle.dna_station.specs.declared.refusal.StepRefusal.{StepRefusal}
-use Rattle.dna_station.specs.Rules.{of_period}
+use Rattle.dna_station.specs.PeriodRule.{of_period}
 use Rattle.dna_station.specs.Line.{damage}
 use Rattle.dna_station.specs.Machine.{Machine, NodeOf, does, sends, sent_step, noise_comes, step, named_unit, is_sent, pair_of}
 use Rattle.dna_station.specs.Node.{station_machine}

@@ -5,7 +5,7 @@ ghost use Rattle.std.specs.List.{AllByRecursion};
 ghost use Rattle.dna_packet.specs.AckWord.{IsAckWord};
 ghost use Rattle.dna_packet.specs.Nsp.{segment_view};
 ghost use Rattle.dna_links.specs.SegmentBook.{distance};
-ghost use Rattle.dna_links.specs.Pieces.{next_message, piece_of};
+ghost use Rattle.dna_links.specs.Segmentation.{next_message, piece_of};
 ghost use Rattle.dna_links.specs.WireSegments.{highest_given};
 ghost use Rattle.link_segments.specs.Received.{next_length};
 ghost use Rattle.nsp_link.specs.FailedEvent.{is_whole};

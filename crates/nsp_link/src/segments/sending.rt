@@ -4,7 +4,7 @@ ghost use Rattle.std.specs.Prelude.{◌≡◌, ◌<◌, ◌+◌, ◌==◌, Ok, E
 ghost use Rattle.std.specs.List.{AllByRecursion};
 ghost use Rattle.dna_packet.specs.AckWord.{IsAckWord};
 ghost use Rattle.dna_packet.specs.Nsp.{segment_view};
-ghost use Rattle.dna_links.specs.Pieces.{piece_of};
+ghost use Rattle.dna_links.specs.Segmentation.{piece_of};
 ghost use Rattle.dna_links.specs.SegmentBook.{wire, distance};
 ghost use Rattle.dna_links.specs.WireSegments.{sends_acks, sends_segment, sends_new, sends_again, is_repeat, sending};
 ghost use Rattle.dna_links.specs.WireSegments as spec;

@@ -5,7 +5,7 @@ use Rattle.capture.specs.declared.event.Event.{Event}
 use Rattle.dna_station.specs.declared.refusal.StepRefusal.{StepRefusal}
 use Rattle.dna_station.specs.declared.tag.Tag.{Tag}
 use Rattle.dna_links.specs.declared.tag.LinkTag.{LinkTag}
-use Rattle.dna_station.specs.Rules.{PeriodRule, of_period, of_any_period}
+use Rattle.dna_station.specs.PeriodRule.{PeriodRule, of_period, of_any_period}
 use Rattle.dna_station.specs.Book.{ArrivalValue}
 use Rattle.dna_station.specs.Machine.{Machine}
 use Rattle.dna_station.specs.WireStation.{WireStation}
@@ -16,7 +16,7 @@ use Rattle.dna_node.specs.Alone.{EndOf, layers_end, station_end, unknown_tag}
 use Rattle.dna_node.specs.CutLayers.{cut_layers}
 use Rattle.dna_node.specs.Kind.{both_layers, stations_alone}
 use Rattle.dna_node.specs.Layers.{Layers}
-use Rattle.dna_node.specs.Rules.{judged}
+use Rattle.dna_node.specs.TagRules.{judged}
 use Rattle.dna_node.specs.WireLayers.{WireLayers, LayersTag, to_wire_station, wire_layers_machine, with_wire_station}
 use Rattle.pair_judge.specs.EndKind.{layers_alone, station_alone}
 use Rattle.pair_judge.specs.inner.Wire.{JudgeTop}

@@ -2,7 +2,7 @@
 
 ghost use Rattle.std.specs.Prelude.{◌≡◌, ◌+◌, ◌^◌, ◌<◌, ◌≤◌, Ok, Err, OnOk, OnErr, IfErr};
 ghost use Rattle.dna_node.specs.Content as spec;
-ghost use Rattle.dna_node.specs.Rules.{judged};
+ghost use Rattle.dna_node.specs.TagRules.{judged};
 ghost use Rattle.dna_station.specs.WireStation.{load};
 ghost use Rattle.dna_node.specs.WireLayers.{tag_or_none, wire_keeps_packet};
 ghost use Rattle.ddcmp_station.specs.Arrival.{arrival_view};

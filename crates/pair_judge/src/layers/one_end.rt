@@ -2,7 +2,7 @@
 
 ghost use Rattle.std.specs.Prelude.{◌≡◌, ◌+◌, ◌^◌, ◌<◌, ◌≤◌, Ok, Err, Some, OnOk, OnErr, IfErr};
 ghost use Rattle.dna_node.specs.Content as spec;
-ghost use Rattle.dna_node.specs.Rules.{by_bytes};
+ghost use Rattle.dna_node.specs.TagRules.{by_bytes};
 ghost use Rattle.dna_station.specs.WireStation.{load};
 ghost use Rattle.dna_node.specs.WireLayers.{of_no_link, wire_keeps_packet, wire_layers_machine};
 ghost use Rattle.ddcmp_station.specs.Arrival.{arrival_view};

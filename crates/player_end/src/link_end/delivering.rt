@@ -6,7 +6,7 @@ ghost use Rattle.capture.specs.declared.limit.TheConstants.{MAX_MESSAGE};
 ghost use Rattle.dna_packet.specs.AckWord.{IsAckWord};
 ghost use Rattle.dna_packet.specs.Nsp.{segment_view};
 ghost use Rattle.dna_links.specs.LookUps.{is_live};
-ghost use Rattle.dna_links.specs.Pieces.{in_whole_messages};
+ghost use Rattle.dna_links.specs.Segmentation.{in_whole_messages};
 ghost use Rattle.dna_play.specs.StoredLinks as kept;
 ghost use Rattle.player_end.specs.inner.Delivering.{bodies, lines_of, up_line, IsTooLong};
 ghost use Rattle.player_end.specs.Stepping.{Stopped};

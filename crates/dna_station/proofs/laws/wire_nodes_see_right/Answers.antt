@@ -2,7 +2,7 @@ use Rattle.std.proofs.Common.{[], refl, ap, ◌∙◌}
 use Rattle.two_nodes.specs.Nodes.{World, advance}
 use Rattle.two_nodes.specs.Cutting.{Commutes}
 use Rattle.two_nodes.proofs.Simulated.{seen_run, comes_of}
-use Rattle.dna_station.specs.Rules.{of_period}
+use Rattle.dna_station.specs.PeriodRule.{of_period}
 use Rattle.dna_station.specs.Pair.{pair, start}
 use Rattle.dna_station.specs.WireNode.{WireNode, WireUnit, wire_step, wire_pair, seen}
 use Rattle.dna_station.proofs.Bounds.Runs.{BothSound, both_sound_kept, start_sound, sound_bounded}

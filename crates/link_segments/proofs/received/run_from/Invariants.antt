@@ -1,5 +1,5 @@
 use Rattle.std.proofs.Common.{◌≡◌, ◌+◌, drop}
-use Rattle.dna_links.specs.Pieces.{in_order}
+use Rattle.dna_links.specs.Segmentation.{in_order}
 use Rattle.link_segments.proofs.received.run_from.Given as goal
 
 abbrev pub invariant-loop-place : goal.invariant-loop-place

@@ -1,5 +1,5 @@
 use Rattle.std.proofs.Common.{ℕ, sym, ap, ◌∙◌, ◌+◌, drop, arith}
-use Rattle.dna_links.specs.Pieces.{in_whole_messages}
+use Rattle.dna_links.specs.Segmentation.{in_whole_messages}
 use Rattle.link_segments.proofs.Arrived.{kept_or, whole_end, whole_on}
 use Rattle.link_segments.proofs.received.whole_messages.Goals as goal
 use Rattle.link_segments.proofs.received.whole_messages.Goals.{then-ends, else-ends}

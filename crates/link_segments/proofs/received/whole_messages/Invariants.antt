@@ -1,5 +1,5 @@
 use Rattle.std.proofs.Common.{◌≡◌, ◌≤◌, drop}
-use Rattle.dna_links.specs.Pieces.{in_whole_messages}
+use Rattle.dna_links.specs.Segmentation.{in_whole_messages}
 use Rattle.link_segments.proofs.Arrived.{kept_or}
 use Rattle.link_segments.proofs.received.whole_messages.Given as goal
 

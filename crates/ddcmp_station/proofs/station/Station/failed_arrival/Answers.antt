@@ -1,7 +1,7 @@
 use Rattle.std.proofs.Common.{sym, ap, ◌∙◌, option_map}
 use Rattle.ddcmp_msg.specs.Message.{view}
 use Rattle.dna_station.specs.Book.{Sound}
-use Rattle.dna_station.specs.Rules.{of_period}
+use Rattle.dna_station.specs.PeriodRule.{of_period}
 use Rattle.dna_station.specs.WireBook.{wire_arrival_refusal}
 use Rattle.ddcmp_station.specs.Arrival.{arrival_view}
 use Rattle.ddcmp_station.specs.Failed.{refusal_of_arrival}

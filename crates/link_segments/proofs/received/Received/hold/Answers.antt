@@ -1,5 +1,5 @@
 use Rattle.std.proofs.Common.{ap, arith, ◌+◌, ◌-◌}
-use Rattle.dna_links.specs.Pieces.{in_order}
+use Rattle.dna_links.specs.Segmentation.{in_order}
 use Rattle.link_segments.proofs.Arrived.{in_order-le, hold_order}
 use Rattle.link_segments.proofs.received.Received.hold.Goals as goal
 

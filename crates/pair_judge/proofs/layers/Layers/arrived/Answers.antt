@@ -1,7 +1,7 @@
 use Rattle.std.proofs.Common.{Ok, Err, sym, ap, ◌∙◌}
 use Rattle.std.specs.Option.{option_copied}
 use Rattle.ddcmp_station.specs.Arrival.{arrival_view}
-use Rattle.dna_node.specs.Rules.{judged}
+use Rattle.dna_node.specs.TagRules.{judged}
 use Rattle.pair_judge.proofs.Arrives.{arrives_kept, no_memory, on_ok, on_refusal, taken_may_keep}
 use Rattle.pair_judge.proofs.layers.Layers.arrived.Goals as goal
 

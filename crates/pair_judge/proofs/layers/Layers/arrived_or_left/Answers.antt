@@ -1,7 +1,7 @@
 use Rattle.std.proofs.Common.{Ok, sym, ap, ◌∙◌}
 use Rattle.std.specs.Option.{option_copied}
 use Rattle.ddcmp_station.specs.Arrival.{arrival_view}
-use Rattle.dna_node.specs.Rules.{judged}
+use Rattle.dna_node.specs.TagRules.{judged}
 use Rattle.pair_judge.proofs.Arrives.{if_refused}
 use Rattle.pair_judge.proofs.Meets.{meets_kept, meets_refused}
 use Rattle.pair_judge.proofs.layers.Layers.arrived_or_left.Goals as goal

@@ -1,7 +1,7 @@
 use Rattle.std.proofs.Common.{Some, Ok, Err, refl, sym, ap, ◌∙◌}
 use Rattle.std.specs.Option.{option_copied}
 use Rattle.ddcmp_station.specs.Arrival.{arrival_view}
-use Rattle.dna_node.specs.Rules.{by_bytes}
+use Rattle.dna_node.specs.TagRules.{by_bytes}
 use Rattle.dna_node.specs.WireLayers.{of_no_link}
 use Rattle.pair_judge.proofs.Arrives.{arrives_kept, on_ok, on_refusal}
 use Rattle.pair_judge.proofs.layers.Layers.arrived_unknown.Goals as goal

@@ -2,7 +2,7 @@ use Rattle.std.proofs.Common.{Some, refl, sym, ap, ◌∙◌}
 use Rattle.std.proofs.lemmas.Result.{IfErr-weaker}
 use Rattle.std.specs.Option.{option_copied}
 use Rattle.ddcmp_station.specs.Arrival.{arrival_view}
-use Rattle.dna_node.specs.Rules.{by_bytes}
+use Rattle.dna_node.specs.TagRules.{by_bytes}
 use Rattle.dna_node.specs.WireLayers.{of_no_link}
 use Rattle.pair_judge.proofs.Arrives.{on_ok}
 use Rattle.pair_judge.proofs.Meets.{meets_ok, meets_refused}

@@ -1,5 +1,5 @@
 use Rattle.std.proofs.Common.{ℕ, ◌∙◌, List, Option, drop, sym, ap, ap₂, arith, length, length-drop}
-use Rattle.dna_links.specs.Pieces.{Piece, in_whole_messages}
+use Rattle.dna_links.specs.Segmentation.{Piece, in_whole_messages}
 use Rattle.player_end.specs.inner.Delivering.{lines_of}
 use Rattle.link_segments.proofs.Arrived.{in_order-le}
 use Rattle.player_end.proofs.Delivered.{empty_counts, least_count, left_behind, lines_behind, no_more_lines, none_left, stops_at}

@@ -1,5 +1,5 @@
 use Rattle.std.proofs.Common.{◌≡◌, ◌+◌, ◌≤◌, drop, length}
-use Rattle.dna_links.specs.Pieces.{in_whole_messages}
+use Rattle.dna_links.specs.Segmentation.{in_whole_messages}
 use Rattle.player_end.specs.inner.Delivering.{lines_of}
 use Rattle.player_end.proofs.link_end.delivering.deliver_all.Given as goal
 
