@@ -1,4 +1,4 @@
-"""Captures of any length, for the scripts that measure the program and its growths of memory. Each `make(a, b, records)` writes the
+"""Captures of any length, for the scripts that measure the program and its allocations of memory. Each `make(a, b, records)` writes the
 captures of side a and of side b, with about that many records each, to two open files. What the users' messages hold is random with
 a fixed seed, the same in each run: a body that repeats is read at another speed than real data."""
 import random

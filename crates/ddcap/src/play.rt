@@ -22,7 +22,7 @@ const PLAYED: u8 = 0;
 /// where both captures have their heads and the records of all steps before it, and nothing where no head was read;
 /// `a: write failed` or `b: write failed`, status 3, where each capture has a beginning of those; or `out of memory`, status 3.
 /// A failed write to `out` or to `err` ends the printing, with status 3. The memory for the printed text is asked for first, so that
-/// no growth comes behind a write to `out` or `err`.
+/// no allocation comes behind a write to `out` or `err`.
 pub fn play_to<S: Read, A: Write, B: Write, O: Write, E: Write>(
     alloc: Global,
     script: &mut Tally<S>,

@@ -70,7 +70,7 @@ pub struct Found {
 /// answered, in whichever format they are spelled (`judged_in_any_format`).
 ///
 /// `Capture`: the line of that side departs from the format as named, and all records before it, with those of the other side that
-/// were made, are a run; or a read of that side failed. `OutOfMemory`: a growth was refused. At every answer but a failed read of a
+/// were made, are a run; or a read of that side failed. `OutOfMemory`: an allocation was refused. At every answer but a failed read of a
 /// side the count of its reader's failed calls stands as it stood. After any answer the readers have given what was read ahead,
 /// and nothing is said of the rest.
 ///

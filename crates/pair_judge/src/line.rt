@@ -46,7 +46,7 @@ impl Line {
     }
 
     /// One more unit was sent, with these bytes and tags. Its bytes take the memory of a unit that was let go, if one has room. `AllocError`
-    /// where there is none and a growth was refused, or there is no room for the unit; then the units are as they were.
+    /// where there is none and an allocation was refused, or there is no room for the unit; then the units are as they were.
     #[inline(always)]
     pub fn push(&mut self, alloc: Global, bytes: &[u8], tag: &UnitTag) -> Result<(), AllocError>
         requires { IsSoundReading (reading bytes.now) }

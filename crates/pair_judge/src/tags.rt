@@ -41,7 +41,7 @@ impl Tags {
         }
     }
 
-    /// The unit with this number, and those that follow it, have this tag. `AllocError` where a growth was refused; then nothing changed.
+    /// The unit with this number, and those that follow it, have this tag. `AllocError` where an allocation was refused; then nothing changed.
     #[inline(always)]
     pub fn push(&mut self, number: u64, tag: &Tag) -> Result<(), AllocError>
         requires { behind self.old.older.items ≤ number }

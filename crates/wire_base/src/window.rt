@@ -10,7 +10,7 @@ use std::alloc::{AllocError, Global};
 pub enum PushFault {
     /// It holds as many items as it may.
     Full,
-    /// There was room in the window, and a growth of its memory was refused.
+    /// There was room in the window, and an allocation of its memory was refused.
     OutOfMemory,
 }
 
@@ -58,7 +58,7 @@ pub trait Window<T, const M: u16> {
         ensures { window self.new ≡ empty_from (window self.old).capacity first.entry };
 
     /// Appends an item. A refused one comes back, and nothing changes: `Full` where the window holds as many items as it
-    /// may, and only there; `OutOfMemory` where a growth was refused.
+    /// may, and only there; `OutOfMemory` where an allocation was refused.
     fn push(&mut self, item: T) -> Result<(), (T, PushFault)>
         ensures ok { OnOk result (window self.new ≡ pushed (window self.old) item) }
         ensures err { IfErr result (λ refused. (refused.0 ≡ item) × (window self.new ≡ window self.old)) }

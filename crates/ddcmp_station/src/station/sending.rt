@@ -46,7 +46,7 @@ impl<T: Copy, W: Window<HeldPacket<T>, 256>> Station<T, W> {
     /// - `WindowFull`: a new packet while 255 are not acknowledged.
     /// - `Changed`: a packet that is sent again has other data than at first.
     ///
-    /// `OutOfMemory`, after all of these and for a new number alone: a growth was refused. After any of them the station is as it
+    /// `OutOfMemory`, after all of these and for a new number alone: an allocation was refused. After any of them the station is as it
     /// was.
     #[tactic(auto, using(crate::proofs::Sendable::sendable))]
     #[inline(always)]

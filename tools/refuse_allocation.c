@@ -1,6 +1,6 @@
 /* A library to preload: the Nth call of malloc, calloc or realloc that asks for memory answers that there is none,
- * N being the number in REFUSE_GROWTH. With no number, or 0, none is refused. Calls before main count too. Where
- * COUNT_GROWTHS names a file, the number of calls is written there when the program exits. */
+ * N being the number in REFUSE_ALLOCATION. With no number, or 0, none is refused. Calls before main count too. Where
+ * COUNT_ALLOCATIONS names a file, the number of calls is written there when the program exits. */
 #define _GNU_SOURCE
 #include <dlfcn.h>
 #include <errno.h>
@@ -18,7 +18,7 @@ static long calls = 0;
 static int refused(void) {
   calls += 1;
   if (left < 0) {
-    const char *number = getenv("REFUSE_GROWTH");
+    const char *number = getenv("REFUSE_ALLOCATION");
     left = number ? strtol(number, NULL, 10) : 0;
   }
   if (left == 0) return 0;
@@ -33,7 +33,7 @@ void *calloc(size_t count, size_t size) { return refused() ? NULL : __libc_callo
 void *realloc(void *old, size_t size) { return refused() ? NULL : __libc_realloc(old, size); }
 
 __attribute__((destructor)) static void tell(void) {
-  const char *path = getenv("COUNT_GROWTHS");
+  const char *path = getenv("COUNT_ALLOCATIONS");
   long counted = calls;
   FILE *file = path ? fopen(path, "w") : NULL;
   if (!file) return;
