@@ -12,7 +12,7 @@ use crate::line_words::{put_link, put_links, put_message, put_receipt, put_unit}
 use std::alloc::AllocError;
 
 /// Puts the line of the record of this entry and these bytes, at most 65,535, with its LF, behind a text. Bytes beside an entry whose line has no
-/// BYTES are not looked at. `AllocError` where an allocation of the text was refused; the text may then have a beginning of the line.
+/// BYTES are not looked at. `AllocError` where an allocation for the text was refused; the text may then have a beginning of the line.
 ///
 /// `Received { kept: true, hint: 3 }` and one byte 5 are the line `k 3 05`.
 pub fn put_line(text: &mut Vec<u8>, entry: Entry, bytes: &[u8]) -> Result<(), AllocError>

@@ -153,7 +153,7 @@ pub fn put_head_line(
 }
 
 /// Puts the words of a capture's head, in this format and of these node addresses (the area times 1,024, plus the node), without its LF,
-/// behind a text. `AllocError` where an allocation of the text was refused; the text may then have a beginning of the words.
+/// behind a text. `AllocError` where an allocation for the text was refused; the text may then have a beginning of the words.
 ///
 /// Format 1, 1025 and 1026 are the words `ddcap 1 1.1 1.2`.
 pub fn put_head(line: &mut Vec<u8>, format: Format, own: u16, peer: u16) -> Result<(), AllocError>

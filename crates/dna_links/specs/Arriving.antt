@@ -11,7 +11,8 @@ use Rattle.dna_links.specs.declared.port.Phase.TheVariants.{Called, Running}
 use Rattle.dna_links.specs.declared.port.LinkTest.TheVariants.{TheLink, LiveTo, CallingAt, ActedOn}
 use Rattle.dna_links.specs.LookUps.{is_at}
 use Rattle.dna_links.specs.SegmentBook.{SegmentBook}
-use Rattle.dna_links.specs.Links.{LinkOf, LinksOf, Carried, LinkTruth, check, goes, with_link, begun, changed, in_phase, with_segments, ended}
+use Rattle.dna_links.specs.PacketAddresses.{goes}
+use Rattle.dna_links.specs.Links.{LinkOf, LinksOf, Carried, LinkTruth, check, with_link, begun, changed, in_phase, with_segments, ended}
 
 -- ---- the rule on partners
 
@@ -83,7 +84,7 @@ module _ {D K : Type 0} (book : SegmentBook D K) (rule : PartnerRule) where
   -- CC: DSTADDR in Calling: for this link, else 25; to RUN. Else ignored
   message_arrived s (ConnectConfirm dst src services info segsize user_data) truth = with_link (CallingAt dst) s (Ok s) (λ number link.
       check (rule (is_for number truth.tag)) CrossedLink (Ok (changed number (confirmed src segsize truth.tag link) s)))
-  -- DI, DC: whichever live link has the addresses is ended. Else ignored
+  -- DI, DC: the live link with both addresses is ended, or the one in Calling with DSTADDR. Else ignored
   message_arrived s (DisconnectInitiate dst src reason user_data) truth = Ok (ends_link dst src s)
   message_arrived s (DisconnectConfirm dst src reason) truth = Ok (ends_link dst src s)
   -- segment, data ack: acted on, with their numbers

@@ -1,5 +1,5 @@
--- The segments of a link on true numbers, cut to what a node keeps of a live one. What holds of their own numbers, and of the numbers of what
--- comes, is what makes numbers modulo 4,096 tell all.
+-- The segments of a link on true numbers, cut to what a node keeps of those of a live link. What holds of their own numbers, and of the numbers
+-- of what comes, is what makes numbers modulo 4,096 tell all.
 use Rattle.std.specs.Prelude.{◌≡◌, ℕ, ◌+◌, ◌≤◌, nat_le, if◌then◌else◌, List, [], ◌∷◌, map, drop, Result, Ok, Err}
 use Rattle.dna_packet.specs.declared.ack_word.AckWord.{AckWord}
 use Rattle.dna_station.specs.declared.link_refusal.LinkRefusal.{LinkRefusal}
@@ -26,7 +26,7 @@ abbrev pub cut_sending : Result (Sending TrueSegments Numbers) LinkRefusal → R
 cut_sending (Ok sent) = Ok (record { segments = cut sent.segments; known = tt })
 cut_sending (Err reason) = Err reason
 
--- Their own numbers are in order: what is acknowledged was given, and at most 2,047 are outstanding; what was acknowledged to the
+-- The segments' own numbers are in order: what is acknowledged was given, and at most 2,047 are outstanding; what was acknowledged to the
 -- partner was received, and so was what is delivered
 pub record IsOrdered (f : TrueSegments) : Type 0 where
   pub given : f.acknowledged ≤ highest_given f

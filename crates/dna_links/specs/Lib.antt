@@ -5,6 +5,7 @@ pub mod SegmentBook
 -- the links and their three tables
 pub mod Links
 pub mod User
+pub mod PacketAddresses
 pub mod Sending
 pub mod Arriving
 -- segments and links on true numbers, and as a program keeps them

@@ -1,9 +1,8 @@
 -- The logical links of one node, over any book of their segments (NSP 4.0, ports). What the user does stands in `User`, what may be sent in
 -- `Sending`, what an arrival does in `Arriving`.
-use Rattle.std.specs.Prelude.{ℕ, Bool, true, false, ◌&&◌, ◌==◌, Option, Some, None, List, [], ◌∷◌, ◌++◌, slice_get, slice_set, position, Result, Err}
+use Rattle.std.specs.Prelude.{ℕ, Bool, true, false, Option, Some, None, List, [], ◌∷◌, ◌++◌, slice_get, slice_set, position, Result, Err}
 use Rattle.dna_packet.specs.Nsp.{NspValue}
 use Rattle.dna_station.specs.declared.link_refusal.LinkRefusal.{LinkRefusal}
-use Rattle.dna_station.specs.declared.link_refusal.LinkRefusal.TheVariants.{WrongNode}
 use Rattle.dna_links.specs.declared.tag.LinkTag.{LinkTag}
 use Rattle.dna_links.specs.declared.port.Phase.{Phase}
 use Rattle.dna_links.specs.declared.port.Phase.TheVariants.{Ended}
@@ -44,10 +43,6 @@ pub record LinkTruth (K : Type 0) : Type 0 where
 abbrev pub check : {R : Type 0} → Bool → LinkRefusal → Result R LinkRefusal → Result R LinkRefusal
 check true refusal next = next
 check false refusal next = Err refusal
-
--- from the one node to the other, else 16
-abbrev pub goes : {R : Type 0} → Carried → (src dst : ℕ) → Result R LinkRefusal → Result R LinkRefusal
-goes packet src dst next = check (packet.src == src && packet.dst == dst) WrongNode next
 
 module _ {D : Type 0} where
   -- before any record

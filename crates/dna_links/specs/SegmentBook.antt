@@ -9,7 +9,7 @@ use Rattle.dna_packet.specs.declared.ack_word.AckWord.{AckWord}
 use Rattle.dna_packet.specs.Nsp.{SegmentValue}
 use Rattle.dna_station.specs.declared.link_refusal.LinkRefusal.{LinkRefusal}
 
--- how many segments may be outstanding; no repeat, and no acknowledgement in one, reaches further back
+-- how many segments may be outstanding, and how far back one that is sent again, or an acknowledgement in it, may reach
 abbrev pub REACH : ℕ
 REACH = 2047
 

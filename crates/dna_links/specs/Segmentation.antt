@@ -63,6 +63,8 @@ abbrev pub has_more : List (List ℕ) → Bool
 has_more [] = false
 has_more (message ∷ later) = true
 
+-- ---- how the player cuts; a judge takes any pieces
+
 -- SEGSIZE: how many data bytes a segment of the player carries at most
 abbrev pub SEGSIZE : ℕ
 SEGSIZE = 512

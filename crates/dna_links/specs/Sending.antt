@@ -10,7 +10,8 @@ use Rattle.dna_links.specs.declared.port.LinkTest.{LinkTest}
 use Rattle.dna_links.specs.declared.port.LinkTest.TheVariants.{TheLink, OpenedAt, CalledBy, BegunBy}
 use Rattle.dna_links.specs.LookUps.{is_calling, is_confirming, is_running, is_disconnecting}
 use Rattle.dna_links.specs.SegmentBook.{SegmentBook, Sending}
-use Rattle.dna_links.specs.Links.{LinkOf, LinksOf, Carried, LinkTruth, check, goes, with_link, changed, with_segments, ended}
+use Rattle.dna_links.specs.PacketAddresses.{goes}
+use Rattle.dna_links.specs.Links.{LinkOf, LinksOf, Carried, LinkTruth, check, with_link, changed, with_segments, ended}
 
 -- what a message that may be sent makes of the links, and what is true of it
 pub record Sent (D K : Type 0) : Type 0 where
@@ -58,13 +59,13 @@ module _ {D K : Type 0} (book : SegmentBook D K) where
   segment_of segment link = book.sends_segment link.segsize segment link.segments
 
   abbrev pub message_sent : LinksOf D → NspValue → Result (Sent D K) LinkRefusal
-  -- CI, new or sent again: a live link opened here has SRCADDR, else 18; in Calling, else 19
+  -- CI, new or sent again: a live link opened here has SRCADDR, else 18; in phase Calling, else 19
   message_sent s (ConnectInitiate retransmitted src services info segsize user_data) = in_its_phase (OpenedAt src) is_calling s
   -- connect ack: a live link that a CI began has the far address DSTADDR, else 18
   message_sent s (ConnectAck dst) = with_link (BegunBy dst) s (Err NoLink) (λ number link. Ok (unchanged s number link))
-  -- CC: the link, else 18; in Confirming, else 19
+  -- CC: the link, else 18; in phase Confirming, else 19
   message_sent s (ConnectConfirm dst src services info segsize user_data) = in_its_phase (TheLink src dst) is_confirming s
-  -- DI: the link, else 18; in DI, else 19
+  -- DI: the link, else 18; in phase DI, else 19
   message_sent s (DisconnectInitiate dst src reason user_data) = in_its_phase (TheLink src dst) is_disconnecting s
   -- DC: no live link has the two addresses, else 19
   message_sent s (DisconnectConfirm dst src reason) = with_link (TheLink src dst) s (Ok (confirms_end s src dst)) (λ number link. Err LinkState)

@@ -128,7 +128,8 @@ acks_named (Some names) f = Ok (sending 0 names f (record f { last = names.last 
 abbrev pub sends_acks : List AckWord → TrueSegments → Result (Sending TrueSegments Numbers) LinkRefusal
 sends_acks words f = acks_named (all_named false (highest_received f) words f.last) f
 
--- SEGNUM = S + 1 is new: with 2,047 outstanding 23; longer than the partner takes 22; it is the next piece of what was handed in, else 20
+-- SEGNUM one above the highest given is new: with 2,047 outstanding 23; longer than the partner takes 22; it is the next piece of what was
+-- handed in, else 20
 abbrev pub sends_new : (segsize : ℕ) → Piece → Named → TrueSegments → Result (Sending TrueSegments Numbers) LinkRefusal
 sends_new segsize p names f =
     check (nat_lt (highest_given f - f.acknowledged) REACH) LinkWindowFull
@@ -179,7 +180,7 @@ with_segment number p f = record f { received = hold (number - 1) p f.received }
 abbrev pub takes_segment : SegmentValue → Numbers → TrueSegments → TrueSegments
 takes_segment s known f = with_segment known.segment (piece_of s) (takes_acks s.acks known f)
 
--- ---- the segments; an end changes nothing, and no list is ever cut
+-- ---- the book; an end changes nothing, and no list is ever cut
 
 abbrev pub unchanged : TrueSegments → TrueSegments
 unchanged f = f

@@ -1,5 +1,5 @@
 -- The segments of one link as a node keeps them: numbers modulo 4,096, what is not given, what is not acknowledged, what is not
--- delivered, and of a message its bytes alone. Its steps are those of `TrueSegments` made on that. They have to agree with those where an
+-- delivered, and of a message its bytes alone. Their steps are those of `TrueSegments` made on that. They have to agree with those where an
 -- arriving segment is at most 2,047 from the highest received, an arriving acknowledgement at most 2,047 below the highest acknowledged
 -- and not above the highest given, and the highest received at most 2,047 above the last acknowledgement sent.
 use Rattle.std.specs.Prelude.{ℕ, ◌+◌, ◌-◌, Bool, true, false, ◌&&◌, ◌||◌, not, ◌==◌, nat_lt, nat_le, if◌then◌else◌, Option, Some, None, List, [], ◌∷◌}
@@ -27,7 +27,7 @@ pub record LinkVariables : Type 0 where
   -- the segments received, from the first that is not delivered on; None for each that is missing
   pub pieces : List (Option Piece)
 
--- and what the judge keeps of it besides
+-- and what the judge keeps of them besides
 pub record WireSegments : Type 0 where
   pub variables : LinkVariables
   -- whether the highest number given has reached 2,047
@@ -48,7 +48,7 @@ with_pieces_alone pieces = record {
 abbrev pub empty : WireSegments
 empty = with_pieces_alone []
 
--- S, the highest number given, modulo 4,096
+-- the highest number given, modulo 4,096
 abbrev pub highest_given : LinkVariables → ℕ
 highest_given k = wire (k.acknowledged + length k.outstanding)
 

@@ -23,7 +23,7 @@ pub fn cut_segments()
     ensures hands_in { (f : TrueSegments) (message : List ℕ) → cut (on_true.hands_in message f) ≡ on_wire.hands_in message (cut f) }
     ensures delivers { (f : TrueSegments) (message : List ℕ) → option_map cut (on_true.delivers message f) ≡ on_wire.delivers message (cut f) }
 
-    // What is sent, where the segments' own numbers are in order and its last acknowledgement is at most 2,047 below the highest received.
+    // What is sent, where the segments' own numbers are in order and the last acknowledgement sent is at most 2,047 below the highest received.
     ensures sends_acks { (f : TrueSegments) (words : List AckWord) → IsOrdered f → IsAnswered f
         → cut_sending (on_true.sends_acks words f) ≡ on_wire.sends_acks words (cut f) }
     ensures sends_segment { (f : TrueSegments) (segsize : ℕ) (s : SegmentValue) → IsOrdered f → IsAnswered f

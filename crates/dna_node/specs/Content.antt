@@ -1,5 +1,5 @@
 -- What a packet carries for the links of a node (Routing Layer 2.0, packet formats). Routing control packets and packets that are marked returned
--- are carried and not read.
+-- are carried and not read: this project's own.
 use Rattle.std.specs.Prelude.{ℕ, ◌/◌, ◌%◌, Bool, ◌==◌, if◌then◌else◌, Option, Some, None, List, Result, Ok, Err}
 use Rattle.capture.specs.declared.event.Event.{Event}
 use Rattle.capture.specs.declared.event.Event.TheVariants as events

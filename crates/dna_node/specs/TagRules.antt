@@ -1,4 +1,4 @@
--- Both rules that a judge of two captures asks and no node of the pair can see: on periods (`Rules` of the station), and on partners (`Arriving`
+-- Both rules that a judge of two captures asks and no node of the pair can see: on periods (`PeriodRule` of the station), and on partners (`Arriving`
 -- of the links), a message of the links that is acted on is of this pair of links.
 use Rattle.dna_station.specs.PeriodRule.{PeriodRule, of_period, of_any_period}
 use Rattle.dna_links.specs.Arriving.{PartnerRule, of_partner, of_anyone}

@@ -24,7 +24,8 @@ abbrev pub IsControl : List ℕ → Type 0
 IsControl [] = ⊥
 IsControl (first ∷ rest) = (first < 128) × (first % 2 ≡ 1)
 
--- The limits beyond those of the fields' types: of RTFLG, bit 7 is clear and the low three bits are 010.
+-- The limits beyond those of the fields' types: of RTFLG, bit 7 is clear and the low three bits are 010. Bits 3, 5 and 6 and FORWARD are carried
+-- and not judged: this project's own.
 abbrev pub IsInRange : PacketValue → Type 0
 IsInRange (Data rtflg dst src forward nsp) = (rtflg < 128) × (rtflg % 8 ≡ 2)
 IsInRange (Control bytes) = IsControl bytes

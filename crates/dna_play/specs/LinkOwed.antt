@@ -12,7 +12,8 @@ use Rattle.dna_links.specs.TrueSegments.{TrueSegments}
 use Rattle.dna_links.specs.WireSegments.{LinkVariables}
 use Rattle.dna_links.specs.CutSegments.{cut}
 
--- What a link has to send: the six kinds, in the order in which they go
+-- What a link has to send: the six kinds, in the order in which they go. Each belongs to one phase alone: Called, Calling, Confirming, DI, and the
+-- last two to RUN
 pub data Duty : Type 0 where
   ConnectAckDuty : Duty
   InitiateDuty : Duty
@@ -21,7 +22,7 @@ pub data Duty : Type 0 where
   DataAckDuty : Duty
   SegmentDuty : Duty
 
--- each belongs to one phase alone: Called, Calling, Confirming, DI, and RUN twice
+-- which of them are owed; a segment is, where there is one to be sent
 pub record LinkOwed : Type 0 where
   pub connect_ack : Bool
   pub initiate : Bool

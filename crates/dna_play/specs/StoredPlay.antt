@@ -167,6 +167,7 @@ receives e bytes read kept = if nat_le e.passed MAX_HINT
 abbrev pub comes : StoredEnd → (buffer : Bool) → List ℕ → Result StoredStepped Stop
 comes e buffer bytes = receives e bytes (reading bytes) (stations.keeps buffer (reading bytes) e.station)
 
+-- as in `Play`: no script has so many steps that its units pass the last hint
 abbrev pub loses : StoredEnd → Result StoredStepped Stop
 loses e = if nat_le e.passed MAX_HINT then silent (record e { passed = e.passed + 1 }) else Err BadStep
 

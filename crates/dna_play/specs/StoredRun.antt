@@ -25,8 +25,8 @@ stored_stepped own (Ok made) =
 stored_stepped own (Err stop) = Err stop
 
 -- the step is the same of both
-abbrev pub IsKept : End → Half LayersNode LayersUnit → StepValue → Type 0
-IsKept own other step = stored_stepped own (plays own other step) ≡ stored_plays (stored own) (coming own other) step
+abbrev pub IsStored : End → Half LayersNode LayersUnit → StepValue → Type 0
+IsStored own other step = stored_stepped own (plays own other step) ≡ stored_plays (stored own) (coming own other) step
 
 -- ---- both ends
 

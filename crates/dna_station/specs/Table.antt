@@ -1,7 +1,8 @@
 -- The rules of a DDCMP station, as tables to be laid beside the standard (DDCMP 4.1, startup state table, data transfer). What a check and an
 -- effect mean stands in `StationBook` on true numbers and in `WireBook` on numbers modulo 256; how the rows are gone by stands in `Book`. R is the
 -- last number received in order, N the highest given, A the highest acknowledged, T the next to send. Numbers in brackets are those of
--- reasons.
+-- reasons. A period is what lies between two starts of a station, and its partner the period of the other station that it talks to; both are
+-- this project's own. Whether a station answers, as a STACK or a REP with an ACK, is not judged: each row says what it takes note of.
 use Rattle.std.specs.Prelude.{ℕ, Bool, true, false, ◌==◌, if◌then◌else◌, Option, Some, None, List, [], ◌∷◌}
 use Rattle.ddcmp_msg.specs.Message.{MessageValue, Data, Ack, Nak, Rep, Strt, Stack}
 use Rattle.dna_station.specs.declared.state.State.{State}
@@ -84,10 +85,10 @@ pub data Needs : Type 0 where
 pub data Effect : Type 0 where
   GoTo : State → Effect
   TakePartner : Effect  -- the partner is the message's period
-  Respond : Effect  -- RESP, if it lies above A and at most N, sets A = RESP and T to the greater of T and A + 1
+  Respond : Effect  -- if RESP lies above A and at most N: A = RESP, and T is the greater of T and A + 1
   SetBack : Effect  -- T = A + 1
-  TakePacket : Effect  -- NUM = R + 1: where the packet was kept it is taken and R rises, where it was not there is one more cause 8
-  AnswerRep : Effect  -- NUM is not R: one more cause 3
+  TakePacket : Effect  -- if NUM = R + 1: where the packet was kept it is taken and R rises, where it was not there is one more cause 8
+  AnswerRep : Effect  -- if NUM is not R: one more cause 3
 
 pub record Row : Type 0 where
   pub needs : Needs

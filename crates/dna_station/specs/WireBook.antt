@@ -27,7 +27,7 @@ partner_after tag partner effect = partner
 module _ {L : Type 0} where
   -- ---- checks
 
-  -- all held packets come before the next to send, so that is new
+  -- T is new: no packet that is held has this number
   abbrev pub wire_is_new : StationVariables L → Bool
   wire_is_new k = k.ahead == length k.held
 

@@ -4,10 +4,10 @@ pub mod FailedArrival
 pub mod FailedEvent
 pub mod FailedSending
 pub mod Fault
-pub mod Segments
 pub mod Given
 pub mod Missing
 pub mod PartnerRules
 pub mod Phases
+pub mod Segments
 pub mod View
 pub mod inner

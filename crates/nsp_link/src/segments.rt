@@ -28,7 +28,7 @@ use std::marker::Model;
 use wire_base::{Seq, Window};
 
 /// The segments of one link, both ways: what was handed in and is not given, what is given and not acknowledged, what is received and
-/// not delivered, and the last acknowledgement sent. Its numbers are kept modulo 4,096.
+/// not delivered, and the last acknowledgement sent. Their numbers are kept modulo 4,096.
 #[derive(Drop)]
 pub struct Segments<W: Window<Piece, 4096> + Drop> {
     unsent: Unsent,
@@ -75,7 +75,7 @@ impl<W: Window<Piece, 4096> + Drop> Segments<W> {
         }
     }
 
-    /// What it has given.
+    /// What of them is given.
     pub fn given(&self) -> Given
         ensures given { result ≡ given_of self.now }
         ensures below { result.acknowledged < 4096 }

@@ -37,7 +37,7 @@ use wire_base::{Side, Tally};
 /// rule in it, or the other end did in what came. No such capture is a side of a run, whatever the other one is (`refused_alone_is_final`).
 ///
 /// `Departs`: the line departs from the format as named, and all records before it were made. `Read`: a read failed; at any other answer
-/// the count of the reader's failed calls stands. `OutOfMemory`: an allocation was refused, of a reader's block or its room for bytes, the station's
+/// the count of the reader's failed calls stands. `OutOfMemory`: an allocation was refused, for a reader's block or its room for bytes, the station's
 /// window, a packet, a link, a message that was handed in, or a segment that is held.
 pub fn judge_end<R: Read>(alloc: Global, a: &mut Tally<R>) -> Result<EndVerdict, CaptureFault>
     ensures judged { IsJudgedAlone layers_alone (R.remaining (tally_lent a.old)) result }

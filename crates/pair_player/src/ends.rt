@@ -3,7 +3,7 @@
 ghost use Rattle.std.specs.Prelude.{◌≡◌, [], true, false, Ok, Err, drop, OnOk, IfOk, IfErr};
 ghost use Rattle.dna_play.specs.Receipt.{damaged, is_damage};
 ghost use Rattle.dna_play.specs.StoredPlay.{stored_plays};
-ghost use Rattle.dna_play.specs.StoredPlay as kept;
+ghost use Rattle.dna_play.specs.StoredPlay as stored;
 ghost use Rattle.dna_play.specs.StoredPlayed.{stored_plays_step, new_pair};
 ghost use Rattle.pair_player.specs.Step.{step_with, view_of_line};
 ghost use Rattle.player_end.specs.Stepping.{HasUnit, StopMeans, with_lines};
@@ -139,8 +139,8 @@ fn step_of(
 // The end sends a unit, which goes on the line.
 #[tactic(auto, using(crate::proofs::NextUnit::sent_something))]
 fn send(end: &mut RingEnd, going: &mut Line, text: &mut Vec<u8>) -> Result<(), StepFault>
-    ensures ok { OnOk result (sends going.old text.old.items (kept.sends end.old) ≡ Ok (end.new, going.new, text.new.items)) }
-    ensures stop { IfErr result (λ fault. StopMeans (kept.sends end.old) fault) }
+    ensures ok { OnOk result (sends going.old text.old.items (stored.sends end.old) ≡ Ok (end.new, going.new, text.new.items)) }
+    ensures stop { IfErr result (λ fault. StopMeans (stored.sends end.old) fault) }
     ensures memory { result ≡ Err StepFault.OutOfMemory → HasUnit end.old }
 {
     let unit = end.send(text)?;
@@ -158,10 +158,10 @@ fn deliver(
     buffer: bool,
     text: &mut Vec<u8>,
 ) -> Result<(), StepFault>
-    ensures ok { OnOk result (with_lines text.old.items (kept.with_next coming.old (kept.comes end.old buffer))
+    ensures ok { OnOk result (with_lines text.old.items (stored.with_next coming.old (stored.comes end.old buffer))
         ≡ Ok (end.new, [], text.new.items)) }
     ensures left { coming.new ≡ drop 1 coming.old }
-    ensures stop { IfErr result (λ fault. StopMeans (kept.with_next coming.old (kept.comes end.old buffer)) fault) }
+    ensures stop { IfErr result (λ fault. StopMeans (stored.with_next coming.old (stored.comes end.old buffer)) fault) }
     ensures memory { result ≡ Err StepFault.OutOfMemory → CanCome end.old coming.old }
 {
     let Some(unit) = coming.pop() else {
@@ -173,9 +173,9 @@ fn deliver(
 // The next unit on the line is lost.
 #[tactic(auto, using(crate::proofs::NextUnit::next_units))]
 fn lose(end: &mut RingEnd, coming: &mut Line) -> Result<(), StepFault>
-    ensures ok { OnOk result (kept.with_next coming.old (λ bytes. kept.loses end.old) ≡ kept.silent end.new) }
+    ensures ok { OnOk result (stored.with_next coming.old (λ bytes. stored.loses end.old) ≡ stored.silent end.new) }
     ensures left { coming.new ≡ drop 1 coming.old }
-    ensures stop { IfErr result (λ fault. StopMeans (kept.with_next coming.old (λ bytes. kept.loses end.old)) fault) }
+    ensures stop { IfErr result (λ fault. StopMeans (stored.with_next coming.old (λ bytes. stored.loses end.old)) fault) }
     ensures memory { result ≡ Err StepFault.OutOfMemory → ⊥ }
 {
     let Some(_unit) = coming.pop() else {
@@ -194,10 +194,10 @@ fn deliver_damaged(
     value: u64,
     text: &mut Vec<u8>,
 ) -> Result<(), StepFault>
-    ensures ok { OnOk result (with_lines text.old.items (kept.with_next coming.old (kept.comes_damaged end.old place value))
+    ensures ok { OnOk result (with_lines text.old.items (stored.with_next coming.old (stored.comes_damaged end.old place value))
         ≡ Ok (end.new, [], text.new.items)) }
     ensures left { coming.new ≡ drop 1 coming.old }
-    ensures stop { IfErr result (λ fault. StopMeans (kept.with_next coming.old (kept.comes_damaged end.old place value)) fault) }
+    ensures stop { IfErr result (λ fault. StopMeans (stored.with_next coming.old (stored.comes_damaged end.old place value)) fault) }
     ensures memory { result ≡ Err StepFault.OutOfMemory → CanBeHurt end.old coming.old place value }
 {
     let Some(unit) = coming.pop() else {

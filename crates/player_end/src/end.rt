@@ -2,7 +2,7 @@
 
 ghost use Rattle.std.specs.Prelude.{◌≡◌, Err, OnOk, IfOk, IfErr};
 ghost use Rattle.dna_play.specs.StoredEnd.{new_stored_end};
-ghost use Rattle.dna_play.specs.StoredPlay as kept;
+ghost use Rattle.dna_play.specs.StoredPlay as stored;
 ghost use Rattle.player_end.specs.Stepping.{StopMeans};
 
 mod receiving;
@@ -63,8 +63,8 @@ impl<W: Window<HeldPacket, 256> + Drop, V: Window<GivenPiece, 4096> + Drop> End<
 
     /// The next unit is lost. `BadStep`: its number has no line in a capture. Takes no memory.
     pub fn lose(&mut self) -> Result<(), StepFault>
-        ensures ok { OnOk result (kept.loses self.old ≡ kept.silent self.new) }
-        ensures stop { IfErr result (λ fault. StopMeans (kept.loses self.old) fault) }
+        ensures ok { OnOk result (stored.loses self.old ≡ stored.silent self.new) }
+        ensures stop { IfErr result (λ fault. StopMeans (stored.loses self.old) fault) }
         ensures memory { result ≡ Err StepFault.OutOfMemory → ⊥ }
     {
         if self.passed > MAX_HINT {

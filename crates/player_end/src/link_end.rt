@@ -3,7 +3,7 @@
 ghost use Rattle.std.specs.Prelude.{◌≡◌, true, false, Some, None, OnOk, OnErr};
 ghost use Rattle.dna_play.specs.LinkOwed as model;
 ghost use Rattle.dna_play.specs.StoredLinks.{no_segments};
-ghost use Rattle.dna_play.specs.StoredLinks as kept;
+ghost use Rattle.dna_play.specs.StoredLinks as stored;
 ghost use Rattle.player_end.specs.inner.Links.{gone, retried_end};
 ghost use Rattle.player_end.specs.inner.Owing.{duty_view};
 
@@ -57,7 +57,7 @@ impl<V: Window<GivenPiece, 4096> + Drop> Model for LinkEnd<V> {
 impl<V: Window<GivenPiece, 4096> + Drop> LinkEnd<V> {
     /// A link that is opened here, with this own address: it owes CI. Takes no memory.
     pub fn opened(alloc: Global, own: u16) -> Self
-        ensures { result ≡ kept.opened own }
+        ensures { result ≡ stored.opened own }
     {
         let port = Port {
             phase: Phase::Calling,
@@ -72,7 +72,7 @@ impl<V: Window<GivenPiece, 4096> + Drop> LinkEnd<V> {
 
     /// A link that a CI begins, with this far address: it owes a connect acknowledgement. Takes no memory.
     pub fn called(alloc: Global, far: u16) -> Self
-        ensures { result ≡ kept.called far }
+        ensures { result ≡ stored.called far }
     {
         let port = Port {
             phase: Phase::Called,
@@ -123,14 +123,14 @@ impl<V: Window<GivenPiece, 4096> + Drop> LinkEnd<V> {
 
     /// This is owed.
     pub fn owe(&mut self, duty: Duty)
-        ensures { self.new ≡ kept.owes (duty_view duty) self.old }
+        ensures { self.new ≡ stored.owes (duty_view duty) self.old }
     {
         self.owed.owe(duty);
     }
 
     /// It goes to this phase, and if that is another one it owes nothing.
     pub fn go_to(&mut self, phase: Phase)
-        ensures { self.new ≡ kept.in_phase phase self.old }
+        ensures { self.new ≡ stored.in_phase phase self.old }
     {
         let stays = is_same(self.port.phase, phase);
         self.port.phase = phase;
@@ -139,7 +139,7 @@ impl<V: Window<GivenPiece, 4096> + Drop> LinkEnd<V> {
 
     /// The user answers its call, by which it goes to this phase: it gets this own address, and owes this.
     pub fn answer(&mut self, phase: Phase, duty: Duty, own: u16)
-        ensures { self.new ≡ kept.answered phase (duty_view duty) own self.old }
+        ensures { self.new ≡ stored.answered phase (duty_view duty) own self.old }
     {
         self.go_to(phase);
         self.port.own = Some(own);
@@ -148,7 +148,7 @@ impl<V: Window<GivenPiece, 4096> + Drop> LinkEnd<V> {
 
     /// The user closes it: it owes DI.
     pub fn close(&mut self)
-        ensures { self.new ≡ kept.closed self.old }
+        ensures { self.new ≡ stored.closed self.old }
     {
         self.go_to(Phase::Disconnecting);
         self.owed.owe(Duty::Disconnect);
@@ -156,7 +156,7 @@ impl<V: Window<GivenPiece, 4096> + Drop> LinkEnd<V> {
 
     /// A message is handed in. Where memory for it is refused, nothing changes.
     pub fn hand_in(&mut self, alloc: Global, message: &[u8]) -> Result<(), AllocError>
-        ensures ok { OnOk result (self.new ≡ kept.handed message.now self.old) }
+        ensures ok { OnOk result (self.new ≡ stored.handed message.now self.old) }
         ensures err { OnErr result (self.new ≡ self.old) }
     {
         self.unsent.hand_in(alloc, message)

@@ -5,7 +5,7 @@ ghost use Rattle.dna_links.specs.LookUps.{is_live, passes};
 ghost use Rattle.dna_play.specs.NextSent.{LinkEnd as StoredLink};
 ghost use Rattle.dna_play.specs.StoredEnd.{no_stored_links};
 ghost use Rattle.dna_play.specs.StoredLinks.{place_of};
-ghost use Rattle.dna_play.specs.StoredLinks as kept;
+ghost use Rattle.dna_play.specs.StoredLinks as stored;
 ghost use Rattle.player_end.specs.inner.Addresses.{has};
 ghost use Rattle.player_end.specs.inner.Index.{LivesAt, live_of, needs_life, place_among};
 
@@ -115,7 +115,7 @@ impl<V: Window<GivenPiece, 4096> + Drop> LinkEnds<V> {
     // A link begins, and may have something to send. Where memory is refused, nothing changes.
     fn begin(&mut self, link: LinkEnd<V>) -> Result<(), AllocError>
         requires { is_live link.port.phase ≡ true }
-        ensures ok { OnOk result (live_of self.new ≡ kept.begun link (live_of self.old)) }
+        ensures ok { OnOk result (live_of self.new ≡ stored.begun link (live_of self.old)) }
         ensures err { OnErr result (self.new ≡ self.old) }
     {
         self.marks.reserve()?;
@@ -132,7 +132,7 @@ impl<V: Window<GivenPiece, 4096> + Drop> LinkEnds<V> {
     fn end_at(&mut self, number: usize)
         requires within { number < length self.old.links }
         requires lives { LivesAt number self.old }
-        ensures { live_of self.new ≡ kept.ended (place_among number self.old.links) (live_of self.old) }
+        ensures { live_of self.new ≡ stored.ended (place_among number self.old.links) (live_of self.old) }
     {
         let port = self.links[number].port();
         self.links[number] = LinkEnd::gone(self.alloc);

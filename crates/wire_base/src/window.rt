@@ -10,7 +10,7 @@ use std::alloc::{AllocError, Global};
 pub enum PushFault {
     /// It holds as many items as it may.
     Full,
-    /// There was room in the window, and an allocation of its memory was refused.
+    /// There was room in the window, and an allocation for it was refused.
     OutOfMemory,
 }
 

@@ -15,7 +15,7 @@ use Rattle.dna_links.specs.Links.{LinkOf, LinksOf, Carried, LinkTruth, check, wi
 use Rattle.dna_links.specs.Arriving.{PartnerRule, is_for, is_of_pair, called, confirmed, ends_link, running, acted_on, message_arrived}
 use Rattle.dna_links.specs.TrueSegments.{TrueSegments, Numbers, takes_acks, takes_segment, true_segments}
 use Rattle.dna_links.specs.WireSegments.{WireSegments, wire_segments}
-use Rattle.dna_links.specs.WireSegments as kept
+use Rattle.dna_links.specs.WireSegments as wire
 use Rattle.dna_links.specs.TrueLinks.{Links, links_arrived}
 use Rattle.dna_links.specs.WireLinks.{wire_links_arrived}
 use Rattle.dna_links.specs.CutSegments.{cut}
@@ -82,11 +82,11 @@ module _ (rule : PartnerRule) (s : Links) (ordered : AreOrdered s) where
         slice_get s.links n ≡ Some l
         → passes (ActedOn segment.dstaddr segment.srcaddr) l.port ≡ true → rule (is_of_pair n l.partner truth.tag) ≡ true →
         is_live l.port.phase ≡ true
-        → cut (takes_segment segment truth.known l.segments) ≡ kept.takes_segment segment tt (cut_link l).segments
+        → cut (takes_segment segment truth.known l.segments) ≡ wire.takes_segment segment tt (cut_link l).segments
     segment_same segment near n l there here e live =
         let m = near n l there here e in
         takes_segment_same segment truth.known l.segments (ordered n l there).segments m.0 m.1 m.2 m.3 ∙
-        ap (kept.takes_segment segment tt) (sym (live_segments l live))
+        ap (wire.takes_segment segment tt) (sym (live_segments l live))
 
     message_same : (m : NspValue) → ArrivesNear rule s m truth →
         cut_result (message_arrived true_segments rule s m truth) ≡ message_arrived wire_segments
@@ -112,11 +112,11 @@ module _ (rule : PartnerRule) (s : Links) (ordered : AreOrdered s) where
     message_same (DisconnectConfirm dst src reason) near = ap Ok (ends_same dst src)
     message_same (DataSegment segment) near =
         acted_same segment.dstaddr segment.srcaddr truth.tag (λ l. takes_segment segment truth.known l.segments)
-        (λ l. kept.takes_segment segment tt l.segments) (segment_same segment near)
+        (λ l. wire.takes_segment segment tt l.segments) (segment_same segment near)
     message_same (DataAck dst src acks) near =
-        acted_same dst src truth.tag (λ l. takes_acks acks truth.known l.segments) (λ l. kept.takes_acks acks tt l.segments) (λ n l there here e live.
+        acted_same dst src truth.tag (λ l. takes_acks acks truth.known l.segments) (λ l. wire.takes_acks acks tt l.segments) (λ n l there here e live.
         let m = near n l there here e in
-        takes_acks_same acks truth.known l.segments (ordered n l there).segments m.0 m.1 ∙ ap (kept.takes_acks acks tt) (sym (live_segments l live)))
+        takes_acks_same acks truth.known l.segments (ordered n l there).segments m.0 m.1 ∙ ap (wire.takes_acks acks tt) (sym (live_segments l live)))
     message_same (LinkService interrupt dst src rest) near =
         acted_same dst src truth.tag (λ l. l.segments) (λ l. l.segments) (λ n l there here e live. sym (live_segments l live))
     message_same (OtherDataAck dst src rest) near =

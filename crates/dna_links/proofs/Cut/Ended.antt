@@ -6,7 +6,7 @@ use Rattle.std.proofs.lemmas.List.{drop-take}
 use Rattle.dna_links.specs.Segmentation.{Piece, Whole, with_piece, next_message, one_more, in_whole_messages}
 use Rattle.dna_links.specs.TrueSegments.{TrueSegments, delivered_as, delivers_whole, delivers}
 use Rattle.dna_links.specs.WireSegments.{WireSegments, with_pieces_alone, ends}
-use Rattle.dna_links.specs.WireSegments as kept
+use Rattle.dna_links.specs.WireSegments as wire
 use Rattle.dna_links.specs.CutSegments.{cut}
 
 -- the pieces in whole messages are those of the next message, and those in whole messages behind it
@@ -113,7 +113,7 @@ module _ (f : TrueSegments) where
   found_in (Some w) split there = let whole = split.1 in there (omega arith)
 
   delivered_from : (b : Bool) (w : Whole) → in_whole_messages pieces ≡ w.pieces + in_whole_messages (drop w.pieces pieces)
-      → option_map (λ (g : TrueSegments). ends (cut g)) (delivered_as b w f) ≡ kept.delivered_as b w (ends (cut f))
+      → option_map (λ (g : TrueSegments). ends (cut g)) (delivered_as b w f) ≡ wire.delivered_as b w (ends (cut f))
   delivered_from true w whole =
       ap (λ (ps : List (Option Piece)). Some (with_pieces_alone (take (in_whole_messages ps) ps))) (sym (drop-drop w.pieces f.passed f.received))
       ∙ ap (λ (ps : List (Option Piece)). Some (with_pieces_alone ps))
@@ -121,13 +121,13 @@ module _ (f : TrueSegments) where
   delivered_from false w whole = refl
 
   whole_from : (o : Option Whole) (message : List ℕ) → Splits pieces o →
-      option_map (λ (g : TrueSegments). ends (cut g)) (delivers_whole o message f) ≡ kept.delivers_whole o message (ends (cut f))
+      option_map (λ (g : TrueSegments). ends (cut g)) (delivers_whole o message f) ≡ wire.delivers_whole o message (ends (cut f))
   whole_from None message split = refl
   whole_from (Some w) message split = delivered_from (bytes_eq message w.message) w split.1
 
   pub ended_delivers : (message : List ℕ) →
-      option_map (λ (g : TrueSegments). ends (cut g)) (delivers message f) ≡ kept.delivers message (ends (cut f))
+      option_map (λ (g : TrueSegments). ends (cut g)) (delivers message f) ≡ wire.delivers message (ends (cut f))
   ended_delivers message =
       whole_from (next_message pieces) message (splits pieces)
-      ∙ ap (λ (o : Option Whole). kept.delivers_whole o message (ends (cut f)))
+      ∙ ap (λ (o : Option Whole). wire.delivers_whole o message (ends (cut f)))
       (sym (found_in (next_message pieces) (splits pieces) (still_there (in_whole_messages pieces) pieces)))

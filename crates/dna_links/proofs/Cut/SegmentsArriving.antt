@@ -11,7 +11,7 @@ use Rattle.dna_links.specs.TrueSegments.{TrueSegments, Numbers, highest_given, h
 use Rattle.dna_links.specs.TrueSegments.{acknowledged_through}
 use Rattle.dna_links.specs.TrueSegments.{takes_acks, with_segment, takes_segment}
 use Rattle.dna_links.specs.WireSegments.{LinkVariables, WireSegments}
-use Rattle.dna_links.specs.WireSegments as kept
+use Rattle.dna_links.specs.WireSegments as wire
 use Rattle.dna_links.specs.CutSegments.{cut, IsOrdered, data_numbers, Spells, AckIsNear, AcksAreNear, SegmentIsNear}
 use Rattle.dna_links.proofs.Tables.Numbers.{distance_ahead, distance_behind, wire-wire, wire-add}
 use Rattle.dna_links.proofs.Cut.Pieces.{hold_again, in_order-hold, drop-hold, in_order-drop}
@@ -19,17 +19,17 @@ use Rattle.dna_links.proofs.Cut.Pieces.{hold_again, in_order-hold, drop-hold, in
 -- ---- what is delivered
 
 module _ (f : TrueSegments) where
-  delivered_same : (b : Bool) (w : Whole) → option_map cut (delivered_as b w f) ≡ kept.delivered_as b w (cut f)
+  delivered_same : (b : Bool) (w : Whole) → option_map cut (delivered_as b w f) ≡ wire.delivered_as b w (cut f)
   delivered_same true w =
       ap (λ (pieces : List (Option Piece)). Some (record (cut f) { variables = record (cut f).variables { pieces = pieces } }))
       (sym (drop-drop w.pieces f.passed f.received))
   delivered_same false w = refl
 
-  whole_same : (o : Option Whole) (message : List ℕ) → option_map cut (delivers_whole o message f) ≡ kept.delivers_whole o message (cut f)
+  whole_same : (o : Option Whole) (message : List ℕ) → option_map cut (delivers_whole o message f) ≡ wire.delivers_whole o message (cut f)
   whole_same None message = refl
   whole_same (Some w) message = delivered_same (bytes_eq message w.message) w
 
-  pub delivers_same : (message : List ℕ) → option_map cut (delivers message f) ≡ kept.delivers message (cut f)
+  pub delivers_same : (message : List ℕ) → option_map cut (delivers message f) ≡ wire.delivers message (cut f)
   delivers_same message = whole_same (next_message (drop f.passed f.received)) message
 
 -- ---- acknowledgements
@@ -40,7 +40,7 @@ acknowledged_by b f number = cond b (record f { acknowledged = number }) f
 
 -- the same, as a node reads it
 abbrev pub step : LinkVariables → ℕ → LinkVariables
-step k number = kept.acknowledged_to (leb (distance k.acknowledged number) (length k.outstanding)) k number
+step k number = wire.acknowledged_to (leb (distance k.acknowledged number) (length k.outstanding)) k number
 
 -- with what is kept of the segments given
 abbrev with_kept : WireSegments → LinkVariables → WireSegments
@@ -57,13 +57,13 @@ module _ (f : TrueSegments) (n : ℕ) (ordered : IsOrdered f) (near : AckIsNear 
   -- by whether it counts, on true numbers and as a node reads it
   counted : (b c : Bool) (m : ℕ) (pieces : List Piece)
       → cut (acknowledged_by b f n) ≡ with_kept (cut f) (acknowledging m pieces)
-      → acknowledging m pieces ≡ kept.acknowledged_to c (cut f).variables (wire n)
+      → acknowledging m pieces ≡ wire.acknowledged_to c (cut f).variables (wire n)
       → (ltb f.acknowledged n && leb n (highest_given f)) ≡ b →
       leb (distance (wire f.acknowledged) (wire n)) (length (drop f.acknowledged f.given)) ≡ c
       → cut (acknowledged_through f n) ≡ with_kept (cut f) (step (cut f).variables (wire n))
   counted b c m pieces left right eb ec =
       ap (λ (t : Bool). cut (acknowledged_by t f n)) eb ∙ left ∙ ap (with_kept (cut f)) right ∙
-      ap (λ (t : Bool). with_kept (cut f) (kept.acknowledged_to t (cut f).variables (wire n))) (sym ec)
+      ap (λ (t : Bool). with_kept (cut f) (wire.acknowledged_to t (cut f).variables (wire n))) (sym ec)
 
   ack_same : cut (acknowledged_through f n) ≡ with_kept (cut f) (step (cut f).variables (wire n))
   ack_same = by_place (cases_lt f.acknowledged n) (cases_lt n f.acknowledged)
@@ -133,18 +133,18 @@ numbers_same (n ∷ ns) f ordered near =
 
 -- the words, by their numbers
 word_same : (b : Bool) (k : LinkVariables) (n : ℕ) (ns : List ℕ) →
-    fold step (kept.acknowledged_to (b && leb (distance k.acknowledged n) (length k.outstanding)) k n) ns ≡ fold step k (cond b (n ∷ ns) ns)
+    fold step (wire.acknowledged_to (b && leb (distance k.acknowledged n) (length k.outstanding)) k n) ns ≡ fold step k (cond b (n ∷ ns) ns)
 word_same true k n ns = refl
 word_same false k n ns = refl
 
-words_same : (words : List AckWord) (k : LinkVariables) → kept.acknowledged_by_all words k ≡ fold step k (data_numbers words)
+words_same : (words : List AckWord) (k : LinkVariables) → wire.acknowledged_by_all words k ≡ fold step k (data_numbers words)
 words_same [] k = refl
 words_same (word ∷ words) k =
-    words_same words (kept.acknowledged_by k word) ∙ word_same (is_of_data word.qualifier) k word.number (data_numbers words)
+    words_same words (wire.acknowledged_by k word) ∙ word_same (is_of_data word.qualifier) k word.number (data_numbers words)
 
 module _ (words : List AckWord) (known : Numbers) (f : TrueSegments) (ordered : IsOrdered f) (spells : Spells words known.acknowledgements)
     (near : AcksAreNear f known.acknowledgements) where
-  pub takes_acks_same : cut (takes_acks words known f) ≡ kept.takes_acks words tt (cut f)
+  pub takes_acks_same : cut (takes_acks words known f) ≡ wire.takes_acks words tt (cut f)
   takes_acks_same =
       numbers_same known.acknowledgements f ordered near
       ∙ ap (λ (ns : List ℕ). with_kept (cut f) (fold step (cut f).variables ns)) (sym spells)
@@ -165,17 +165,17 @@ module _ (f : TrueSegments) (n : ℕ) (p : Piece) (ordered : IsOrdered f) (near 
 
   by_test : (b : Bool) → (leb 1 above && leb above REACH) ≡ b →
       cut (with_segment n p f)
-      ≡ with_kept (cut f) (cond b (kept.with_pieces (kept.held above p (cut f).variables) (cut f).variables) (cut f).variables)
-      → cut (with_segment n p f) ≡ with_kept (cut f) (kept.with_segment above p (cut f).variables)
+      ≡ with_kept (cut f) (cond b (wire.with_pieces (wire.held above p (cut f).variables) (cut f).variables) (cut f).variables)
+      → cut (with_segment n p f) ≡ with_kept (cut f) (wire.with_segment above p (cut f).variables)
   by_test b e same = same ∙
-      ap (λ (t : Bool). with_kept (cut f) (cond t (kept.with_pieces (kept.held above p (cut f).variables) (cut f).variables) (cut f).variables))
+      ap (λ (t : Bool). with_kept (cut f) (cond t (wire.with_pieces (wire.held above p (cut f).variables) (cut f).variables) (cut f).variables))
       (sym e)
 
-  segment_same : cut (with_segment n p f) ≡ with_kept (cut f) (kept.with_segment above p (cut f).variables)
+  segment_same : cut (with_segment n p f) ≡ with_kept (cut f) (wire.with_segment above p (cut f).variables)
   segment_same = by_place (cases_lt (highest_received f) n) (cases_lt n (highest_received f))
     where
       by_place : (highest_received f < n) ⊎ (n ≤ highest_received f) → (n < highest_received f) ⊎ (highest_received f ≤ n)
-          → cut (with_segment n p f) ≡ with_kept (cut f) (kept.with_segment above p (cut f).variables)
+          → cut (with_segment n p f) ≡ with_kept (cut f) (wire.with_segment above p (cut f).variables)
       by_place (inl l) other =
           let d = distance_ahead (highest_received f) n (omega arith) near.most in
           let q = le-leb 1 above (omega arith) in let t = le-leb above REACH (omega (arith, d, near.most)) in
@@ -216,10 +216,10 @@ module _ (s : SegmentValue) (known : Numbers) (f : TrueSegments) (ordered : IsOr
 
   pub takes_segment_same : Spells s.acks known.acknowledgements → s.number ≡ wire known.segment → AcksAreNear f known.acknowledgements →
       SegmentIsNear f known.segment
-      → cut (takes_segment s known f) ≡ kept.takes_segment s tt (cut f)
+      → cut (takes_segment s known f) ≡ wire.takes_segment s tt (cut f)
   takes_segment_same spells number acks near =
       segment_same (takes_acks s.acks known f) known.segment (piece_of s) (all_ordered known.acknowledgements f ordered acks) (near_after acks near)
       ∙ ap (λ (k : ℕ). with_kept (cut (takes_acks s.acks known f))
-      (kept.with_segment (distance (wire (highest_received (takes_acks s.acks known f))) k) (piece_of s) (cut (takes_acks s.acks known f)).variables))
+      (wire.with_segment (distance (wire (highest_received (takes_acks s.acks known f))) k) (piece_of s) (cut (takes_acks s.acks known f)).variables))
       (sym number)
-      ∙ ap (λ (w : WireSegments). with_kept w (kept.segment_taken s w.variables)) (takes_acks_same s.acks known f ordered spells acks)
+      ∙ ap (λ (w : WireSegments). with_kept w (wire.segment_taken s w.variables)) (takes_acks_same s.acks known f ordered spells acks)

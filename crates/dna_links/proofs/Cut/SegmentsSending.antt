@@ -16,7 +16,7 @@ use Rattle.dna_links.specs.TrueSegments.{TrueSegments, Numbers, Named, highest_g
 use Rattle.dna_links.specs.TrueSegments.{sending}
 use Rattle.dna_links.specs.TrueSegments.{acks_named, sends_acks, sends_new, is_given, is_repeat, sends_again, is_new, segment_named, sends_segment}
 use Rattle.dna_links.specs.WireSegments.{WireSegments, LastSent}
-use Rattle.dna_links.specs.WireSegments as kept
+use Rattle.dna_links.specs.WireSegments as wire
 use Rattle.dna_links.specs.CutSegments.{cut, cut_sending, IsOrdered, IsAnswered}
 use Rattle.two_nodes.proofs.NumberedSteps.{slice_get-drop}
 use Rattle.dna_links.proofs.Tables.Numbers.{distance_ahead, wire-one, wire_named, same_le, reached_same, low_le_same, low_lt_same}
@@ -44,13 +44,13 @@ module _ (r : ℕ) where
   IsAtMost last (Some n) = max last n ≤ r
 
   module _ (last : ℕ) (least : last ≤ r) (most : r ≤ last + REACH) where
-    ahead_same : (number : ℕ) → leb (last + distance (wire last) number) r ≡ kept.is_ahead (wire r) number (sent_of last)
+    ahead_same : (number : ℕ) → leb (last + distance (wire last) number) r ≡ wire.is_ahead (wire r) number (sent_of last)
     ahead_same number =
         let d = distance_ahead last r least most in
         same_le (last + distance (wire last) number) r (distance (wire last) number) (distance (wire last) (wire r)) (λ l. omega (arith, l, d, least))
         (λ l. omega (arith, l, d, least))
 
-    moved_same : (number : ℕ) → sent_of (max last (last + distance (wire last) number)) ≡ kept.moved_to number (sent_of last)
+    moved_same : (number : ℕ) → sent_of (max last (last + distance (wire last) number)) ≡ wire.moved_to number (sent_of last)
     moved_same number =
         let e : max last (last + distance (wire last) number) ≡ last + distance (wire last) number = omega arith in
         ap sent_of e ∙ ap₂ (λ (n : ℕ) (b : Bool). let sent : LastSent = record { last = n; is_high = b } in sent) (wire_named last number)
@@ -59,14 +59,14 @@ module _ (r : ℕ) where
     stays_same : (number : ℕ) → sent_of (max last (last - distance number (wire last))) ≡ sent_of last
     stays_same number = let e : max last (last - distance number (wire last)) ≡ last = omega arith in ap sent_of e
 
-    one_same : (again : Bool) (number : ℕ) → option_map (λ (n : ℕ). sent_of (max last n)) (named again last r number) ≡ kept.last_named again (wire r)
+    one_same : (again : Bool) (number : ℕ) → option_map (λ (n : ℕ). sent_of (max last n)) (named again last r number) ≡ wire.last_named again (wire r)
         number (sent_of last)
     one_same again number =
         chosen (leb (last + distance (wire last) number) r)
         (again && (leb (distance number (wire last)) REACH && leb (distance number (wire last)) last)) (λ (n : ℕ). sent_of (max last n))
-        (last + distance (wire last) number) (last - distance number (wire last)) (kept.moved_to number (sent_of last)) (sent_of last)
+        (last + distance (wire last) number) (last - distance number (wire last)) (wire.moved_to number (sent_of last)) (sent_of last)
         (moved_same number) (stays_same number)
-        ∙ ap₂ (λ (b c : Bool). cond b (Some (kept.moved_to number (sent_of last))) (cond (again && c) (Some (sent_of last)) None)) (ahead_same number)
+        ∙ ap₂ (λ (b c : Bool). cond b (Some (wire.moved_to number (sent_of last))) (cond (again && c) (Some (sent_of last)) None)) (ahead_same number)
         (low_le_same (distance number (wire last)) last)
 
     chosen_at_most : (b c : Bool) (x y : ℕ) → (b ≡ true → x ≤ r) → y ≤ last → IsAtMost last (cond b (Some x) (cond c (Some y) None))
@@ -89,24 +89,24 @@ module _ (r : ℕ) where
   Agree later later' = (last : ℕ) → last ≤ r → r ≤ last + REACH → option_map last_in (later last) ≡ later' (sent_of last)
 
   after_one : (last : ℕ) (later : ℕ → Option Named) (later' : LastSent → Option LastSent) → Agree later later' → r ≤ last + REACH
-      → (o : Option ℕ) → IsAtMost last o → option_map last_in (with_first o (λ n. later (max last n))) ≡ kept.after_first
+      → (o : Option ℕ) → IsAtMost last o → option_map last_in (with_first o (λ n. later (max last n))) ≡ wire.after_first
       (option_map (λ (n : ℕ). sent_of (max last n)) o) later'
   after_one last later later' agree most None at_most = refl
   after_one last later later' agree most (Some n) at_most = number_same n (later (max last n)) ∙ agree (max last n) at_most (omega (arith, most))
 
-  all_same : (again : Bool) (words : List AckWord) → Agree (all_named again r words) (kept.all_named again (wire r) words)
+  all_same : (again : Bool) (words : List AckWord) → Agree (all_named again r words) (wire.all_named again (wire r) words)
   all_same again [] last least most = refl
   all_same again (word ∷ words) last least most = by_qualifier (is_of_data word.qualifier) (all_same again words)
     where
-      by_qualifier : (b : Bool) → Agree (all_named again r words) (kept.all_named again (wire r) words) →
+      by_qualifier : (b : Bool) → Agree (all_named again r words) (wire.all_named again (wire r) words) →
           option_map last_in (cond b (with_first (named again last r word.number) (λ n. all_named again r words (max last n)))
           (all_named again r words last))
-          ≡ cond b (kept.after_first (kept.last_named again (wire r) word.number (sent_of last)) (λ next. kept.all_named again (wire r) words next))
-          (kept.all_named again (wire r) words (sent_of last))
+          ≡ cond b (wire.after_first (wire.last_named again (wire r) word.number (sent_of last)) (λ next. wire.all_named again (wire r) words next))
+          (wire.all_named again (wire r) words (sent_of last))
       by_qualifier true agree =
-          after_one last (all_named again r words) (kept.all_named again (wire r) words) agree most (named again last r word.number)
+          after_one last (all_named again r words) (wire.all_named again (wire r) words) agree most (named again last r word.number)
           (one_at_most last least most again word.number)
-          ∙ ap (λ (o : Option LastSent). kept.after_first o (λ next. kept.all_named again (wire r) words next))
+          ∙ ap (λ (o : Option LastSent). wire.after_first o (λ next. wire.all_named again (wire r) words next))
           (one_same last least most again word.number)
       by_qualifier false agree = agree last least most
 
@@ -134,7 +134,7 @@ two_checks true c c' sent same = one_check c ∙ ap (λ (d : Bool). check d Wron
     one_check true = refl
     one_check false = refl
 
-given_same : (o : Option Piece) (p : Piece) → is_given o p ≡ kept.is_given o p
+given_same : (o : Option Piece) (p : Piece) → is_given o p ≡ wire.is_given o p
 given_same None p = refl
 given_same (Some first) p = refl
 
@@ -143,17 +143,17 @@ module _ (f : TrueSegments) (ordered : IsOrdered f) where
   outstanding : length (drop f.acknowledged f.given) ≡ highest_given f - f.acknowledged
   outstanding = length-drop f.acknowledged f.given
 
-  highest_same : kept.highest_given (cut f).variables ≡ wire (highest_given f)
+  highest_same : wire.highest_given (cut f).variables ≡ wire (highest_given f)
   highest_same = let h = outstanding in let l = ordered.given in omega arith
 
-  new_same : (s : SegmentValue) → is_new s f ≡ kept.is_new s (cut f).variables
+  new_same : (s : SegmentValue) → is_new s f ≡ wire.is_new s (cut f).variables
   new_same s = ap (λ n. eqb s.number n) (sym (wire-one (highest_given f))) ∙ ap (λ n. eqb s.number (wire (n + 1))) (sym highest_same)
 
   -- a new segment: what is kept of it is cut of what is true
   grown : (p : Piece) → drop f.acknowledged (f.given ++ p ∷ []) ≡ drop f.acknowledged f.given ++ p ∷ []
   grown p = drop-append-le f.acknowledged f.given (p ∷ []) ordered.given
 
-  many_same : leb REACH (highest_given f + 1) ≡ ((cut f).gave_many || leb REACH (kept.highest_given (cut f).variables + 1))
+  many_same : leb REACH (highest_given f + 1) ≡ ((cut f).gave_many || leb REACH (wire.highest_given (cut f).variables + 1))
   many_same = reached_same (highest_given f) 1 ∙ ap (λ n. leb REACH (highest_given f) || leb REACH (n + 1)) (sym highest_same)
 
   given_one_more : (p : Piece) → length (f.given ++ p ∷ []) ≡ highest_given f + 1
@@ -162,14 +162,14 @@ module _ (f : TrueSegments) (ordered : IsOrdered f) where
   -- with these segments outstanding, and whether 2,047 are given
   abbrev with_given : Piece → Named → List Piece → Bool → Sending WireSegments (Unit {0})
   with_given p names pieces many =
-      kept.sending (kept.with_last (last_in names)
+      wire.sending (wire.with_last (last_in names)
       (record (cut f) { variables = record (cut f).variables { unsent = without_piece p f.unsent; outstanding = pieces }; gave_many = many }))
 
   abbrev new_checked : (segsize : ℕ) → Piece → Bool → Sending WireSegments (Unit {0}) → Result (Sending WireSegments (Unit {0})) LinkRefusal
   new_checked segsize p room sent =
       check room LinkWindowFull (check (leb (length p.body) segsize) SegmentTooLong (check (is_next_piece p f.unsent) WrongSegment (Ok sent)))
 
-  sends_new_same : (segsize : ℕ) (p : Piece) (names : Named) → cut_sending (sends_new segsize p names f) ≡ kept.sends_new segsize p (last_in names)
+  sends_new_same : (segsize : ℕ) (p : Piece) (names : Named) → cut_sending (sends_new segsize p names f) ≡ wire.sends_new segsize p (last_in names)
       (cut f)
   sends_new_same segsize p names =
       three_checks (ltb (highest_given f - f.acknowledged) REACH) (leb (length p.body) segsize) (is_next_piece p f.unsent)
@@ -179,16 +179,16 @@ module _ (f : TrueSegments) (ordered : IsOrdered f) where
 
   -- a repeat
   below_same : (below : ℕ) →
-      (ltb below REACH && ltb below (highest_given f)) ≡ (ltb below REACH && ((cut f).gave_many || ltb below (kept.highest_given (cut f).variables)))
+      (ltb below REACH && ltb below (highest_given f)) ≡ (ltb below REACH && ((cut f).gave_many || ltb below (wire.highest_given (cut f).variables)))
   below_same below = low_lt_same below (highest_given f) ∙ ap (λ n. ltb below REACH && (leb REACH (highest_given f) || ltb below n))
       (sym highest_same)
 
   repeat_same : (below : ℕ) (p : Piece) → below < highest_given f →
-      is_repeat (highest_given f - below) p f ≡ kept.is_repeat below p (cut f).variables.outstanding
+      is_repeat (highest_given f - below) p f ≡ wire.is_repeat below p (cut f).variables.outstanding
   repeat_same below p l = by_place (cases_lt below (length (drop f.acknowledged f.given)))
     where
       by_place : (below < length (drop f.acknowledged f.given)) ⊎ (length (drop f.acknowledged f.given) ≤ below)
-          → is_repeat (highest_given f - below) p f ≡ kept.is_repeat below p (cut f).variables.outstanding
+          → is_repeat (highest_given f - below) p f ≡ wire.is_repeat below p (cut f).variables.outstanding
       by_place (inr m) =
           let h = outstanding in let g = ordered.given in
           let b = le-leb (highest_given f - below) f.acknowledged (omega arith) in
@@ -201,50 +201,50 @@ module _ (f : TrueSegments) (ordered : IsOrdered f) where
           let same : slice_get f.given (highest_given f - below - 1) ≡ slice_get (drop f.acknowledged f.given)
           (length (drop f.acknowledged f.given) - 1 - below) =
           sym (slice_get-drop f.acknowledged (length (drop f.acknowledged f.given) - 1 - below) f.given ∙ ap (slice_get f.given) place) in
-          let first = given_same (slice_get f.given (highest_given f - below - 1)) p ∙ ap (λ (o : Option Piece). kept.is_given o p) same in cc
+          let first = given_same (slice_get f.given (highest_given f - below - 1)) p ∙ ap (λ (o : Option Piece). wire.is_given o p) same in cc
 
-  sends_again_same : (below : ℕ) (p : Piece) (names : Named) → cut_sending (sends_again below p names f) ≡ kept.sends_again below p (last_in names)
+  sends_again_same : (below : ℕ) (p : Piece) (names : Named) → cut_sending (sends_again below p names f) ≡ wire.sends_again below p (last_in names)
       (cut f)
   sends_again_same below p names =
       two_checks (ltb below REACH && ltb below (highest_given f)) (is_repeat (highest_given f - below) p f)
-      (kept.is_repeat below p (cut f).variables.outstanding)
+      (wire.is_repeat below p (cut f).variables.outstanding)
       (sending (highest_given f - below) names f (record f { last = names.last }))
       (λ b. repeat_same below p (ltb-true below (highest_given f) (and_parts (ltb below REACH) (ltb below (highest_given f)) b).1))
       ∙ ap (λ (b : Bool). check b WrongSegment
-      (check (kept.is_repeat below p (cut f).variables.outstanding) WrongSegment (Ok (kept.sending (kept.with_last (last_in names) (cut f))))))
+      (check (wire.is_repeat below p (cut f).variables.outstanding) WrongSegment (Ok (wire.sending (wire.with_last (last_in names) (cut f))))))
       (below_same below)
 
   -- words alone, and a segment with its words
-  acks_same : (o : Option Named) → cut_sending (acks_named o f) ≡ kept.acks_named (option_map last_in o) (cut f)
+  acks_same : (o : Option Named) → cut_sending (acks_named o f) ≡ wire.acks_named (option_map last_in o) (cut f)
   acks_same None = refl
   acks_same (Some names) = refl
 
   segment_same : (o : Option Named) (segsize : ℕ) (s : SegmentValue) →
-      cut_sending (segment_named o segsize s f) ≡ kept.segment_named (option_map last_in o) segsize s (cut f)
+      cut_sending (segment_named o segsize s f) ≡ wire.segment_named (option_map last_in o) segsize s (cut f)
   segment_same None segsize s = refl
   segment_same (Some names) segsize s =
       by_new (is_new s f)
-      ∙ ap₂ (λ (b : Bool) (n : ℕ). cond b (kept.sends_new segsize (piece_of s) (last_in names) (cut f))
-      (kept.sends_again (distance s.number n) (piece_of s) (last_in names) (cut f)))
+      ∙ ap₂ (λ (b : Bool) (n : ℕ). cond b (wire.sends_new segsize (piece_of s) (last_in names) (cut f))
+      (wire.sends_again (distance s.number n) (piece_of s) (last_in names) (cut f)))
       (new_same s) (sym highest_same)
     where
       by_new : (b : Bool) →
           cut_sending (cond b (sends_new segsize (piece_of s) names f)
           (sends_again (distance s.number (wire (highest_given f))) (piece_of s) names f))
-          ≡ cond b (kept.sends_new segsize (piece_of s) (last_in names) (cut f))
-          (kept.sends_again (distance s.number (wire (highest_given f))) (piece_of s) (last_in names) (cut f))
+          ≡ cond b (wire.sends_new segsize (piece_of s) (last_in names) (cut f))
+          (wire.sends_again (distance s.number (wire (highest_given f))) (piece_of s) (last_in names) (cut f))
       by_new true = sends_new_same segsize (piece_of s) names
       by_new false = sends_again_same (distance s.number (wire (highest_given f))) (piece_of s) names
 
   module _ (answered : IsAnswered f) where
-    pub sends_acks_same : (words : List AckWord) → cut_sending (sends_acks words f) ≡ kept.sends_acks words (cut f)
+    pub sends_acks_same : (words : List AckWord) → cut_sending (sends_acks words f) ≡ wire.sends_acks words (cut f)
     sends_acks_same words =
         acks_same (all_named false (highest_received f) words f.last)
-        ∙ ap (λ (o : Option LastSent). kept.acks_named o (cut f)) (all_same (highest_received f) false words f.last ordered.last answered)
+        ∙ ap (λ (o : Option LastSent). wire.acks_named o (cut f)) (all_same (highest_received f) false words f.last ordered.last answered)
 
-    pub sends_segment_same : (segsize : ℕ) (s : SegmentValue) → cut_sending (sends_segment segsize s f) ≡ kept.sends_segment segsize s (cut f)
+    pub sends_segment_same : (segsize : ℕ) (s : SegmentValue) → cut_sending (sends_segment segsize s f) ≡ wire.sends_segment segsize s (cut f)
     sends_segment_same segsize s =
         segment_same (all_named (not (is_new s f)) (highest_received f) s.acks f.last) segsize s
-        ∙ ap (λ (o : Option LastSent). kept.segment_named o segsize s (cut f))
+        ∙ ap (λ (o : Option LastSent). wire.segment_named o segsize s (cut f))
         (all_same (highest_received f) (not (is_new s f)) s.acks f.last ordered.last answered
-        ∙ ap (λ (b : Bool). kept.all_named (not b) (wire (highest_received f)) s.acks (sent_of f.last)) (new_same s))
+        ∙ ap (λ (b : Bool). wire.all_named (not b) (wire (highest_received f)) s.acks (sent_of f.last)) (new_same s))

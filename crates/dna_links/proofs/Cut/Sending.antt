@@ -20,7 +20,7 @@ use Rattle.dna_links.specs.Links.{LinkOf, LinksOf, Carried, check, with_link, ch
 use Rattle.dna_links.specs.Sending.{Sent, of_no_link, unchanged, ending, in_its_phase, confirms_end, carries, in_run, segment_of, message_sent}
 use Rattle.dna_links.specs.TrueSegments.{TrueSegments, Numbers, sends_acks, true_segments}
 use Rattle.dna_links.specs.WireSegments.{WireSegments, with_pieces_alone, ends, wire_segments}
-use Rattle.dna_links.specs.WireSegments as kept
+use Rattle.dna_links.specs.WireSegments as wire
 use Rattle.dna_links.specs.TrueLinks.{Links, links_sent}
 use Rattle.dna_links.specs.WireLinks.{wire_links_sent}
 use Rattle.dna_links.specs.CutSegments.{cut, cut_sending}
@@ -117,14 +117,14 @@ module _ (s : Links) (ordered : AreOrdered s) where
       → cut_sending (segment_of true_segments segment l) ≡ segment_of wire_segments segment (cut_link l)
   segment_same segment n l there live run =
       sends_segment_same l.segments (ordered n l there).segments ((ordered n l there).answered run) l.segsize segment ∙
-      ap (kept.sends_segment l.segsize segment) (sym (live_segments l live))
+      ap (wire.sends_segment l.segsize segment) (sym (live_segments l live))
 
   words_same : (acks : List AckWord) (n : ℕ) (l : LinkOf TrueSegments) → slice_get s.links n ≡ Some l → is_live l.port.phase ≡ true →
       is_running l.port.phase ≡ true
-      → cut_sending (sends_acks acks l.segments) ≡ kept.sends_acks acks (cut_link l).segments
+      → cut_sending (sends_acks acks l.segments) ≡ wire.sends_acks acks (cut_link l).segments
   words_same acks n l there live run =
       sends_acks_same l.segments (ordered n l there).segments ((ordered n l there).answered run) acks
-      ∙ ap (kept.sends_acks acks) (sym (live_segments l live))
+      ∙ ap (wire.sends_acks acks) (sym (live_segments l live))
 
   message_same : (m : NspValue) → cut_sent (message_sent true_segments s m) ≡ message_sent wire_segments (cut_links s) m
   message_same (ConnectInitiate retransmitted src services info segsize user_data) = in_its_phase_same (OpenedAt src) is_calling
@@ -139,7 +139,7 @@ module _ (s : Links) (ordered : AreOrdered s) where
       (λ none. ap Ok (confirms_same src dst)) (λ n l there here. refl)
   message_same (DataSegment segment) =
       in_run_same segment.srcaddr segment.dstaddr (segment_of true_segments segment) (segment_of wire_segments segment) (segment_same segment)
-  message_same (DataAck dst src acks) = in_run_same src dst (λ l. sends_acks acks l.segments) (λ l. kept.sends_acks acks l.segments) (words_same acks)
+  message_same (DataAck dst src acks) = in_run_same src dst (λ l. sends_acks acks l.segments) (λ l. wire.sends_acks acks l.segments) (words_same acks)
   message_same (LinkService interrupt dst src rest) = in_its_phase_same (TheLink src dst) is_running
   message_same (OtherDataAck dst src rest) = in_its_phase_same (TheLink src dst) is_running
   message_same (NoOperation rest) = refl

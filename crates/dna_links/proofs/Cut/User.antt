@@ -12,7 +12,7 @@ use Rattle.dna_links.specs.Links.{LinkOf, LinksOf, check, begun, changed, in_pha
 use Rattle.dna_links.specs.User.{LinkEventValue, Open, Accept, Reject, In, Up, Close, opened, answered, gives, answers, delivered}
 use Rattle.dna_links.specs.TrueSegments.{TrueSegments, hands_in, delivers, true_segments}
 use Rattle.dna_links.specs.WireSegments.{WireSegments, wire_segments}
-use Rattle.dna_links.specs.WireSegments as kept
+use Rattle.dna_links.specs.WireSegments as wire
 use Rattle.dna_links.specs.TrueLinks.{Links, links_user}
 use Rattle.dna_links.specs.WireLinks.{wire_links_user}
 use Rattle.dna_links.specs.CutSegments.{cut}
@@ -56,7 +56,7 @@ module _ (l : LinkOf TrueSegments) where
 
 -- the messages that are delivered, of a live link and of one that has ended
 delivers_at : (b : Bool) (own : Option ℕ) (address : ℕ) (f : TrueSegments) (message : List ℕ) → is_at own address ≡ true
-    → option_map (cut_as b own) (delivers message f) ≡ kept.delivers message (cut_as b own f)
+    → option_map (cut_as b own) (delivers message f) ≡ wire.delivers message (cut_as b own f)
 delivers_at true own address f message at = delivers_same f message
 delivers_at false (Some number) address f message at = ended_delivers f message
 delivers_at false None address f message at = absurd cc
@@ -134,17 +134,17 @@ module _ (s : Links) where
   user_same (In own message) =
       with_link_same cut_result (LiveAt own) s (Err NoLink) (Err NoLink)
       (λ n l. check (takes_messages l.port.phase) LinkState (Ok (changed n (with_segments (hands_in message l.segments) l) s)))
-      (λ n l. check (takes_messages l.port.phase) LinkState (Ok (changed n (with_segments (kept.hands_in message l.segments) l) (cut_links s))))
+      (λ n l. check (takes_messages l.port.phase) LinkState (Ok (changed n (with_segments (wire.hands_in message l.segments) l) (cut_links s))))
       (λ none. refl) (λ n l there here.
       let live = (and_parts (is_live l.port.phase) (is_at l.port.own own) here).0 in
-      changes n l (with_segments (hands_in message l.segments) l) (with_segments (kept.hands_in message (cut_link l).segments) (cut_link l))
+      changes n l (with_segments (hands_in message l.segments) l) (with_segments (wire.hands_in message (cut_link l).segments) (cut_link l))
       (takes_messages l.port.phase)
-      (segments_changed l live (hands_in message l.segments) (kept.hands_in message (cut_link l).segments)
-      (ap (kept.hands_in message) (sym (live_segments l live)))))
+      (segments_changed l live (hands_in message l.segments) (wire.hands_in message (cut_link l).segments)
+      (ap (wire.hands_in message) (sym (live_segments l live)))))
   user_same (Up own message) =
       with_link_same cut_result (HasAddress own) s (Err NoLink) (Err NoLink)
       (λ n l. delivered true_segments n l s (delivers message l.segments))
-      (λ n l. delivered wire_segments n l (cut_links s) (kept.delivers message l.segments))
+      (λ n l. delivered wire_segments n l (cut_links s) (wire.delivers message l.segments))
       (λ none. refl) (λ n l there here.
       delivered_same n l s (delivers message l.segments)
       ∙ ap (delivered wire_segments n (cut_link l) (cut_links s)) (delivers_at (is_live l.port.phase) l.port.own own l.segments message here))

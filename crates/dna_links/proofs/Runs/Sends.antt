@@ -81,7 +81,7 @@ same_Ok x y e = cc
 -- ---- words alone, and no numbers
 
 module _ (f : TrueSegments) (o : AreSoundSegments f) where
-  -- the same segments with another last acknowledgement
+  -- the same but for the last acknowledgement
   with_last : (last : ℕ) → f.last ≤ last → last ≤ highest_received f → AreSoundSegments (record f { last = last })
   with_last last more most = record {
     acknowledged = o.acknowledged;

@@ -210,7 +210,7 @@ module _ (own other : LinkSide) (h : IsSoundSide own other) where
         same_length = length-set own.links.links number (forgotten true_segments link);
       }))
 
-  -- a link changes, and its segments give nothing
+  -- a link changes, and gives no segment
   one_sound : (links : Links) (f : Frees own.links links) (number : ℕ) (link left : LinkOf TrueSegments) →
       slice_get own.links.links number ≡ Some link →
       left.segments.given ≡ link.segments.given →

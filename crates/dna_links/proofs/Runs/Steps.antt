@@ -90,7 +90,7 @@ module _ (own other : LinkSide) (h : IsSoundSide own other) (theirs : IsSoundSid
       packet.message ≡ DataAck dst src acks → AreWords acks truth.known.acknowledgements
   no_words packet truth none dst src acks e = let t = ap has_numbers e in absurd cc
 
-  -- by this link, which has these segments then
+  -- by this link, whose segments become these
   module _ (packet : Carried) (known : Numbers) (number : ℕ) (link left : LinkOf TrueSegments) (links : Links)
       (there : slice_get own.links.links number ≡ Some link) (s : SendsFrom link.segments left.segments known)
       (same_partner : left.partner ≡ link.partner)
@@ -272,7 +272,7 @@ module _ (own other : LinkSide) (h : IsSoundSide own other) (theirs : IsSoundSid
       IsSoundEnd own.sent other.sent (k + 1) other.links.links number link
   now number link at = (none_kept own other h theirs k (Some u) ahead there).ends number link at
 
-  -- a link changes, and its segments give nothing
+  -- a link changes, and gives no segment
   one_kept : (number : ℕ) (link left : LinkOf TrueSegments) → slice_get own.links.links number ≡ Some link →
       left.segments.given ≡ link.segments.given →
       IsSoundEnd own.sent other.sent (k + 1) other.links.links number left → StaySound (keeps own (changed number left own.links) k) other

@@ -70,11 +70,11 @@ next_whole pieces message rest e = go (next_message pieces) refl (sym (complete_
     go None is e = absurd cc
     go (Some w) is e = record { w = w; is = is; message_is = cc; left = cc }
 
--- the segments after it is delivered, which came in so many pieces
+-- the segments after this message is delivered, which came in so many pieces
 abbrev pub delivering : List ℕ → Whole → TrueSegments → TrueSegments
 delivering message w f = record f { delivered = f.delivered ++ message ∷ []; passed = f.passed + w.pieces }
 
--- segments whose first whole message this is deliver it
+-- where this is the first whole message, it is delivered
 pub record DeliversNext (f : TrueSegments) (message : List ℕ) (rest : List (List ℕ)) : Type 0 where
   pub w : Whole
   pub is : next_message (drop f.passed f.received) ≡ Some w

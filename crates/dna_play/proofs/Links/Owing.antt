@@ -70,7 +70,7 @@ still_fits l k o ordered moves fits = go (same_phase l.port.phase k.port.phase) 
         record { duties = λ duty e. is ∙ fits.duties duty (ahead_owes duty (o.ahead - lowered_by) o e); ahead = omega arith }
     go false same = record { duties = λ duty e. absurd (owes_nothing duty (ahead_owes duty (0 - lowered_by) nothing e)); ahead = omega arith }
 
--- a flag is raised, or a duty is sent: the others stay
+-- a flag is raised, or the message of a duty is sent: the others stay
 raised_owes : (l : LinkOf TrueSegments) (o : LinkOwed) (duty other : Duty) → l.port.phase ≡ phase_of duty → OwedFits l o →
     is_owed other (with_duty duty true o) ≡ true → l.port.phase ≡ phase_of other
 raised_owes l o ConnectAckDuty ConnectAckDuty is f e = is

@@ -1,4 +1,4 @@
--- What a segment, and what acknowledgement words alone, make of the segments that may send them.
+-- What a segment, and what acknowledgement words alone, make of the segments of the link that may send them.
 use Rattle.std.proofs.Common.{◌≡◌, ℕ, ◌+◌, ◌-◌, Bool, true, false, ◌&&◌, not, nat_lt, nat_le, cond, Option, Some, None, List, [], ◌∷◌, ◌++◌, length}
 use Rattle.std.proofs.Common.{Result, Ok, refl, subst}
 use Rattle.dna_packet.specs.declared.ack_word.AckWord.{AckWord}

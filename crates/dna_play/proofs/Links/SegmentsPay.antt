@@ -1,4 +1,4 @@
--- What a link of the player in RUN puts together its segments may send: a data ack, a segment once more, a new segment.
+-- What a link of the player in RUN puts together may be sent, by the rules on its segments: a data ack, a segment once more, a new segment.
 use Rattle.std.proofs.Common.{◌≡◌, ℕ, ◌+◌, ◌-◌, ◌<◌, ◌≤◌, max, min, Bool, true, false, ◌&&◌, ◌||◌, not, eqb, nat_lt, nat_le, cond, Option, Some, List}
 use Rattle.std.proofs.Common.{[], ◌∷◌, ◌++◌, length, take, Result, Ok, refl, sym, ap, ap₂, ◌∙◌, arith, eq-eqb, lt-ltb, le-leb, length-drop, ◌⊎◌, inl}
 use Rattle.std.proofs.Common.{inr}

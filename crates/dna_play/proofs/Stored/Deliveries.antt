@@ -76,7 +76,7 @@ more_got f message later w is =
 abbrev pub with_links : End → Links → End
 with_links e links = record e { half = with_left e.half links }
 
--- nothing but the segments change
+-- nothing but the segments changes
 up_end : (e : End) (number : ℕ) (l k : LinkOf TrueSegments) (o : LinkOwed) → slice_get (links_of e.half).links number ≡ Some l →
     slice_get e.links_owed.links number ≡ Some o → Counted (links_of e.half).links e.links_owed →
     (e.owed.rep ≡ true → all_acknowledged (variables_of e.half) ≡ false) → k.port.phase ≡ l.port.phase →

@@ -108,7 +108,7 @@ module _ (links : LinkList) (owed : LinksOwed) where
       record_set k still = ap (stored_links (slice_set links n k)) (left_set links owed counted n l k o there owes)
           ∙ live_set k (still_owed l k o) still
 
-      -- and then what it owes, as by a duty that it owes more, or that was sent
+      -- and then what it owes, as by a duty that it owes besides, or whose message was sent
       pub record_changed : (k : LinkOf TrueSegments) (change : LinkOwed → LinkOwed) → is_live k.port.phase ≡ true →
           stored_links (slice_set links n k) (owing.changed n change (left_links links (slice_set links n k) owed))
           ≡ keeping.changed (place_among n) (end_of k (change (still_owed l k o))) (stored_links links owed)

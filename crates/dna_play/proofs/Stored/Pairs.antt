@@ -13,7 +13,7 @@ use Rattle.dna_play.specs.StoredPlay.{StoredStepped, stored_plays}
 use Rattle.dna_play.specs.StoredPlayed.{StoredMade, StoredPlayed, is_of_line, left_by, stored_with_a, stored_with_b, stored_plays_at}
 use Rattle.dna_play.specs.StoredPlayed.{stored_plays_step}
 use Rattle.dna_play.specs.StoredPlayed.{with_records}
-use Rattle.dna_play.specs.StoredRun.{bytes_of, stored_stepped, IsKept, stored_pair, stored_played}
+use Rattle.dna_play.specs.StoredRun.{bytes_of, stored_stepped, IsStored, stored_pair, stored_played}
 use Rattle.dna_play.proofs.Played.Reached.{exchanged_ends, own_end, other_end, Reached, exchanged}
 use Rattle.dna_play.proofs.Played.StepMakes.{passed, makes_all}
 use Rattle.dna_play.proofs.Played.Walk.{off_line, step_comes}
@@ -53,7 +53,7 @@ GoesAlong so_far side (Err stop) (Err other) = stop ≡ other
 GoesAlong so_far side (Ok next) (Err other) = ⊥
 GoesAlong so_far side (Err stop) (Ok made) = ⊥
 
-along_a : (so_far : Played) → so_far.b.passed ≤ length so_far.a.half.sent → (step : StepValue) → IsKept so_far.a so_far.b.half step →
+along_a : (so_far : Played) → so_far.b.passed ≤ length so_far.a.half.sent → (step : StepValue) → IsStored so_far.a so_far.b.half step →
     GoesAlong so_far A (plays_at so_far A step) (stored_plays_at (stored_pair so_far) A step)
 along_a so_far few step same =
     subst (λ (k : Result StoredStepped Stop). GoesAlong so_far A (with_a so_far (plays so_far.a so_far.b.half step))
@@ -76,7 +76,7 @@ exchanged_kept so_far = record {
   of_b = so_far.of_a;
 }
 
-along_b : (so_far : Played) → so_far.a.passed ≤ length so_far.b.half.sent → (step : StepValue) → IsKept so_far.b so_far.a.half step →
+along_b : (so_far : Played) → so_far.a.passed ≤ length so_far.b.half.sent → (step : StepValue) → IsStored so_far.b so_far.a.half step →
     GoesAlong so_far B (plays_at so_far B step) (stored_plays_at (stored_pair so_far) B step)
 along_b so_far few step same = back (plays so_far.b so_far.a.half step) (stored_plays (stored_pair so_far).b (stored_pair so_far).to_b step)
     (along_a (exchanged_ends so_far) few step same)
@@ -92,7 +92,7 @@ along_b so_far few step same = back (plays so_far.b so_far.a.half step) (stored_
 
 -- the step is the same of the end that it is of
 abbrev pub kept_at : Played → Side → StepValue → Type 0
-kept_at so_far side step = IsKept (own_end side so_far) (other_end side so_far).half step
+kept_at so_far side step = IsStored (own_end side so_far) (other_end side so_far).half step
 
 pub step_along : {script : Script} {steps count_a count_b : ℕ} {later : List ScriptStep} (so_far : Played) →
     Reached script steps count_a count_b later so_far → (step : ScriptStep) → kept_at so_far step.side step.step →

@@ -145,7 +145,7 @@ module _ {D K : Type 0} (book : SegmentBook D K) where
   abbrev pub tag_in : Side → ℕ → Becomes (Both D K) → Becomes LinkTag
   tag_in from k w = into w (λ (made : Both D K). into (sent_by from made k) (λ (one : SentOne K). Makes one.truth.tag))
 
--- All is made, by both books; or the last act is refused, of both
+-- All is made, by both books; or the last act is refused, by both
 abbrev pub AllMade : List Act → Type 0
 AllMade list = (end_of true_segments (after true_segments list) ≡ Makes tt) × (end_of wire_segments (after wire_segments list) ≡ Makes tt)
 

@@ -2,7 +2,7 @@
 use Rattle.std.specs.Prelude.{Option, Some, None}
 use Rattle.dna_links.specs.WireSegments.{WireSegments, empty}
 
--- segments that lie somewhere, or empty ones
+-- the segments that lie in a block; none where there is no block
 abbrev pub segments_in : {B : Type 0} → (B → WireSegments) → Option B → WireSegments
 segments_in value None = empty
 segments_in value (Some b) = value b

@@ -4,7 +4,7 @@ ghost use Rattle.std.specs.Prelude.{◌≡◌, ◌<◌, ◌≤◌, ℕ, [], ◌�
 ghost use Rattle.capture.specs.declared.limit.TheConstants.{MAX_MESSAGE};
 ghost use Rattle.dna_packet.specs.Packet.{packet_bytes};
 ghost use Rattle.dna_packet.specs.Packet as packets;
-ghost use Rattle.dna_play.specs.StoredPlay as kept;
+ghost use Rattle.dna_play.specs.StoredPlay as stored;
 ghost use Rattle.dna_station.specs.Table.{WINDOW};
 ghost use Rattle.dna_station.specs.WireBook.{wire_is_new};
 ghost use Rattle.dna_play.specs.NextSent.{link_choice};
@@ -37,9 +37,9 @@ impl<W: Window<HeldPacket, 256> + Drop, V: Window<GivenPiece, 4096> + Drop> End<
     /// Sends one unit, which is the answer. `BadStep`: it has none to send, for which no memory is asked.
     #[tactic(auto, using(crate::proofs::Choosing::chosen_packets, crate::proofs::Sends::sent_live))]
     pub fn send(&mut self, text: &mut Vec<u8>) -> Result<Vec<u8>, StepFault>
-        ensures ok { IfOk result (λ unit. with_lines text.old.items (kept.sends self.old) ≡ Ok (self.new, unit.items ∷ [], text.new.items)) }
+        ensures ok { IfOk result (λ unit. with_lines text.old.items (stored.sends self.old) ≡ Ok (self.new, unit.items ∷ [], text.new.items)) }
         ensures short { IfOk result (λ unit. length unit.items ≤ MAX_MESSAGE) }
-        ensures stop { IfErr result (λ fault. StopMeans (kept.sends self.old) fault) }
+        ensures stop { IfErr result (λ fault. StopMeans (stored.sends self.old) fault) }
         ensures memory { result ≡ Err StepFault.OutOfMemory → HasUnit self.old }
     {
         let next = self.links.choice();
@@ -68,10 +68,10 @@ impl<W: Window<HeldPacket, 256> + Drop, V: Window<GivenPiece, 4096> + Drop> End<
     #[tactic(auto, using(crate::proofs::Sent::sent_others))]
     fn send_other(&mut self, choice: Choice, text: &mut Vec<u8>) -> Result<Vec<u8>, StepFault>
         requires { is_new (choice_view choice) ≡ false }
-        ensures ok { IfOk result (λ unit. with_lines text.old.items (kept.sends_choice self.old (Some (choice_view choice)))
+        ensures ok { IfOk result (λ unit. with_lines text.old.items (stored.sends_choice self.old (Some (choice_view choice)))
             ≡ Ok (self.new, unit.items ∷ [], text.new.items)) }
         ensures short { IfOk result (λ unit. length unit.items ≤ MAX_MESSAGE) }
-        ensures stop { IfErr result (λ fault. StopMeans (kept.sends_choice self.old (Some (choice_view choice))) fault) }
+        ensures stop { IfErr result (λ fault. StopMeans (stored.sends_choice self.old (Some (choice_view choice))) fault) }
     {
         let alloc = self.alloc;
         let Ok(unit) = self.station.unit(alloc, choice) else {

@@ -5,7 +5,7 @@ ghost use Rattle.capture.specs.declared.limit.TheConstants.{MAX_LINK, MAX_MESSAG
 ghost use Rattle.capture.specs.Entries.{record_with};
 ghost use Rattle.capture.specs.declared.hint.HintForm.TheVariants as HintForm;
 ghost use Rattle.capture.specs.Text.{record_line};
-ghost use Rattle.dna_play.specs.StoredPlay as kept;
+ghost use Rattle.dna_play.specs.StoredPlay as stored;
 ghost use Rattle.player_end.specs.Stepping.{StopMeans, with_lines};
 
 use super::End;
@@ -23,9 +23,9 @@ use wire_base::Window;
 impl<W: Window<HeldPacket, 256> + Drop, V: Window<GivenPiece, 4096> + Drop> End<W, V> {
     /// The user starts the station; it owes STRT. `BadStep`: it is not in HALTED (DDCMP 4.1, startup state table).
     pub fn start(&mut self, text: &mut Vec<u8>) -> Result<(), StepFault>
-        ensures ok { OnOk result (with_lines text.old.items (kept.starts self.old) ≡ Ok (self.new, [], text.new.items)) }
-        ensures stop { IfErr result (λ fault. StopMeans (kept.starts self.old) fault) }
-        ensures memory { result ≡ Err StepFault.OutOfMemory → IsOk (kept.starts self.old) }
+        ensures ok { OnOk result (with_lines text.old.items (stored.starts self.old) ≡ Ok (self.new, [], text.new.items)) }
+        ensures stop { IfErr result (λ fault. StopMeans (stored.starts self.old) fault) }
+        ensures memory { result ≡ Err StepFault.OutOfMemory → IsOk (stored.starts self.old) }
     {
         match self.station.state() {
             State::Halted => {
@@ -39,8 +39,8 @@ impl<W: Window<HeldPacket, 256> + Drop, V: Window<GivenPiece, 4096> + Drop> End<
 
     /// The user halts the station, in whatever state it is.
     pub fn halt(&mut self, text: &mut Vec<u8>) -> Result<(), StepFault>
-        ensures ok { OnOk result (with_lines text.old.items (kept.halts self.old) ≡ Ok (self.new, [], text.new.items)) }
-        ensures stop { IfErr result (λ fault. StopMeans (kept.halts self.old) fault) }
+        ensures ok { OnOk result (with_lines text.old.items (stored.halts self.old) ≡ Ok (self.new, [], text.new.items)) }
+        ensures stop { IfErr result (λ fault. StopMeans (stored.halts self.old) fault) }
     {
         put(text, Entry::Halt, &[])?;
         self.station.halt();
@@ -49,8 +49,8 @@ impl<W: Window<HeldPacket, 256> + Drop, V: Window<GivenPiece, 4096> + Drop> End<
 
     /// The timer of the station runs out; it owes STRT, STACK, REP or ACK, by its state. `BadStep`: it is in HALTED. Takes no memory.
     pub fn time_out(&mut self) -> Result<(), StepFault>
-        ensures ok { OnOk result (kept.times_out self.old ≡ kept.silent self.new) }
-        ensures stop { IfErr result (λ fault. StopMeans (kept.times_out self.old) fault) }
+        ensures ok { OnOk result (stored.times_out self.old ≡ stored.silent self.new) }
+        ensures stop { IfErr result (λ fault. StopMeans (stored.times_out self.old) fault) }
         ensures memory { result ≡ Err StepFault.OutOfMemory → ⊥ }
     {
         let Some(debt) = self.station.timer_debt() else {
@@ -74,9 +74,9 @@ impl<W: Window<HeldPacket, 256> + Drop, V: Window<GivenPiece, 4096> + Drop> End<
 
     /// The user opens a link, with the next address; it owes CI. `Full`: no address is left.
     pub fn open(&mut self, text: &mut Vec<u8>) -> Result<(), StepFault>
-        ensures ok { OnOk result (with_lines text.old.items (kept.opens self.old) ≡ Ok (self.new, [], text.new.items)) }
-        ensures stop { IfErr result (λ fault. StopMeans (kept.opens self.old) fault) }
-        ensures memory { result ≡ Err StepFault.OutOfMemory → IsOk (kept.opens self.old) }
+        ensures ok { OnOk result (with_lines text.old.items (stored.opens self.old) ≡ Ok (self.new, [], text.new.items)) }
+        ensures stop { IfErr result (λ fault. StopMeans (stored.opens self.old) fault) }
+        ensures memory { result ≡ Err StepFault.OutOfMemory → IsOk (stored.opens self.old) }
     {
         let Some(link) = self.next_address() else {
             return Err(StepFault::Full);
@@ -93,9 +93,9 @@ impl<W: Window<HeldPacket, 256> + Drop, V: Window<GivenPiece, 4096> + Drop> End<
     /// `Full`: no address is left.
     #[tactic(auto, using(crate::proofs::Searching::found_ends, crate::proofs::Answered::answered))]
     pub fn accept(&mut self, partner: u16, text: &mut Vec<u8>) -> Result<(), StepFault>
-        ensures ok { OnOk result (with_lines text.old.items (kept.accepts self.old partner) ≡ Ok (self.new, [], text.new.items)) }
-        ensures stop { IfErr result (λ fault. StopMeans (kept.accepts self.old partner) fault) }
-        ensures memory { result ≡ Err StepFault.OutOfMemory → IsOk (kept.accepts self.old partner) }
+        ensures ok { OnOk result (with_lines text.old.items (stored.accepts self.old partner) ≡ Ok (self.new, [], text.new.items)) }
+        ensures stop { IfErr result (λ fault. StopMeans (stored.accepts self.old partner) fault) }
+        ensures memory { result ≡ Err StepFault.OutOfMemory → IsOk (stored.accepts self.old partner) }
     {
         let Some((number, _link)) = self.links.found(LinkTest::CalledBy { far: partner }) else {
             return Err(StepFault::BadStep);
@@ -118,9 +118,9 @@ impl<W: Window<HeldPacket, 256> + Drop, V: Window<GivenPiece, 4096> + Drop> End<
     /// `Full`: no address is left.
     #[tactic(auto, using(crate::proofs::Searching::found_ends, crate::proofs::Answered::answered))]
     pub fn reject(&mut self, partner: u16, text: &mut Vec<u8>) -> Result<(), StepFault>
-        ensures ok { OnOk result (with_lines text.old.items (kept.rejects self.old partner) ≡ Ok (self.new, [], text.new.items)) }
-        ensures stop { IfErr result (λ fault. StopMeans (kept.rejects self.old partner) fault) }
-        ensures memory { result ≡ Err StepFault.OutOfMemory → IsOk (kept.rejects self.old partner) }
+        ensures ok { OnOk result (with_lines text.old.items (stored.rejects self.old partner) ≡ Ok (self.new, [], text.new.items)) }
+        ensures stop { IfErr result (λ fault. StopMeans (stored.rejects self.old partner) fault) }
+        ensures memory { result ≡ Err StepFault.OutOfMemory → IsOk (stored.rejects self.old partner) }
     {
         let Some((number, _link)) = self.links.found(LinkTest::CalledBy { far: partner }) else {
             return Err(StepFault::BadStep);
@@ -148,9 +148,9 @@ impl<W: Window<HeldPacket, 256> + Drop, V: Window<GivenPiece, 4096> + Drop> End<
         message: &[u8],
         text: &mut Vec<u8>,
     ) -> Result<(), StepFault>
-        ensures ok { OnOk result (with_lines text.old.items (kept.hands_in self.old link message.now) ≡ Ok (self.new, [], text.new.items)) }
-        ensures stop { IfErr result (λ fault. StopMeans (kept.hands_in self.old link message.now) fault) }
-        ensures memory { result ≡ Err StepFault.OutOfMemory → IsOk (kept.hands_in self.old link message.now) }
+        ensures ok { OnOk result (with_lines text.old.items (stored.hands_in self.old link message.now) ≡ Ok (self.new, [], text.new.items)) }
+        ensures stop { IfErr result (λ fault. StopMeans (stored.hands_in self.old link message.now) fault) }
+        ensures memory { result ≡ Err StepFault.OutOfMemory → IsOk (stored.hands_in self.old link message.now) }
     {
         let Some((number, found)) = self.links.found(LinkTest::LiveAt { own: link }) else {
             return Err(StepFault::BadStep);
@@ -170,9 +170,9 @@ impl<W: Window<HeldPacket, 256> + Drop, V: Window<GivenPiece, 4096> + Drop> End<
     /// The user closes the link with this address; it owes DI. `BadStep`: no live link has it, or it is not in Confirming or RUN.
     #[tactic(auto, using(crate::proofs::Searching::found_ends))]
     pub fn close(&mut self, link: u16, text: &mut Vec<u8>) -> Result<(), StepFault>
-        ensures ok { OnOk result (with_lines text.old.items (kept.closes self.old link) ≡ Ok (self.new, [], text.new.items)) }
-        ensures stop { IfErr result (λ fault. StopMeans (kept.closes self.old link) fault) }
-        ensures memory { result ≡ Err StepFault.OutOfMemory → IsOk (kept.closes self.old link) }
+        ensures ok { OnOk result (with_lines text.old.items (stored.closes self.old link) ≡ Ok (self.new, [], text.new.items)) }
+        ensures stop { IfErr result (λ fault. StopMeans (stored.closes self.old link) fault) }
+        ensures memory { result ≡ Err StepFault.OutOfMemory → IsOk (stored.closes self.old link) }
     {
         let Some((number, found)) = self.links.found(LinkTest::LiveAt { own: link }) else {
             return Err(StepFault::BadStep);
@@ -189,8 +189,8 @@ impl<W: Window<HeldPacket, 256> + Drop, V: Window<GivenPiece, 4096> + Drop> End<
     /// acknowledged go again. `BadStep`: no live link has it, or it is in Called. Takes no memory.
     #[tactic(auto, using(crate::proofs::Searching::found_ends))]
     pub fn retry(&mut self, link: u16) -> Result<(), StepFault>
-        ensures ok { OnOk result (kept.retries self.old link ≡ kept.silent self.new) }
-        ensures stop { IfErr result (λ fault. StopMeans (kept.retries self.old link) fault) }
+        ensures ok { OnOk result (stored.retries self.old link ≡ stored.silent self.new) }
+        ensures stop { IfErr result (λ fault. StopMeans (stored.retries self.old link) fault) }
         ensures memory { result ≡ Err StepFault.OutOfMemory → ⊥ }
     {
         let Some((number, _found)) = self.links.found(LinkTest::LiveAt { own: link }) else {

@@ -6,7 +6,7 @@ ghost use Rattle.dna_packet.specs.AckWord.{IsAckWord};
 ghost use Rattle.dna_packet.specs.Nsp.{segment_view};
 ghost use Rattle.dna_links.specs.LookUps as tests;
 ghost use Rattle.dna_links.specs.WireSegments.{segment_taken};
-ghost use Rattle.dna_play.specs.StoredLinks as kept;
+ghost use Rattle.dna_play.specs.StoredLinks as stored;
 ghost use Rattle.player_end.specs.inner.Links.{acknowledged};
 
 use super::LinkEnd;
@@ -21,7 +21,7 @@ use wire_base::{Seq, Window};
 impl<V: Window<GivenPiece, 4096> + Drop> LinkEnd<V> {
     /// A CI comes again: in Called it owes a connect acknowledgement, in Confirming CC.
     pub fn call_again(&mut self)
-        ensures { self.new ≡ kept.called_again self.old.port.phase self.old }
+        ensures { self.new ≡ stored.called_again self.old.port.phase self.old }
     {
         match self.port.phase {
             Phase::Called => self.owed.owe(Duty::ConnectAck),
@@ -32,7 +32,7 @@ impl<V: Window<GivenPiece, 4096> + Drop> LinkEnd<V> {
 
     /// A CC is acted on: it goes to RUN with this far address, and owes a data acknowledgement.
     pub fn confirm(&mut self, far: u16)
-        ensures { self.new ≡ kept.confirmed far self.old }
+        ensures { self.new ≡ stored.confirmed far self.old }
     {
         self.go_to(Phase::Running);
         self.port.far = Some(far);
@@ -41,7 +41,7 @@ impl<V: Window<GivenPiece, 4096> + Drop> LinkEnd<V> {
 
     /// A CC comes for it and is not acted on: in RUN it owes a data acknowledgement.
     pub fn confirm_again(&mut self)
-        ensures { self.new ≡ kept.confirmed_again (tests.is_running self.old.port.phase) self.old }
+        ensures { self.new ≡ stored.confirmed_again (tests.is_running self.old.port.phase) self.old }
     {
         if is_running(self.port.phase) {
             self.owed.owe(Duty::DataAck);
@@ -50,7 +50,7 @@ impl<V: Window<GivenPiece, 4096> + Drop> LinkEnd<V> {
 
     /// Something comes that has no number which is read: it runs.
     pub fn act(&mut self)
-        ensures { self.new ≡ kept.acted_on self.old.variables self.old }
+        ensures { self.new ≡ stored.acted_on self.old.variables self.old }
     {
         self.go_to(Phase::Running);
     }
@@ -58,7 +58,7 @@ impl<V: Window<GivenPiece, 4096> + Drop> LinkEnd<V> {
     /// Acknowledgement words come: it runs, and what they acknowledge is no longer among the segments sent in this go. Takes no memory.
     pub fn take_acks(&mut self, words: &[AckWord])
         requires { AllByRecursion IsAckWord words.now }
-        ensures { self.new ≡ kept.took_acks words.now self.old }
+        ensures { self.new ≡ stored.took_acks words.now self.old }
     {
         self.acknowledge(words);
         self.go_to(Phase::Running);
@@ -82,7 +82,7 @@ impl<V: Window<GivenPiece, 4096> + Drop> LinkEnd<V> {
     pub fn take_segment(&mut self, alloc: Global, segment: &Segment<'_>) -> Result<(), AllocError>
         requires acks { AllByRecursion IsAckWord segment.now.acks.items }
         requires number { segment.now.number < 4096 }
-        ensures ok { OnOk result (self.new ≡ kept.took_segment (segment_view segment.now) self.old) }
+        ensures ok { OnOk result (self.new ≡ stored.took_segment (segment_view segment.now) self.old) }
         ensures err { OnErr result (self.new ≡ self.old) }
     {
         self.hold(alloc, segment)?;

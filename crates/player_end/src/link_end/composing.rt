@@ -5,7 +5,7 @@ ghost use Rattle.std.specs.Option.{option_map};
 ghost use Rattle.dna_packet.specs.Nsp.{nsp_bytes};
 ghost use Rattle.dna_play.specs.NextSent.{has_segment, duty_of};
 ghost use Rattle.dna_play.specs.Compose.{address, piece_to_send, duty_message};
-ghost use Rattle.dna_play.specs.StoredLinks as kept;
+ghost use Rattle.dna_play.specs.StoredLinks as stored;
 ghost use Rattle.player_end.specs.inner.Owing.{duty_view};
 ghost use Rattle.link_segments.specs.Piece.{slice_view};
 
@@ -209,7 +209,7 @@ impl<V: Window<GivenPiece, 4096> + Drop> LinkEnd<V> {
     #[tactic(auto, using(crate::proofs::Choosing::segments))]
     pub fn sent(&mut self, alloc: Global, duty: Duty) -> Result<(), AllocError>
         requires { duty_of self.old ≡ Some (duty_view duty) }
-        ensures ok { OnOk result (self.new ≡ kept.duty_sent (duty_view duty) self.old) }
+        ensures ok { OnOk result (self.new ≡ stored.duty_sent (duty_view duty) self.old) }
         ensures err { OnErr result (self.new ≡ self.old) }
     {
         self.give_by(alloc, duty)?;
@@ -220,7 +220,7 @@ impl<V: Window<GivenPiece, 4096> + Drop> LinkEnd<V> {
     #[tactic(auto, using(crate::proofs::Choosing::segments))]
     fn give_by(&mut self, alloc: Global, duty: Duty) -> Result<(), AllocError>
         requires { duty_of self.old ≡ Some (duty_view duty) }
-        ensures given { OnOk result (self.new ≡ kept.gave_by (duty_view duty) self.old) }
+        ensures given { OnOk result (self.new ≡ stored.gave_by (duty_view duty) self.old) }
         ensures next { duty ≡ Duty.Segment → OnOk result (self.new.owed.ahead < length self.new.variables.outstanding) }
         ensures err { OnErr result (self.new ≡ self.old) }
     {
@@ -238,7 +238,7 @@ impl<V: Window<GivenPiece, 4096> + Drop> LinkEnd<V> {
     #[tactic(auto, using(crate::proofs::Choosing::segments))]
     fn give(&mut self, alloc: Global) -> Result<(), AllocError>
         requires { has_segment self.old ≡ true }
-        ensures given { OnOk result (self.new ≡ kept.gave (slice_get self.old.variables.outstanding self.old.owed.ahead) self.old) }
+        ensures given { OnOk result (self.new ≡ stored.gave (slice_get self.old.variables.outstanding self.old.owed.ahead) self.old) }
         ensures next { OnOk result (self.new.owed.ahead < length self.new.variables.outstanding) }
         ensures err { OnErr result (self.new ≡ self.old) }
     {

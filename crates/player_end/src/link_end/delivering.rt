@@ -7,7 +7,7 @@ ghost use Rattle.dna_packet.specs.AckWord.{IsAckWord};
 ghost use Rattle.dna_packet.specs.Nsp.{segment_view};
 ghost use Rattle.dna_links.specs.LookUps.{is_live};
 ghost use Rattle.dna_links.specs.Segmentation.{in_whole_messages};
-ghost use Rattle.dna_play.specs.StoredLinks as kept;
+ghost use Rattle.dna_play.specs.StoredLinks as stored;
 ghost use Rattle.player_end.specs.inner.Delivering.{bodies, lines_of, up_line, IsTooLong};
 ghost use Rattle.player_end.specs.Stepping.{Stopped};
 
@@ -31,11 +31,12 @@ impl<V: Window<GivenPiece, 4096> + Drop> LinkEnd<V> {
     ) -> Result<(), StepFault>
         requires acks { AllByRecursion IsAckWord segment.now.acks.items }
         requires number { segment.now.number < 4096 }
-        ensures ok { OnOk result (lines_of segment.now.dstaddr text.old.items (kept.took_segment (segment_view segment.now) self.old).variables.pieces
+        ensures ok { OnOk result
+            (lines_of segment.now.dstaddr text.old.items (stored.took_segment (segment_view segment.now) self.old).variables.pieces
             ≡ Some text.new.items) }
-        ensures left { OnOk result (self.new ≡ kept.without_whole (kept.took_segment (segment_view segment.now) self.old)) }
+        ensures left { OnOk result (self.new ≡ stored.without_whole (stored.took_segment (segment_view segment.now) self.old)) }
         ensures stop { IfErr result (λ fault. Stopped (lines_of segment.now.dstaddr text.old.items
-            (kept.took_segment (segment_view segment.now) self.old).variables.pieces) fault) }
+            (stored.took_segment (segment_view segment.now) self.old).variables.pieces) fault) }
         ensures own { self.new.port.own ≡ self.old.port.own }
         ensures far { self.new.port.far ≡ self.old.port.far }
         ensures lives { is_live self.old.port.phase ≡ true → is_live self.new.port.phase ≡ true }
@@ -49,7 +50,7 @@ impl<V: Window<GivenPiece, 4096> + Drop> LinkEnd<V> {
     // Each message that is whole goes to the user, with its line behind the text, where `own` is the link's address here.
     fn deliver(&mut self, alloc: Global, own: u16, text: &mut Vec<u8>) -> Result<(), StepFault>
         ensures ok { OnOk result (lines_of own text.old.items self.old.variables.pieces ≡ Some text.new.items) }
-        ensures left { OnOk result (self.new ≡ kept.without_whole self.old) }
+        ensures left { OnOk result (self.new ≡ stored.without_whole self.old) }
         ensures stop { IfErr result (λ fault. Stopped (lines_of own text.old.items self.old.variables.pieces) fault) }
         ensures port { self.new.port ≡ self.old.port }
     {

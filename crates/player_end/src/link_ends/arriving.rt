@@ -9,7 +9,7 @@ ghost use Rattle.dna_links.specs.LookUps.{is_running};
 ghost use Rattle.dna_play.specs.NextSent.{LinkEnd as StoredLink};
 ghost use Rattle.dna_play.specs.StoredEnd.{StoredLinks};
 ghost use Rattle.dna_play.specs.StoredLinks.{arrives, message_came};
-ghost use Rattle.dna_play.specs.StoredLinks as kept;
+ghost use Rattle.dna_play.specs.StoredLinks as stored;
 ghost use Rattle.player_end.specs.inner.Delivering.{delivers, delivers_at};
 ghost use Rattle.player_end.specs.inner.Index.{LivesAt, live_of, place_among};
 ghost use Rattle.player_end.specs.Stepping.{Stopped};
@@ -83,8 +83,8 @@ impl<V: Window<GivenPiece, 4096> + Drop> LinkEnds<V> {
     // A CI.
     #[tactic(auto, using(crate::proofs::Searching::found_ends))]
     fn connect_initiate(&mut self, far: u16) -> Result<(), AllocError>
-        ensures { OnOk result (live_of self.new ≡ kept.with_end (LinkTest.LiveTo far) (live_of self.old)
-            (kept.begun (kept.called far) (live_of self.old)) (λ place link. kept.changed place (kept.called_again link.port.phase link)
+        ensures { OnOk result (live_of self.new ≡ stored.with_end (LinkTest.LiveTo far) (live_of self.old)
+            (stored.begun (stored.called far) (live_of self.old)) (λ place link. stored.changed place (stored.called_again link.port.phase link)
             (live_of self.old))) }
     {
         let Some((number, _link)) = self.found(LinkTest::LiveTo { far }) else {
@@ -99,7 +99,7 @@ impl<V: Window<GivenPiece, 4096> + Drop> LinkEnds<V> {
         requires within { number < length self.old.links }
         requires lives { LivesAt number self.old }
         ensures { (link : StoredLink) → slice_get self.old.links number ≡ Some link
-            → live_of self.new ≡ kept.changed (place_among number self.old.links) (kept.called_again link.port.phase link) (live_of self.old) }
+            → live_of self.new ≡ stored.changed (place_among number self.old.links) (stored.called_again link.port.phase link) (live_of self.old) }
     {
         self.links[number].call_again();
         self.marks.mark(number);
@@ -108,7 +108,7 @@ impl<V: Window<GivenPiece, 4096> + Drop> LinkEnds<V> {
     // A CC.
     #[tactic(auto, using(crate::proofs::Searching::found_ends))]
     fn connect_confirm(&mut self, own: u16, far: u16) -> Result<(), AllocError>
-        ensures { OnOk result (live_of self.new ≡ kept.confirm_came own far (live_of self.old)) }
+        ensures { OnOk result (live_of self.new ≡ stored.confirm_came own far (live_of self.old)) }
     {
         if let Some((number, _link)) = self.found(LinkTest::CallingAt { own }) {
             return self.confirm_at(number, far);
@@ -124,7 +124,7 @@ impl<V: Window<GivenPiece, 4096> + Drop> LinkEnds<V> {
         requires within { number < length self.old.links }
         requires lives { LivesAt number self.old }
         ensures { (link : StoredLink) → slice_get self.old.links number ≡ Some link
-            → OnOk result (live_of self.new ≡ kept.changed (place_among number self.old.links) (kept.confirmed far link) (live_of self.old)) }
+            → OnOk result (live_of self.new ≡ stored.changed (place_among number self.old.links) (stored.confirmed far link) (live_of self.old)) }
     {
         self.fars.insert(far, number)?;
         self.links[number].confirm(far);
@@ -136,7 +136,7 @@ impl<V: Window<GivenPiece, 4096> + Drop> LinkEnds<V> {
         requires within { number < length self.old.links }
         requires lives { LivesAt number self.old }
         ensures { (link : StoredLink) → slice_get self.old.links number ≡ Some link
-            → live_of self.new ≡ kept.changed (place_among number self.old.links) (kept.confirmed_again (is_running link.port.phase) link)
+            → live_of self.new ≡ stored.changed (place_among number self.old.links) (stored.confirmed_again (is_running link.port.phase) link)
             (live_of self.old) }
     {
         self.links[number].confirm_again();
@@ -146,8 +146,8 @@ impl<V: Window<GivenPiece, 4096> + Drop> LinkEnds<V> {
     // A DI: its link ends, and a DC is owed.
     #[tactic(auto, using(crate::proofs::Searching::found_ends))]
     fn disconnect(&mut self, own: u16, far: u16) -> Result<(), AllocError>
-        ensures { OnOk result (live_of self.new ≡ kept.ends_link own far (kept.confirming far own 41 (live_of self.old))
-            (kept.confirming far own 42) (live_of self.old)) }
+        ensures { OnOk result (live_of self.new ≡ stored.ends_link own far (stored.confirming far own 41 (live_of self.old))
+            (stored.confirming far own 42) (live_of self.old)) }
     {
         let reason = if self.end(own, far) {
             DISCONNECTED
@@ -168,9 +168,9 @@ impl<V: Window<GivenPiece, 4096> + Drop> LinkEnds<V> {
     // The link with these addresses, or the one in Calling with the own address, ends; the answer is whether there is one.
     #[tactic(auto, using(crate::proofs::Searching::found_ends))]
     fn end(&mut self, own: u16, far: u16) -> bool
-        ensures yes { result ≡ true → (otherwise : StoredLinks) (more : StoredLinks → StoredLinks) → kept.ends_link own far otherwise more
+        ensures yes { result ≡ true → (otherwise : StoredLinks) (more : StoredLinks → StoredLinks) → stored.ends_link own far otherwise more
             (live_of self.old) ≡ more (live_of self.new) }
-        ensures no { result ≡ false → (otherwise : StoredLinks) (more : StoredLinks → StoredLinks) → kept.ends_link own far otherwise more
+        ensures no { result ≡ false → (otherwise : StoredLinks) (more : StoredLinks → StoredLinks) → stored.ends_link own far otherwise more
             (live_of self.old) ≡ otherwise }
         ensures same { result ≡ false → self.new ≡ self.old }
     {
@@ -188,7 +188,7 @@ impl<V: Window<GivenPiece, 4096> + Drop> LinkEnds<V> {
     // Something that has no number which is read.
     #[tactic(auto, using(crate::proofs::Searching::found_ends))]
     fn act(&mut self, own: u16, far: u16)
-        ensures { live_of self.new ≡ kept.acts own far (λ link. kept.acted_on link.variables link) (live_of self.old) }
+        ensures { live_of self.new ≡ stored.acts own far (λ link. stored.acted_on link.variables link) (live_of self.old) }
     {
         let Some((number, _link)) = self.found(LinkTest::ActedOn { own, far }) else {
             return;
@@ -200,7 +200,7 @@ impl<V: Window<GivenPiece, 4096> + Drop> LinkEnds<V> {
         requires within { number < length self.old.links }
         requires lives { LivesAt number self.old }
         ensures { (link : StoredLink) → slice_get self.old.links number ≡ Some link
-            → live_of self.new ≡ kept.changed (place_among number self.old.links) (kept.acted_on link.variables link) (live_of self.old) }
+            → live_of self.new ≡ stored.changed (place_among number self.old.links) (stored.acted_on link.variables link) (live_of self.old) }
     {
         self.links[number].act();
         self.marks.mark(number);
@@ -210,7 +210,7 @@ impl<V: Window<GivenPiece, 4096> + Drop> LinkEnds<V> {
     #[tactic(auto, using(crate::proofs::Searching::found_ends))]
     fn acks_came(&mut self, own: u16, far: u16, words: &[AckWord])
         requires { AllByRecursion IsAckWord words.now }
-        ensures { live_of self.new ≡ kept.acts own far (kept.took_acks words.now) (live_of self.old) }
+        ensures { live_of self.new ≡ stored.acts own far (stored.took_acks words.now) (live_of self.old) }
     {
         let Some((number, _link)) = self.found(LinkTest::ActedOn { own, far }) else {
             return;
@@ -223,7 +223,7 @@ impl<V: Window<GivenPiece, 4096> + Drop> LinkEnds<V> {
         requires lives { LivesAt number self.old }
         requires acks { AllByRecursion IsAckWord words.now }
         ensures { (link : StoredLink) → slice_get self.old.links number ≡ Some link
-            → live_of self.new ≡ kept.changed (place_among number self.old.links) (kept.took_acks words.now link) (live_of self.old) }
+            → live_of self.new ≡ stored.changed (place_among number self.old.links) (stored.took_acks words.now link) (live_of self.old) }
     {
         self.links[number].take_acks(words);
         self.marks.mark(number);
@@ -260,11 +260,11 @@ impl<V: Window<GivenPiece, 4096> + Drop> LinkEnds<V> {
         requires acks { AllByRecursion IsAckWord segment.now.acks.items }
         requires number { segment.now.number < 4096 }
         ensures ok { (link : StoredLink) → slice_get self.old.links number ≡ Some link → OnOk result (delivers_at segment.now.dstaddr text.old.items
-            (kept.delivering_at (place_among number self.old.links) (kept.took_segment (segment_view segment.now) link) (live_of self.old)) ≡ Some
+            (stored.delivering_at (place_among number self.old.links) (stored.took_segment (segment_view segment.now) link) (live_of self.old)) ≡ Some
             (live_of self.new, text.new.items)) }
         ensures stop { (link : StoredLink) → slice_get self.old.links number ≡ Some link → IfErr result
             (λ fault. Stopped (delivers_at segment.now.dstaddr
-            text.old.items (kept.delivering_at (place_among number self.old.links) (kept.took_segment (segment_view segment.now) link)
+            text.old.items (stored.delivering_at (place_among number self.old.links) (stored.took_segment (segment_view segment.now) link)
             (live_of self.old))) fault) }
     {
         let made = self.links[number].receive(self.alloc, segment, text);

@@ -8,7 +8,7 @@ ghost use Rattle.dna_play.specs.NextSent.{LinkEnd as StoredLink, first_duty, lin
 ghost use Rattle.dna_play.specs.Compose.{link_message, message_at};
 ghost use Rattle.dna_play.specs.StoredEnd.{live_ends};
 ghost use Rattle.dna_play.specs.StoredLinks.{after_sent};
-ghost use Rattle.dna_play.specs.StoredLinks as kept;
+ghost use Rattle.dna_play.specs.StoredLinks as stored;
 ghost use Rattle.player_end.specs.inner.Index.{AreMarked, LivesAt, among_live, live_of, place_among};
 ghost use Rattle.player_end.specs.inner.Links.{duty_there};
 ghost use Rattle.player_end.specs.inner.Owing.{link_choice_view, duty_view};
@@ -107,7 +107,7 @@ impl<V: Window<GivenPiece, 4096> + Drop> LinkEnds<V> {
         requires lives { LivesAt number self.old }
         requires next { (link : StoredLink) → slice_get self.old.links number ≡ Some link → duty_of link ≡ Some (duty_view duty) }
         ensures { (link : StoredLink) → slice_get self.old.links number ≡ Some link → OnOk result (live_of self.new
-            ≡ kept.changed (place_among number self.old.links) (kept.duty_sent (duty_view duty) link) (live_of self.old)) }
+            ≡ stored.changed (place_among number self.old.links) (stored.duty_sent (duty_view duty) link) (live_of self.old)) }
     {
         let made = self.links[number].sent(self.alloc, duty);
         self.marks.mark(number);

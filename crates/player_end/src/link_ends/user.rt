@@ -4,7 +4,7 @@ ghost use Rattle.std.specs.Prelude.{◌≡◌, ◌<◌, true, false, None, Some,
 ghost use Rattle.dna_links.specs.LookUps.{is_live};
 ghost use Rattle.dna_play.specs.LinkOwed.{retried};
 ghost use Rattle.dna_play.specs.NextSent.{LinkEnd as StoredLink};
-ghost use Rattle.dna_play.specs.StoredLinks as kept;
+ghost use Rattle.dna_play.specs.StoredLinks as stored;
 ghost use Rattle.player_end.specs.inner.Index.{LivesAt, live_of, place_among};
 ghost use Rattle.player_end.specs.inner.Links.{retried_end, changed_to};
 ghost use Rattle.player_end.specs.inner.Owing.{duty_view};
@@ -20,7 +20,7 @@ use wire_base::Window;
 impl<V: Window<GivenPiece, 4096> + Drop> LinkEnds<V> {
     /// A link is opened, with this own address.
     pub fn open(&mut self, own: u16) -> Result<(), AllocError>
-        ensures { OnOk result (live_of self.new ≡ kept.begun (kept.opened own) (live_of self.old)) }
+        ensures { OnOk result (live_of self.new ≡ stored.begun (stored.opened own) (live_of self.old)) }
     {
         let link = LinkEnd::opened(self.alloc, own);
         self.begin(link)
@@ -39,7 +39,7 @@ impl<V: Window<GivenPiece, 4096> + Drop> LinkEnds<V> {
         requires lives { LivesAt number self.old }
         requires phase { is_live phase ≡ true }
         ensures { (link : StoredLink) → slice_get self.old.links number ≡ Some link
-            → OnOk result (live_of self.new ≡ kept.changed (place_among number self.old.links) (kept.answered phase (duty_view duty) own link)
+            → OnOk result (live_of self.new ≡ stored.changed (place_among number self.old.links) (stored.answered phase (duty_view duty) own link)
             (live_of self.old)) }
     {
         self.owns.insert(own, number)?;
@@ -53,7 +53,8 @@ impl<V: Window<GivenPiece, 4096> + Drop> LinkEnds<V> {
         requires within { number < length self.old.links }
         requires lives { LivesAt number self.old }
         ensures { (link : StoredLink) → slice_get self.old.links number ≡ Some link
-            → OnOk result (live_of self.new ≡ kept.changed (place_among number self.old.links) (kept.handed message.now link) (live_of self.old)) }
+            → OnOk result
+            (live_of self.new ≡ stored.changed (place_among number self.old.links) (stored.handed message.now link) (live_of self.old)) }
     {
         let made = self.links[number].hand_in(self.alloc, message);
         self.marks.mark(number);
@@ -64,8 +65,8 @@ impl<V: Window<GivenPiece, 4096> + Drop> LinkEnds<V> {
     pub fn close_at(&mut self, number: usize)
         requires within { number < length self.old.links }
         requires lives { LivesAt number self.old }
-        ensures { (link : StoredLink) → slice_get self.old.links number ≡ Some link → live_of self.new ≡ kept.changed
-            (place_among number self.old.links) (kept.closed link) (live_of self.old) }
+        ensures { (link : StoredLink) → slice_get self.old.links number ≡ Some link → live_of self.new ≡ stored.changed
+            (place_among number self.old.links) (stored.closed link) (live_of self.old) }
     {
         self.links[number].close();
         self.marks.mark(number);
