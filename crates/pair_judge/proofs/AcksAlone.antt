@@ -56,7 +56,7 @@ module _ (acks : List AckWord) (s : WireLinks) where
       ≡ wrong_given acks (on_link number link None (λ number link. Some (given_of link.segments)))
   by_link number None = refl
   by_link number (Some link) =
-      ap (λ (b : Bool). cond b None (Some (OfLinks WrongAck))) (sym (words_agree link.segments.gave_many acks link.segments.kept))
+      ap (λ (b : Bool). cond b None (Some (OfLinks WrongAck))) (sym (words_agree link.segments.gave_many acks link.segments.variables))
 
   by_number : (number : Option ℕ) → at_number s.links number None (λ number link. wrong_words acks link.segments)
       ≡ wrong_given acks (at_number s.links number None (λ number link. Some (given_of link.segments)))
