@@ -10,5 +10,7 @@ pub mod ReadInRange
 -- within the bounds the same becomes of what a program keeps, and every run is within them
 pub mod CutLayersNode
 pub mod LayersBounds
+-- nodes that go by neither rule on tags, where no side starts twice and no link address is given twice
+pub mod Once
 -- one end alone, beside the pair
 pub mod Alone

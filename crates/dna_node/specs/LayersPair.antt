@@ -6,7 +6,7 @@ use Rattle.capture.specs.declared.record.Record.{Record}
 use Rattle.capture.specs.declared.record.Record.TheVariants.{Sent, Received, Noise, User}
 use Rattle.dna_station.specs.declared.head.Head.{Head}
 use Rattle.dna_station.specs.declared.refusal.StepRefusal.{StepRefusal}
-use Rattle.dna_node.specs.TagRules.{judged}
+use Rattle.dna_node.specs.TagRules.{judged, by_bytes}
 use Rattle.dna_station.specs.Machine.{pair_of}
 use Rattle.dna_links.specs.User.{LinkEventValue}
 use Rattle.dna_links.specs.Runs.{LinkSide, LinkWorld, new_world, Reached}
@@ -16,6 +16,10 @@ use Rattle.dna_node.specs.Layers.{LayersNode, LayersUnit, layers_machine, new_la
 -- both nodes go by the rules that a judge asks
 abbrev pub layers_pair : Nodes LayersNode Record LayersUnit StepRefusal
 layers_pair = pair_of (layers_machine judged)
+
+-- both go by neither of them
+abbrev pub bytes_pair : Nodes LayersNode Record LayersUnit StepRefusal
+bytes_pair = pair_of (layers_machine by_bytes)
 
 -- each node begins with its own head
 abbrev pub layers_start : (head_a head_b : Head) → World LayersNode LayersUnit

@@ -1,4 +1,5 @@
--- What holds of an end: what comes to it, damaged or not, it can take
+-- An end with its node, and what holds of it: what comes to it, damaged or not, it can take
+pub mod TrueEnd
 pub mod DamagedUnits
 pub mod ReceiptMakes
 -- what a station owes can be paid

@@ -1,5 +1,3 @@
--- what follows where no side starts twice, and no link address is given twice
-pub mod Once
 -- whole scripts
 pub mod Played
 -- what holds of the links of an end

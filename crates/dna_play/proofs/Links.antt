@@ -1,19 +1,22 @@
 -- What holds of the links of an end: what they choose to send they may send
+pub mod Lists
 pub mod SegmentsPay
 pub mod Pays
-pub mod Choices
 pub mod Confirms
 pub mod SegmentsDid
--- what they owe goes with their phases
+-- what they owe goes with their phases, and what these ask
 pub mod Owing
-pub mod Debts
--- what their phases ask, and what the user may do is done
 pub mod Fits
-pub mod Made
 pub mod Phases
--- what may become of a link, of its message that is sent, and so of all
+-- what may become of a link, and what is kept of all
 pub mod Goes
-pub mod Duties
+pub mod Keeps
 pub mod Stage
+pub mod Choices
+-- what the user may do is done; of a message that is sent, and of one that comes
+pub mod Made
+pub mod Duties
+pub mod Sent
+pub mod Comes
 -- pieces that wait
 pub mod WaitingPieces

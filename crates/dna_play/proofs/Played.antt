@@ -1,10 +1,8 @@
 -- Whole scripts: what they make is a run, with a line for each record, and where no side starts twice one with both rules
 pub mod Steps
-pub mod Reached
 pub mod Order
-pub mod Cases
 pub mod Walk
-pub mod StepMakes
+pub mod Reached
 pub mod PlayLines
 pub mod Runs
 pub mod Checked

@@ -1,5 +1,5 @@
 -- How an end of the player puts together what it has chosen to send (DDCMP 4.1, Routing Layer 2.0, NSP 4.0, message formats).
-use Rattle.std.specs.Prelude.{ℕ, ◌+◌, Bool, false, not, nat_le, Option, Some, None, List, [], ◌∷◌, length, take, slice_get}
+use Rattle.std.specs.Prelude.{ℕ, ◌+◌, false, Option, Some, None, List, [], ◌∷◌, length, slice_get}
 use Rattle.ddcmp_msg.specs.declared.flags.Flags.{Flags}
 use Rattle.ddcmp_msg.specs.Message.{MessageValue, Data, Ack, Nak, Rep, Strt, Stack, flags_of}
 use Rattle.dna_packet.specs.declared.ack_word.AckQualifier.TheVariants as qualifiers

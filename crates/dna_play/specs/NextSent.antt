@@ -1,5 +1,5 @@
 -- What an end of the player sends next: chosen by the station variables, the link variables and what is owed. It is put together by `Compose`.
-use Rattle.std.specs.Prelude.{ℕ, ◌+◌, Bool, true, false, ◌&&◌, ◌||◌, nat_lt, if◌then◌else◌, Option, Some, None, List, [], ◌∷◌, length, drop}
+use Rattle.std.specs.Prelude.{ℕ, ◌+◌, Bool, true, false, ◌&&◌, ◌||◌, nat_lt, if◌then◌else◌, Option, Some, None, List, [], ◌∷◌, length}
 use Rattle.ddcmp_msg.specs.declared.nak_reason.NakReason.{NakReason}
 use Rattle.ddcmp_msg.specs.declared.nak_reason.NakReason.TheVariants.{HeaderCheck, DataCheck, RepResponse, NoBuffer}
 use Rattle.dna_station.specs.declared.state.State.{State}
@@ -11,32 +11,24 @@ use Rattle.dna_station.specs.WireBook.{wire_is_new}
 use Rattle.dna_links.specs.LookUps.{is_running}
 use Rattle.dna_links.specs.Segmentation.{has_more}
 use Rattle.dna_links.specs.SegmentBook.{REACH}
-use Rattle.dna_links.specs.Links.{LinkOf}
-use Rattle.dna_links.specs.TrueSegments.{TrueSegments}
 use Rattle.dna_links.specs.WireSegments.{LinkVariables}
 use Rattle.dna_play.specs.Owed.{Owed, with_nak}
-use Rattle.dna_play.specs.LinkOwed.{LinkOwed, LinksOwed, EndConfirm, Duty, ConnectAckDuty, InitiateDuty, ConfirmDuty, DisconnectDuty, DataAckDuty}
-use Rattle.dna_play.specs.LinkOwed.{SegmentDuty, variables_of, with_duty, changed}
+use Rattle.dna_play.specs.LinkOwed.{LinkOwed, EndConfirm, Duty, ConnectAckDuty, InitiateDuty, ConfirmDuty, DisconnectDuty, DataAckDuty, SegmentDuty}
+use Rattle.dna_play.specs.LinkOwed.{with_duty}
 
 -- ---- the links
 
--- One end of a link as a node keeps it, with what it owes
+-- One end of a link as any node keeps it, with what it owes
 pub record LinkEnd : Type 0 where
   pub port : Port
   pub variables : LinkVariables
   pub owed : LinkOwed
 
--- all of them, in the order in which they began
-abbrev pub link_ends : List (LinkOf TrueSegments) → List LinkOwed → List LinkEnd
-link_ends [] owed = []
-link_ends (link ∷ links) [] = []
-link_ends (link ∷ links) (first ∷ owed) = record { port = link.port; variables = variables_of link; owed = first } ∷ link_ends links owed
-
 -- the next message of the links
 pub data LinkChoice : Type 0 where
   -- the oldest DC that is owed
   Confirms : EndConfirm → LinkChoice
-  -- of the link with this number
+  -- of the link at this place
   OfLink : (number : ℕ) (duty : Duty) → LinkChoice
 
 -- an outstanding segment that is not sent in the present go yet
@@ -81,10 +73,6 @@ abbrev pub without_duty : Duty → LinkOwed → LinkOwed
 without_duty InitiateDuty owed = record owed { initiate = false; initiated = true }
 without_duty SegmentDuty owed = record owed { ahead = owed.ahead + 1 }
 without_duty duty owed = with_duty duty false owed
-
-abbrev pub after_link_choice : LinkChoice → LinksOwed → LinksOwed
-after_link_choice (Confirms confirm) owed = record owed { confirms = drop 1 owed.confirms }
-after_link_choice (OfLink number duty) owed = changed number (without_duty duty) owed
 
 -- ---- the station
 

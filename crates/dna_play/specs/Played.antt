@@ -1,20 +1,47 @@
--- The captures that a script stands for: both ends over its steps, one after another.
-use Rattle.std.specs.Prelude.{ℕ, ◌+◌, List, [], ◌∷◌, ◌++◌, Result, Ok, Err}
+-- What ends with a node beside each make of a script. A node is one of a judge, on true numbers, but for the two rules that it alone asks; it makes
+-- each record of its end, and a step whose record it can't make, or that would have no line in a capture, can't be made.
+use Rattle.std.specs.Prelude.{ℕ, ◌+◌, if◌then◌else◌, Option, Some, None, option_map, option_and_then, List, [], ◌∷◌, Result, Ok, Err}
+use Rattle.two_nodes.specs.Nodes.{Answer, Half, World, Outcome, Made, Waits, Refused, advance}
 use Rattle.wire_base.specs.declared.side.Side.{Side}
 use Rattle.wire_base.specs.declared.side.Side.TheVariants.{A, B}
 use Rattle.capture.specs.declared.record.Record.{Record}
 use Rattle.dna_station.specs.declared.head.Head.{Head}
-use Rattle.dna_play.specs.Script.{StepValue, ScriptStep, Script}
-use Rattle.dna_play.specs.Player.{End, new_end}
-use Rattle.dna_play.specs.Stepped.{Stop, Stepped}
-use Rattle.dna_play.specs.Play.{plays}
+use Rattle.dna_station.specs.declared.refusal.StepRefusal.{StepRefusal}
+use Rattle.dna_station.specs.Machine.{step}
+use Rattle.dna_node.specs.TagRules.{by_bytes}
+use Rattle.dna_node.specs.Layers.{LayersNode, LayersUnit, layers_machine}
+use Rattle.dna_node.specs.LayersPair.{layers_start}
+use Rattle.dna_play.specs.Script.{ScriptStep, Script}
+use Rattle.dna_play.specs.HasLine.{has_line}
+use Rattle.dna_play.specs.Stop.{Stop, BadStep}
+use Rattle.dna_play.specs.StoredPlayed.{StoredMade, StoredPlayed, StoredStopped, stored_plays_step, with_records, stored_not_begun}
 
--- both ends, and the records of each so far
+-- ---- the records of one end
+
+-- what a node makes of a record
+unfoldable pub end_step : LayersNode → Record → Answer LayersNode LayersUnit StepRefusal
+end_step n r = step (layers_machine by_bytes) n r
+
+abbrev pub made_half : Outcome LayersNode LayersUnit StepRefusal → Option (Half LayersNode LayersUnit)
+made_half (Made half) = Some half
+made_half Waits = None
+made_half (Refused refusal) = None
+
+-- a record that has a line, beside the other node
+abbrev pub makes : (own other : Half LayersNode LayersUnit) → Record → Option (Half LayersNode LayersUnit)
+makes own other r = if has_line r then made_half (advance end_step own other r) else None
+
+-- one after another
+abbrev pub makes_all : (own other : Half LayersNode LayersUnit) → List Record → Option (Half LayersNode LayersUnit)
+makes_all own other [] = Some own
+makes_all own other (r ∷ later) = option_and_then (λ next. makes_all next other later) (makes own other r)
+
+-- ---- both ends
+
+-- both ends with what is on both lines and their captures; and the nodes beside them, with all units that they ever sent
 pub record Played : Type 0 where
-  pub a : End
-  pub b : End
-  pub of_a : List Record
-  pub of_b : List Record
+  pub ends : StoredPlayed
+  pub nodes : World LayersNode LayersUnit
 
 -- the heads of the two captures
 abbrev pub head_a : Script → Head
@@ -24,24 +51,23 @@ abbrev pub head_b : Script → Head
 head_b script = record { own = script.node_b; peer = script.node_a }
 
 abbrev pub not_begun : Script → Played
-not_begun script = record { a = new_end (head_a script); b = new_end (head_b script); of_a = []; of_b = [] }
+not_begun script = record { ends = stored_not_begun script; nodes = layers_start (head_a script) (head_b script) }
 
--- ---- a step
+-- the nodes after one end's step
+abbrev pub by_node : World LayersNode LayersUnit → Side → List Record → Option (World LayersNode LayersUnit)
+by_node nodes A records = option_map (λ (half : Half LayersNode LayersUnit). record nodes { a = half }) (makes_all nodes.a nodes.b records)
+by_node nodes B records = option_map (λ (half : Half LayersNode LayersUnit). record nodes { b = half }) (makes_all nodes.b nodes.a records)
 
-abbrev pub with_a : Played → Result Stepped Stop → Result Played Stop
-with_a so_far (Ok made) = Ok (record so_far { a = made.end; of_a = so_far.of_a ++ made.records })
-with_a so_far (Err stop) = Err stop
+abbrev pub with_nodes : StoredPlayed → Option (World LayersNode LayersUnit) → Result Played Stop
+with_nodes ends None = Err BadStep
+with_nodes ends (Some nodes) = Ok (record { ends = ends; nodes = nodes })
 
-abbrev pub with_b : Played → Result Stepped Stop → Result Played Stop
-with_b so_far (Ok made) = Ok (record so_far { b = made.end; of_b = so_far.of_b ++ made.records })
-with_b so_far (Err stop) = Err stop
-
-abbrev pub plays_at : Played → Side → StepValue → Result Played Stop
-plays_at so_far A step = with_a so_far (plays so_far.a so_far.b.half step)
-plays_at so_far B step = with_b so_far (plays so_far.b so_far.a.half step)
+abbrev pub made_by : Played → Side → Result StoredMade Stop → Result Played Stop
+made_by so_far side (Ok made) = with_nodes (with_records so_far.ends side made) (by_node so_far.nodes side made.records)
+made_by so_far side (Err stop) = Err stop
 
 unfoldable pub plays_step : Played → ScriptStep → Result Played Stop
-plays_step so_far step = plays_at so_far step.side step.step
+plays_step so_far step = made_by so_far step.side (stored_plays_step so_far.ends.pair step)
 
 -- ---- all steps
 
@@ -60,6 +86,11 @@ plays_all steps so_far [] = Ok so_far
 plays_all steps so_far (step ∷ later) = if_made (plays_step so_far step) (λ next. plays_all (steps + 1) next later)
     (λ stop. record { steps = steps; stop = stop; so_far = so_far })
 
--- the two captures of a script, or the first step that has no successor
+-- what both ends make with their nodes, or the first step that can't be made
 abbrev pub play : Script → Result Played Stopped
 play script = plays_all 0 (not_begun script) script.steps
+
+-- the ends alone
+abbrev pub ends_of : Result Played Stopped → Result StoredPlayed StoredStopped
+ends_of (Ok played) = Ok played.ends
+ends_of (Err stopped) = Err (record { steps = stopped.steps; stop = stopped.stop; so_far = stopped.so_far.ends })

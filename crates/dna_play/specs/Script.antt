@@ -1,4 +1,4 @@
--- A script: the addresses of both nodes, and what each end of the line does, step by step. What a step makes of the two ends stands in `Play`.
+-- A script: the addresses of both nodes, and what each end of the line does, step by step. What a step makes of its end stands in `StoredPlay`.
 use Rattle.std.specs.Prelude.{ℕ, List}
 use Rattle.wire_base.specs.declared.side.Side.{Side}
 

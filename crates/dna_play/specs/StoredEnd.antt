@@ -1,16 +1,13 @@
--- An end of the player as its node keeps it: station variables and link variables with what they owe, and no number of the true node. Of the
--- links it keeps those that live: one that has ended owes nothing, and nothing comes to it any more.
+-- An end of the player: station variables and link variables, as any node keeps them, with what they owe. Of the links it keeps those that live: one
+-- that has ended owes nothing, and nothing comes to it any more.
 use Rattle.std.specs.Prelude.{ℕ, List, []}
-use Rattle.std.specs.List.{filter}
 use Rattle.dna_station.specs.declared.head.Head.{Head}
 use Rattle.dna_station.specs.declared.state.State.TheVariants.{Halted}
-use Rattle.dna_links.specs.LookUps.{is_live}
 use Rattle.dna_station.specs.WireStation.{StationVariables, no_numbers}
 use Rattle.dna_play.specs.Owed.{Owed}
 use Rattle.dna_play.specs.Owed as owing
 use Rattle.dna_play.specs.LinkOwed.{EndConfirm}
 use Rattle.dna_play.specs.NextSent.{LinkEnd}
-use Rattle.dna_play.specs.Player.{End, variables_of, link_ends_of}
 
 -- The station variables, and what the station owes. No packet has a label
 pub record StoredStation : Type 0 where
@@ -40,17 +37,3 @@ no_stored_links = record { links = []; confirms = [] }
 -- before any step
 abbrev pub new_stored_end : Head → StoredEnd
 new_stored_end head = record { head = head; station = new_stored_station; links = no_stored_links; addresses = 0; passed = 0 }
-
--- ---- what a node keeps of an end on true numbers
-
-abbrev pub live_ends : List LinkEnd → List LinkEnd
-live_ends links = filter (λ (l : LinkEnd). is_live l.port.phase) links
-
-abbrev pub stored : End → StoredEnd
-stored e = record {
-  head = e.half.state.head;
-  station = record { variables = variables_of e.half; owed = e.owed };
-  links = record { links = live_ends (link_ends_of e); confirms = e.links_owed.confirms };
-  addresses = e.addresses;
-  passed = e.passed;
-}

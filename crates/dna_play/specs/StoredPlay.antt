@@ -1,5 +1,4 @@
--- What each step of a script makes of an end of the player as its node keeps it, beside what is on the line to it. It is `Play` without the node:
--- no number of it is true, and no record is judged.
+-- What each step of a script makes of an end of the player, beside what is on the line to it; or why it can't be made.
 use Rattle.std.specs.Prelude.{ℕ, ◌+◌, Bool, true, false, nat_lt, nat_le, ◌&&◌, if◌then◌else◌, Option, Some, None, List, [], ◌∷◌, length, map, Result}
 use Rattle.std.specs.Prelude.{Ok, Err}
 use Rattle.ddcmp_msg.specs.Message.{MessageValue}
@@ -23,7 +22,7 @@ use Rattle.dna_play.specs.Owed.{Debt, OwesStrt, timer_debt}
 use Rattle.dna_play.specs.LinkOwed.{LinkOwed, ConfirmDuty, DisconnectDuty, retried}
 use Rattle.dna_play.specs.NextSent.{LinkEnd, Choice, SendNew, link_choice, choice}
 use Rattle.dna_play.specs.Compose.{message_of}
-use Rattle.dna_play.specs.Stepped.{Stop, BadStep, Full}
+use Rattle.dna_play.specs.Stop.{Stop, BadStep, Full}
 use Rattle.dna_play.specs.Receipt.{carried, is_damage, damaged}
 use Rattle.dna_play.specs.StoredEnd.{StoredStation, StoredLinks, StoredEnd}
 use Rattle.dna_play.specs.StoredStation as stations
@@ -167,7 +166,7 @@ receives e bytes read kept = if nat_le e.passed MAX_HINT
 abbrev pub comes : StoredEnd → (buffer : Bool) → List ℕ → Result StoredStepped Stop
 comes e buffer bytes = receives e bytes (reading bytes) (stations.keeps buffer (reading bytes) e.station)
 
--- as in `Play`: no script has so many steps that its units pass the last hint
+-- no script has so many steps that its units pass the last hint
 abbrev pub loses : StoredEnd → Result StoredStepped Stop
 loses e = if nat_le e.passed MAX_HINT then silent (record e { passed = e.passed + 1 }) else Err BadStep
 

@@ -1,10 +1,10 @@
--- The captures that a script stands for, by ends as their nodes keep them: both ends, and the units on both lines, over its steps.
+-- The captures that a script stands for: both ends, and the units on both lines, over its steps.
 use Rattle.std.specs.Prelude.{ℕ, ◌+◌, Bool, true, false, if◌then◌else◌, List, [], ◌∷◌, ◌++◌, drop, Result, Ok, Err}
 use Rattle.wire_base.specs.declared.side.Side.{Side}
 use Rattle.wire_base.specs.declared.side.Side.TheVariants.{A, B}
 use Rattle.capture.specs.declared.record.Record.{Record}
 use Rattle.dna_play.specs.Script.{StepValue, ScriptStep, Script, Deliver, Refuse, Lose, Damage}
-use Rattle.dna_play.specs.Stepped.{Stop}
+use Rattle.dna_play.specs.Stop.{Stop}
 use Rattle.dna_play.specs.StoredEnd.{StoredEnd, new_stored_end}
 use Rattle.dna_play.specs.StoredPlay.{StoredStepped, stored_plays}
 

@@ -1,4 +1,4 @@
--- What happens to the station of an end of the player, as its node keeps it: what the tables make of the station variables, and what is owed then.
+-- What happens to the station of an end of the player: what the tables make of the station variables, and what is owed then.
 use Rattle.std.specs.Prelude.{ℕ, Bool, false, ◌&&◌, Option, List, fold}
 use Rattle.ddcmp_msg.specs.Message.{MessageValue}
 use Rattle.ddcmp_msg.specs.Reading.{ReadingValue, Sound, HeaderBad, DataBad, Malformed}

@@ -6,11 +6,10 @@ ghost use Rattle.capture.specs.declared.limit.TheConstants.{MAX_RECORDS};
 ghost use Rattle.dna_node.specs.LayersPair.{layers_pair, layers_start};
 ghost use Rattle.dna_play.specs.Script.{ScriptStep, Script};
 ghost use Rattle.dna_play.specs.ScriptText.{IsScript};
-ghost use Rattle.dna_play.specs.Played.{Played, Stopped, head_a, head_b, plays_step, play};
-ghost use Rattle.dna_play.specs.PlayRun.{ArePlayed, StartsOnce, world_of};
-ghost use Rattle.dna_play.specs.StepRule.{StepsByRule, StopsByRule, and_then};
 ghost use Rattle.dna_play.specs.StoredPlayed.{stored_play};
-ghost use Rattle.dna_play.specs.StoredRun.{stored_of};
+ghost use Rattle.dna_play.specs.Played.{Played, Stopped, head_a, head_b, plays_step, play, ends_of};
+ghost use Rattle.dna_play.specs.PlayRun.{ArePlayed, AreOfNodes, StartsOnce};
+ghost use Rattle.dna_play.specs.StepRule.{StepsByRule, StopsByRule, and_then};
 
 /// The records of a script are made by two nodes that ask no rule on tags, in some order, and each has a line in a capture; so are those of the
 /// steps before one that can't be made.
@@ -23,39 +22,48 @@ pub fn played_records_are_made()
 /// never too long for their texts, where the script has one.
 pub fn played_captures_are_few()
     ensures played { (script : Script) (played : Played) → play script ≡ Ok played
-        → (length played.of_a ≤ 2 * length script.steps) × (length played.of_b ≤ 2 * length script.steps) }
+        → (length played.ends.of_a ≤ 2 * length script.steps) × (length played.ends.of_b ≤ 2 * length script.steps) }
     ensures stopped { (script : Script) (stopped : Stopped) → play script ≡ Err stopped
-        → (length stopped.so_far.of_a ≤ 2 * length script.steps) × (length stopped.so_far.of_b ≤ 2 * length script.steps) }
+        → (length stopped.so_far.ends.of_a ≤ 2 * length script.steps) × (length stopped.so_far.ends.of_b ≤ 2 * length script.steps) }
     ensures played_fits { (script : Script) (played : Played) → IsScript script → play script ≡ Ok played
-        → (length played.of_a ≤ MAX_RECORDS) × (length played.of_b ≤ MAX_RECORDS) }
+        → (length played.ends.of_a ≤ MAX_RECORDS) × (length played.ends.of_b ≤ MAX_RECORDS) }
     ensures stopped_fits { (script : Script) (stopped : Stopped) → IsScript script → play script ≡ Err stopped
-        → (length stopped.so_far.of_a ≤ MAX_RECORDS) × (length stopped.so_far.of_b ≤ MAX_RECORDS) }
+        → (length stopped.so_far.ends.of_a ≤ MAX_RECORDS) × (length stopped.so_far.ends.of_b ≤ MAX_RECORDS) }
 {}
 
 /// The captures of a script that starts each side at most once are a run of two nodes as a judge has them; so are those of the steps before one
 /// that can't be made, where these start each side at most once.
 pub fn played_captures_are_a_run()
     ensures played { (script : Script) (played : Played) → play script ≡ Ok played → StartsOnce script.steps
-        → Run layers_pair (layers_start (head_a script) (head_b script)) played.of_a played.of_b (world_of played) }
+        → Run layers_pair (layers_start (head_a script) (head_b script)) played.ends.of_a played.ends.of_b played.nodes }
     ensures stopped { (script : Script) (stopped : Stopped) → play script ≡ Err stopped → StartsOnce (take stopped.steps script.steps)
-        → Run layers_pair (layers_start (head_a script) (head_b script)) stopped.so_far.of_a stopped.so_far.of_b (world_of stopped.so_far) }
+        → Run layers_pair (layers_start (head_a script) (head_b script)) stopped.so_far.ends.of_a stopped.so_far.ends.of_b stopped.so_far.nodes }
 {}
 
 /// A step behind a script that starts each side at most once goes by its rule, where both have a text: it is bad exactly where it breaks the
 /// rule, and full exactly where it keeps the rule but needs a link address and all of its end are given. So does the step that stops a script.
 pub fn steps_go_by_their_rules()
     ensures next { (script : Script) (step : ScriptStep) (so_far : Played) → IsScript (and_then script step) → play script ≡ Ok so_far
-        → StartsOnce script.steps → StepsByRule so_far step (plays_step so_far step) }
+        → StartsOnce script.steps → StepsByRule so_far.ends.pair step (plays_step so_far step) }
     ensures stopped { (script : Script) (stopped : Stopped) → IsScript script → play script ≡ Err stopped →
         StartsOnce (take stopped.steps script.steps)
         → StopsByRule script stopped }
 {}
 
-/// What the nodes of the ends keep plays a script that starts each side at most once as the ends on true numbers do: the same captures, the same
-/// ends as their nodes keep them, and the same step that can't be made. So it does where the steps before that one start each side at most once.
-pub fn stored_ends_play_the_same()
-    ensures played { (script : Script) → IsScript script → StartsOnce script.steps → stored_of (play script) ≡ stored_play script }
+/// The node beside each end makes all that the end makes of a script that starts each side at most once: the ends with their nodes play it as the
+/// ends alone do, to the same captures, or to the same step that can't be made. So it is where the steps before that one start each side at most
+/// once.
+pub fn nodes_make_what_ends_make()
+    ensures played { (script : Script) → IsScript script → StartsOnce script.steps → ends_of (play script) ≡ stored_play script }
     ensures stopped { (script : Script) (stopped : Stopped) → IsScript script → play script ≡ Err stopped →
         StartsOnce (take stopped.steps script.steps)
-        → stored_of (play script) ≡ stored_play script }
+        → ends_of (play script) ≡ stored_play script }
+{}
+
+/// And what an end keeps is what the node beside it keeps: its station variables, and the ports and link variables of its links that live.
+pub fn ends_keep_what_nodes_keep()
+    ensures played { (script : Script) (played : Played) → IsScript script → play script ≡ Ok played → StartsOnce script.steps → AreOfNodes played }
+    ensures stopped { (script : Script) (stopped : Stopped) → IsScript script → play script ≡ Err stopped →
+        StartsOnce (take stopped.steps script.steps)
+        → AreOfNodes stopped.so_far }
 {}

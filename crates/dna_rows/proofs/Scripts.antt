@@ -1,22 +1,19 @@
--- How the worked rows of the player are stated: a script over nodes 1.1 and 1.2, and what becomes of it, on true numbers and by ends as their nodes
--- keep them.
+-- How the worked rows of the player are stated: a script over nodes 1.1 and 1.2, and what becomes of it, by its ends alone and with their nodes.
 use Rattle.std.proofs.Common.{◌≡◌, ℕ, ◌+◌, ◌%◌, zero, suc, true, false, List, [], ◌∷◌, ◌++◌, Result, Ok, Err}
 use Rattle.wire_base.specs.declared.side.Side.TheVariants.{A, B}
 use Rattle.ddcmp_msg.specs.Spelling.{spelling}
 use Rattle.capture.specs.declared.record.Record.{Record}
 use Rattle.capture.specs.declared.record.Record.TheVariants.{Sent, Received, Noise}
 use Rattle.dna_play.specs.Script.{StepValue, ScriptStep, Script, Start, Send, Deliver, Open, Accept, Reject}
-use Rattle.dna_play.specs.Player.{end_step}
-use Rattle.dna_play.specs.Stepped.{Stop, BadStep}
-use Rattle.dna_play.specs.Play.{plays}
-use Rattle.dna_play.specs.Played.{Played, Stopped, plays_step, plays_all, play}
+use Rattle.dna_play.specs.Stop.{Stop, BadStep}
+use Rattle.dna_play.specs.Played.{end_step, Played, Stopped, plays_step, plays_all, play, ends_of}
 use Rattle.dna_play.specs.StoredPlay.{stored_plays}
 use Rattle.dna_play.specs.StoredPlayed.{StoredPlayed, StoredStopped, stored_plays_step, stored_plays_all, stored_play}
 use Rattle.dna_rows.proofs.Units.{computing, hex}
 
 -- what the computation of a script opens
 unfoldable pub playing : Unit {0}
-unfolding computing spelling end_step plays plays_step stored_plays stored_plays_step
+unfolding computing spelling end_step plays_step stored_plays stored_plays_step
 playing = tt
 
 abbrev pub a : StepValue → ScriptStep
@@ -52,35 +49,32 @@ pub data Becomes : Type 0 where
   Captures : (of_a of_b : List Record) → Becomes
   StopsAt : (steps : ℕ) → Stop → (of_a of_b : List Record) → Becomes
 
-abbrev pub becomes : Result Played Stopped → Becomes
+abbrev pub becomes : Result StoredPlayed StoredStopped → Becomes
 becomes (Ok end) = Captures end.of_a end.of_b
 becomes (Err stopped) = StopsAt stopped.steps stopped.stop stopped.so_far.of_a stopped.so_far.of_b
 
 -- what these steps add behind those
-abbrev behind : Result Played Stopped → List ScriptStep → Result Played Stopped
-behind (Ok end) steps = plays_all 0 (record end { of_a = []; of_b = [] }) steps
+abbrev behind : Result StoredPlayed StoredStopped → List ScriptStep → Result StoredPlayed StoredStopped
+behind (Ok end) steps = stored_plays_all 0 (record end { of_a = []; of_b = [] }) steps
 behind (Err stopped) steps = Err stopped
 
--- the same by ends as their nodes keep them
-abbrev kept_becomes : Result StoredPlayed StoredStopped → Becomes
-kept_becomes (Ok end) = Captures end.of_a end.of_b
-kept_becomes (Err stopped) = StopsAt stopped.steps stopped.stop stopped.so_far.of_a stopped.so_far.of_b
-
-abbrev kept_behind : Result StoredPlayed StoredStopped → List ScriptStep → Result StoredPlayed StoredStopped
-kept_behind (Ok end) steps = stored_plays_all 0 (record end { of_a = []; of_b = [] }) steps
-kept_behind (Err stopped) steps = Err stopped
+-- the same with their nodes
+abbrev behind_with_nodes : Result Played Stopped → List ScriptStep → Result Played Stopped
+behind_with_nodes (Ok end) steps = plays_all 0 (record end { ends = record end.ends { of_a = []; of_b = [] } }) steps
+behind_with_nodes (Err stopped) steps = Err stopped
 
 -- ---- a row is of both
 
 abbrev pub PlaysBetween : (node_a node_b : ℕ) → List ScriptStep → Becomes → Type 0
 PlaysBetween node_a node_b steps made =
-    (becomes (play (script_between node_a node_b steps)) ≡ made) × (kept_becomes (stored_play (script_between node_a node_b steps)) ≡ made)
+    (becomes (ends_of (play (script_between node_a node_b steps))) ≡ made) × (becomes (stored_play (script_between node_a node_b steps)) ≡ made)
 
 abbrev pub Plays : List ScriptStep → Becomes → Type 0
 Plays steps made = PlaysBetween 0x0401 0x0402 steps made
 
 abbrev pub Adds : (first steps : List ScriptStep) → Becomes → Type 0
-Adds first steps made = (becomes (behind (play (script first)) steps) ≡ made) × (kept_becomes (kept_behind (stored_play (script first)) steps) ≡ made)
+Adds first steps made = (becomes (ends_of (behind_with_nodes (play (script first)) steps)) ≡ made) ×
+    (becomes (behind (stored_play (script first)) steps) ≡ made)
 
 abbrev pub ASends : (first : List ScriptStep) → (digits : List ℕ) → Type 0
 ASends first digits = Adds first (a Send ∷ []) (Captures (s digits ∷ []) [])

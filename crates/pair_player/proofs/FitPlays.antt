@@ -8,7 +8,7 @@ use Rattle.capture.specs.declared.limit.TheConstants.{MAX_RECORDS}
 use Rattle.capture.specs.Range.{IsRecord}
 use Rattle.dna_play.specs.Script.{StepValue, ScriptStep, Script}
 use Rattle.dna_play.specs.ScriptText.{IsScript, IsStep, most_bytes, step_bytes}
-use Rattle.dna_play.specs.Stepped.{Stop}
+use Rattle.dna_play.specs.Stop.{Stop}
 use Rattle.dna_play.specs.StoredPlay.{StoredStepped, stored_plays}
 use Rattle.dna_play.specs.StoredPlayed.{StoredMade, StoredPair, StoredPlayed, StoredStopped, if_made, is_of_line, stored_not_begun, stored_play}
 use Rattle.dna_play.specs.StoredPlayed.{stored_plays_all}

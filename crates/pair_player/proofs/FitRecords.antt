@@ -10,7 +10,7 @@ use Rattle.capture.specs.declared.record.Record.TheVariants as recorded
 use Rattle.capture.specs.Range.{EventNumbersFit, IsRecord, event_bytes}
 use Rattle.dna_play.specs.HasLine.{are_bytes}
 use Rattle.dna_play.specs.NextSent.{LinkEnd}
-use Rattle.dna_play.specs.Stepped.{Stop}
+use Rattle.dna_play.specs.Stop.{Stop}
 use Rattle.dna_play.specs.StoredEnd.{StoredEnd}
 use Rattle.dna_play.specs.StoredLinks.{handed}
 use Rattle.dna_play.specs.StoredPlay.{StoredStepped, all_short, ups}

@@ -29,7 +29,7 @@ use Rattle.dna_play.specs.LinkOwed.{LinkOwed, ConfirmDuty, DisconnectDuty, retri
 use Rattle.dna_play.specs.NextSent.{Choice, LinkEnd, choice, link_choice}
 use Rattle.dna_play.specs.Compose.{message_of}
 use Rattle.dna_play.specs.Receipt.{carried, damaged, is_damage}
-use Rattle.dna_play.specs.Stepped.{Stop, BadStep, Full}
+use Rattle.dna_play.specs.Stop.{Stop, BadStep, Full}
 use Rattle.dna_play.specs.StoredEnd.{StoredEnd, StoredLinks, StoredStation}
 use Rattle.dna_play.specs.StoredLinks.{Delivering, answered, begun, changed, closed, handed, opened}
 use Rattle.dna_play.specs.StoredStation as stations

@@ -1,7 +1,7 @@
 -- What a step makes of the next unit on the line.
 use Rattle.std.proofs.Common.{◌≡◌, ℕ, Bool, true, false, cond, Option, Some, None, List, [], ◌∷◌, Result, Ok, Err, refl, ap}
 use Rattle.std.specs.Prelude.{IsSome}
-use Rattle.dna_play.specs.Stepped.{Stop, BadStep}
+use Rattle.dna_play.specs.Stop.{Stop, BadStep}
 use Rattle.dna_play.specs.StoredEnd.{StoredEnd}
 use Rattle.dna_play.specs.StoredPlay.{StoredStepped, comes, comes_damaged, sends, sends_choice, with_next}
 use Rattle.dna_play.specs.Receipt.{damaged, is_damage}

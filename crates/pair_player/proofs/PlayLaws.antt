@@ -18,7 +18,7 @@ use Rattle.dna_play.specs.ScriptText.{IsStep, StepDeparts, listed, script_form, 
 use Rattle.dna_play.specs.StoredPlayed.{StoredMade, StoredPair, StoredPlayed, StoredStopped, if_made, stored_not_begun, stored_plays_all}
 use Rattle.dna_play.specs.StoredPlayed.{stored_plays_step}
 use Rattle.dna_play.specs.StoredPlayed.{with_records}
-use Rattle.dna_play.specs.Stepped.{Stop, BadStep, Full}
+use Rattle.dna_play.specs.Stop.{Stop, BadStep, Full}
 use Rattle.pair_player.specs.declared.fault.PlayFault.{PlayFault}
 use Rattle.pair_player.specs.declared.fault.PlayFault.TheVariants as faults
 use Rattle.capture.specs.declared.fault.CaptureFault.{CaptureFault}

@@ -1,4 +1,4 @@
--- What was played of a script has texts; and of one that starts each side at most once it is played by ends on true numbers too, and is a run.
+-- What was played of a script has texts; and of one that starts each side at most once it is played by ends with their nodes too, and is a run.
 use Rattle.std.proofs.Common.{◌≡◌, ℕ, ◌≤◌, List, [], ◌∷◌, ◌++◌, length, Option, Some, None, Result, Ok, Err, refl, sym, ap, subst, ◌∙◌, arith}
 use Rattle.std.specs.List.{AllByRecursion}
 use Rattle.wire_base.specs.declared.side.Side.{Side}
@@ -12,10 +12,9 @@ use Rattle.capture.proofs.ListedSoFar.{goes_on}
 use Rattle.dna_node.specs.LayersPair.{IsLayersRun}
 use Rattle.dna_play.specs.Script.{ScriptStep, Script}
 use Rattle.dna_play.specs.ScriptText.{IsScriptText, script_form, listed}
-use Rattle.dna_play.specs.Played.{Played, Stopped, head_a, head_b, play}
+use Rattle.dna_play.specs.Played.{Played, Stopped, head_a, head_b, play, ends_of}
 use Rattle.dna_play.specs.PlayRun.{StartsOnce, starts_of}
 use Rattle.dna_play.specs.StoredPlayed.{StoredPlayed}
-use Rattle.dna_play.specs.StoredRun.{stored_of, stored_played}
 use Rattle.dna_play.proofs.Stored.Law.{whole_kept}
 use Rattle.dna_play.proofs.Played.Checked.{whole_is_run}
 use Rattle.pair_player.specs.declared.fault.PlayFault.{PlayFault}
@@ -56,9 +55,9 @@ once_throughout bytes script is_text once r h = go r.come h.read
 -- ---- true numbers
 
 -- what is kept of a whole play is of a whole play
-of_whole : (result : Result Played Stopped) (played : StoredPlayed) → stored_of result ≡ Ok played →
-    (so_far : Played) × (result ≡ Ok so_far) × (stored_played so_far ≡ played)
-of_whole (Ok so_far) played e = (so_far, refl, same_Ok (stored_played so_far) played e)
+of_whole : (result : Result Played Stopped) (played : StoredPlayed) → ends_of result ≡ Ok played →
+    (so_far : Played) × (result ≡ Ok so_far) × (so_far.ends ≡ played)
+of_whole (Ok so_far) played e = (so_far, refl, same_Ok so_far.ends played e)
 of_whole (Err stopped) played e = absurd cc
 
 pub of_truth : (text : Option (List ℕ)) (r : Reached) → HasPlayed text r → StartsOnce r.script.steps → (so_far : Played) × IsOfTruth r so_far
@@ -68,9 +67,9 @@ of_truth text r h once =
 
 pub whole_of_truth : (bytes : List ℕ) (script : Script) (played : Played) (old new : Held) (answer : Result answers.Played PlayFault) →
     IsScriptText script bytes → StartsOnce script.steps → play script ≡ Ok played → Plays (Some bytes) old new answer →
-    AnswersWhole (reached script (stored_played played) (Some [])) old new answer
+    AnswersWhole (reached script played.ends (Some [])) old new answer
 whole_of_truth bytes script played old new answer is_text once e h =
-    whole_played bytes script (stored_played played) is_text (sym (whole_kept script is_text.fits once) ∙ ap stored_of e) old new answer h
+    whole_played bytes script played.ends is_text (sym (whole_kept script is_text.fits once) ∙ ap ends_of e) old new answer h
 
 -- ---- the captures
 

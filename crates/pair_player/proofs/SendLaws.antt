@@ -11,7 +11,6 @@ use Rattle.dna_station.specs.WireBook.{wire_is_new}
 use Rattle.dna_play.specs.Owed.{Owed}
 use Rattle.dna_play.specs.LinkOwed.{EndConfirm, Duty, ConnectAckDuty, InitiateDuty, ConfirmDuty, DisconnectDuty, DataAckDuty, SegmentDuty}
 use Rattle.dna_play.specs.StoredEnd.{StoredEnd}
-use Rattle.dna_play.specs.Player.{End, link_ends_of, variables_of}
 use Rattle.dna_play.specs.StepRule.{HasUnit}
 use Rattle.dna_play.specs.NextSent.{Choice, LinkChoice, LinkEnd, SendAck, SendAgain, SendNak, SendRep, SendStack, SendStrt, choice, choice_in}
 use Rattle.dna_play.specs.NextSent.{data_choice, first_duty, has_segment, link_choice, lowest_nak, new_packet, or_else, duty_of, duty_or_next, when}
@@ -104,9 +103,8 @@ kept_may e =
     let same = may_exactly e.station.variables e.station.owed e.links.confirms e.links.links in
     ((λ may. same ∙ may), (λ some. sym same ∙ some))
 
-pub true_may : (own : End) →
-    (may_send (variables_of own.half).state (variables_of own.half) own.owed (links_have own.links_owed.confirms (link_ends_of own)) ≡ true)
-    ↔ HasUnit own
-true_may own =
-    let same = may_exactly (variables_of own.half) own.owed own.links_owed.confirms (link_ends_of own) in
+pub rule_may : (e : StoredEnd) →
+    (may_send e.station.variables.state e.station.variables e.station.owed (links_have e.links.confirms e.links.links) ≡ true) ↔ HasUnit e
+rule_may e =
+    let same = may_exactly e.station.variables e.station.owed e.links.confirms e.links.links in
     ((λ may. found _ (same ∙ may)), (λ unit. sym same ∙ ap is_some unit.1))

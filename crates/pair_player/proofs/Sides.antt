@@ -2,7 +2,7 @@
 use Rattle.std.proofs.Common.{◌≡◌, ℕ, List, [], ◌++◌, Result, Ok, Err, refl, ap, ◌∙◌}
 use Rattle.std.proofs.lemmas.List.{append-nil}
 use Rattle.dna_play.specs.Script.{StepValue}
-use Rattle.dna_play.specs.Stepped.{Stop}
+use Rattle.dna_play.specs.Stop.{Stop}
 use Rattle.dna_play.specs.StoredEnd.{StoredEnd}
 use Rattle.dna_play.specs.StoredPlay.{StoredStepped, silent}
 use Rattle.dna_play.specs.StoredPlayed.{StoredPair, left_by, stored_with_a, stored_with_b}

@@ -9,7 +9,7 @@ use Rattle.dna_play.specs.StoredPlayed.{stored_plays_step}
 use Rattle.dna_play.specs.StoredPlayed.{new_pair, with_records}
 use Rattle.dna_play.specs.Script.{ScriptStep, Script}
 use Rattle.dna_play.specs.ScriptText.{IsScriptText, StepDeparts, script_form, listed}
-use Rattle.dna_play.specs.Stepped.{Stop, BadStep, Full}
+use Rattle.dna_play.specs.Stop.{Stop, BadStep, Full}
 use Rattle.pair_player.specs.declared.fault.PlayFault.TheVariants as faults
 use Rattle.pair_player.specs.declared.fault.PlayFault.{PlayFault}
 use Rattle.pair_player.specs.declared.played.Played.{Played}

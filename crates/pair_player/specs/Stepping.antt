@@ -4,7 +4,7 @@ use Rattle.wire_base.specs.declared.side.Side.{Side}
 use Rattle.wire_base.specs.declared.side.Side.TheVariants.{A, B}
 use Rattle.capture.specs.declared.hint.HintForm.TheVariants.{Number}
 use Rattle.capture.specs.Text.{record_lines}
-use Rattle.dna_play.specs.Stepped.{Stop}
+use Rattle.dna_play.specs.Stop.{Stop}
 use Rattle.dna_play.specs.StoredEnd.{StoredEnd}
 use Rattle.dna_play.specs.StoredPlay.{StoredStepped, if_so, stored_plays, loses, silent, with_next}
 use Rattle.dna_play.specs.StoredPlayed.{StoredPair, StoredMade, left_by}

@@ -1,16 +1,14 @@
 //! Laws of what is played, as functions that do nothing: what is written are texts of two captures, whatever the script; and of one that
-//! starts each side at most once they are a run of two nodes, and what is answered is what ends on true numbers make of it.
+//! starts each side at most once they are a run of two nodes, and what is answered is what ends with their nodes make of it.
 
 ghost use Rattle.std.specs.Prelude.{◌≡◌, ◌↔◌, ℕ, [], true, List, Option, Result, Some, Ok};
 ghost use Rattle.dna_play.specs.StoredEnd.{StoredEnd};
-ghost use Rattle.dna_play.specs.StoredRun.{stored_played};
 ghost use Rattle.dna_play.specs.Played.{Played as TruePlayed, play as true_play};
-ghost use Rattle.dna_play.specs.Player.{End, link_ends_of, variables_of};
 ghost use Rattle.dna_play.specs.PlayRun.{StartsOnce};
 ghost use Rattle.dna_play.specs.Script.{Script};
 ghost use Rattle.dna_play.specs.ScriptText.{IsScriptText};
 ghost use Rattle.dna_play.specs.StepRule as rule;
-ghost use Rattle.dna_play.specs.Stepped.{Stop};
+ghost use Rattle.dna_play.specs.Stop.{Stop};
 ghost use Rattle.player_end.specs.Stepping.{HasUnit};
 ghost use Rattle.pair_player.specs.declared.fault.PlayFault.{PlayFault};
 ghost use Rattle.pair_player.specs.declared.played.Played.{Played};
@@ -30,18 +28,18 @@ pub fn written_captures_are_a_run()
     ensures { (text : Option (List ℕ)) (r : Reached) → HasPlayed text r → StartsOnce r.script.steps → AreARun r }
 {}
 
-/// The text of a script that starts each side at most once, and whose steps ends on true numbers all make, is answered by the count of its
-/// steps, with the captures of these ends written, or a device or the memory failed. And whatever steps were read and made, ends on true
-/// numbers make them too, where they start each side at most once.
+/// The text of a script that starts each side at most once, and whose steps all are made by ends with a node on true numbers beside each, is
+/// answered by the count of its steps, with the captures of these ends written, or a device or the memory failed. And whatever steps were read
+/// and made, such ends make them too, where they start each side at most once.
 pub fn answered_as_true_ends()
     ensures whole { (bytes : List ℕ) (script : Script) (played : TruePlayed) (old new : Held) (answer : Result Played PlayFault) →
         IsScriptText script bytes → StartsOnce script.steps → true_play script ≡ Ok played → Plays (Some bytes) old new answer →
-        AnswersWhole (reached script (stored_played played) (Some [])) old new answer }
+        AnswersWhole (reached script played.ends (Some [])) old new answer }
     ensures made { (text : Option (List ℕ)) (r : Reached) → HasPlayed text r → StartsOnce r.script.steps →
         (so_far : TruePlayed) × IsOfTruth r so_far }
 {}
 
-/// Where a step can't be made behind steps that start each side at most once, ends on true numbers can't make it either, by its rule:
+/// Where a step can't be made behind steps that start each side at most once, ends with their nodes can't make it either, by its rule:
 /// it is bad only where it breaks the rule, and full only where it keeps the rule but needs a link address and all of its end are
 /// given.
 pub fn stopped_by_its_rule()
@@ -54,11 +52,11 @@ pub fn starts_once_throughout()
     ensures { (bytes : List ℕ) (script : Script) → IsScriptText script bytes → StartsOnce script.steps → StartsOnceThroughout (Some bytes) }
 {}
 
-/// When an end has something to send, said apart from how it chooses what goes first (`may_send`): of an end as its node keeps it, and of one on true
-/// numbers, where that is what the rule of `send` asks.
+/// When an end has something to send, said apart from how it chooses what goes first (`may_send`): that is where there is a choice, and what the rule
+/// of `send` asks.
 pub fn what_an_end_may_send()
     ensures kept { (e : StoredEnd) → (may_send e.station.variables.state e.station.variables e.station.owed
         (links_have e.links.confirms e.links.links) ≡ true) ↔ HasUnit e }
-    ensures of_truth { (own : End) → (may_send (variables_of own.half).state (variables_of own.half) own.owed
-        (links_have own.links_owed.confirms (link_ends_of own)) ≡ true) ↔ rule.HasUnit own }
+    ensures by_rule { (e : StoredEnd) → (may_send e.station.variables.state e.station.variables e.station.owed
+        (links_have e.links.confirms e.links.links) ≡ true) ↔ rule.HasUnit e }
 {}

@@ -6,7 +6,7 @@ ghost use Rattle.dna_play.specs.PlayRun.{StartsOnce};
 ghost use Rattle.dna_play.specs.Script.{Start};
 ghost use Rattle.dna_play.specs.ScriptText.{IsScriptText};
 ghost use Rattle.dna_play.specs.StepRule.{IsHalted};
-ghost use Rattle.dna_play.specs.Stepped.{BadStep as Bad};
+ghost use Rattle.dna_play.specs.Stop.{BadStep as Bad};
 ghost use Rattle.pair_player.specs.declared.fault.PlayFault.TheVariants.{BadStep};
 ghost use Rattle.pair_player.specs.Playing.{HasPlayed, Held, Plays, Reached, StopsBehind};
 ghost use Rattle.pair_player.specs.Runs.{AreARun, IsOfTruth};
@@ -27,7 +27,7 @@ fn two_starts_are_written_as_a_run()
     written_captures_are_a_run();
 }
 
-// Its true ends make no step, and so does the player.
+// Its ends make no step with their nodes, and so does the player.
 fn a_script_of_a_head_has_no_bad_step()
     ensures { (bytes : List ℕ) (node_a node_b line : ℕ) (old new : Held) → IsScriptText (no_steps node_a node_b) bytes →
         Plays (Some bytes) old new (Err (BadStep line)) → ⊥ }
@@ -38,7 +38,7 @@ fn a_script_of_a_head_has_no_bad_step()
 // The user of b starts it.
 fn a_start_that_is_bad_is_of_a_station_that_is_not_halted()
     ensures { (text : Option (List ℕ)) (r : Reached) (line : ℕ) → HasPlayed text r → StartsOnce r.script.steps → (stops : StopsBehind Bad line r) →
-        stops.step.side ≡ B → stops.step.step ≡ Start → (so_far : TruePlayed) × IsOfTruth r so_far × ¬ (IsHalted so_far.b) }
+        stops.step.side ≡ B → stops.step.step ≡ Start → (so_far : TruePlayed) × IsOfTruth r so_far × ¬ (IsHalted so_far.ends.pair.b) }
 {
     stopped_by_its_rule();
 }

@@ -6,7 +6,7 @@ use Rattle.capture.specs.declared.event.Event.{Event}
 use Rattle.capture.specs.declared.limit.TheConstants.{MAX_LINK}
 use Rattle.dna_links.specs.declared.port.LinkTest.TheVariants.{CalledBy}
 use Rattle.dna_play.specs.NextSent.{LinkEnd}
-use Rattle.dna_play.specs.Stepped.{Stop, BadStep, Full}
+use Rattle.dna_play.specs.Stop.{Stop, BadStep, Full}
 use Rattle.dna_play.specs.StoredEnd.{StoredEnd, StoredLinks}
 use Rattle.dna_play.specs.StoredLinks.{changed, place_of, with_end}
 use Rattle.dna_play.specs.StoredPlay.{StoredStepped, answers, giving, made, with_links}

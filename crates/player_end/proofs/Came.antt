@@ -9,7 +9,7 @@ use Rattle.capture.specs.declared.record.Record.TheVariants.{Received}
 use Rattle.capture.specs.Text.{record_line, record_lines}
 use Rattle.ddcmp_msg.specs.Reading.{ReadingValue, reading}
 use Rattle.dna_packet.specs.Nsp.{NspValue}
-use Rattle.dna_play.specs.Stepped.{Stop, BadStep}
+use Rattle.dna_play.specs.Stop.{Stop, BadStep}
 use Rattle.dna_play.specs.StoredEnd.{StoredStation, StoredLinks, StoredEnd}
 use Rattle.dna_play.specs.StoredStation.{after_arrival, keeps}
 use Rattle.dna_play.specs.StoredLinks.{Delivering, delivering_none}

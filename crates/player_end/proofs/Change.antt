@@ -6,15 +6,15 @@ use Rattle.std.proofs.lemmas.Option.{slice_get_read, same_Some}
 use Rattle.dna_links.specs.LookUps.{is_live}
 use Rattle.dna_play.specs.LinkOwed.{LinkOwed, EndConfirm, Duty, retried}
 use Rattle.dna_play.specs.NextSent.{LinkEnd, OfLink, link_choice, duty_of}
-use Rattle.dna_play.specs.StoredEnd.{StoredLinks, live_ends}
+use Rattle.dna_play.specs.StoredEnd.{StoredLinks}
 use Rattle.dna_packet.specs.Nsp.{SegmentValue}
 use Rattle.dna_play.specs.StoredLinks.{Delivering, after_sent, begun, changed, delivering_at, ended, sent_at, took_segment, duty_sent, without_whole}
 use Rattle.player_end.specs.declared.fault.StepFault.{StepFault}
 use Rattle.player_end.specs.declared.fault.StepFault.TheVariants.{BadStep, Full, OutOfMemory}
 use Rattle.player_end.specs.Stepping.{Stopped}
 use Rattle.player_end.specs.inner.Delivering.{delivers_at, lines_of}
-use Rattle.dna_play.proofs.Stored.LiveLists.{filter_get, filter_set, filter_drop, filter_push}
-use Rattle.player_end.specs.inner.Index.{LivesAt, among_live, live_of, place_among}
+use Rattle.player_end.proofs.LiveLists.{filter_get, filter_set, filter_drop, filter_push}
+use Rattle.player_end.specs.inner.Index.{live_ends, LivesAt, among_live, live_of, place_among}
 use Rattle.player_end.specs.inner.Links.{changed_to, gone, retried_end, with_change}
 use Rattle.player_end.specs.inner.Index.{IsIndexed}
 use Rattle.player_end.proofs.Indexed.{Knows, changed_indexed, same_indexed, set_indexed}

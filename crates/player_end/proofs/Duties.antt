@@ -8,10 +8,10 @@ use Rattle.std.proofs.lemmas.Option.{same_Some}
 use Rattle.dna_links.specs.LookUps.{is_live}
 use Rattle.dna_play.specs.LinkOwed.{EndConfirm, Duty}
 use Rattle.dna_play.specs.NextSent.{LinkEnd, LinkChoice, Confirms, OfLink, duty_of, duty_or_next, first_duty, link_choice}
-use Rattle.dna_play.specs.StoredEnd.{StoredLinks, live_ends}
+use Rattle.dna_play.specs.StoredEnd.{StoredLinks}
 use Rattle.dna_play.specs.Compose.{link_message}
-use Rattle.dna_play.proofs.Stored.Choices.{link_choice_live, link_message_live, NamesLive}
-use Rattle.player_end.specs.inner.Index.{AreMarked, among_live}
+use Rattle.player_end.proofs.LiveChoices.{link_choice_live, link_message_live, NamesLive}
+use Rattle.player_end.specs.inner.Index.{live_ends, AreMarked, among_live}
 use Rattle.player_end.specs.inner.Links.{duty_there}
 use Rattle.player_end.specs.inner.Marks.{IsUnmarkedBelow}
 use Rattle.player_end.proofs.Places.{set_here, set_else}

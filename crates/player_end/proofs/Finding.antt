@@ -10,7 +10,7 @@ use Rattle.dna_links.specs.declared.port.LinkTest.TheVariants.{HasAddress, LiveA
 use Rattle.dna_links.specs.LookUps.{passes, is_live, is_calling, is_called, is_connected, is_at, has_both}
 use Rattle.dna_play.specs.NextSent.{LinkEnd}
 use Rattle.dna_play.specs.StoredLinks.{place_of}
-use Rattle.dna_play.proofs.Stored.LiveLists.{position_here, position_later}
+use Rattle.dna_play.proofs.Links.Lists.{position_here, position_later}
 use Rattle.player_end.specs.inner.Index.{own_asked, far_asked}
 use Rattle.player_end.specs.inner.Links.{passes_there}
 

@@ -8,6 +8,8 @@ pub mod Indexed
 pub mod Finding
 pub mod Keeping
 pub mod Duties
+pub mod LiveLists
+pub mod LiveChoices
 pub mod Searching
 pub mod Answered
 pub mod Choosing

@@ -8,12 +8,13 @@ use Rattle.dna_links.specs.declared.port.LinkTest.{LinkTest}
 use Rattle.dna_links.specs.declared.port.LinkTest.TheVariants.{HasAddress, LiveAt, TheLink, LiveTo, OpenedAt, CallingAt, CalledBy, BegunBy, ActedOn}
 use Rattle.dna_links.specs.LookUps.{passes, is_live}
 use Rattle.dna_play.specs.NextSent.{LinkEnd, LinkChoice, Confirms, OfLink}
-use Rattle.dna_play.specs.StoredEnd.{StoredLinks, live_ends}
+use Rattle.dna_play.specs.StoredEnd.{StoredLinks}
 use Rattle.dna_play.specs.StoredLinks.{place_of, at_place, on_end, with_end}
-use Rattle.dna_play.proofs.Stored.LiveLists.{place_in, filter_get, position_filter, position_here, position_later}
-use Rattle.dna_play.proofs.Stored.LiveLinks.{live_at_lives, the_link_lives, live_to_lives, calling_at_lives, called_by_lives, acted_on_lives}
-use Rattle.dna_play.proofs.Stored.Choices as choices
-use Rattle.player_end.specs.inner.Index.{live_of, place_among, among_live, needs_life}
+use Rattle.dna_play.proofs.Links.Lists.{position_here, position_later}
+use Rattle.player_end.proofs.LiveLists.{place_in, filter_get, position_filter}
+use Rattle.dna_play.proofs.Links.Keeps.{live_at_lives, the_link_lives, live_to_lives, calling_at_lives, called_by_lives, acted_on_lives}
+use Rattle.player_end.proofs.LiveChoices as choices
+use Rattle.player_end.specs.inner.Index.{live_ends, live_of, place_among, among_live, needs_life}
 use Rattle.player_end.specs.inner.Links.{passes_there}
 
 abbrev pub lives : LinkEnd → Bool

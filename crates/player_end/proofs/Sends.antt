@@ -2,12 +2,12 @@
 use Rattle.std.proofs.Common.{◌≡◌, false, Option, Some, None, option_map, List, Err, refl, sym, subst, ap, ◌∙◌, IsSome}
 use Rattle.dna_play.specs.NextSent.{LinkEnd, LinkChoice, Choice, SendStrt, SendStack, SendNak, SendRep, SendAgain, SendNew, SendAck, choice}
 use Rattle.dna_play.specs.NextSent.{link_choice}
-use Rattle.dna_play.specs.StoredEnd.{StoredLinks, StoredEnd, live_ends}
+use Rattle.dna_play.specs.StoredEnd.{StoredLinks, StoredEnd}
 use Rattle.dna_play.specs.StoredPlay.{sends, sends_choice}
-use Rattle.dna_play.specs.Stepped.{BadStep}
-use Rattle.dna_play.proofs.Stored.Choices.{choice_live, stored_choice}
+use Rattle.dna_play.specs.Stop.{BadStep}
+use Rattle.player_end.proofs.LiveChoices.{choice_live, stored_choice}
 use Rattle.player_end.specs.inner.Composing.{is_new}
-use Rattle.player_end.specs.inner.Index.{among_live, live_of}
+use Rattle.player_end.specs.inner.Index.{live_ends, among_live, live_of}
 use Rattle.player_end.specs.Stepping.{HasUnit}
 use Rattle.player_end.proofs.Searching.{among_same, among_chosen}
 

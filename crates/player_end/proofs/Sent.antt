@@ -14,7 +14,7 @@ use Rattle.dna_station.specs.declared.head.Head.{Head}
 use Rattle.dna_station.specs.WireStation.{StationVariables}
 use Rattle.dna_play.specs.NextSent.{LinkEnd, LinkChoice, Choice, SendStrt, SendStack, SendNak, SendRep, SendAgain, SendNew, SendAck}
 use Rattle.dna_play.specs.Compose.{data_with, packet_with, link_message, message_of, new_data}
-use Rattle.dna_play.specs.Stepped.{Stop, BadStep}
+use Rattle.dna_play.specs.Stop.{Stop, BadStep}
 use Rattle.dna_play.specs.StoredEnd.{StoredStation, StoredLinks, StoredEnd}
 use Rattle.dna_play.specs.StoredStation as stations
 use Rattle.dna_play.specs.StoredLinks as of_links

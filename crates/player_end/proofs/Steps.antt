@@ -13,7 +13,7 @@ use Rattle.dna_station.specs.declared.head.Head.{Head}
 use Rattle.dna_links.specs.declared.port.LinkTest.TheVariants.{LiveAt, CalledBy}
 use Rattle.dna_links.specs.LookUps.{is_connected, takes_messages}
 use Rattle.dna_play.specs.NextSent.{LinkEnd}
-use Rattle.dna_play.specs.Stepped.{Stop, BadStep, Full}
+use Rattle.dna_play.specs.Stop.{Stop, BadStep, Full}
 use Rattle.dna_play.specs.StoredEnd.{StoredStation, StoredLinks, StoredEnd}
 use Rattle.dna_play.specs.StoredLinks.{changed, closed, handed, place_of}
 use Rattle.dna_play.specs.StoredPlay.{StoredStepped, answers, closes, giving, hands_in, if_so, made, with_links}

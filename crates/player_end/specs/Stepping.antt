@@ -2,8 +2,8 @@
 use Rattle.std.specs.Prelude.{◌≡◌, ℕ, ◌++◌, List, Option, None, Result, Ok, Err, IsSome}
 use Rattle.capture.specs.declared.hint.HintForm.TheVariants.{Number}
 use Rattle.capture.specs.Text.{record_lines}
-use Rattle.dna_play.specs.Stepped.{Stop}
-use Rattle.dna_play.specs.Stepped as stops
+use Rattle.dna_play.specs.Stop.{Stop}
+use Rattle.dna_play.specs.Stop as stops
 use Rattle.dna_play.specs.NextSent.{choice, link_choice}
 use Rattle.dna_play.specs.StoredEnd.{StoredEnd}
 use Rattle.dna_play.specs.StoredPlay.{StoredStepped}

@@ -7,10 +7,10 @@ use Rattle.capture.specs.declared.limit.TheConstants.{MAX_HINT, MAX_UNIT}
 use Rattle.capture.specs.declared.record.Record.TheVariants.{Received}
 use Rattle.dna_node.specs.Layers.{LayersUnit}
 use Rattle.dna_play.specs.HasLine.{has_line}
-use Rattle.dna_play.specs.Player.{End}
 use Rattle.dna_play.specs.Receipt.{is_damage, damaged}
 use Rattle.dna_play.proofs.Played.PlayLines.{line_tested}
 use Rattle.dna_play.proofs.Played.Facts.{Facts}
+use Rattle.dna_play.proofs.Ends.TrueEnd.{End}
 
 -- one of these bytes is another
 set_bytes : (bytes : List ℕ) (place y : ℕ) → y < 256 → ((i : ℕ) → slice_index bytes i < 256) → (i : ℕ) → slice_index (slice_set bytes place y) i < 256

@@ -18,7 +18,6 @@ use Rattle.dna_station.specs.Book as book
 use Rattle.dna_play.specs.Receipt.{is_damage, damaged}
 use Rattle.dna_play.specs.StepRule.{IsNoise, IsHurt}
 use Rattle.dna_play.proofs.Played.PlayLines.{bytes_told}
-use Rattle.dna_node.specs.Layers.{LayersUnit}
 
 -- ---- what a block check shows: the header is damaged, or the data
 
@@ -107,13 +106,13 @@ damage_is_seen m bytes place value are e d =
     not_same false e never = e
 
 -- what the rule of a step says of damage, as a test
-pub hurt_of : (place value : ℕ) (unit : LayersUnit) → is_damage place value unit.bytes ≡ true → IsHurt place value unit
-hurt_of place value unit is =
-    let p = and_parts (nat_lt place (length unit.bytes)) (nat_le 1 value && nat_le value 255) is in let q =
+pub hurt_of : (place value : ℕ) (bytes : List ℕ) → is_damage place value bytes ≡ true → IsHurt place value bytes
+hurt_of place value bytes is =
+    let p = and_parts (nat_lt place (length bytes)) (nat_le 1 value && nat_le value 255) is in let q =
     and_parts (nat_le 1 value) (nat_le value 255) p.1 in
-    record { inside = ltb-true place (length unit.bytes) p.0; least = leb-true 1 value q.0; most = leb-true value 255 q.1 }
+    record { inside = ltb-true place (length bytes) p.0; least = leb-true 1 value q.0; most = leb-true value 255 q.1 }
 
-pub is_hurt : (place value : ℕ) (unit : LayersUnit) → IsHurt place value unit → is_damage place value unit.bytes ≡ true
-is_hurt place value unit hurt =
-    ap₂ (λ (b c : Bool). b && c) (lt-ltb place (length unit.bytes) hurt.inside)
+pub is_hurt : (place value : ℕ) (bytes : List ℕ) → IsHurt place value bytes → is_damage place value bytes ≡ true
+is_hurt place value bytes hurt =
+    ap₂ (λ (b c : Bool). b && c) (lt-ltb place (length bytes) hurt.inside)
     (ap₂ (λ (b c : Bool). b && c) (le-leb 1 value hurt.least) (le-leb value 255 hurt.most))

@@ -38,15 +38,16 @@ use Rattle.dna_node.specs.TagRules.{by_bytes}
 use Rattle.dna_node.specs.Layers.{Layers, LayersTruth, LayersNode, LayersUnit, with_links, to_station, keeps, meets_on, layers_machine, stations}
 use Rattle.dna_node.specs.Layers.{unit_of_station}
 use Rattle.dna_play.specs.Owed.{can_take}
-use Rattle.dna_play.specs.Player.{end_step, variables_of}
+use Rattle.dna_play.specs.Played.{end_step}
 use Rattle.dna_station.proofs.Cut.Arriving.{arrival_refusal_same}
 use Rattle.dna_play.proofs.Played.Steps.{PlayHalf}
 use Rattle.dna_station.proofs.Bounds.Numbers.{is_data}
 use Rattle.dna_play.proofs.Ends.DamagedUnits.{ShownDamage, OfHeader, OfData, read_of, arrival_of}
-use Rattle.dna_play.proofs.Once.Checked.{row_is_data, IsReady, meets_it}
+use Rattle.dna_node.proofs.Once.Checked.{row_is_data, IsReady, meets_it}
 use Rattle.dna_play.specs.Receipt.{carried, carried_in}
 use Rattle.dna_node.specs.Content.{content}
 use Rattle.dna_node.proofs.LayersRead.{packet_in}
+use Rattle.dna_play.proofs.Ends.TrueEnd.{variables_of}
 
 -- a packet that can be taken is of data
 pub taken_is_data : {L : Type 0} (k : StationVariables L) (m : MessageValue) → can_take k m ≡ true → is_data m ≡ true

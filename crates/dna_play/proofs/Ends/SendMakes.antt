@@ -31,7 +31,7 @@ use Rattle.dna_node.specs.Content.{content}
 use Rattle.dna_node.specs.Layers.{Layers, LayersTruth, first_sent, with_message, sends_first, sends_again, sends_on, layers_machine}
 use Rattle.dna_play.specs.NextSent.{LinkEnd, LinkChoice, Choice, SendNew}
 use Rattle.dna_play.specs.Compose.{data_with, packet_with, link_message}
-use Rattle.dna_play.specs.Player.{end_step, made_half, makes}
+use Rattle.dna_play.specs.Played.{end_step, made_half, makes}
 use Rattle.two_nodes.proofs.NumberedSteps.{slice_get-drop}
 use Rattle.dna_node.proofs.OnTop.{sent_by, sent_with}
 use Rattle.dna_play.proofs.Played.Steps.{PlayHalf}

@@ -21,19 +21,20 @@ use Rattle.dna_links.specs.TrueLinks.{links_sent}
 use Rattle.dna_play.specs.NextSent.{LinkEnd, LinkChoice, Choice, SendStrt, SendStack, SendNak, SendRep, SendAgain, SendNew, SendAck, link_choice}
 use Rattle.dna_play.specs.NextSent.{choice}
 use Rattle.dna_play.specs.Compose.{no_flags, start_flags, address, packet_again, new_data, packet_with, message_of, data_with}
-use Rattle.dna_play.specs.Player.{End, makes, station_of, links_of, link_ends_of}
-use Rattle.dna_play.specs.Player as player
+use Rattle.dna_play.specs.Played.{makes}
+use Rattle.dna_play.proofs.Ends.TrueEnd as player
 use Rattle.dna_station.proofs.Cut.Sending.{all_length, sending_refusal_same, first_same}
 use Rattle.dna_station.proofs.Cut.Node.{unlabelled_bodies}
 use Rattle.dna_play.proofs.Ends.StationPays.{IsChosen, ByStrt, ByStack, ByNak, ByRep, ByAgain, ByNew, ByAck, chosen, chosen_may, put_is}
 use Rattle.dna_links.proofs.Runs.Owners.{there_is}
-use Rattle.dna_play.proofs.Links.Choices.{LinksPay, IsAsked, OfDuty, OfConfirm, asked_of, asked_may}
+use Rattle.dna_play.proofs.Links.Choices.{IsAsked, OfDuty, OfConfirm, asked_of, asked_may}
+use Rattle.dna_play.proofs.Links.Keeps.{is_kept, link_there}
 use Rattle.dna_play.proofs.Links.Fits.{duty_plain}
 use Rattle.dna_play.proofs.Ends.UnitLines.{IsOfBytes, packet_fits, MessageFits, confirm_fits, duty_message_fits}
 use Rattle.dna_play.proofs.Ends.SendMakes.{sent_left, is_made, again_after, sends_old, first_after, packet_of, packet_sent, sends_new, put_of_bytes}
 use Rattle.dna_play.proofs.Ends.SendMakes.{data_of_bytes}
 use Rattle.dna_play.proofs.Ends.Stage.{Stage, Known}
-use Rattle.dna_play.proofs.Links.Confirms.{done_over}
+use Rattle.dna_play.proofs.Ends.TrueEnd.{End, station_of, links_of}
 
 module _ (own other : End) (h : Stage own) (theirs : Stage other) (known : Known own other) where
   abbrev station : Station
@@ -43,23 +44,16 @@ module _ (own other : End) (h : Stage own) (theirs : Stage other) (known : Known
   k = player.variables_of own.half
 
   abbrev ends : List LinkEnd
-  ends = link_ends_of own
+  ends = own.links.links
 
   abbrev head : Head
   head = own.half.state.head
 
   abbrev asked : Option LinkChoice
-  asked = link_choice own.links_owed.confirms (link_ends_of own)
+  asked = link_choice own.links.confirms own.links.links
 
   labelled : AreLabelled (unlabelled {L = Unit {0}} station.packets) station
   labelled = unlabelled_bodies (Unit {0}) station.packets
-
-  links_pay : LinksPay (links_of own.half) own.links_owed
-  links_pay = record {
-    fits = λ i l at. (h.links.fit i l at).shape;
-    owes = h.links.owes;
-    over = λ i confirm at. done_over (links_of own.half) own.addresses confirm (h.links.confirms i confirm at).done;
-  }
 
   -- ---- a message of the links
 
@@ -76,10 +70,11 @@ module _ (own other : End) (h : Stage own) (theirs : Stage other) (known : Known
   far_small i l at (Some a) e =
       let o = known.addressed.far i l at a e in let less = known.others.highest o.number a o.owns in let few = theirs.few in omega arith
 
-  message_fits : (c : LinkChoice) (message : NspValue) → IsAsked (links_of own.half).links own.links_owed c message → MessageFits message
-  message_fits c message (OfDuty number duty l o there owes due) =
+  message_fits : (c : LinkChoice) (message : NspValue) → IsAsked (links_of own.half).links own.links c message → MessageFits message
+  message_fits c message (OfDuty number place duty l o at due) =
+      let there = link_there at in
       duty_message_fits l o (own_small number l there l.port.own refl) (far_small number l there l.port.far refl) duty
-      (duty_plain l o duty (h.links.fit number l there).segments)
+      (duty_plain l o duty (is_kept at).fits.segments)
   message_fits c message (OfConfirm confirm first) =
       let small = (h.links.confirms 0 confirm first).small in confirm_fits confirm.dst confirm.src confirm.reason small.dst small.src small.reason
 
@@ -99,7 +94,7 @@ module _ (own other : End) (h : Stage own) (theirs : Stage other) (known : Known
   pub data Goes : Choice → Type 0 where
     GoesOld : (c : Choice) (m : MessageValue) → message_of c head k ends ≡ Some m → IsOfBytes m → ((one : LinkChoice) → c ≡ SendNew one → ⊥) →
         makes own.half other.half (Sent (spelling m)) ≡ Some (sent_left own.half other.half m (again_after own.half other.half m)) → Goes c
-    GoesNew : (one : LinkChoice) (message : NspValue) → IsAsked (links_of own.half).links own.links_owed one message →
+    GoesNew : (one : LinkChoice) (message : NspValue) → IsAsked (links_of own.half).links own.links one message →
         (m : MessageValue) → message_of (SendNew one) head k ends ≡ Some m → IsOfBytes m → (packet : Carried)
         (made : links_sending.Sent TrueSegments Numbers) → packet.message ≡ message → links_sent (links_of own.half) packet ≡ Ok made →
         makes own.half other.half (Sent (spelling m)) ≡ Some (sent_left own.half other.half m (first_after own.half other.half m packet made)) →
@@ -132,9 +127,9 @@ module _ (own other : End) (h : Stage own) (theirs : Stage other) (known : Known
       let there = again_there old in
       goes_old SendAgain (data_with k (there.0).body) is (ap (packet_again k) there.1) (λ one e'. cc) (gives_as (there.0).body false old)
   goes_chosen state c is (ByNew one new room one_is) =
-      let x = asked_of (links_of own.half).links own.links_owed one one_is in
-      let may = asked_may (links_of own.half) (links_of other.half).links own.addresses known.addressed own.links_owed
-      links_pay known.numbers one x.message x.is in
+      let x = asked_of (links_of own.half) own.addresses own.links h.links one one_is in
+      let may = asked_may (links_of own.half) own.addresses own.links h.links (links_of other.half).links known.addressed known.numbers one x.message
+      x.is in
       let f = message_fits one x.message x.is in
       let m = data_with k (packet_with head x.message) in
       let put : message_of (SendNew one) head k ends ≡ Some m = ap (new_data k head) x.put in

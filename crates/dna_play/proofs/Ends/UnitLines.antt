@@ -24,12 +24,13 @@ use Rattle.dna_links.specs.Links.{LinkOf}
 use Rattle.dna_links.specs.TrueSegments.{TrueSegments}
 use Rattle.dna_node.specs.Content.{message_in, content_of, content}
 use Rattle.dna_play.specs.HasLine.{are_bytes, has_line}
-use Rattle.dna_play.specs.LinkOwed.{LinkOwed, Duty, ConnectAckDuty, InitiateDuty, ConfirmDuty, DisconnectDuty, DataAckDuty, SegmentDuty, variables_of}
+use Rattle.dna_play.specs.LinkOwed.{LinkOwed, Duty, ConnectAckDuty, InitiateDuty, ConfirmDuty, DisconnectDuty, DataAckDuty, SegmentDuty}
 use Rattle.dna_play.specs.NextSent.{LinkEnd}
 use Rattle.dna_play.specs.Compose.{SERVICES, INFO, USER_DATA, address, packet_with, piece_to_send, segment_with, ack_of, duty_message}
 use Rattle.dna_links.specs.Segmentation.{SEGSIZE}
 use Rattle.dna_play.proofs.Played.PlayLines.{bytes_told}
 use Rattle.dna_play.proofs.Links.Fits.{IsPlain}
+use Rattle.dna_play.proofs.Links.Pays.{variables_of}
 
 -- ---- bytes
 

@@ -16,11 +16,11 @@ use Rattle.dna_links.specs.User.{Up, delivered}
 use Rattle.dna_links.specs.TrueSegments.{TrueSegments, true_segments, delivered_as, delivers_whole, delivers}
 use Rattle.dna_links.specs.TrueLinks.{Links, links_user}
 use Rattle.dna_play.specs.HasLine.{has_line}
-use Rattle.dna_play.specs.LinkOwed as owing
+use Rattle.dna_play.proofs.Links.Pays as owing
 use Rattle.dna_play.specs.Receipt.{complete}
 use Rattle.dna_links.proofs.Tables.Outcomes.{IsFound}
 use Rattle.dna_links.proofs.Runs.Sides.{set_same, at_set}
-use Rattle.dna_play.proofs.Once.Addresses.{LinkList, OwnsIn}
+use Rattle.dna_node.proofs.Once.Addresses.{LinkList, OwnsIn}
 use Rattle.dna_play.proofs.Links.Pays.{found_at, with_found}
 
 -- ---- the first message that is whole is the next one, and the others are whole behind it

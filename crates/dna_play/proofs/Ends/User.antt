@@ -1,30 +1,24 @@
 -- What a user's event that is made leaves of an end of the player.
 use Rattle.std.proofs.Common.{◌≡◌, true, Option, Some, Result, Ok, Err, refl, sym, ap, ◌∙◌}
 use Rattle.std.proofs.lemmas.Option.{same_Some}
-use Rattle.two_nodes.specs.Nodes.{answered, stepped}
+use Rattle.two_nodes.specs.Nodes.{answered}
 use Rattle.capture.specs.declared.event.Event.{Event}
 use Rattle.capture.specs.declared.record.Record.TheVariants.{User}
-use Rattle.dna_station.specs.declared.state.State.{State}
-use Rattle.dna_station.specs.declared.state.StationEvent.{StationEvent}
-use Rattle.dna_station.specs.declared.state.StationEvent.TheVariants.{Start}
 use Rattle.dna_station.specs.declared.link_refusal.LinkRefusal.{LinkRefusal}
-use Rattle.dna_station.specs.Table.{user_refusal}
-use Rattle.dna_station.specs.Station.{after_event}
-use Rattle.dna_station.specs.Machine.{does, unless_refused}
+use Rattle.dna_station.specs.Machine.{does}
 use Rattle.dna_links.specs.User.{LinkEventValue}
 use Rattle.dna_links.specs.TrueLinks.{Links, links_user}
 use Rattle.dna_node.specs.TagRules.{by_bytes}
 use Rattle.dna_node.specs.Content.{link_event}
-use Rattle.dna_node.specs.Layers.{with_station, with_links, user_on}
+use Rattle.dna_node.specs.Layers.{with_links, user_on}
 use Rattle.dna_play.specs.HasLine.{has_line}
-use Rattle.dna_play.specs.Player.{end_step, made_half, makes, station_of, links_of}
+use Rattle.dna_play.specs.Played.{end_step, made_half, makes}
 use Rattle.dna_play.proofs.Played.Steps.{PlayHalf}
 use Rattle.dna_play.proofs.Played.Runs.{makes_tells}
 use Rattle.dna_play.proofs.Ends.Stage.{with_left}
+use Rattle.dna_play.proofs.Ends.TrueEnd.{links_of}
 
 module _ (own other half : PlayHalf) where
-  -- ---- of the links
-
   pub record LinkEventMade (event : Event) (of_links : LinkEventValue) : Type 0 where
     pub lined : has_line (User event) ≡ true
     pub left : Links
@@ -46,13 +40,3 @@ module _ (own other half : PlayHalf) where
       these_left event of_links told.0 (links_user (links_of own) of_links) refl
       (ap (λ (o : Option LinkEventValue). made_half (answered own other (does own.state (user_on by_bytes own.state.station event o)))) (sym is) ∙
       ap made_half told.1)
-
-  -- ---- of the station
-
-  abbrev pub after_user : StationEvent → PlayHalf
-  after_user event = stepped own (record own.state { station = record own.state.station { station = after_event (station_of own) event } })
-
-  abbrev pub started : State → Option PlayHalf
-  started state = made_half
-      (answered own other (does own.state
-      (with_station own.state.station (unless_refused (user_refusal state Start) (after_event (station_of own) Start)))))

@@ -15,8 +15,7 @@ use Rattle.dna_play.specs.LinkOwed.{EndConfirm}
 use Rattle.dna_links.proofs.Tables.Outcomes.{looked, position_none}
 use Rattle.dna_links.proofs.Runs.Reads.{at_is}
 use Rattle.dna_links.proofs.Runs.Sides.{at_set}
-use Rattle.dna_play.proofs.Once.Addresses.{LinkList, AreAddressed}
-use Rattle.dna_play.proofs.Links.Choices.{IsOver}
+use Rattle.dna_node.proofs.Once.Addresses.{LinkList, AreAddressed}
 
 -- a link with this port might be, or come to be, one that goes with that far address
 abbrev pub may_be : (far : ℕ) → Port → Bool
@@ -35,7 +34,8 @@ or_last : (b c : Bool) → c ≡ true → (b || c) ≡ true
 or_last true c e = refl
 or_last false c e = e
 
-pub done_over : (s : Links) (most : ℕ) (confirm : EndConfirm) → IsDone s.links most confirm → IsOver s confirm
+pub done_over : (s : Links) (most : ℕ) (confirm : EndConfirm) → IsDone s.links most confirm → (j : ℕ) (m : LinkOf TrueSegments) →
+    slice_get s.links j ≡ Some m → passes (TheLink confirm.src confirm.dst) m.port ≡ true → ⊥
 done_over s most confirm d j m at passed =
     let p = and_parts (is_live m.port.phase) (has_both m.port confirm.src confirm.dst) passed in
     let q = and_parts (is_at m.port.own confirm.src) (is_at m.port.far confirm.dst) p.1 in

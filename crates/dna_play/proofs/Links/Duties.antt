@@ -19,18 +19,19 @@ use Rattle.dna_links.specs.Sending.{Sent, segment_of}
 use Rattle.dna_links.specs.TrueSegments.{TrueSegments, Numbers, true_segments, is_new, sends_segment, sends_acks}
 use Rattle.dna_links.specs.TrueLinks.{Links}
 use Rattle.dna_links.specs.CutSegments.{IsOrdered}
-use Rattle.dna_play.specs.LinkOwed.{LinkOwed, Duty, ConnectAckDuty, InitiateDuty, ConfirmDuty, DisconnectDuty, DataAckDuty, SegmentDuty, variables_of}
+use Rattle.dna_play.specs.LinkOwed.{LinkOwed, Duty, ConnectAckDuty, InitiateDuty, ConfirmDuty, DisconnectDuty, DataAckDuty, SegmentDuty}
 use Rattle.dna_play.specs.NextSent.{LinkEnd}
 use Rattle.dna_play.specs.Compose.{ack_of, address, piece_to_send, segment_with, duty_message}
 use Rattle.dna_play.specs.StoredLinks.{gave, gave_by}
 use Rattle.dna_play.proofs.Links.SegmentsDid.{SegmentDid, GivesIt, GivesAgain, segment_did, acks_did}
 use Rattle.dna_links.proofs.Tables.Outcomes.{has_numbers, IsFound, SentDid, OfNone, Stays, EndsCalled, Segment, Acks}
 use Rattle.dna_links.proofs.Runs.Reads.{at_is}
-use Rattle.dna_play.proofs.Links.Pays.{fits_in, Fits, OwedFits, IsDue, DueFlag, DueSegment, known_at, running_is}
-use Rattle.dna_play.proofs.Once.Addresses.{LinkList, OwnsIn}
-use Rattle.dna_play.proofs.Stored.LiveLists.{set_back}
+use Rattle.dna_play.proofs.Links.Pays.{variables_of, end_of, fits_in, Fits, OwedFits, IsDue, DueFlag, DueSegment, known_at, running_is}
+use Rattle.dna_node.proofs.Once.Addresses.{LinkList, OwnsIn}
+use Rattle.dna_play.proofs.Links.Lists.{set_back}
 use Rattle.dna_packet.specs.declared.ack_word.AckWord.{AckWord}
-use Rattle.dna_play.proofs.Links.Choices.{end_of}
+use Rattle.dna_play.proofs.Links.Fits.{LinkFits, duty_plain}
+use Rattle.dna_play.proofs.Links.Goes.{Goes, segments_go, stays_as_it_is, acks_go, segment_goes}
 
 -- ---- a segment
 
@@ -148,6 +149,7 @@ pub record DutyMade (s : Links) (made : Sent TrueSegments Numbers) (n : ℕ) (l 
   pub port : left.port ≡ l.port
   pub acknowledged : left.segments.acknowledged ≡ l.segments.acknowledged
   pub is : end_of left o ≡ gave_by duty (end_of l o)
+  pub goes : (most : ℕ) → Goes most l left
 
 module _ (s : Links) (made : Sent TrueSegments Numbers) (n : ℕ) (l : LinkOf TrueSegments) (o : LinkOwed) (there : slice_get s.links n ≡ Some l) where
   -- one that leaves its link as it is
@@ -158,6 +160,7 @@ module _ (s : Links) (made : Sent TrueSegments Numbers) (n : ℕ) (l : LinkOf Tr
     port = refl;
     acknowledged = refl;
     is = sym none;
+    goes = λ most. segments_go most l l.segments (stays_as_it_is l.segments);
   }
 
   -- in RUN it has an own address
@@ -168,7 +171,7 @@ module _ (s : Links) (made : Sent TrueSegments Numbers) (n : ℕ) (l : LinkOf Tr
   acknowledged_still s g (GivesIt last new) = refl
   acknowledged_still s g (GivesAgain last old) = refl
 
-  module _ (ordered : IsOrdered l.segments) (shape : Fits l) (owes : OwedFits l o)
+  module _ (ordered : IsOrdered l.segments) (fits : LinkFits l) (owes : OwedFits l o)
       (distinct : (i j a : ℕ) → OwnsIn s.links i a → OwnsIn s.links j a → i ≡ j) where
     pub duty_made : (duty : Duty) → IsDue (end_of l o) duty → SentDid true_segments s (duty_message duty (end_of l o)) made →
         DutyMade s made n l o duty
@@ -181,7 +184,7 @@ module _ (s : Links) (made : Sent TrueSegments Numbers) (n : ℕ) (l : LinkOf Tr
         unmoved DisconnectDuty refl (links_stay s (duty_message DisconnectDuty (end_of l o)) refl (λ dst reason e. cc) made did)
     duty_made DataAckDuty (DueFlag owed) did =
         let words = ack_of (variables_of l).received ∷ [] in
-        let r = acks_run s distinct n l there (address l.port.own) (run_owns shape (owes.duties DataAckDuty owed)) (address l.port.far)
+        let r = acks_run s distinct n l there (address l.port.own) (run_owns fits.shape (owes.duties DataAckDuty owed)) (address l.port.far)
         words made did in
         let d = acks_did l.segments words r.sent r.is in
         record {
@@ -190,16 +193,19 @@ module _ (s : Links) (made : Sent TrueSegments Numbers) (n : ℕ) (l : LinkOf Tr
           port = refl;
           acknowledged = ap (λ (g : TrueSegments). g.acknowledged) d.1;
           is = ap (λ (g : TrueSegments). end_of (with_segments g l) o) d.1;
+          goes = λ most. segments_go most l r.sent.segments (acks_go l.segments words r.sent r.is);
         }
     duty_made SegmentDuty (DueFlag owed) did = absurd cc
     duty_made SegmentDuty (DueSegment running due) did =
         let again = slice_get (variables_of l).outstanding o.ahead in
         let segment = segment_with (end_of l o) (piece_to_send again l.segments.unsent) in
-        let r = segment_run s distinct n l there (address l.port.own) (run_owns shape (running_is l.port.phase running)) segment refl made did in
+        let r = segment_run s distinct n l there (address l.port.own) (run_owns fits.shape (running_is l.port.phase running)) segment refl made did in
         record {
           left = with_segments r.sent.segments l;
           links = r.links;
           port = refl;
           acknowledged = acknowledged_still segment r.sent.segments (segment_did l.segments l.segsize segment r.sent r.is);
           is = segment_gave l o ordered owes.ahead l.segsize r.sent again refl r.is;
+          goes = λ most. segments_go most l r.sent.segments (segment_goes l.segments r.sent.segments segment
+              (duty_plain l o SegmentDuty fits.segments) (segment_did l.segments l.segsize segment r.sent r.is));
         }

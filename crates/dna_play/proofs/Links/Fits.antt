@@ -13,12 +13,13 @@ use Rattle.dna_links.specs.Links.{LinkOf}
 use Rattle.dna_links.specs.User.{LinkEventValue, In}
 use Rattle.dna_links.specs.TrueSegments.{TrueSegments, true_segments}
 use Rattle.dna_play.specs.HasLine.{are_bytes}
-use Rattle.dna_play.specs.LinkOwed.{LinkOwed, Duty, ConnectAckDuty, InitiateDuty, ConfirmDuty, DisconnectDuty, DataAckDuty, SegmentDuty, variables_of}
+use Rattle.dna_play.specs.LinkOwed.{LinkOwed, Duty, ConnectAckDuty, InitiateDuty, ConfirmDuty, DisconnectDuty, DataAckDuty, SegmentDuty}
 use Rattle.dna_play.specs.Compose.{piece_to_send, duty_message}
 use Rattle.two_nodes.proofs.NumberedSteps.{slice_get-drop}
 use Rattle.dna_links.proofs.Tables.Outcomes.{Connects}
-use Rattle.dna_play.proofs.Once.Addresses.{LinkList}
+use Rattle.dna_node.proofs.Once.Addresses.{LinkList}
 use Rattle.dna_play.proofs.Links.Pays.{fits_in, Fits}
+use Rattle.dna_play.proofs.Links.Pays.{variables_of}
 
 -- ---- bytes and pieces
 

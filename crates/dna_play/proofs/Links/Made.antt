@@ -23,14 +23,15 @@ use Rattle.dna_node.specs.TagRules.{by_bytes}
 use Rattle.dna_node.specs.Content.{link_event}
 use Rattle.dna_node.specs.Layers.{with_links, user_on}
 use Rattle.dna_play.specs.HasLine.{has_line}
-use Rattle.dna_play.specs.Player.{end_step, made_half, makes, links_of}
+use Rattle.dna_play.specs.Played.{end_step, made_half, makes}
 use Rattle.dna_play.proofs.Played.PlayLines.{line_tested}
 use Rattle.dna_play.proofs.Played.Steps.{PlayHalf}
 use Rattle.dna_links.proofs.Tables.Outcomes.{IsFound}
 use Rattle.dna_links.proofs.Runs.Reads.{at_is}
-use Rattle.dna_play.proofs.Once.Addresses.{LinkList, AreAddressed, freed_same}
+use Rattle.dna_node.proofs.Once.Addresses.{LinkList, AreAddressed, freed_same}
 use Rattle.dna_play.proofs.Links.Pays.{found_at, none_found, with_found}
 use Rattle.dna_play.proofs.Ends.Stage.{with_left}
+use Rattle.dna_play.proofs.Ends.TrueEnd.{links_of}
 
 -- ---- an event is made
 

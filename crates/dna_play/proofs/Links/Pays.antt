@@ -18,15 +18,25 @@ use Rattle.dna_links.specs.Links.{LinkOf, check, number_of, on_link, at_number, 
 use Rattle.dna_links.specs.Sending.{Sent, unchanged, in_its_phase, carries, in_run, truth_of, segment_of, confirms_end, message_sent}
 use Rattle.dna_links.specs.TrueSegments.{TrueSegments, Numbers, true_segments, sends_segment}
 use Rattle.dna_links.specs.TrueLinks.{Links}
-use Rattle.dna_links.specs.CutSegments.{IsOrdered, IsAnswered}
-use Rattle.dna_play.specs.LinkOwed.{LinkOwed, Duty, ConnectAckDuty, InitiateDuty, ConfirmDuty, DisconnectDuty, DataAckDuty, SegmentDuty, variables_of}
+use Rattle.dna_links.specs.WireSegments.{LinkVariables}
+use Rattle.dna_links.specs.CutSegments.{IsOrdered, IsAnswered, cut}
+use Rattle.dna_play.specs.LinkOwed.{LinkOwed, Duty, ConnectAckDuty, InitiateDuty, ConfirmDuty, DisconnectDuty, DataAckDuty, SegmentDuty}
 use Rattle.dna_play.specs.NextSent.{LinkEnd, has_new, has_repeat, has_segment, duty_of}
 use Rattle.dna_links.specs.Segmentation.{has_more, SEGSIZE, Piece}
 use Rattle.dna_play.specs.Compose.{ack_of, address, piece_to_send, segment_with, duty_message}
 use Rattle.dna_links.proofs.Runs.Reads.{at_is}
 use Rattle.dna_links.proofs.Tables.Outcomes.{IsFound, looked, position_none}
-use Rattle.dna_play.proofs.Once.Addresses.{LinkList, AreAddressed}
+use Rattle.dna_node.proofs.Once.Addresses.{LinkList, AreAddressed}
 use Rattle.dna_play.proofs.Links.SegmentsPay.{data_ack_may, again_may, new_may}
+
+-- ---- a link beside its end
+
+-- what a node keeps of a link's segments
+abbrev pub variables_of : LinkOf TrueSegments → LinkVariables
+variables_of link = (cut link.segments).variables
+
+abbrev pub end_of : LinkOf TrueSegments → LinkOwed → LinkEnd
+end_of l owed = record { port = l.port; variables = variables_of l; owed = owed }
 
 -- ---- what a link of the player is, by its phase
 

@@ -1,7 +1,7 @@
 -- How many pieces of messages wait at links to be delivered: a message that comes adds at most one, each delivery takes at least one, and nothing
 -- else changes how many.
 use Rattle.std.proofs.Common.{◌≡◌, ℕ, zero, suc, ◌+◌, ◌-◌, ◌≤◌, Bool, true, false, cond, ◌⊎◌, inl, inr, Option, Some, None, List, [], ◌∷◌, ◌++◌, drop}
-use Rattle.std.proofs.Common.{fold, refl, sym, ap, ap₂, ◌∙◌, subst, arith, drop-drop}
+use Rattle.std.proofs.Common.{fold, refl, sym, ap, ◌∙◌, subst, arith, drop-drop}
 use Rattle.std.specs.Prelude.{slice_get, slice_set}
 use Rattle.std.proofs.lemmas.Bool.{cases_eq}
 use Rattle.std.proofs.lemmas.Option.{same_Some}

@@ -2,7 +2,6 @@
 -- stays known while the end takes a unit and its user gets what is whole.
 use Rattle.std.proofs.Common.{◌≡◌, ℕ, ◌+◌, ◌<◌, ◌≤◌, ◌^◌, true, Option, Some, None, List, [], ◌++◌, Ok, sym, ap, ◌∙◌, arith, subst}
 use Rattle.std.specs.Prelude.{slice_get}
-use Rattle.two_nodes.specs.Nodes.{Run}
 use Rattle.two_nodes.specs.Cutting.{cut_half}
 use Rattle.two_nodes.proofs.Lasting.{lasts}
 use Rattle.ddcmp_msg.specs.Reading.{reading}
@@ -20,11 +19,8 @@ use Rattle.dna_links.specs.Bounds.{AreLinksBounded}
 use Rattle.dna_links.specs.Runs.{SentMessage, LinkWorld}
 use Rattle.dna_node.specs.Content.{content}
 use Rattle.dna_node.specs.Layers.{LayersUnit, stations}
-use Rattle.dna_node.specs.LayersPair.{layers_pair, layers_start, side_of, link_events}
-use Rattle.dna_play.specs.Script.{Script}
-use Rattle.dna_play.specs.Player.{End, station_of, links_of}
-use Rattle.dna_play.specs.Played.{Played, head_a, head_b}
-use Rattle.dna_play.specs.PlayRun.{ArePlayed, world_of}
+use Rattle.dna_node.specs.LayersPair.{layers_pair, side_of, link_events}
+use Rattle.dna_play.specs.Played.{Played}
 use Rattle.dna_station.proofs.Bounds.Numbers.{is_data}
 use Rattle.dna_station.proofs.Bounds.Runs.{sound_bounded}
 use Rattle.dna_node.proofs.LayersRead.{LayersRead, packet_in, read_kept, start_read}
@@ -33,20 +29,22 @@ use Rattle.dna_node.proofs.ReadInRange.{content_in_range}
 use Rattle.dna_node.proofs.CutLayersNode.{IsLayersBounded}
 use Rattle.dna_node.proofs.LayersBounds.{a_bounded}
 use Rattle.dna_links.proofs.Runs.Steps.{BothLinksSound}
-use Rattle.dna_play.proofs.Once.Addresses.{AreAddressed}
-use Rattle.dna_play.proofs.Once.AddressRuns.{BothAddressed, reached_addressed}
-use Rattle.dna_play.proofs.Once.Units.{unit_reads, unit_content}
+use Rattle.dna_node.proofs.Once.Addresses.{AreAddressed}
+use Rattle.dna_node.proofs.Once.AddressRuns.{BothAddressed, reached_addressed}
+use Rattle.dna_node.proofs.Once.Units.{unit_reads, unit_content}
 use Rattle.dna_play.proofs.Played.HandedLined.{events_lined}
 use Rattle.dna_play.proofs.Played.SidesLined.{is_lined}
 use Rattle.dna_play.proofs.Played.SentLined.{AreSentLined, sent_lined}
 use Rattle.dna_play.proofs.Played.Steps.{PlayHalf, MakesAll}
 use Rattle.dna_play.proofs.Played.Order.{InOrder, order_join}
-use Rattle.dna_play.proofs.Played.Runs.{more_of_a}
-use Rattle.dna_play.proofs.Once.Checked.{is_checked_run, ready_a}
-use Rattle.dna_play.proofs.Played.Checked.{AreInOrder, orderly}
+use Rattle.dna_play.proofs.Played.Reached.{Progress}
+use Rattle.dna_play.proofs.Played.Runs.{Going, first_head, second_head, more_of_a}
+use Rattle.dna_node.proofs.Once.Checked.{ready_a}
+use Rattle.dna_play.proofs.Played.Checked.{IsCheckedRun, orderly, checked}
 use Rattle.dna_play.proofs.Played.Known.{heads_stay, numbers_of}
 use Rattle.dna_play.proofs.Ends.Stage.{Known}
 use Rattle.dna_play.proofs.Ends.UpsFollow.{IsLined}
+use Rattle.dna_play.proofs.Ends.TrueEnd.{End, station_of, links_of, stored, coming}
 
 pub record Facts (own other : End) : Type 0 where
   pub known : Known own other
@@ -80,99 +78,103 @@ comes_near own other front of_other c bounds k unit there ahead allowed u is =
     let small = content_in_range (body_of unit.message) u.packet (h.read ∙ ap (λ (o : Option SentMessage). Ok (packet_in o)) is) in
     bounds.near unit.known.station.place u h.ahead (h.told ∙ ap Some is) small
 
-module _ (script : Script) where
-  -- what was played so far starts each side at most once
-  pub record Going (played : Played) : Type 0 where
-    pub made : ArePlayed script played
-    pub count_a : ℕ
-    pub count_b : ℕ
-    pub order : AreInOrder played count_a count_b
-    pub few_a : count_a ≤ 1
-    pub few_b : count_b ≤ 1
+-- both ends beside their nodes, with the records of each so far
+pub record TrueEnds : Type 0 where
+  pub a : End
+  pub b : End
+  pub of_a : List Record
+  pub of_b : List Record
 
-  word : (node : ℕ) → IsNode node → node < 2 ^ 16
-  word node h = let most = h.most_area in omega arith
+-- what is played then
+abbrev pub played_of : TrueEnds → Played
+played_of both = record {
+  ends = record {
+    pair = record { a = stored both.a; b = stored both.b; to_a = coming both.a both.b.half; to_b = coming both.b both.a.half };
+    of_a = both.of_a;
+    of_b = both.of_b;
+  };
+  nodes = record { a = both.a.half; b = both.b.half };
+}
 
-  module _ (node_a : IsNode script.node_a) (node_b : IsNode script.node_b) (played : Played) (g : Going played) where
-    run : Run layers_pair (layers_start (head_a script) (head_b script)) played.of_a played.of_b (world_of played)
-    run = is_checked_run (head_a script) (head_b script) played.of_a played.of_b g.made.run (orderly played.of_a g.order.of_side_a g.few_a)
-        (orderly played.of_b g.order.of_side_b g.few_b)
+word : (node : ℕ) → IsNode node → node < 2 ^ 16
+word node h = let most = h.most_area in omega arith
 
-    met : LayersRead (head_a script) (head_b script) (world_of played) played.of_a played.of_b
-    met = lasts layers_pair (LayersRead (head_a script) (head_b script)) (read_kept (head_a script) (head_b script)) [] []
-        (start_read (head_a script) (head_b script)) run
+-- what was played so far starts each side at most once
+module _ (p : Progress) (node_a : IsNode p.node_a) (node_b : IsNode p.node_b) (few_a : p.starts_a ≤ 1) (few_b : p.starts_b ≤ 1) where
+  module _ (both : TrueEnds) (g : Going p (played_of both)) where
+    run : IsCheckedRun p (played_of both)
+    run = checked p (played_of both) g few_a few_b
+
+    met : LayersRead (first_head p) (second_head p) (played_of both).nodes both.of_a both.of_b
+    met = lasts layers_pair (LayersRead (first_head p) (second_head p)) (read_kept (first_head p) (second_head p)) [] []
+        (start_read (first_head p) (second_head p)) run
 
     abbrev links_world : LinkWorld
-    links_world = record { a = side_of played.a.half met.joined.joined.front_a; b = side_of played.b.half met.joined.joined.front_b }
+    links_world = record { a = side_of both.a.half met.joined.joined.front_a; b = side_of both.b.half met.joined.joined.front_b }
 
     all_sound : BothLinksSound links_world
-    all_sound = sound script.node_a script.node_b script.node_b script.node_a links_world (link_events played.of_a)
-        (link_events played.of_b) met.joined.joined.reached
+    all_sound = sound p.node_a p.node_b p.node_b p.node_a links_world (link_events both.of_a)
+        (link_events both.of_b) met.joined.joined.reached
 
-    all_owned : BothOwned links_world (link_events played.of_a) (link_events played.of_b)
-    all_owned = owned script.node_a script.node_b script.node_b script.node_a links_world (link_events played.of_a)
-        (link_events played.of_b) met.joined.joined.reached
+    all_owned : BothOwned links_world (link_events both.of_a) (link_events both.of_b)
+    all_owned = owned p.node_a p.node_b p.node_b p.node_a links_world (link_events both.of_a)
+        (link_events both.of_b) met.joined.joined.reached
 
     bounds : AreLinksBounded links_world.a links_world.b × AreLinksBounded links_world.b links_world.a
-    bounds = bounded script.node_a script.node_b script.node_b script.node_a links_world (link_events played.of_a)
-        (link_events played.of_b) met.joined.joined.reached
+    bounds = bounded p.node_a p.node_b p.node_b p.node_a links_world (link_events both.of_a)
+        (link_events both.of_b) met.joined.joined.reached
 
-    lines : AreSentLined played.a.half × AreSentLined played.b.half
+    lines : AreSentLined both.a.half × AreSentLined both.b.half
     lines = sent_lined run g.made.lines_a g.made.lines_b (λ k unit at. absurd cc) (λ k unit at. absurd cc)
 
-    addresses : BothAddressed script.node_a script.node_b script.node_b script.node_a links_world (link_events played.of_a) (link_events played.of_b)
-    addresses = reached_addressed script.node_a script.node_b script.node_b script.node_a met.joined.joined.reached g.order.of_side_a.rise
+    addresses : BothAddressed p.node_a p.node_b p.node_b p.node_a links_world (link_events both.of_a) (link_events both.of_b)
+    addresses = reached_addressed p.node_a p.node_b p.node_b p.node_a met.joined.joined.reached g.order.of_side_a.rise
         g.order.of_side_b.rise
 
-    known_a : Known played.a played.b
+    known_a : Known both.a both.b
     known_a =
         let order = met.joined.placed.order in
         let head = (heads_stay run).0 in
         record {
-          ready = ready_a (head_a script) (head_b script) (world_of played) played.of_a played.of_b run
-              (orderly played.of_a g.order.of_side_a g.few_a) (orderly played.of_b g.order.of_side_b g.few_b);
-          bounded = sound_bounded (cut_half stations played.a.half) (cut_half stations played.b.half) order.of_a.sound order.of_b.sound;
+          ready = ready_a (first_head p) (second_head p) (played_of both).nodes both.of_a both.of_b run
+              (orderly both.of_a g.order.of_side_a few_a) (orderly both.of_b g.order.of_side_b few_b);
+          bounded = sound_bounded (cut_half stations both.a.half) (cut_half stations both.b.half) order.of_a.sound order.of_b.sound;
           numbers = numbers_of links_world.a links_world.b bounds.0;
-          addressed = subst (AreAddressed (links_of played.a.half).links (links_of played.b.half).links) g.order.of_side_a.top addresses.of_a.links;
-          others = subst (AreAddressed (links_of played.b.half).links (links_of played.a.half).links) g.order.of_side_b.top addresses.of_b.links;
+          addressed = subst (AreAddressed (links_of both.a.half).links (links_of both.b.half).links) g.order.of_side_a.top addresses.of_a.links;
+          others = subst (AreAddressed (links_of both.b.half).links (links_of both.a.half).links) g.order.of_side_b.top addresses.of_b.links;
           head_own = subst (λ (x : Head). x.own < 2 ^ 16) (sym head) (word _ node_a);
           head_peer = subst (λ (x : Head). x.peer < 2 ^ 16) (sym head) (word _ node_b);
           node = addresses.at_a.node_is ∙ ap (λ (x : Head). x.own) (sym head);
           peer = addresses.at_a.peer_is ∙ ap (λ (x : Head). x.peer) (sym head);
         }
 
-    pub facts_a : Facts played.a played.b
+    facts_a : Facts both.a both.b
     facts_a =
         let order = met.joined.placed.order in
         record {
           known = known_a;
           from = λ k u at. let f = addresses.of_b.from k u at in
               (f.0 ∙ addresses.at_b.node_is ∙ sym addresses.at_a.peer_is, f.1 ∙ addresses.at_b.peer_is ∙ sym addresses.at_a.node_is);
-          whole = is_lined links_world.a links_world.b (link_events played.of_a)
-              (link_events played.of_b) all_sound.of_a all_sound.of_b all_owned.of_a all_owned.of_b
-              (events_lined played.of_a g.made.lines_a) (events_lined played.of_b g.made.lines_b);
+          whole = is_lined links_world.a links_world.b (link_events both.of_a)
+              (link_events both.of_b) all_sound.of_a all_sound.of_b all_owned.of_a all_owned.of_b
+              (events_lined both.of_a g.made.lines_a) (events_lined both.of_b g.made.lines_b);
           lined = lines.1;
-          reads = unit_reads played.b.half played.a.half order.of_b.sound;
-          packets = λ k unit there. unit_content played.b.half played.a.half order.of_b.sound k unit there order.of_b.places met.joined.b_told
+          reads = unit_reads both.b.half both.a.half order.of_b.sound;
+          packets = λ k unit there. unit_content both.b.half both.a.half order.of_b.sound k unit there order.of_b.places met.joined.b_told
               met.b_read;
-          near = comes_near played.a.half played.b.half met.joined.joined.front_a met.joined.joined.front_b
-              (a_bounded (head_a script) (head_b script) (world_of played) played.of_a played.of_b met) bounds.0;
+          near = comes_near both.a.half both.b.half met.joined.joined.front_a met.joined.joined.front_b
+              (a_bounded (first_head p) (second_head p) (played_of both).nodes both.of_a both.of_b met) bounds.0;
         }
 
-  module _ (node_a : IsNode script.node_a) (node_b : IsNode script.node_b) (played : Played) (g : Going played) where
-    pub later_a : Later played.a played.b
-    later_a e records makes order =
-        let m = more_of_a script played.b.half played.of_a played.of_b makes
-        (record { run = g.made.run; lines_a = g.made.lines_a; lines_b = g.made.lines_b }) in
-        let few = g.few_a in
-        facts_a node_a node_b (record { a = e; b = played.b; of_a = played.of_a ++ records; of_b = played.of_b }) (record {
-          made = record { run = m.run; lines_a = m.lines_a; lines_b = m.lines_b };
-          count_a = g.count_a + 0;
-          count_b = g.count_b;
-          order = record {
-            of_side_a = order_join 0 played.a.addresses e.addresses g.count_a 0 played.of_a records g.order.of_side_a order;
-            of_side_b = g.order.of_side_b;
-          };
-          few_a = omega arith;
-          few_b = g.few_b;
-        })
+  pub later_a : (both : TrueEnds) → Going p (played_of both) → Later both.a both.b
+  later_a both g e records makes order = facts_a (record both { a = e; of_a = both.of_a ++ records }) (record {
+    made = more_of_a _ both.b.half both.of_a both.of_b makes g.made;
+    order = record {
+      of_side_a = subst (λ (n : ℕ). InOrder 0 n (both.of_a ++ records) e.addresses) (none_more p.starts_a)
+          (order_join 0 both.a.addresses e.addresses p.starts_a 0 both.of_a records g.order.of_side_a order);
+      of_side_b = g.order.of_side_b;
+    };
+  })
+    where
+      none_more : (n : ℕ) → n + 0 ≡ n
+      none_more n = omega arith

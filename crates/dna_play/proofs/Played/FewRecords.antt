@@ -1,68 +1,71 @@
 -- The captures that a script stands for have few records: at most two for each step, one of them a delivery of what an earlier step brought. So they
 -- are never too long for their texts.
-use Rattle.std.proofs.Common.{◌≡◌, ℕ, ◌+◌, ◌*◌, ◌≤◌, List, [], ◌∷◌, length, Ok, Err, ap, arith, length-append}
+use Rattle.std.proofs.Common.{◌≡◌, ℕ, ◌+◌, ◌*◌, ◌≤◌, List, [], ◌∷◌, length, Ok, Err, arith, length-append}
 use Rattle.capture.specs.declared.limit.TheConstants.{MAX_RECORDS}
-use Rattle.dna_play.specs.Script.{ScriptStep, Script}
+use Rattle.capture.specs.declared.record.Record.{Record}
+use Rattle.dna_play.specs.Script.{StepValue, ScriptStep, Script}
 use Rattle.dna_play.specs.ScriptText.{IsScript}
+use Rattle.dna_play.specs.StoredPlay.{ups}
 use Rattle.dna_play.specs.Played.{Played, Stopped, play}
-use Rattle.capture.specs.declared.event.Event.TheVariants as events
-use Rattle.capture.specs.declared.record.Record.TheVariants.{User}
-use Rattle.dna_play.specs.Player.{End, after_record}
-use Rattle.dna_play.specs.Stepped.{Stepped}
-use Rattle.dna_play.proofs.Played.Steps.{PlayHalf}
+use Rattle.dna_play.proofs.Played.Steps.{PlayHalf, MakesAll, Nothing, First}
 use Rattle.dna_play.proofs.Played.WaitingRecords.{waiting_at, delivery_waits, record_waits}
-use Rattle.dna_play.proofs.Played.Walk.{Comes, Silent, Makes, Delivers, step_comes}
-use Rattle.dna_play.proofs.Played.Reached.{Reached, NoStep, StepOfA, StepOfB, exchanged, whole_reached, stopped_reached}
+use Rattle.dna_play.proofs.Played.Walk.{Brings, NoRecord, OneRecord, stored_leaves}
+use Rattle.dna_play.proofs.Played.Reached.{Reached, Progress, one_more, StepOfA, OfStep, reached_holds, each_step, whole_reached, stopped_reached}
 
--- of a step: one record, and at most one more that waits; each delivery takes one that waits
-few : (own : End) (other : PlayHalf) {starts units : ℕ} {stepped : Stepped} → Comes own other starts units stepped →
-    length stepped.records + waiting_at stepped.end.half ≤ waiting_at own.half + 2
-few own other (Silent more adds sent none) =
-    let same : waiting_at (more own).half ≡ waiting_at own.half = ap waiting_at (adds.half own) in omega arith
-few own other (Makes e r more half begins adds sent is) =
-    let w = record_waits own.half other half r is in
-    let same : waiting_at (more (after_record e half)).half ≡ waiting_at half = ap waiting_at (adds.half (after_record e half)) in
-    omega arith
-few own other (Delivers so_far address message half c is) =
-    let before = few own other c in
-    let w = delivery_waits so_far.end.half other half address message is in
-    let l = length-append so_far.records (User (events.Up address message) ∷ []) in
-    omega arith
+-- each delivery takes one piece that waits
+ups_take : (other : PlayHalf) (address : ℕ) (messages : List (List ℕ)) {own half : PlayHalf} → MakesAll other own (ups address messages) half →
+    length (ups address messages) + waiting_at half ≤ waiting_at own
+ups_take other address [] Nothing = omega arith
+ups_take other address (message ∷ later) (First {own} {next} m rest) =
+    let one = delivery_waits own other next address message m in let all = ups_take other address later rest in omega arith
+
+-- of a step: one record, and at most one more that waits
+few : (other : PlayHalf) {own half : PlayHalf} {records : List Record} → Brings records → MakesAll other own records half →
+    length records + waiting_at half ≤ waiting_at own + 2
+few other NoRecord Nothing = omega arith
+few other (OneRecord r address messages) (First {own} {next} m rest) =
+    let one = record_waits own other next r m in let all = ups_take other address messages rest in omega arith
 
 -- the records of a side, with the pieces that wait there, are at most two for each step
-few_of_a : {script : Script} {steps count_a count_b : ℕ} {later : List ScriptStep} {so_far : Played} →
-    Reached script steps count_a count_b later so_far → length so_far.of_a + waiting_at so_far.a.half ≤ 2 * steps
-few_of_a NoStep = omega arith
-few_of_a (StepOfA so_far step made at before is) =
-    let before_it = few_of_a before in let more = few so_far.a so_far.b.half (step_comes so_far.a so_far.b.half step.step made is) in
-    let l = length-append so_far.of_a made.records in
-    omega arith
-few_of_a (StepOfB so_far step made at before is) = let few = few_of_a before in omega arith
+record AreFew (p : Progress) (played : Played) : Type 0 where
+  of_side_a : length played.ends.of_a + waiting_at played.nodes.a ≤ 2 * p.steps
+  of_side_b : length played.ends.of_b + waiting_at played.nodes.b ≤ 2 * p.steps
 
-few_of_both : {script : Script} {steps count_a count_b : ℕ} {later : List ScriptStep} {so_far : Played} (most : ℕ) → steps ≤ most →
-    Reached script steps count_a count_b later so_far → (length so_far.of_a ≤ 2 * most) × (length so_far.of_b ≤ 2 * most)
-few_of_both most less r = let a = few_of_a r in let b = few_of_a (exchanged r) in (omega arith, omega arith)
+few_more : (p : Progress) (so_far : Played) {next : Played} (step : StepValue) → StepOfA so_far step next → AreFew p so_far →
+    AreFew (one_more step p) next
+few_more p so_far step (OfStep made half is makes) h =
+    let a = h.of_side_a in let b = h.of_side_b in
+    let l = length-append so_far.ends.of_a made.records in
+    let more = few so_far.nodes.b (stored_leaves so_far.ends.pair.a so_far.ends.pair.to_a step made is).brings makes in
+    record { of_side_a = omega arith; of_side_b = omega arith }
+
+few_of_both : {script : Script} {first later : List ScriptStep} {so_far : Played} (most : ℕ) → length first ≤ most →
+    Reached script first later so_far → (length so_far.ends.of_a ≤ 2 * most) × (length so_far.ends.of_b ≤ 2 * most)
+few_of_both {script} most less r =
+    let h = reached_holds AreFew (λ p so_far h. record { of_side_a = h.of_side_b; of_side_b = h.of_side_a }) (λ step. Unit {0})
+    (λ p so_far next step fits made h. few_more p so_far step.step made h) r (each_step script.steps)
+    (record { of_side_a = omega arith; of_side_b = omega arith }) in
+    let a = h.of_side_a in let b = h.of_side_b in (omega arith, omega arith)
+
+-- ---- the laws
 
 module _ (script : Script) where
-  -- ---- the laws
+  abbrev pub HaveAtMost : ℕ → Played → Type 0
+  HaveAtMost most played = (length played.ends.of_a ≤ most) × (length played.ends.of_b ≤ most)
 
-  pub few_played : (played : Played) → play script ≡ Ok played →
-      (length played.of_a ≤ 2 * length script.steps) × (length played.of_b ≤ 2 * length script.steps)
+  pub few_played : (played : Played) → play script ≡ Ok played → HaveAtMost (2 * length script.steps) played
   few_played played e = few_of_both (length script.steps) (omega arith) (whole_reached script played e)
 
-  pub few_stopped : (stopped : Stopped) → play script ≡ Err stopped →
-      (length stopped.so_far.of_a ≤ 2 * length script.steps) × (length stopped.so_far.of_b ≤ 2 * length script.steps)
-  few_stopped stopped e = let s = stopped_reached script stopped e in few_of_both (length script.steps) s.few s.before
+  pub few_stopped : (stopped : Stopped) → play script ≡ Err stopped → HaveAtMost (2 * length script.steps) stopped.so_far
+  few_stopped stopped e = let s = stopped_reached script stopped e in let l = s.few in let n = s.counted in
+      few_of_both (length script.steps) (omega arith) s.before
 
   -- where the script has a text, each capture can have one
-  pub few_records : IsScript script → (played : Played) → play script ≡ Ok played →
-      (length played.of_a ≤ MAX_RECORDS) × (length played.of_b ≤ MAX_RECORDS)
-  few_records fits played e =
-      let few = fits.few in let l = few_played played e in let a = l.0 in let b = l.1 in
-      (omega arith, omega arith)
+  fits_text : IsScript script → (played : Played) → HaveAtMost (2 * length script.steps) played → HaveAtMost MAX_RECORDS played
+  fits_text fits played l = let few = fits.few in let a = l.0 in let b = l.1 in (omega arith, omega arith)
 
-  pub few_stopped_records : IsScript script → (stopped : Stopped) → play script ≡ Err stopped →
-      (length stopped.so_far.of_a ≤ MAX_RECORDS) × (length stopped.so_far.of_b ≤ MAX_RECORDS)
-  few_stopped_records fits stopped e =
-      let few = fits.few in let l = few_stopped stopped e in let a = l.0 in let b = l.1 in
-      (omega arith, omega arith)
+  pub few_records : IsScript script → (played : Played) → play script ≡ Ok played → HaveAtMost MAX_RECORDS played
+  few_records fits played e = fits_text fits played (few_played played e)
+
+  pub few_stopped_records : IsScript script → (stopped : Stopped) → play script ≡ Err stopped → HaveAtMost MAX_RECORDS stopped.so_far
+  few_stopped_records fits stopped e = fits_text fits stopped.so_far (few_stopped stopped e)

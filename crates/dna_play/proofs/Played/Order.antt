@@ -1,23 +1,13 @@
 -- Records that start a side so often, and give its link addresses in order; a delivery starts nothing and gives no address.
-use Rattle.std.proofs.Common.{◌≡◌, ℕ, ◌+◌, Option, Some, None, List, [], ◌∷◌, ◌++◌, map, refl, sym, ap, ◌∙◌, subst, arith}
+use Rattle.std.proofs.Common.{◌≡◌, ℕ, ◌+◌, List, [], ◌∷◌, ◌++◌, refl, sym, ap, ◌∙◌, subst, arith}
 use Rattle.std.proofs.lemmas.Grind.{flat_map-append}
-use Rattle.dna_packet.specs.Nsp.{NspValue, DataSegment}
-use Rattle.capture.specs.declared.event.Event.{Event}
-use Rattle.capture.specs.declared.event.Event.TheVariants as events
 use Rattle.capture.specs.declared.record.Record.{Record}
-use Rattle.capture.specs.declared.record.Record.TheVariants.{User}
-use Rattle.dna_links.specs.declared.port.LinkTest.TheVariants.{ActedOn}
-use Rattle.dna_links.specs.Links.{with_link}
 use Rattle.dna_links.specs.User.{LinkEventValue}
-use Rattle.dna_links.specs.TrueLinks.{Links}
 use Rattle.dna_links.specs.Captures.{given_address}
 use Rattle.dna_node.specs.LayersPair.{link_event_in, link_events}
-use Rattle.dna_play.specs.LinkOwed as owing
-use Rattle.dna_play.specs.Player.{End}
-use Rattle.dna_play.specs.Stepped.{Stepped}
-use Rattle.dna_play.specs.Receipt.{complete, delivered_by, delivered_now}
-use Rattle.dna_links.proofs.Tables.Outcomes.{looked}
-use Rattle.dna_play.proofs.Once.Orderly.{higher, highest, highest-join, AddressesRise, starts, starts-join}
+use Rattle.dna_play.specs.StoredPlay.{ups}
+use Rattle.dna_node.proofs.Once.Orderly.{higher, highest, highest-join, AddressesRise, starts, starts-join}
+use Rattle.dna_play.proofs.Ends.TrueEnd.{End}
 
 -- these records start so often, and give their addresses in order, from this one on to that one
 pub record InOrder (least count : ℕ) (records : List Record) (most : ℕ) : Type 0 where
@@ -49,46 +39,12 @@ order_join least between most count more first later x y =
 pub nothing_in_order : (least : ℕ) → InOrder least 0 [] least
 nothing_in_order least = record { counted = refl; rise = tt; top = refl }
 
--- ---- deliveries
-
--- all of them are deliveries
-abbrev pub AreUps : List Event → Type 0
-AreUps [] = Unit {0}
-AreUps (events.Up address message ∷ later) = AreUps later
-AreUps (event ∷ later) = ⊥
-
-all_ups : (address : ℕ) (messages : List (List ℕ)) → AreUps (map (λ (message : List ℕ). events.Up address message) messages)
-all_ups address [] = tt
-all_ups address (message ∷ later) = all_ups address later
-
-segment_ups : (s : Links) (address far : ℕ) → AreUps (with_link (ActedOn address far) s []
-    (λ number link. map (λ (message : List ℕ). events.Up address message) (complete [] (owing.variables_of link).pieces)))
-segment_ups s address far =
-    looked (ActedOn address far) s []
-    (λ number link. map (λ (message : List ℕ). events.Up address message) (complete [] (owing.variables_of link).pieces)) _ refl
-    (λ none e. subst AreUps e tt) (λ number link found e. subst AreUps e (all_ups address (complete [] (owing.variables_of link).pieces)))
-
-message_ups : (s : Links) (m : NspValue) → AreUps (delivered_by s m)
-message_ups s (DataSegment segment) = segment_ups s segment.dstaddr segment.srcaddr
-message_ups s m = tt
-
-pub now_ups : (s : Links) (o : Option NspValue) → AreUps (delivered_now s o)
-now_ups s None = tt
-now_ups s (Some m) = message_ups s m
-
-abbrev pub IsSoFar : (own : End) (count : ℕ) → Stepped → Type 0
-IsSoFar own count so_far = InOrder own.addresses count so_far.records so_far.end.addresses
-
-zero-more : (n : ℕ) → n + 0 ≡ n
-zero-more n = omega arith
-
--- a delivery starts nothing and gives no address
-pub up_more : (own : End) (count : ℕ) (so_far : Stepped) (link : ℕ) (message : List ℕ) → IsSoFar own count so_far →
-    InOrder own.addresses count (so_far.records ++ User (events.Up link message) ∷ []) so_far.end.addresses
-up_more own count so_far link message h =
-    subst (λ (n : ℕ). InOrder own.addresses n (so_far.records ++ User (events.Up link message) ∷ []) so_far.end.addresses) (zero-more count)
-    (order_join own.addresses so_far.end.addresses so_far.end.addresses count 0 so_far.records (User (events.Up link message) ∷ []) h
-    (record { counted = refl; rise = (tt, tt); top = refl }))
+-- deliveries
+pub ups_in_order : (least address : ℕ) (messages : List (List ℕ)) → InOrder least 0 (ups address messages) least
+ups_in_order least address [] = nothing_in_order least
+ups_in_order least address (message ∷ later) =
+    let rest = ups_in_order least address later in let c = rest.counted in
+    record { counted = omega arith; rise = (tt, rest.rise); top = rest.top }
 
 -- a record without an event of the user
 abbrev pub quiet : (own : End) (r : Record) → starts (r ∷ []) ≡ 0 → link_events (r ∷ []) ≡ [] → InOrder own.addresses 0 (r ∷ []) own.addresses

@@ -1,30 +1,30 @@
--- What a script plays is a run of nodes that ask no rule on tags, and each record has a line.
+-- What a script plays is a run of nodes that ask no rule on tags, and each record has a line; it starts each side so often as its steps do, and gives
+-- link addresses in order.
 use Rattle.std.proofs.Common.{◌≡◌, ℕ, Bool, true, false, Some, None, List, [], ◌∷◌, ◌++◌, Ok, Err, refl, cond, subst, sym, ap, ◌∙◌, append_assoc}
 use Rattle.std.proofs.Common.{append-nil}
 use Rattle.std.specs.List.{AllByRecursion}
-use Rattle.two_nodes.specs.Nodes.{World, Run, Done, Outcome, Made, Waits, Refused, advance, exchanged_world}
+use Rattle.two_nodes.specs.Nodes.{World, Run, Done, Outcome, Made, Waits, Refused, advance}
 use Rattle.two_nodes.proofs.Order.{one_more_of_a, exchange}
 use Rattle.capture.specs.declared.record.Record.{Record}
 use Rattle.capture.specs.Range.{IsRecord}
 use Rattle.capture.proofs.SoFarLaws.{All-push}
+use Rattle.dna_station.specs.declared.head.Head.{Head}
 use Rattle.dna_station.specs.declared.refusal.StepRefusal.{StepRefusal}
 use Rattle.dna_node.specs.TagRules.{by_bytes}
 use Rattle.dna_node.specs.Layers.{LayersNode, LayersUnit}
-use Rattle.dna_node.specs.LayersPair.{layers_start}
+use Rattle.dna_node.specs.LayersPair.{layers_start, bytes_pair}
 use Rattle.dna_play.specs.Script.{StepValue, ScriptStep, Script}
 use Rattle.dna_play.specs.HasLine.{has_line}
-use Rattle.dna_play.specs.Player.{end_step, made_half, makes}
-use Rattle.dna_play.specs.Stepped.{Stepped}
-use Rattle.dna_play.specs.Play.{plays}
-use Rattle.dna_play.specs.Played.{Played, Stopped, head_a, head_b, play}
-use Rattle.dna_play.specs.PlayRun.{player_pair, world_of, ArePlayed}
+use Rattle.dna_play.specs.Played.{end_step, made_half, makes}
+use Rattle.dna_play.specs.Played.{Played, Stopped, not_begun, play}
+use Rattle.dna_play.specs.PlayRun.{starts_now, ArePlayed}
 use Rattle.dna_node.proofs.OnTop.{OnTop, follows}
 use Rattle.dna_play.proofs.Played.PlayLines.{line_told}
 use Rattle.dna_play.proofs.Played.Steps.{PlayHalf, MakesAll, Nothing, First}
-use Rattle.dna_play.proofs.Played.StepMakes.{makes_all}
-use Rattle.dna_play.proofs.Played.Walk.{step_comes}
-use Rattle.dna_play.proofs.Played.Reached.{exchanged_ends, exchanged_script, after_a, Reached, NoStep, StepOfA, StepOfB, whole_reached}
-use Rattle.dna_play.proofs.Played.Reached.{stopped_reached}
+use Rattle.dna_play.proofs.Played.Order.{InOrder, order_join, nothing_in_order}
+use Rattle.dna_play.proofs.Played.Walk.{stored_leaves}
+use Rattle.dna_play.proofs.Played.Reached.{Reached, Progress, progress_of, exchanged_progress, one_more, exchanged, StepOfA, reached_holds, each_step}
+use Rattle.dna_play.proofs.Played.Reached.{OfStep, whole_reached, stopped_reached}
 
 -- ---- one record
 
@@ -54,59 +54,76 @@ makes_on_top own other r h e = (follows by_bytes own other h r (makes_tells own 
 
 -- ---- the records of one step
 
-abbrev pub start_of : Script → World LayersNode LayersUnit
-start_of script = layers_start (head_a script) (head_b script)
-
 -- what is left when a's half has moved, and when b's has
-pub record AreMade (script : Script) (w : World LayersNode LayersUnit) (of_a of_b : List Record) : Type 0 where
-  pub run : Run player_pair (start_of script) of_a of_b w
+pub record AreMade (start w : World LayersNode LayersUnit) (of_a of_b : List Record) : Type 0 where
+  pub run : Run bytes_pair start of_a of_b w
   pub lines_a : AllByRecursion IsRecord of_a
   pub lines_b : AllByRecursion IsRecord of_b
 
-module _ (script : Script) where
-  pub more_of_a : (b : PlayHalf) {own end : PlayHalf} {records : List Record} (of_a of_b : List Record) → MakesAll b own records end →
-      AreMade script (record { a = own; b = b }) of_a of_b → AreMade script (record { a = end; b = b }) (of_a ++ records) of_b
-  unfolding end_step
-  more_of_a b {own} of_a of_b Nothing h = subst (λ (x : List Record). AreMade script (record { a = own; b = b }) x of_b) (sym (append-nil of_a)) h
-  more_of_a b of_a of_b (First {own} {next} {end} {r} {later} m rest) h =
-      let told = makes_tells own b r next m in
-      subst (λ (x : List Record). AreMade script (record { a = end; b = b }) x of_b) (append_assoc of_a (r ∷ []) later)
-      (more_of_a b (of_a ++ r ∷ []) of_b rest
-      (record {
-        run = one_more_of_a player_pair r next h.run told.1;
-        lines_a = All-push IsRecord of_a r h.lines_a (line_told r told.0);
-        lines_b =
-            h.lines_b;
-      }))
-
--- ---- with the sides exchanged
-
-made_on : {script : Script} {w : World LayersNode LayersUnit} {of_a of_b : List Record} → AreMade script w of_a of_b →
-    AreMade (exchanged_script script) (exchanged_world w) of_b of_a
-made_on h = record { run = exchange player_pair h.run; lines_a = h.lines_b; lines_b = h.lines_a }
+pub more_of_a : (start : World LayersNode LayersUnit) (b : PlayHalf) {own end : PlayHalf} {records : List Record} (of_a of_b : List Record) →
+    MakesAll b own records end → AreMade start (record { a = own; b = b }) of_a of_b →
+    AreMade start (record { a = end; b = b }) (of_a ++ records) of_b
+unfolding end_step
+more_of_a start b {own} of_a of_b Nothing h =
+    subst (λ (x : List Record). AreMade start (record { a = own; b = b }) x of_b) (sym (append-nil of_a)) h
+more_of_a start b of_a of_b (First {own} {next} {end} {r} {later} m rest) h =
+    let told = makes_tells own b r next m in
+    subst (λ (x : List Record). AreMade start (record { a = end; b = b }) x of_b) (append_assoc of_a (r ∷ []) later)
+    (more_of_a start b (of_a ++ r ∷ []) of_b rest
+    (record {
+      run = one_more_of_a bytes_pair r next h.run told.1;
+      lines_a = All-push IsRecord of_a r h.lines_a (line_told r told.0);
+      lines_b = h.lines_b;
+    }))
 
 -- ---- all steps
 
-made_so_far : (script : Script) (so_far : Played) → ArePlayed script so_far → AreMade script (world_of so_far) so_far.of_a so_far.of_b
-made_so_far script so_far h = record { run = h.run; lines_a = h.lines_a; lines_b = h.lines_b }
+-- so many starts of each side so far, and addresses in order
+pub record AreInOrder (played : Played) (count_a count_b : ℕ) : Type 0 where
+  pub of_side_a : InOrder 0 count_a played.ends.of_a played.ends.pair.a.addresses
+  pub of_side_b : InOrder 0 count_b played.ends.of_b played.ends.pair.b.addresses
 
-step_of_a : (script : Script) (so_far : Played) (step : StepValue) (made : Stepped) → plays so_far.a so_far.b.half step ≡ Ok made →
-    AreMade script (world_of so_far) so_far.of_a so_far.of_b →
-    AreMade script (world_of (after_a so_far made)) (so_far.of_a ++ made.records) so_far.of_b
-step_of_a script so_far step made is h =
-    more_of_a script so_far.b.half so_far.of_a so_far.of_b
-    (makes_all (step_comes so_far.a so_far.b.half step made is)) h
+abbrev pub first_head : Progress → Head
+first_head p = record { own = p.node_a; peer = p.node_b }
 
-pub reached_played : {script : Script} {steps count_a count_b : ℕ} {later : List ScriptStep} {so_far : Played} →
-    Reached script steps count_a count_b later so_far → ArePlayed script so_far
-reached_played NoStep = record { run = Done; lines_a = tt; lines_b = tt }
-reached_played {script} (StepOfA so_far step made at before is) =
-    let k = step_of_a script so_far step.step made is (made_so_far script so_far (reached_played before)) in
-    record { run = k.run; lines_a = k.lines_a; lines_b = k.lines_b }
-reached_played {script} (StepOfB so_far step made at before is) =
-    let k = step_of_a (exchanged_script script) (exchanged_ends so_far) step.step made is
-    (made_on (made_so_far script so_far (reached_played before))) in
-    record { run = exchange player_pair k.run; lines_a = k.lines_b; lines_b = k.lines_a }
+abbrev pub second_head : Progress → Head
+second_head p = record { own = p.node_b; peer = p.node_a }
+
+pub record Going (p : Progress) (so_far : Played) : Type 0 where
+  pub made : AreMade (layers_start (first_head p) (second_head p)) so_far.nodes so_far.ends.of_a so_far.ends.of_b
+  pub order : AreInOrder so_far p.starts_a p.starts_b
+
+pub going_exchange : (p : Progress) (so_far : Played) → Going p so_far → Going (exchanged_progress p) (exchanged so_far)
+going_exchange p so_far g = record {
+  made = record { run = exchange bytes_pair g.made.run; lines_a = g.made.lines_b; lines_b = g.made.lines_a };
+  order = record { of_side_a = g.order.of_side_b; of_side_b = g.order.of_side_a };
+}
+
+pub going_keeps : (p : Progress) (so_far : Played) {next : Played} (step : StepValue) → StepOfA so_far step next → Going p so_far →
+    Going (one_more step p) next
+going_keeps p so_far step (OfStep made half is makes) g =
+    let own = so_far.ends.pair.a in record {
+      made = more_of_a _ so_far.nodes.b so_far.ends.of_a so_far.ends.of_b makes g.made;
+      order = record {
+        of_side_a = order_join 0 own.addresses made.end.addresses p.starts_a (starts_now step) so_far.ends.of_a made.records
+            g.order.of_side_a (stored_leaves own so_far.ends.pair.to_a step made is).order;
+        of_side_b = g.order.of_side_b;
+      };
+    }
+
+pub not_begun_going : (script : Script) → Going (progress_of script []) (not_begun script)
+not_begun_going script = record {
+  made = record { run = Done; lines_a = tt; lines_b = tt };
+  order = record { of_side_a = nothing_in_order 0; of_side_b = nothing_in_order 0 };
+}
+
+pub reached_going : {script : Script} {first later : List ScriptStep} {so_far : Played} → Reached script first later so_far →
+    Going (progress_of script first) so_far
+reached_going {script} r = reached_holds Going going_exchange (λ step. Unit {0})
+    (λ p so_far next step fits made g. going_keeps p so_far step.step made g) r (each_step script.steps) (not_begun_going script)
+
+pub reached_played : {script : Script} {first later : List ScriptStep} {so_far : Played} → Reached script first later so_far → ArePlayed script so_far
+reached_played r = let m = (reached_going r).made in record { run = m.run; lines_a = m.lines_a; lines_b = m.lines_b }
 
 module _ (script : Script) where
   pub whole_is_played : (played : Played) → play script ≡ Ok played → ArePlayed script played

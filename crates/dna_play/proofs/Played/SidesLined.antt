@@ -9,7 +9,7 @@ use Rattle.dna_links.specs.Links.{LinkOf}
 use Rattle.dna_links.specs.User.{LinkEventValue}
 use Rattle.dna_links.specs.TrueSegments.{TrueSegments}
 use Rattle.dna_links.specs.Delivery.{IsCut}
-use Rattle.dna_play.specs.LinkOwed as owing
+use Rattle.dna_play.proofs.Links.Pays as owing
 use Rattle.dna_links.specs.Runs.{LinkSide}
 use Rattle.dna_play.specs.Receipt.{complete}
 use Rattle.dna_links.proofs.Tables.Outcomes.{IsFound}

@@ -1,90 +1,171 @@
--- At any time of a script that starts each side at most once, all that lets an end send what it chooses and take what comes holds of both ends.
-use Rattle.std.proofs.Common.{◌≡◌, ℕ, ◌+◌, ◌≤◌, List, Ok, subst, arith}
+-- At any time of a script that starts each side at most once, both ends are read off ends with their nodes, of which holds all that lets an end send
+-- what it chooses and take what comes.
+use Rattle.std.proofs.Common.{◌≡◌, ℕ, ◌+◌, ◌≤◌, List, [], ◌++◌, length, drop, refl, sym, ap, ap₂, ◌∙◌, subst, arith}
 use Rattle.capture.specs.Range.{IsNode}
-use Rattle.dna_play.specs.Script.{ScriptStep, Script}
-use Rattle.dna_play.specs.Stepped.{Stepped}
-use Rattle.dna_play.specs.Play.{plays}
-use Rattle.dna_play.specs.Played.{Played, head_a, head_b}
-use Rattle.dna_play.proofs.Played.Reached.{exchanged_ends, exchanged_script, after_a, Reached, NoStep, StepOfA, StepOfB, exchanged, own_end}
-use Rattle.dna_play.proofs.Played.Reached.{other_end, each_later}
-use Rattle.dna_play.proofs.Played.Runs.{reached_played}
-use Rattle.dna_play.proofs.Played.Checked.{reached_in_order}
-use Rattle.dna_play.proofs.Played.Facts.{Going, later_a}
-use Rattle.dna_play.proofs.Ends.Stage.{Stage, new_stage, Staged}
-use Rattle.dna_play.proofs.Played.StepMakes.{passed_one}
-use Rattle.dna_play.proofs.Played.Walk.{step_comes}
-use Rattle.dna_play.proofs.Stored.Now.{StoredNow}
-use Rattle.dna_play.proofs.Stored.Left.{tidy_of_a}
-use Rattle.dna_play.proofs.Stored.Steps.{step_right}
-use Rattle.dna_play.proofs.Stored.Right.{right_staged}
+use Rattle.dna_play.specs.Script.{StepValue, ScriptStep, Script}
 use Rattle.dna_play.specs.ScriptText.{MAX_STEPS, IsStep, IsScript}
-use Rattle.wire_base.specs.declared.side.Side.{Side}
-use Rattle.wire_base.specs.declared.side.Side.TheVariants.{A, B}
+use Rattle.dna_play.specs.StoredEnd.{StoredEnd}
+use Rattle.dna_play.specs.StoredPlay.{StoredStepped, stored_plays}
+use Rattle.dna_play.specs.StoredPlayed.{left_by}
+use Rattle.dna_play.specs.Played.{Played, head_a, head_b, not_begun}
+use Rattle.dna_play.specs.PlayRun.{StartsOnce}
+use Rattle.dna_play.proofs.Played.Steps.{PlayHalf, MakesAll, one_end}
+use Rattle.dna_play.proofs.Played.SentGrows.{all_grows}
+use Rattle.dna_play.proofs.Played.Walk.{off_line, one_off, Leaves, stored_leaves}
+use Rattle.dna_play.proofs.Played.Reached.{Reached, Progress, progress_of, exchanged_progress, one_more, exchanged, StepOfA, OfStep, after_a}
+use Rattle.dna_play.proofs.Played.Reached.{reached_holds}
+use Rattle.dna_play.proofs.Played.Runs.{Going, going_exchange, going_keeps, not_begun_going}
+use Rattle.dna_play.proofs.Played.Facts.{TrueEnds, played_of, later_a}
+use Rattle.dna_play.proofs.Ends.Stage.{Stage, new_stage}
+use Rattle.dna_play.proofs.Ends.TrueEnd.{End, stored, bytes_of, coming, new_end}
+use Rattle.dna_play.proofs.Stored.Left.{line_left, line_grows, longer, was_sent}
+use Rattle.dna_play.proofs.Stored.Now.{StoredNow}
+use Rattle.dna_play.proofs.Stored.Right.{IsMade, IsRight}
+use Rattle.dna_play.proofs.Stored.Steps.{step_right}
 
--- both ends, after this many steps
-pub record Stages (so_far : Played) (steps : ℕ) : Type 0 where
-  pub of_a : Stage so_far.a
-  pub of_b : Stage so_far.b
-  pub passed_a : so_far.a.passed ≤ steps
-  pub passed_b : so_far.b.passed ≤ steps
+-- of an end beside the other, after this many steps
+pub record IsAt (own other : End) (steps : ℕ) : Type 0 where
+  pub stage : Stage own
+  pub passed : own.passed ≤ steps
+  -- what passed was sent
+  pub there : own.passed ≤ length other.half.sent
 
-stages_on : {so_far : Played} {steps : ℕ} → Stages so_far steps → Stages (exchanged_ends so_far) steps
-stages_on s = record { of_a = s.of_b; of_b = s.of_a; passed_a = s.passed_b; passed_b = s.passed_a }
+pub record Stages (steps : ℕ) (so_far : Played) : Type 0 where
+  pub both : TrueEnds
+  pub is : played_of both ≡ so_far
+  pub of_a : IsAt both.a both.b steps
+  pub of_b : IsAt both.b both.a steps
 
-reached_going : {script : Script} {steps count_a count_b : ℕ} {later : List ScriptStep} {so_far : Played} →
-    Reached script steps count_a count_b later so_far → count_a ≤ 1 → count_b ≤ 1 → Going script so_far
-reached_going {count_a = count_a} {count_b = count_b} r few_a few_b = record {
-  made = reached_played r;
-  count_a = count_a;
-  count_b = count_b;
-  order = reached_in_order r;
-  few_a = few_a;
-  few_b = few_b;
+abbrev stages_exchange : (steps : ℕ) (so_far : Played) → Stages steps so_far → Stages steps (exchanged so_far)
+stages_exchange steps so_far s = record {
+  both = record { a = s.both.b; b = s.both.a; of_a = s.both.of_b; of_b = s.both.of_a };
+  is = ap exchanged s.is;
+  of_a = s.of_b;
+  of_b = s.of_a;
 }
 
--- so what a step needs is known of side a
-now_of_a : (script : Script) → IsNode script.node_a → IsNode script.node_b → {steps count_a count_b : ℕ} {later : List ScriptStep}
-    {so_far : Played} → Reached script steps count_a count_b later so_far → count_a ≤ 1 → count_b ≤ 1 → steps ≤ MAX_STEPS →
-    Stages so_far steps → StoredNow so_far.a so_far.b
-now_of_a script node_a node_b {so_far = so_far} r few_a few_b few s = let passed = s.passed_a in record {
-  stage = s.of_a;
-  theirs = s.of_b;
-  later = later_a script node_a node_b so_far (reached_going r few_a few_b);
-  few = omega arith;
-  counted = (tidy_of_a r).counted;
+-- each side was started at most once, by so many steps as a script may have
+pub record Allowed (p : Progress) : Type 0 where
+  pub node_a : IsNode p.node_a
+  pub node_b : IsNode p.node_b
+  pub few_a : p.starts_a ≤ 1
+  pub few_b : p.starts_b ≤ 1
+  pub few : p.steps ≤ MAX_STEPS
+
+abbrev allowed_exchange : (p : Progress) → Allowed p → Allowed (exchanged_progress p)
+allowed_exchange p all = record { node_a = all.node_b; node_b = all.node_a; few_a = all.few_b; few_b = all.few_a; few = all.few }
+
+pub record Standing (p : Progress) (so_far : Played) : Type 0 where
+  pub allowed : Allowed p
+  pub going : Going p so_far
+  pub stages : Stages p.steps so_far
+
+abbrev pub standing_exchange : (p : Progress) (so_far : Played) → Standing p so_far → Standing (exchanged_progress p) (exchanged so_far)
+standing_exchange p so_far s = record {
+  allowed = allowed_exchange p s.allowed;
+  going = going_exchange p so_far s.going;
+  stages = stages_exchange p.steps so_far s.stages;
 }
 
-staged_by_a : (so_far : Played) (steps : ℕ) → StoredNow so_far.a so_far.b → Stages so_far steps → (step : ScriptStep) → IsStep step →
-    (made : Stepped) → plays so_far.a so_far.b.half step.step ≡ Ok made → Stages (after_a so_far made) (steps + 1)
-staged_by_a so_far steps now s step fits made is =
-    let a = s.passed_a in let b = s.passed_b in
-    let passed = passed_one step.step (step_comes so_far.a so_far.b.half step.step made is) in
+-- ---- a step
+
+module _ (p : Progress) (so_far : Played) (s : Standing p so_far) where
+  abbrev own : End
+  own = s.stages.both.a
+
+  abbrev other : End
+  other = s.stages.both.b
+
+  -- what a step of side a needs is known
+  now_of_a : StoredNow own other
+  now_of_a = let allowed = s.allowed in let few = allowed.few in let passed = s.stages.of_a.passed in record {
+    stage = s.stages.of_a.stage;
+    theirs = s.stages.of_b.stage;
+    later = later_a p allowed.node_a allowed.node_b allowed.few_a allowed.few_b s.stages.both (subst (Going p) (sym s.stages.is) s.going);
+    few = omega arith;
+  }
+
+  -- so it is right
+  pub right_of_a : (step : ScriptStep) → IsStep step →
+      IsRight own other step.step (stored_plays (stored own) (coming own other.half) step.step)
+  right_of_a step fits = step_right own other now_of_a step fits
+
+module _ (both : TrueEnds) (steps : ℕ) (a : IsAt both.a both.b steps) (b : IsAt both.b both.a steps) (step : StepValue) (made : StoredStepped)
+    (half : PlayHalf) (m : IsMade both.a both.b step made) (left : Leaves (stored both.a) (coming both.a both.b.half) step made)
+    (makes : MakesAll both.b.half both.a.half made.records half) where
+  passed_then : m.after.passed ≡ both.a.passed + off_line step
+  passed_then = ap (λ (e : StoredEnd). e.passed) m.same ∙ left.passed
+
+  abbrev then_played : StoredEnd → (to_a to_b : List (List ℕ)) → PlayHalf → Played
+  then_played e to_a to_b own = record {
+    ends = record {
+      pair = record { a = e; b = stored both.b; to_a = to_a; to_b = to_b };
+      of_a = both.of_a ++ made.records;
+      of_b = both.of_b;
+    };
+    nodes = record { a = own; b = both.b.half };
+  }
+
+  played_then : then_played (stored m.after) (coming m.after both.b.half) (coming both.b m.after.half) m.after.half
+      ≡ after_a (played_of both) step made half
+  played_then =
+      ap (λ (e : StoredEnd). then_played e (coming m.after both.b.half) (coming both.b m.after.half) m.after.half) m.same
+      ∙ ap₂ (λ (to_a to_b : List (List ℕ)). then_played made.end to_a to_b m.after.half)
+      (ap (λ (n : ℕ). drop n (bytes_of both.b.half.sent)) passed_then ∙ line_left step both.a.passed (bytes_of both.b.half.sent))
+      (line_grows both.b.passed both.a.half.sent m.after.half.sent b.there (all_grows both.b.half m.makes)
+      ∙ ap (λ (sent : List (List ℕ)). coming both.b both.a.half ++ sent) m.sent)
+      ∙ ap (then_played made.end (left_by step (coming both.a both.b.half)) (coming both.b both.a.half ++ made.sent)) (one_end m.makes makes)
+
+  stages_then : Stages (steps + 1) (after_a (played_of both) step made half)
+  stages_then =
+      let same = passed_then in let few_a = a.passed in let few_b = b.passed in let one = one_off step in
+      let there = was_sent both.a.passed (off_line step) both.b.half.sent a.there left.there in
+      record {
+        both = record { a = m.after; b = both.b; of_a = both.of_a ++ made.records; of_b = both.of_b };
+        is = played_then;
+        of_a = record { stage = m.stage; passed = omega arith; there = omega arith };
+        of_b = record {
+          stage = b.stage;
+          passed = omega arith;
+          there = longer both.a.half.sent m.after.half.sent both.b.passed (all_grows both.b.half m.makes) b.there;
+        };
+      }
+
+stages_keep : (p : Progress) (so_far : Played) (s : Standing p so_far) (step : ScriptStep) → IsStep step → {next : Played} →
+    StepOfA (played_of s.stages.both) step.step next → Stages (p.steps + 1) next
+stages_keep p so_far s step fits (OfStep made half is makes) =
+    let both = s.stages.both in
+    stages_then both p.steps s.stages.of_a s.stages.of_b step.step made half
+    (subst (IsRight both.a both.b step.step) is (right_of_a p so_far s step fits))
+    (stored_leaves (stored both.a) (coming both.a both.b.half) step.step made is) makes
+
+-- ---- all steps
+
+abbrev Stands : Progress → Played → Type 0
+Stands p so_far = Allowed p → Standing p so_far
+
+keeps : (p : Progress) (so_far next : Played) (step : ScriptStep) → IsStep step → StepOfA so_far step.step next → Stands p so_far →
+    Stands (one_more step.step p) next
+keeps p so_far next step fits made stands allowed =
+    let few_a = allowed.few_a in let few = allowed.few in
+    let s = stands (record { node_a = allowed.node_a; node_b = allowed.node_b; few_a = omega arith; few_b = allowed.few_b; few = omega arith }) in
     record {
-      of_a = subst Staged is (right_staged so_far.a so_far.b step.step _ _ (step_right so_far.a so_far.b now step fits));
-      of_b = s.of_b;
-      passed_a = omega arith;
-      passed_b = omega arith;
+      allowed = allowed;
+      going = going_keeps p so_far step.step made s.going;
+      stages = stages_keep p so_far s step fits (subst (λ (x : Played). StepOfA x step.step next) (sym s.stages.is) made);
     }
 
-reached_stages : (script : Script) → IsScript script → {steps count_a count_b : ℕ} {later : List ScriptStep} {so_far : Played} →
-    Reached script steps count_a count_b later so_far → count_a ≤ 1 → count_b ≤ 1 → steps ≤ MAX_STEPS → Stages so_far steps
-reached_stages script fits NoStep few_a few_b few =
-    record { of_a = new_stage (head_a script); of_b = new_stage (head_b script); passed_a = omega arith; passed_b = omega arith }
-reached_stages script fits (StepOfA {steps} so_far step made at before is) few_a few_b few =
-    let s = reached_stages script fits before (omega arith) few_b (omega arith) in
-    staged_by_a so_far steps (now_of_a script fits.node_a fits.node_b before (omega arith) few_b (omega arith) s) s step
-    (each_later IsStep before fits.each).0 made is
-reached_stages script fits (StepOfB {steps} so_far step made at before is) few_a few_b few =
-    let s = stages_on (reached_stages script fits before few_a (omega arith) (omega arith)) in
-    stages_on (staged_by_a (exchanged_ends so_far) steps
-    (now_of_a (exchanged_script script) fits.node_b fits.node_a (exchanged before) (omega arith) few_a (omega arith) s) s step
-    (each_later IsStep before fits.each).0 made is)
+begun : (script : Script) → Stages 0 (not_begun script)
+begun script = record {
+  both = record { a = new_end (head_a script); b = new_end (head_b script); of_a = []; of_b = [] };
+  is = refl;
+  of_a = record { stage = new_stage (head_a script); passed = omega arith; there = omega arith };
+  of_b = record { stage = new_stage (head_b script); passed = omega arith; there = omega arith };
+}
 
--- and of both sides
-pub now_at : (script : Script) → IsScript script → {steps count_a count_b : ℕ} {later : List ScriptStep} {so_far : Played} →
-    Reached script steps count_a count_b later so_far → count_a ≤ 1 → count_b ≤ 1 → steps ≤ MAX_STEPS → (side : Side) →
-    StoredNow (own_end side so_far) (other_end side so_far)
-now_at script fits r few_a few_b few A =
-    now_of_a script fits.node_a fits.node_b r few_a few_b few (reached_stages script fits r few_a few_b few)
-now_at script fits r few_a few_b few B = now_of_a (exchanged_script script) fits.node_b fits.node_a (exchanged r) few_b few_a few
-    (stages_on (reached_stages script fits r few_a few_b few))
+pub reached_standing : (script : Script) → IsScript script → {first later : List ScriptStep} {so_far : Played} → Reached script first later so_far →
+    StartsOnce first → length first ≤ MAX_STEPS → Standing (progress_of script first) so_far
+reached_standing script fits r once few = reached_holds Stands
+    (λ p so_far stands allowed. standing_exchange p so_far (stands (allowed_exchange (exchanged_progress p) allowed))) IsStep keeps r fits.each
+    (λ allowed. record { allowed = allowed; going = not_begun_going script; stages = begun script })
+    (record { node_a = fits.node_a; node_b = fits.node_b; few_a = once.of_a; few_b = once.of_b; few = few })

@@ -1,20 +1,42 @@
--- Records that are made by an end's node beside the other end, one after another.
-use Rattle.std.proofs.Common.{◌≡◌, Some, List, [], ◌∷◌, ◌++◌}
+-- Records that are made by an end's node beside the other end's, one after another.
+use Rattle.std.proofs.Common.{◌≡◌, Option, Some, None, List, [], ◌∷◌, refl, sym, ap, subst, ◌∙◌}
+use Rattle.std.specs.Prelude.{option_and_then}
 use Rattle.two_nodes.specs.Nodes.{Half}
 use Rattle.capture.specs.declared.record.Record.{Record}
 use Rattle.dna_node.specs.Layers.{LayersNode, LayersUnit}
-use Rattle.dna_play.specs.Player.{makes}
+use Rattle.dna_play.specs.Played.{makes, makes_all}
 
 abbrev pub PlayHalf : Type 0
 PlayHalf = Half LayersNode LayersUnit
 
--- these records are made, one after another, beside the other end, and lead from the one half to the other
+-- these records are made, one after another, beside the other half, and lead from the one half to the other
 pub data MakesAll (other : PlayHalf) : PlayHalf → List Record → PlayHalf → Type 0 where
   Nothing : {own : PlayHalf} → MakesAll other own [] own
   First : {own next end : PlayHalf} {r : Record} {later : List Record} → makes own other r ≡ Some next → MakesAll other next later end →
       MakesAll other own (r ∷ later) end
 
-pub one_more : {other own half next : PlayHalf} {records : List Record} (r : Record) → MakesAll other own records half →
-    makes half other r ≡ Some next → MakesAll other own (records ++ r ∷ []) next
-one_more r Nothing e = First e Nothing
-one_more r (First m rest) e = First m (one_more r rest e)
+pub all_made : {other own end : PlayHalf} {records : List Record} → MakesAll other own records end → makes_all own other records ≡ Some end
+all_made Nothing = refl
+all_made {other} (First {later = later} is rest) =
+    ap (λ (o : Option PlayHalf). option_and_then (λ (next : PlayHalf). makes_all next other later) o) is ∙ all_made rest
+
+pub made_all : (other own : PlayHalf) (records : List Record) (end : PlayHalf) → makes_all own other records ≡ Some end →
+    MakesAll other own records end
+made_all other own [] end e = subst_nothing own end cc
+  where
+    subst_nothing : (own end : PlayHalf) → own ≡ end → MakesAll other own [] end
+    subst_nothing own end is = subst (λ (h : PlayHalf). MakesAll other own [] h) is Nothing
+made_all other own (r ∷ later) end e = go (λ next e. made_all other next later end e) (makes own other r) refl e
+  where
+    go : ((next : PlayHalf) → makes_all next other later ≡ Some end → MakesAll other next later end) → (o : Option PlayHalf) →
+        makes own other r ≡ o → option_and_then (λ (next : PlayHalf). makes_all next other later) o ≡ Some end → MakesAll other own (r ∷ later) end
+    go rest None is e = absurd cc
+    go rest (Some next) is e = First is (rest next e)
+
+-- they lead to one half
+pub one_end : {other own end half : PlayHalf} {records : List Record} → MakesAll other own records end → MakesAll other own records half →
+    end ≡ half
+one_end one two = same _ _ (sym (all_made one) ∙ all_made two)
+  where
+    same : (end half : PlayHalf) → ◌≡◌ {A = Option PlayHalf} (Some end) (Some half) → end ≡ half
+    same end half e = cc

@@ -1,5 +1,5 @@
 -- A record that an end of the player makes adds at most one waiting piece to its links, and a delivery takes at least one.
-use Rattle.std.proofs.Common.{◌≡◌, ℕ, ◌+◌, ◌≤◌, Bool, Option, Some, List, refl, ap, arith}
+use Rattle.std.proofs.Common.{◌≡◌, ℕ, ◌+◌, ◌≤◌, Bool, true, false, Option, Some, List, refl, ap, arith}
 use Rattle.capture.specs.declared.event.Event.TheVariants as events
 use Rattle.capture.specs.declared.record.Record.{Record}
 use Rattle.capture.specs.declared.record.Record.TheVariants.{User}
@@ -9,7 +9,7 @@ use Rattle.dna_links.specs.Runs.{SentMessage}
 use Rattle.dna_links.specs.TrueSegments.{true_segments}
 use Rattle.dna_links.specs.TrueLinks.{Links}
 use Rattle.dna_node.specs.TagRules.{by_bytes}
-use Rattle.dna_play.specs.Player.{makes, links_of}
+use Rattle.dna_play.specs.Played.{makes}
 use Rattle.dna_links.proofs.Tables.Outcomes.{user_did, sent_did, arrived_did}
 use Rattle.dna_node.proofs.OnTop.{FirstSent, NoMessage, Message, IsMet, NotKept, KeptNone, KeptOne, OnTop, ByStation, ByLinks, Again, First, Receipt}
 use Rattle.dna_node.proofs.OnTop.{Counted, Unheard}
@@ -18,6 +18,7 @@ use Rattle.dna_play.proofs.Played.Runs.{makes_on_top}
 use Rattle.dna_play.proofs.Ends.Stage.{with_left}
 use Rattle.dna_play.proofs.Ends.User.{link_event_made}
 use Rattle.dna_play.proofs.Links.WaitingPieces.{waiting, user_waits, sent_waits, arrived_waits}
+use Rattle.dna_play.proofs.Ends.TrueEnd.{links_of}
 
 -- how many pieces wait at the links of an end
 abbrev pub waiting_at : PlayHalf → ℕ

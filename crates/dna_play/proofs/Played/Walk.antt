@@ -1,223 +1,196 @@
--- How what a step of a script makes comes about: the one walk over all kinds of step. What holds of each way to come about holds of every step.
-use Rattle.std.proofs.Common.{◌≡◌, ℕ, ◌+◌, ◌≤◌, Bool, false, Option, Some, None, List, [], ◌∷◌, ◌++◌, length, Result, Ok, refl, sym, subst, arith}
-use Rattle.std.proofs.Common.{length-set}
-use Rattle.std.specs.Prelude.{slice_get, if◌then◌else◌}
-use Rattle.std.proofs.lemmas.Option.{slice_get_within}
+-- What any step of a script leaves that is made, whatever the end: the one walk over all kinds of step.
+use Rattle.std.proofs.Common.{◌≡◌, ℕ, ◌+◌, ◌≤◌, Bool, true, false, cond, nat_lt, nat_le, Option, Some, None, List, [], ◌∷◌, length, Result, Ok, Err}
+use Rattle.std.proofs.Common.{refl, subst, arith}
+use Rattle.std.specs.Prelude.{slice_get, if◌then◌else◌, ◌&&◌}
 use Rattle.ddcmp_msg.specs.Message.{MessageValue}
-use Rattle.ddcmp_msg.specs.Reading.{ReadingValue, reading}
+use Rattle.ddcmp_msg.specs.Reading.{ReadingValue, HeaderBad, DataBad, reading}
 use Rattle.ddcmp_msg.specs.Spelling.{spelling}
 use Rattle.capture.specs.declared.event.Event.{Event}
 use Rattle.capture.specs.declared.event.Event.TheVariants as events
+use Rattle.capture.specs.declared.limit.TheConstants.{MAX_LINK, MAX_HINT, MAX_UNIT, MAX_MESSAGE}
 use Rattle.capture.specs.declared.record.Record.{Record}
-use Rattle.capture.specs.declared.record.Record.TheVariants.{Sent, Received, User}
-use Rattle.capture.specs.declared.record.Record.TheVariants as recorded
+use Rattle.capture.specs.declared.record.Record.TheVariants.{Sent, Received, Noise, User}
+use Rattle.dna_station.specs.declared.refusal.StationRefusal.{StationRefusal}
+use Rattle.dna_station.specs.declared.state.StationEvent.TheVariants as station_events
+use Rattle.dna_station.specs.Table.{user_refusal}
+use Rattle.dna_links.specs.declared.port.Phase.TheVariants.{Confirming, Disconnecting}
+use Rattle.dna_links.specs.declared.port.LinkTest.{LinkTest}
 use Rattle.dna_links.specs.declared.port.LinkTest.TheVariants.{LiveAt, CalledBy}
-use Rattle.dna_play.specs.Script.{StepValue, Start, Halt, Timer, Send, Deliver, Refuse, Lose, Damage, Noise, Open, Accept, Reject, In, Close, Retry}
+use Rattle.dna_links.specs.LookUps.{is_connected, takes_messages}
+use Rattle.dna_play.specs.Script as script
+use Rattle.dna_play.specs.Script.{StepValue}
 use Rattle.dna_play.specs.PlayRun.{starts_now}
-use Rattle.dna_play.specs.Owed.{Debt, OwesStrt, timer_debt}
-use Rattle.dna_play.specs.LinkOwed.{LinkOwed, LinksOwed, LinkDebt, NoDebt, Owes, OwesConfirm, InitiateDuty, ConfirmDuty, DisconnectDuty, with_debt}
-use Rattle.dna_play.specs.LinkOwed.{changed, changed_at, retried}
-use Rattle.dna_play.specs.NextSent.{Choice, SendNew, LinkChoice, Confirms, OfLink, without_duty, after_link_choice, choice, link_choice}
+use Rattle.dna_play.specs.Owed.{Debt, timer_debt}
+use Rattle.dna_play.specs.LinkOwed.{LinkOwed, ConfirmDuty, DisconnectDuty, retried}
+use Rattle.dna_play.specs.NextSent.{LinkEnd, Choice, choice, link_choice}
 use Rattle.dna_play.specs.Compose.{message_of}
-use Rattle.dna_play.specs.Player.{End, makes, links_of, variables_of, link_ends_of, after_record}
-use Rattle.dna_play.specs.Stepped.{Stop, Stepped, made, owing_more, links_owing_more}
-use Rattle.dna_play.specs.Receipt.{carried, carried_debt, after_receipt, receives, can_keep, passing, on_unit, is_damage, damaged, heard}
-use Rattle.dna_play.specs.Play.{by_user, with_address, giving, timed, retrying, after_sending, sends_message, sends_choice, no_more, plays}
+use Rattle.dna_play.specs.Stop.{Stop, BadStep, Full}
+use Rattle.dna_play.specs.Receipt.{carried, is_damage, damaged}
+use Rattle.dna_play.specs.StoredEnd.{StoredEnd, StoredLinks}
+use Rattle.dna_play.specs.StoredStation as stations
+use Rattle.dna_play.specs.StoredLinks.{on_end, at_place, place_of, with_end, answered}
+use Rattle.dna_play.specs.StoredPlay.{StoredStepped, unless_refused, answers, if_so, timed, retrying, sends_message, sends_choice, ups, all_short}
+use Rattle.dna_play.specs.StoredPlay.{up_address, arrived, receives, hears_as, with_next, stored_plays}
 use Rattle.dna_play.specs.StoredPlayed.{is_of_line}
-use Rattle.dna_play.proofs.Played.Cases.{made_case, link_case, giving_case, unit_case, test_case, AllOf, then_each}
-use Rattle.dna_play.proofs.Played.Order.{InOrder, quiet}
-use Rattle.dna_play.proofs.Played.Steps.{PlayHalf}
-
--- ---- what is owed
-
-changed_counted : (n : ℕ) (change : LinkOwed → LinkOwed) (owed : LinksOwed) → length (changed n change owed).links ≡ length owed.links
-changed_counted n change owed = go (slice_get owed.links n)
-  where
-    go : (o : Option LinkOwed) → length (changed_at n change o owed.links) ≡ length owed.links
-    go None = refl
-    go (Some first) = length-set owed.links n (change first)
-
-debt_counted : (debt : LinkDebt) (owed : LinksOwed) → length (with_debt debt owed).links ≡ length owed.links
-debt_counted NoDebt owed = refl
-debt_counted (Owes number duty) owed = changed_counted number _ owed
-debt_counted (OwesConfirm confirm) owed = refl
-
-choice_counted : (c : LinkChoice) (owed : LinksOwed) → length (after_link_choice c owed).links ≡ length owed.links
-choice_counted (Confirms confirm) owed = refl
-choice_counted (OfLink number duty) owed = changed_counted number (without_duty duty) owed
-
--- what is added leaves the node, its addresses and the count of what its links owe as they are; so many units pass
-pub record Adds (more : End → End) (units : ℕ) : Type 0 where
-  pub half : (e : End) → (more e).half ≡ e.half
-  pub addresses : (e : End) → (more e).addresses ≡ e.addresses
-  pub owed : (e : End) → length (more e).links_owed.links ≡ length e.links_owed.links
-  pub passed : (e : End) → (more e).passed ≡ e.passed + units
-
--- what changes nothing but what the station owes
-abbrev OwesOnly : (End → End) → Type 0
-OwesOnly more = (e : End) → more e ≡ record e { owed = (more e).owed }
-
-adds_owed : (more : End → End) → OwesOnly more → Adds more 0
-adds_owed more only = record {
-  half = λ e. subst (λ (x : End). x.half ≡ e.half) (back e) refl;
-  addresses = λ e. subst (λ (x : End). x.addresses ≡ e.addresses) (back e) refl;
-  owed = λ e. subst (λ (x : End). length x.links_owed.links ≡ length e.links_owed.links) (back e) refl;
-  passed = λ e. subst (λ (x : End). x.passed ≡ e.passed + 0) (back e) (omega arith);
-}
-  where
-    back : (e : End) → record e { owed = (more e).owed } ≡ more e
-    back e = sym (only e)
-
-adds_link_debt : (debt : LinkDebt) → Adds (links_owing_more debt) 0
-adds_link_debt debt = record {
-  half = λ e. refl;
-  addresses = λ e. refl;
-  owed = λ e. debt_counted debt e.links_owed;
-  passed = λ e. omega arith;
-}
-
-adds_sending : (next : Choice) → Adds (after_sending next) 0
-adds_sending (SendNew message) = record {
-  half = λ e. refl;
-  addresses = λ e. refl;
-  owed = λ e. choice_counted message e.links_owed;
-  passed = λ e. omega arith;
-}
-adds_sending next = adds_owed (after_sending next) (λ e. refl)
-
-adds_receipt : (before : End) (read : ReadingValue) (kept : Bool) → Adds (after_receipt before read kept) 1
-adds_receipt before read kept = record {
-  half = λ e. refl;
-  addresses = λ e. refl;
-  owed = λ e. debt_counted (carried_debt (links_of before.half) (carried kept read)) e.links_owed;
-  passed = λ e. refl;
-}
-
--- ---- the ways to come about
+use Rattle.dna_play.proofs.Played.Order.{InOrder, ups_in_order}
 
 -- how many units a step takes off the line
 abbrev pub off_line : StepValue → ℕ
 off_line step = if is_of_line step then 1 else 0
 
--- so many units of the other end were there to pass
-abbrev pub WereSent : (own : End) (other : PlayHalf) (units : ℕ) → Type 0
-WereSent own other units = own.passed ≤ length other.sent → own.passed + units ≤ length other.sent
+pub one_off : (step : StepValue) → off_line step ≤ 1
+one_off step = go (is_of_line step)
+  where
+    go : (b : Bool) → cond b 1 0 ≤ 1
+    go true = omega arith
+    go false = omega arith
 
--- the record is made of the end as it was, but for the address that it may give
-pub record Begins (own : End) (starts : ℕ) (e : End) (r : Record) : Type 0 where
-  pub half : e.half ≡ own.half
-  pub passed : e.passed ≡ own.passed
-  pub order : InOrder own.addresses starts (r ∷ []) e.addresses
+-- no record, or one with deliveries behind it
+pub data Brings : List Record → Type 0 where
+  NoRecord : Brings []
+  OneRecord : (r : Record) (address : ℕ) (messages : List (List ℕ)) → Brings (r ∷ ups address messages)
 
--- a step that starts its end so often, and takes so many units off the line, leaves this: without a record, by one record, or by one with deliveries
-pub data Comes (own : End) (other : PlayHalf) (starts units : ℕ) : Stepped → Type 0 where
-  Silent : (more : End → End) → Adds more units → WereSent own other units → starts ≡ 0 →
-      Comes own other starts units (record { end = more own; records = [] })
-  Makes : (e : End) (r : Record) (more : End → End) (half : PlayHalf) → Begins own starts e r → Adds more units → WereSent own other units →
-      makes own.half other r ≡ Some half → Comes own other starts units (record { end = more (after_record e half); records = r ∷ [] })
-  Delivers : (so_far : Stepped) (address : ℕ) (message : List ℕ) (half : PlayHalf) → Comes own other starts units so_far →
-      makes so_far.end.half other (User (events.Up address message)) ≡ Some half → Comes own other starts units
-      (record { end = after_record so_far.end half; records = so_far.records ++ User (events.Up address message) ∷ [] })
+-- a step that starts its end so often, and takes so many units off the line, leaves this
+pub record LeavesSo (e : StoredEnd) (coming : List (List ℕ)) (starts units : ℕ) (made : StoredStepped) : Type 0 where
+  pub order : InOrder e.addresses starts made.records made.end.addresses
+  pub passed : made.end.passed ≡ e.passed + units
+  pub there : units ≤ length coming
+  pub brings : Brings made.records
+
+abbrev pub Leaves : (e : StoredEnd) (coming : List (List ℕ)) → StepValue → StoredStepped → Type 0
+Leaves e coming step made = LeavesSo e coming (starts_now step) (off_line step) made
+
+-- ---- what is left, if anything is made
+
+abbrev pub IfMade : {X : Type 0} → (X → Type 0) → Result X Stop → Type 0
+IfMade P (Ok made) = P made
+IfMade P (Err stop) = Unit {0}
+
+module _ (P : StoredStepped → Type 0) where
+  unless_case : (o : Option StationRefusal) (next : Result StoredStepped Stop) → IfMade P next → IfMade P (unless_refused o next)
+  unless_case None next p = p
+  unless_case (Some refusal) next p = tt
+
+  so_case : (b : Bool) (next : Result StoredStepped Stop) → IfMade P next → IfMade P (if_so b next)
+  so_case true next p = p
+  so_case false next p = tt
+
+  test_case : (b : Bool) (next : Result StoredStepped Stop) (stop : Stop) → IfMade P next → IfMade P (cond b next (Err stop))
+  test_case true next stop p = p
+  test_case false next stop p = tt
+
+  link_case : (test : LinkTest) (s : StoredLinks) (next : ℕ → LinkEnd → Result StoredStepped Stop) →
+      ((place : ℕ) (link : LinkEnd) → IfMade P (next place link)) → IfMade P (with_end test s (Err BadStep) next)
+  link_case test s next p = found (place_of test s.links)
+    where
+      there : (place : ℕ) (o : Option LinkEnd) → IfMade P (on_end place o (Err BadStep) next)
+      there place None = tt
+      there place (Some link) = p place link
+
+      found : (o : Option ℕ) → IfMade P (at_place s.links o (Err BadStep) next)
+      found None = tt
+      found (Some place) = there place (slice_get s.links place)
 
 -- ---- the walk
 
-module _ (own : End) (other : PlayHalf) (starts units : ℕ) where
-  abbrev Come : Result Stepped Stop → Type 0
-  Come = AllOf (Comes own other starts units)
-
-  made_comes : (e : End) (r : Record) (more : End → End) → Begins own starts e r → Adds more units → WereSent own other units →
-      Come (made e r more (makes own.half other r))
-  made_comes e r more begins adds sent = made_case Come e r more (makes own.half other r) (λ none. tt)
-      (λ half is. Makes e r more half begins adds sent is)
-
-module _ (own : End) (other : PlayHalf) where
+module _ (e : StoredEnd) (coming : List (List ℕ)) where
   -- ---- nothing passes
 
-  none_sent : WereSent own other 0
-  none_sent few = omega arith
+  abbrev Stays : StoredStepped → Type 0
+  Stays = LeavesSo e coming 0 0
 
-  user_comes : (starts : ℕ) (event : Event) (more : End → End) → InOrder own.addresses starts (User event ∷ []) own.addresses → Adds more 0 →
-      AllOf (Comes own other starts 0) (by_user own other event more)
-  user_comes starts event more order adds = made_comes own other starts 0 own (User event) more (record { half = refl; passed = refl; order = order })
-      adds none_sent
+  record_leaves : (starts : ℕ) (end : StoredEnd) (sent : List (List ℕ)) (r : Record) → InOrder e.addresses starts (r ∷ []) end.addresses →
+      end.passed ≡ e.passed → LeavesSo e coming starts 0 (record { end = end; sent = sent; records = r ∷ [] })
+  record_leaves starts end sent r order same =
+      record { order = order; passed = omega arith; there = omega arith; brings = OneRecord r 0 [] }
 
-  given_comes : (debt : LinkDebt) (event : ℕ → Event) → InOrder own.addresses 0 (User (event (own.addresses + 1)) ∷ []) (own.addresses + 1) →
-      AllOf (Comes own other 0 0) (giving own (λ end address. by_user end other (event address) (links_owing_more debt)))
-  given_comes debt event order = giving_case (AllOf (Comes own other 0 0)) own
-      (λ end address. by_user end other (event address) (links_owing_more debt)) (λ full. tt) (λ left.
-      made_comes own other 0 0 (with_address own (own.addresses + 1)) (User (event (own.addresses + 1))) (links_owing_more debt)
-      (record { half = refl; passed = refl; order = order }) (adds_link_debt debt) none_sent)
+  silent_leaves : (end : StoredEnd) (units : ℕ) → end.addresses ≡ e.addresses → end.passed ≡ e.passed + units → units ≤ length coming →
+      LeavesSo e coming 0 units (record { end = end; sent = []; records = [] })
+  silent_leaves end units stays passed there =
+      record { order = record { counted = refl; rise = tt; top = omega arith }; passed = passed; there = there; brings = NoRecord }
 
-  message_comes : (next : Choice) (o : Option MessageValue) → AllOf (Comes own other 0 0) (sends_message own other next o)
-  message_comes next None = tt
-  message_comes next (Some m) = let r = Sent (spelling m) in made_comes own other 0 0 own r (after_sending next)
-      (record { half = refl; passed = refl; order = quiet own r refl refl }) (adds_sending next) none_sent
+  debt_leaves : (o : Option Debt) → IfMade Stays (timed e o)
+  debt_leaves None = tt
+  debt_leaves (Some debt) = silent_leaves _ 0 refl (omega arith) (omega arith)
 
-  choice_comes : (o : Option Choice) → AllOf (Comes own other 0 0) (sends_choice own other o)
-  choice_comes None = tt
-  choice_comes (Some next) = message_comes next (message_of next own.half.state.head (variables_of own.half) (link_ends_of own))
+  retry_leaves : (place : ℕ) (link : LinkEnd) (o : Option (LinkOwed → LinkOwed)) → IfMade Stays (retrying e place link o)
+  retry_leaves place link None = tt
+  retry_leaves place link (Some change) = silent_leaves _ 0 refl (omega arith) (omega arith)
 
-  timed_comes : (o : Option Debt) → AllOf (Comes own other 0 0) (timed own o)
-  timed_comes None = tt
-  timed_comes (Some debt) = Silent (owing_more (Some debt)) (adds_owed (owing_more (Some debt)) (λ e. refl)) none_sent refl
+  message_leaves : (next : Choice) (o : Option MessageValue) → IfMade Stays (sends_message e next o)
+  message_leaves next None = tt
+  message_leaves next (Some m) = record_leaves 0 _ _ (Sent (spelling m)) (record { counted = refl; rise = tt; top = refl }) refl
 
-  retrying_comes : (number : ℕ) (o : Option (LinkOwed → LinkOwed)) → AllOf (Comes own other 0 0) (retrying own number o)
-  retrying_comes number None = tt
-  retrying_comes number (Some change) = Silent (λ e. record e { links_owed = changed number change e.links_owed }) (record {
-    half = λ e. refl;
-    addresses = λ e. refl;
-    owed = λ e. changed_counted number change e.links_owed;
-    passed = λ e. omega arith;
-  }) none_sent refl
+  choice_leaves : (o : Option Choice) → IfMade Stays (sends_choice e o)
+  choice_leaves None = tt
+  choice_leaves (Some next) = message_leaves next (message_of next e.head e.station.variables e.links.links)
+
+  noise_leaves : (bytes : List ℕ) (read : ReadingValue) → IfMade Stays (hears_as e bytes read)
+  noise_leaves bytes HeaderBad = record_leaves 0 _ _ (Noise bytes) (record { counted = refl; rise = tt; top = refl }) refl
+  noise_leaves bytes DataBad = record_leaves 0 _ _ (Noise bytes) (record { counted = refl; rise = tt; top = refl }) refl
+  noise_leaves bytes read = tt
+
+  answer_leaves : (partner : ℕ) (change : ℕ → LinkEnd → LinkEnd) (event : ℕ → Event) →
+      InOrder e.addresses 0 (User (event (e.addresses + 1)) ∷ []) (e.addresses + 1) → IfMade Stays (answers e partner change event)
+  answer_leaves partner change event order = link_case Stays (CalledBy partner) e.links _ (λ place link.
+      test_case Stays (nat_lt e.addresses MAX_LINK) _ Full (record_leaves 0 _ [] (User (event (e.addresses + 1))) order refl))
 
   -- ---- a unit passes
 
-  receives_comes : WereSent own other 1 → (bytes : List ℕ) (read : ReadingValue) (kept : Bool) →
-      AllOf (Comes own other 0 1) (receives own other bytes read kept)
-  receives_comes sent bytes read kept = let r = Received own.passed kept bytes in
-      then_each other (Comes own other 0 1) (λ so_far address message half c is. Delivers so_far address message half c is) (carried kept read) _
-      (made_comes own other 0 1 own r (after_receipt own read kept)
-      (record { half = refl; passed = refl; order = quiet own r refl refl }) (adds_receipt own read kept) sent)
+  abbrev Passes : StoredStepped → Type 0
+  Passes = LeavesSo e coming 0 1
 
-  unit_comes : (next : List ℕ → Result Stepped Stop) → (WereSent own other 1 → (bytes : List ℕ) → AllOf (Comes own other 0 1) (next bytes)) →
-      AllOf (Comes own other 0 1) (on_unit (slice_get other.sent own.passed) next)
-  unit_comes next all = unit_case (AllOf (Comes own other 0 1)) (slice_get other.sent own.passed) next (λ none. tt) (λ unit there.
-      let l = slice_get_within other.sent own.passed unit there in all (λ few. omega arith) unit.bytes)
+  unit_case : (next : List ℕ → Result StoredStepped Stop) → (1 ≤ length coming → (bytes : List ℕ) → IfMade Passes (next bytes)) →
+      IfMade Passes (with_next coming next)
+  unit_case next all = go coming (λ more. all more)
+    where
+      go : (line : List (List ℕ)) → (1 ≤ length line → (bytes : List ℕ) → IfMade Passes (next bytes)) → IfMade Passes (with_next line next)
+      go [] all = tt
+      go (bytes ∷ later) all = all (omega arith) bytes
+
+  receives_leaves : 1 ≤ length coming → (bytes : List ℕ) (read : ReadingValue) (kept : Bool) → IfMade Passes (receives e bytes read kept)
+  receives_leaves there bytes read kept =
+      let address = up_address (carried kept read) in let messages = (arrived (carried kept read) e.links).messages in
+      let rest = ups_in_order e.addresses address messages in let c = rest.counted in
+      test_case Passes (nat_le e.passed MAX_HINT) _ BadStep (test_case Passes (all_short messages) _ BadStep (record {
+        order = record { counted = omega arith; rise = rest.rise; top = rest.top };
+        passed = refl;
+        there = there;
+        brings = OneRecord (Received e.passed kept bytes) address messages;
+      }))
 
   -- ---- the steps
 
-  plays_comes : (step : StepValue) → AllOf (Comes own other (starts_now step) (off_line step)) (plays own other step)
-  unfolding plays
-  plays_comes Start = user_comes 1 events.Start (owing_more (Some OwesStrt)) (record { counted = refl; rise = tt; top = refl })
-      (adds_owed (owing_more (Some OwesStrt)) (λ e. refl))
-  plays_comes Halt = user_comes 0 events.Halt no_more (record { counted = refl; rise = tt; top = refl }) (adds_owed no_more (λ e. refl))
-  plays_comes Timer = timed_comes (timer_debt (variables_of own.half).state (variables_of own.half))
-  plays_comes Send = choice_comes (choice (variables_of own.half) own.owed (link_choice own.links_owed.confirms (link_ends_of own)))
-  plays_comes Deliver = unit_comes _ (λ sent bytes. receives_comes sent bytes (reading bytes) (can_keep own (reading bytes)))
-  plays_comes Refuse = unit_comes _ (λ sent bytes. receives_comes sent bytes (reading bytes) false)
-  plays_comes Lose = unit_comes _ (λ sent bytes. Silent passing
-      (record { half = λ e. refl; addresses = λ e. refl; owed = λ e. refl; passed = λ e. refl }) sent refl)
-  plays_comes (Damage place value) = unit_comes _ (λ sent bytes.
-      test_case (AllOf (Comes own other 0 1)) (is_damage place value bytes) _ (λ whole. tt) (λ is.
-      let hurt = damaged place value bytes in receives_comes sent hurt (reading hurt) (can_keep own (reading hurt))))
-  plays_comes (Noise bytes) = let r = recorded.Noise bytes in made_comes own other 0 0 own r (heard own (reading bytes))
-      (record { half = refl; passed = refl; order = quiet own r refl refl }) (adds_owed (heard own (reading bytes)) (λ e. refl)) none_sent
-  plays_comes Open = given_comes (Owes (length (links_of own.half).links) InitiateDuty) (λ address. events.Open address)
+  plays_leave : (step : StepValue) → IfMade (Leaves e coming step) (stored_plays e coming step)
+  unfolding stored_plays
+  plays_leave script.Start = unless_case (LeavesSo e coming 1 0) (user_refusal e.station.variables.state station_events.Start) _
+      (record_leaves 1 _ [] (User events.Start) (record { counted = refl; rise = tt; top = refl }) refl)
+  plays_leave script.Halt = record_leaves 0 _ [] (User events.Halt) (record { counted = refl; rise = tt; top = refl }) refl
+  plays_leave script.Timer = debt_leaves (timer_debt e.station.variables.state e.station.variables)
+  plays_leave script.Send = choice_leaves (choice e.station.variables e.station.owed (link_choice e.links.confirms e.links.links))
+  plays_leave script.Deliver =
+      unit_case _ (λ there bytes. receives_leaves there bytes (reading bytes) (stations.keeps true (reading bytes) e.station))
+  plays_leave script.Refuse =
+      unit_case _ (λ there bytes. receives_leaves there bytes (reading bytes) (stations.keeps false (reading bytes) e.station))
+  plays_leave script.Lose =
+      unit_case _ (λ there bytes. test_case Passes (nat_le e.passed MAX_HINT) _ BadStep (silent_leaves _ 1 refl refl there))
+  plays_leave (script.Damage place value) = unit_case _ (λ there bytes. let hurt = damaged place value bytes in
+      test_case Passes (is_damage place value bytes) _ BadStep
+      (receives_leaves there hurt (reading hurt) (stations.keeps true (reading hurt) e.station)))
+  plays_leave (script.Noise bytes) = so_case Stays (nat_le (length bytes) MAX_UNIT) _ (noise_leaves bytes (reading bytes))
+  plays_leave script.Open = test_case Stays (nat_lt e.addresses MAX_LINK) _ Full
+      (record_leaves 0 _ [] (User (events.Open (e.addresses + 1))) (record { counted = refl; rise = (omega arith, tt); top = refl }) refl)
+  plays_leave (script.Accept partner) = answer_leaves partner (answered Confirming ConfirmDuty) (events.Accept partner)
       (record { counted = refl; rise = (omega arith, tt); top = refl })
-  plays_comes (Accept partner) = link_case (AllOf (Comes own other 0 0)) (CalledBy partner) (links_of own.half) _ (λ none. tt)
-      (λ number link found. given_comes (Owes number ConfirmDuty) (λ address. events.Accept partner address)
-      (record { counted = refl; rise = (omega arith, tt); top = refl }))
-  plays_comes (Reject partner) = link_case (AllOf (Comes own other 0 0)) (CalledBy partner) (links_of own.half) _ (λ none. tt)
-      (λ number link found. given_comes (Owes number DisconnectDuty) (λ address. events.Reject partner address)
-      (record { counted = refl; rise = (omega arith, tt); top = refl }))
-  plays_comes (In link message) =
-      user_comes 0 (events.In link message) no_more (record { counted = refl; rise = (tt, tt); top = refl }) (adds_owed no_more (λ e. refl))
-  plays_comes (Close address) = link_case (AllOf (Comes own other 0 0)) (LiveAt address) (links_of own.half) _ (λ none. tt)
-      (λ number link found. user_comes 0 (events.Close address) (links_owing_more (Owes number DisconnectDuty))
-      (record { counted = refl; rise = (tt, tt); top = refl }) (adds_link_debt (Owes number DisconnectDuty)))
-  plays_comes (Retry address) = link_case (AllOf (Comes own other 0 0)) (LiveAt address) (links_of own.half) _ (λ none. tt)
-      (λ number link found. retrying_comes number (retried link.port.phase))
+  plays_leave (script.Reject partner) = answer_leaves partner (answered Disconnecting DisconnectDuty) (events.Reject partner)
+      (record { counted = refl; rise = (omega arith, tt); top = refl })
+  plays_leave (script.In own message) = link_case Stays (LiveAt own) e.links _ (λ place link.
+      so_case Stays (takes_messages link.port.phase && nat_le (length message) MAX_MESSAGE) _
+      (record_leaves 0 _ [] (User (events.In own message)) (record { counted = refl; rise = (tt, tt); top = refl }) refl))
+  plays_leave (script.Close own) = link_case Stays (LiveAt own) e.links _ (λ place link.
+      so_case Stays (is_connected link.port.phase) _
+      (record_leaves 0 _ [] (User (events.Close own)) (record { counted = refl; rise = (tt, tt); top = refl }) refl))
+  plays_leave (script.Retry own) = link_case Stays (LiveAt own) e.links _ (λ place link. retry_leaves place link (retried link.port.phase))
 
-  -- so what is made comes about
-  pub step_comes : (step : StepValue) (made : Stepped) → plays own other step ≡ Ok made → Comes own other (starts_now step) (off_line step) made
-  step_comes step made is = subst (AllOf (Comes own other (starts_now step) (off_line step))) is (plays_comes step)
+  pub stored_leaves : (step : StepValue) (made : StoredStepped) → stored_plays e coming step ≡ Ok made → Leaves e coming step made
+  stored_leaves step made is = subst (IfMade (Leaves e coming step)) is (plays_leave step)

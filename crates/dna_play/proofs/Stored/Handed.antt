@@ -1,47 +1,51 @@
 -- What the user of an end of the player does with a link that has an address, and the timer of a link.
-use Rattle.dna_links.specs.User as of_links
-use Rattle.dna_play.specs.StoredPlay as keeping
-use Rattle.capture.specs.declared.event.Event.TheVariants as events
-use Rattle.dna_play.specs.StoredLinks as stored_link
-use Rattle.dna_play.specs.LinkOwed as links_owing
-use Rattle.std.proofs.Common.{◌≡◌, Result, refl, sym, ap, ◌∙◌, le-leb, length, subst, true, false, Bool, Option, Some, None, ◌&&◌, ℕ, ◌≤◌, List}
+use Rattle.std.proofs.Common.{◌≡◌, ℕ, ◌≤◌, Bool, true, false, Option, Some, None, List, length, Err, arith, refl, sym, ap, ◌∙◌, subst, le-leb, ◌&&◌}
+use Rattle.std.specs.Prelude.{nat_le, slice_get}
+use Rattle.std.proofs.lemmas.Bool.{and_parts}
+use Rattle.std.proofs.lemmas.Option.{same_Some}
 use Rattle.capture.specs.Range.{IsLink}
+use Rattle.capture.specs.declared.event.Event.TheVariants as events
 use Rattle.capture.specs.declared.limit.TheConstants.{MAX_MESSAGE}
 use Rattle.capture.specs.declared.record.Record.TheVariants.{User}
-use Rattle.dna_links.proofs.Runs.Reads.{at_is}
-use Rattle.dna_links.proofs.Tables.Outcomes.{IsFound, UserDid, HandsIn, Closes}
 use Rattle.dna_links.specs.Links.{LinkOf, number_of, changed, in_phase, with_segments}
 use Rattle.dna_links.specs.LookUps.{is_connected, takes_messages, is_live, is_at}
 use Rattle.dna_links.specs.TrueSegments.{TrueSegments, true_segments}
 use Rattle.dna_links.specs.TrueLinks.{Links}
+use Rattle.dna_links.specs.User as of_links
 use Rattle.dna_links.specs.declared.port.LinkTest.TheVariants.{LiveAt}
-use Rattle.dna_links.specs.declared.port.Phase.TheVariants.{Disconnecting}
 use Rattle.dna_links.specs.declared.port.Phase.{Phase}
-use Rattle.dna_play.proofs.Ends.Stage.{retry_stage}
-use Rattle.dna_play.proofs.Links.Choices.{end_of}
+use Rattle.dna_links.specs.declared.port.Phase.TheVariants.{Disconnecting}
+use Rattle.dna_links.specs.declared.port.Port.{Port}
+use Rattle.dna_play.specs.HasLine.{has_line, are_bytes}
+use Rattle.dna_play.specs.LinkOwed.{LinkOwed, DisconnectDuty, retried, with_duty, same_phase, unless_left}
+use Rattle.dna_play.specs.NextSent.{LinkEnd}
+use Rattle.dna_play.specs.Script.{StepValue, Close, Retry, In}
+use Rattle.dna_play.specs.StepRule.{IsOneOf, HasLink}
+use Rattle.dna_play.specs.Stop.{BadStep}
+use Rattle.dna_play.specs.StoredLinks as stored_link
+use Rattle.dna_play.specs.StoredPlay.{if_so, with_links}
+use Rattle.dna_play.specs.StoredPlay as keeping
+use Rattle.dna_links.proofs.Runs.Reads.{at_is}
+use Rattle.dna_links.proofs.Tables.Outcomes.{IsFound}
+use Rattle.dna_play.proofs.Played.Steps.{Nothing}
+use Rattle.dna_play.proofs.Links.Goes.{segments_go, handed_goes, connected_goes, stays_as_it_is}
+use Rattle.dna_play.proofs.Links.Keeps.{At, is_kept, link_there, kept_there, kept_of, live_at_lives, look}
 use Rattle.dna_play.proofs.Links.Made.{close_line, in_goes, close_goes, live_found}
+use Rattle.dna_play.proofs.Links.Owing.{still_same, still_fits, duty_fits, left_fits}
+use Rattle.dna_play.proofs.Links.Pays.{end_of, OwedFits}
 use Rattle.dna_play.proofs.Links.Phases.{Takes, Connected, Retried, takes_is, takes_when, connected_is, connected_when, retries_live, IsRetried}
 use Rattle.dna_play.proofs.Links.Phases.{retried_is}
-use Rattle.dna_play.proofs.Stored.LiveEnds.{still_same, still_in_phase}
-use Rattle.dna_play.proofs.Stored.LiveLinks.{record_changed, live_at_lives, owed_set, record_set}
-use Rattle.dna_play.proofs.Stored.Made.{s, place, known, event_right, refused_right}
+use Rattle.dna_play.proofs.Links.Stage.{set_holds, owed_holds}
+use Rattle.dna_play.proofs.Ends.Stage.{kept_stage, retried_fits}
+use Rattle.dna_play.proofs.Ends.TrueEnd.{stored, End, links_of}
+use Rattle.dna_play.proofs.Stored.Made.{s, known, event_right}
 use Rattle.dna_play.proofs.Stored.Now.{StoredNow}
-use Rattle.dna_play.proofs.Stored.Timers.{stored_silent}
-use Rattle.dna_play.specs.HasLine.{has_line, are_bytes}
-use Rattle.dna_play.specs.StoredEnd.{StoredLinks, stored}
-use Rattle.dna_play.specs.StoredPlay.{StoredStepped, if_so, with_links}
-use Rattle.dna_play.specs.LinkOwed.{LinkOwed, NoDebt, Owes, DisconnectDuty, retried, with_duty}
-use Rattle.dna_play.specs.Play.{by_user, plays, retrying, no_more}
-use Rattle.dna_play.specs.Player.{End, links_of}
-use Rattle.dna_play.specs.Script.{Close, Retry, In}
-use Rattle.dna_play.specs.StepRule.{IsOneOf, HasLink}
-use Rattle.dna_play.specs.Stepped.{links_owing_more, Stop}
-use Rattle.std.proofs.lemmas.Bool.{and_parts}
-use Rattle.std.proofs.lemmas.Option.{same_Some}
-use Rattle.std.specs.Prelude.{nat_le, slice_get}
-use Rattle.dna_play.proofs.Links.Debts.{when_set}
-use Rattle.dna_play.specs.Compose.{address}
-use Rattle.dna_play.proofs.Stored.Right.{IsRight, never_full, end_case, look_right}
+use Rattle.dna_play.proofs.Stored.Right.{IsAsked, IsRight, never_full}
+use Rattle.dna_play.proofs.Stored.Timers.{none_behind}
+
+-- each of these phases is one of a link that lives
+abbrev pub AreLive : List Phase → Type 0
+AreLive phases = (phase : Phase) → IsOneOf phases phase → is_live phase ≡ true
 
 module _ (own other : End) (now : StoredNow own other) where
   abbrev links : Links
@@ -49,149 +53,138 @@ module _ (own other : End) (now : StoredNow own other) where
 
   -- ---- a link with an address
 
-  has_link : (address number : ℕ) (link : LinkOf TrueSegments) (phases : List Phase) → IsFound (LiveAt address) links number link →
-      IsOneOf phases link.port.phase → HasLink own address phases
-  has_link address number link phases found phase = record {
-    number = number;
-    link = link;
-    there = found.there;
-    owns = at_is link.port.own address (and_parts (is_live link.port.phase) (is_at link.port.own address) found.passed).1;
+  has_link : (address n place : ℕ) (l : LinkOf TrueSegments) (o : LinkOwed) (phases : List Phase) → IsFound (LiveAt address) links n l →
+      At l o n place links.links own.links.links → IsOneOf phases l.port.phase → HasLink (stored own) address phases
+  has_link address n place l o phases found at phase = record {
+    place = place;
+    link = end_of l o;
+    there = kept_there at;
+    owns = at_is l.port.own address (and_parts (is_live l.port.phase) (is_at l.port.own address) found.passed).1;
     phase = phase;
   }
 
   -- it is the one that the look-up finds
-  found_live : (address : ℕ) (phases : List Phase) → ((phase : Phase) → IsOneOf phases phase → is_live phase ≡ true) →
-      (l : HasLink own address phases) → IsFound (LiveAt address) links l.number l.link
-  found_live address phases live l = live_found links (links_of other.half).links own.addresses (known own other now).addressed address l.number
-      l.link l.there l.owns (live l.link.port.phase l.phase)
+  found_live : (address : ℕ) (phases : List Phase) → AreLive phases → HasLink (stored own) address phases →
+      (n : ℕ) × (l : LinkOf TrueSegments) × IsFound (LiveAt address) links n l × IsOneOf phases l.port.phase
+  found_live address phases live h =
+      let of_it = kept_of h.place h.link now.stage.links.keeps h.there in
+      let port = ap (λ (e : LinkEnd). e.port) of_it.is in
+      let phase = subst (λ (p : Port). IsOneOf phases p.phase) (sym port) h.phase in (
+        of_it.number,
+        of_it.link,
+        live_found links (links_of other.half).links own.addresses (known own other now).addressed address of_it.number
+            of_it.link (link_there of_it.at) (ap (λ (p : Port). p.own) port ∙ h.owns) (live of_it.link.port.phase phase),
+        phase,
+      )
 
-  none_live : (address : ℕ) (phases : List Phase) → ((phase : Phase) → IsOneOf phases phase → is_live phase ≡ true) →
-      number_of (LiveAt address) links ≡ None → HasLink own address phases → ⊥
-  none_live address phases live none l = let f = found_live address phases live l in let e = sym none ∙ f.found in cc
+  none_live : (address : ℕ) (phases : List Phase) → AreLive phases → number_of (LiveAt address) links ≡ None → HasLink (stored own) address phases → ⊥
+  none_live address phases live none h = let f = found_live address phases live h in let e = sym none ∙ f.2.found in cc
 
-  -- the link that is found is the only one
-  same_found : (address n m : ℕ) (l k : LinkOf TrueSegments) → IsFound (LiveAt address) links n l → IsFound (LiveAt address) links m k → l ≡ k
-  same_found address n m l k one too =
-      same_Some l k (sym one.there ∙ ap (slice_get links.links) (same_Some n m (sym one.found ∙ too.found)) ∙ too.there)
-
-  its_phase : (address n : ℕ) (l : LinkOf TrueSegments) (phases : List Phase) → ((phase : Phase) → IsOneOf phases phase → is_live phase ≡ true) →
-      IsFound (LiveAt address) links n l → HasLink own address phases → IsOneOf phases l.port.phase
+  -- there is only one
+  its_phase : (address n : ℕ) (l : LinkOf TrueSegments) (phases : List Phase) → AreLive phases → IsFound (LiveAt address) links n l →
+      HasLink (stored own) address phases → IsOneOf phases l.port.phase
   its_phase address n l phases live found h =
+      let f = found_live address phases live h in
       subst (λ (x : LinkOf TrueSegments). IsOneOf phases x.port.phase)
-      (same_found address h.number n h.link l (found_live address phases live h) found) h.phase
+      (same_Some f.1 l (sym f.2.there ∙ ap (slice_get links.links) (same_Some f.0 n (sym f.2.found ∙ found.found)) ∙ found.there)) f.3
 
-  -- a phase that a test refuses is none of these
-  differ : (b : Bool) → b ≡ true → b ≡ false → ⊥
-  differ b e f = let g = sym e ∙ f in cc
+  -- one of these phases passes the test, and the others don't
+  module _ (step : StepValue) (address : ℕ) (phases : List Phase) (test : Phase → Bool) (live : AreLive phases)
+      (passes : (phase : Phase) → IsOneOf phases phase → test phase ≡ true)
+      (asked : IsAsked own other step → HasLink (stored own) address phases) where
+    fails : (n : ℕ) (l : LinkOf TrueSegments) → IsFound (LiveAt address) links n l → test l.port.phase ≡ false → ¬ (IsAsked own other step)
+    fails n l found never asks = let e = sym never ∙ passes l.port.phase (its_phase address n l phases live found (asked asks)) in cc
 
   -- ---- a message is handed in
 
-  takes_live : (phase : Phase) → IsOneOf Takes phase → is_live phase ≡ true
-  takes_live phase one = (takes_when phase one).1
-
   module _ (address : ℕ) (message : List ℕ) (lined : has_line (User (events.In address message)) ≡ true) (short : length message ≤ MAX_MESSAGE)
       (bytes : are_bytes message ≡ true) where
-    -- no link takes it
-    nobody_takes : (left : Links) → number_of (LiveAt address) links ≡ None → UserDid true_segments links (of_links.In address message) left → ⊥
-    nobody_takes left none (HandsIn own message number link found may) = let e = sym none ∙ found.found in cc
+    takes_live : AreLive Takes
+    takes_live phase one = (takes_when phase one).1
 
-    never_takes : (n : ℕ) (l : LinkOf TrueSegments) → IsFound (LiveAt address) links n l → takes_messages l.port.phase ≡ false → (left : Links) →
-        UserDid true_segments links (of_links.In address message) left → ⊥
-    never_takes n l found no_more left (HandsIn own message number link here may) =
-        differ (takes_messages l.port.phase)
-        (ap (λ (x : LinkOf TrueSegments). takes_messages x.port.phase) (same_found address n number l link found here) ∙ may) no_more
-
-    by_phase : (n : ℕ) (l : LinkOf TrueSegments) (o : LinkOwed) → IsFound (LiveAt address) links n l → slice_get own.links_owed.links n ≡ Some o →
+    by_phase : (n place : ℕ) (l : LinkOf TrueSegments) (o : LinkOwed) → IsFound (LiveAt address) links n l →
+        At l o n place links.links own.links.links →
         (b : Bool) → takes_messages l.port.phase ≡ b → IsRight own other (In address message)
         (if_so (b && nat_le (length message) MAX_MESSAGE) (keeping.made (events.In address message)
-        (with_links (stored_link.changed (place own other now n) (stored_link.handed message (end_of l o)) (stored own).links) (stored own))))
-        (by_user own other.half (events.In address message) no_more)
-    by_phase n l o found owes false may = refused_right own other now (In address message) (events.In address message)
-        (of_links.In address message) refl no_more (λ left did. never_takes n l found may left did)
-        (λ asks. differ (takes_messages l.port.phase) (takes_when l.port.phase (its_phase address n l Takes takes_live found asks)).0 may)
-    by_phase n l o found owes true may =
+        (with_links (stored_link.changed place (stored_link.handed message (end_of l o)) own.links) (stored own))))
+    by_phase n place l o found at false may = fails (In address message) address Takes takes_messages takes_live
+        (λ phase one. (takes_when phase one).0) (λ asks. asks) n l found may
+    by_phase n place l o found at true may =
         let left = with_segments (true_segments.hands_in message l.segments) l in
-        let stored_left = stored_link.changed (place own other now n) (stored_link.handed message (end_of l o)) (stored own).links in
+        let go = segments_go own.addresses l _ (handed_goes l.segments message bytes) in
+        let in_order = ((known own other now).numbers n l found.there).0 in
+        let owes = subst (OwedFits left) (still_same l left o refl refl) (still_fits l left o in_order (go.moves in_order) (is_kept at).owes) in
         subst (λ (b : Bool). IsRight own other (In address message)
-        (if_so b (keeping.made (events.In address message) (with_links stored_left (stored own))))
-        (by_user own other.half (events.In address message) no_more)) (sym (le-leb (length message) MAX_MESSAGE short))
-        (event_right own other now (In address message) (events.In address message) (of_links.In address message) refl (changed n left links) NoDebt
-        stored_left lined bytes tt now.stage.few (in_goes links address message n l found may) tt
-        (record_set links.links own.links_owed n l o found.there owes (live_at_lives address l.port found.passed) now.counted left
-        (live_at_lives address l.port found.passed)
-        ∙ ap (λ (x : LinkOwed). stored_link.changed (place own other now n) (end_of left x) (stored own).links) (still_same l left o refl refl))
-        (has_link address n l Takes found (takes_is l.port.phase may)) (never_full own other (In address message) refl))
+        (if_so b (keeping.made (events.In address message)
+        (with_links (stored_link.changed place (stored_link.handed message (end_of l o)) own.links) (stored own)))))
+        (sym (le-leb (length message) MAX_MESSAGE short))
+        (event_right own other now (In address message) (events.In address message) (of_links.In address message) own.addresses refl
+        (changed n left links) (stored_link.changed place (stored_link.handed message (end_of l o)) own.links) lined
+        (in_goes links address message n l found may) now.stage.few
+        (set_holds links own.addresses own.links now.stage.links at left o own.addresses (omega arith) go (is_kept at).lives owes)
+        (has_link address n place l o Takes found at (takes_is l.port.phase may)) (never_full own other (In address message) refl))
 
-    pub in_right : IsRight own other (In address message) (keeping.hands_in (stored own) address message) (plays own other.half (In address message))
-    unfolding plays
-    in_right = end_case own other now (In address message)
-        (λ (k : Result StoredStepped Stop). IsRight own other (In address message) k (by_user own other.half (events.In address message) no_more))
-        (LiveAt address) (live_at_lives address)
-        (λ at link. if_so (takes_messages link.port.phase && nat_le (length message) MAX_MESSAGE)
+    pub in_right : IsRight own other (In address message) (keeping.hands_in (stored own) address message)
+    in_right = look (LiveAt address) (live_at_lives address) (IsRight own other (In address message)) links own.links now.stage.links.keeps
+        (Err BadStep)
+        (λ place link. if_so (takes_messages link.port.phase && nat_le (length message) MAX_MESSAGE)
         (keeping.made (events.In address message)
-        (with_links (stored_link.changed at (stored_link.handed message link) (stored own).links) (stored own))))
-        (λ none. refused_right own other now (In address message) (events.In address message) (of_links.In address message) refl no_more
-        (λ left did. nobody_takes left none did) (none_live address Takes takes_live none))
-        (λ n l o found owes. by_phase n l o found owes (takes_messages l.port.phase) refl)
+        (with_links (stored_link.changed place (stored_link.handed message link) own.links) (stored own))))
+        (none_live address Takes takes_live) (λ n place l o found at. by_phase n place l o found at (takes_messages l.port.phase) refl)
 
   -- ---- it is closed
 
-  connected_live : (phase : Phase) → IsOneOf Connected phase → is_live phase ≡ true
-  connected_live phase one = (connected_when phase one).1
-
   module _ (address : ℕ) (linked : IsLink address) where
-    never_closes : (n : ℕ) (l : LinkOf TrueSegments) → IsFound (LiveAt address) links n l → is_connected l.port.phase ≡ false → (left : Links) →
-        UserDid true_segments links (of_links.Close address) left → ⊥
-    never_closes n l found never left (Closes own number link here may) =
-        differ (is_connected l.port.phase)
-        (ap (λ (x : LinkOf TrueSegments). is_connected x.port.phase) (same_found address n number l link found here) ∙ may) never
+    connected_live : AreLive Connected
+    connected_live phase one = (connected_when phase one).1
 
-    closes_by : (n : ℕ) (l : LinkOf TrueSegments) (o : LinkOwed) → IsFound (LiveAt address) links n l → slice_get own.links_owed.links n ≡ Some o →
+    closes_by : (n place : ℕ) (l : LinkOf TrueSegments) (o : LinkOwed) → IsFound (LiveAt address) links n l →
+        At l o n place links.links own.links.links →
         (b : Bool) → is_connected l.port.phase ≡ b → IsRight own other (Close address)
         (if_so b (keeping.made (events.Close address)
-        (with_links (stored_link.changed (place own other now n) (stored_link.closed (end_of l o)) (stored own).links) (stored own))))
-        (by_user own other.half (events.Close address) (links_owing_more (Owes n DisconnectDuty)))
-    closes_by n l o found owes true may =
+        (with_links (stored_link.changed place (stored_link.closed (end_of l o)) own.links) (stored own))))
+    closes_by n place l o found at true may =
         let left = in_phase Disconnecting l in
-        event_right own other now (Close address) (events.Close address) (of_links.Close address) refl (changed n left links) (Owes n DisconnectDuty)
-        (stored_link.changed (place own other now n) (stored_link.closed (end_of l o)) (stored own).links)
-        (close_line address linked) tt tt now.stage.few
-        (close_goes links address n l found may) (when_set links n l left found.there)
-        (record_changed links.links own.links_owed n l o found.there owes (live_at_lives address l.port found.passed) now.counted left
-        (with_duty DisconnectDuty true) refl
-        ∙ ap (λ (x : LinkOwed). stored_link.changed (place own other now n) (end_of left (with_duty DisconnectDuty true x)) (stored own).links)
-        (still_in_phase l left o refl))
-        (has_link address n l Connected found (connected_is l.port.phase may)) (never_full own other (Close address) refl)
-    closes_by n l o found owes false may = refused_right own other now (Close address) (events.Close address) (of_links.Close address) refl
-        (links_owing_more (Owes n DisconnectDuty)) (λ left did. never_closes n l found may left did)
-        (λ asks. differ (is_connected l.port.phase) (connected_when l.port.phase (its_phase address n l Connected connected_live found asks)).0 may)
+        let owed = unless_left (same_phase l.port.phase Disconnecting) o in
+        event_right own other now (Close address) (events.Close address) (of_links.Close address) own.addresses refl (changed n left links)
+        (stored_link.changed place (stored_link.closed (end_of l o)) own.links) (close_line address linked)
+        (close_goes links address n l found may) now.stage.few
+        (set_holds links own.addresses own.links now.stage.links at left (with_duty DisconnectDuty true owed) own.addresses (omega arith)
+        (connected_goes own.addresses l Disconnecting l.segments refl (λ far. refl) may (stays_as_it_is l.segments)) refl
+        (duty_fits left owed DisconnectDuty refl
+        (left_fits l left o ((known own other now).numbers n l found.there).0 refl (is_kept at).owes)))
+        (has_link address n place l o Connected found at (connected_is l.port.phase may)) (never_full own other (Close address) refl)
+    closes_by n place l o found at false may = fails (Close address) address Connected is_connected connected_live
+        (λ phase one. (connected_when phase one).0) (λ asks. asks) n l found may
 
-    pub close_right : IsRight own other (Close address) (keeping.closes (stored own) address) (plays own other.half (Close address))
-    unfolding plays
-    close_right = look_right own other now (Close address) (LiveAt address) (live_at_lives address)
-        (λ number found. by_user own other.half (events.Close address) (links_owing_more (Owes number DisconnectDuty)))
-        (λ at link. if_so (is_connected link.port.phase)
-        (keeping.made (events.Close address) (with_links (stored_link.changed at (stored_link.closed link) (stored own).links) (stored own))))
-        (none_live address Connected connected_live) (λ n l o found owes. closes_by n l o found owes (is_connected l.port.phase) refl)
+    pub close_right : IsRight own other (Close address) (keeping.closes (stored own) address)
+    close_right = look (LiveAt address) (live_at_lives address) (IsRight own other (Close address)) links own.links now.stage.links.keeps
+        (Err BadStep)
+        (λ place link. if_so (is_connected link.port.phase)
+        (keeping.made (events.Close address) (with_links (stored_link.changed place (stored_link.closed link) own.links) (stored own))))
+        (none_live address Connected connected_live) (λ n place l o found at. closes_by n place l o found at (is_connected l.port.phase) refl)
 
   -- ---- the timer of a link
 
-  pub retry_right : (address : ℕ) → IsRight own other (Retry address) (keeping.retries (stored own) address) (plays own other.half (Retry address))
-  unfolding plays
-  retry_right address = look_right own other now (Retry address) (LiveAt address) (live_at_lives address)
-      (λ number found. retrying own number (retried found.port.phase))
-      (λ at link. keeping.retrying (stored own) at link (retried link.port.phase)) (none_live address Retried retries_live)
-      (λ n l o found owes. go n l o found owes (retried l.port.phase) refl (retried_is l.port.phase))
+  pub retry_right : (address : ℕ) → IsRight own other (Retry address) (keeping.retries (stored own) address)
+  retry_right address = look (LiveAt address) (live_at_lives address) (IsRight own other (Retry address)) links own.links now.stage.links.keeps
+      (Err BadStep)
+      (λ place link. keeping.retrying (stored own) place link (retried link.port.phase)) (none_live address Retried retries_live)
+      (λ n place l o found at. go n place l o found at (retried l.port.phase) refl (retried_is l.port.phase))
     where
-      go : (n : ℕ) (l : LinkOf TrueSegments) (o : LinkOwed) → IsFound (LiveAt address) links n l → slice_get own.links_owed.links n ≡ Some o →
+      go : (n place : ℕ) (l : LinkOf TrueSegments) (o : LinkOwed) → IsFound (LiveAt address) links n l → At l o n place links.links own.links.links →
           (change : Option (LinkOwed → LinkOwed)) → retried l.port.phase ≡ change → IsRetried l.port.phase change →
-          IsRight own other (Retry address) (keeping.retrying (stored own) (place own other now n) (end_of l o) change) (retrying own n change)
-      go n l o found owes None is never = (λ asks. never (its_phase address n l Retried retries_live found asks), refl)
-      go n l o found owes (Some change) is may = record {
-        stage = retry_stage own now.stage n l change found.there is;
-        asks = has_link address n l Retried found may;
-        room = never_full own other (Retry address) refl;
-        same = stored_silent own (record own { links_owed = links_owing.changed n change own.links_owed }) refl
-            ∙ ap (λ (stored_now : StoredLinks). keeping.silent (with_links stored_now (stored own)))
-            (owed_set links.links own.links_owed n l o found.there owes (live_at_lives address l.port found.passed) change);
-      }
+          IsRight own other (Retry address) (keeping.retrying (stored own) place (end_of l o) change)
+      go n place l o found at None is never = λ asks. never (its_phase address n l Retried retries_live found asks)
+      go n place l o found at (Some change) is may =
+          let kept = stored_link.changed place (end_of l (change o)) own.links in
+          record {
+            after = record own { links = kept };
+            makes = Nothing;
+            same = refl;
+            sent = none_behind own.half.sent;
+            stage = kept_stage own now.stage kept (owed_holds links own.addresses own.links now.stage.links at (change o)
+                (retried_fits l o l.port.phase refl change is (is_kept at).owes));
+            asks = has_link address n place l o Retried found at may;
+            room = never_full own other (Retry address) refl;
+          }

@@ -1,56 +1,51 @@
--- What a message that came makes of the links of an end of the player, and what its user gets then, is the same of what its node keeps.
-use Rattle.std.proofs.Common.{◌≡◌, ℕ, ◌+◌, Bool, true, false, ◌&&◌, Option, Some, None, List, [], ◌∷◌, ◌++◌, map, length, Result, Ok, refl, sym, ap}
-use Rattle.std.proofs.Common.{ap₂, ◌∙◌, subst, append-nil, length-set}
-use Rattle.std.specs.Prelude.{slice_get, slice_set, nat_le}
+-- What a message that came makes of the links of an end of the player, and what its user gets then, is what it makes of those that are kept.
+use Rattle.std.proofs.Common.{◌≡◌, ℕ, ◌+◌, Bool, true, ◌&&◌, Option, Some, List, [], ◌∷◌, Result, Ok, refl, sym, ap, ap₂, ◌∙◌, subst, arith}
+use Rattle.std.specs.Prelude.{slice_get, nat_le, length}
 use Rattle.std.proofs.lemmas.Bool.{and_parts}
 use Rattle.std.proofs.lemmas.List.{drop-drop, set-set}
 use Rattle.dna_packet.specs.Nsp.{NspValue, SegmentValue, DataSegment}
-use Rattle.capture.specs.declared.event.Event.{Event}
 use Rattle.capture.specs.declared.event.Event.TheVariants as events
-use Rattle.capture.specs.declared.record.Record.{Record}
 use Rattle.capture.specs.declared.record.Record.TheVariants.{User}
 use Rattle.capture.specs.Range.{record_bytes, most_bytes}
 use Rattle.dna_station.specs.declared.link_refusal.LinkRefusal.{LinkRefusal}
 use Rattle.dna_station.specs.declared.link_refusal.LinkRefusal.TheVariants.{CrossedLink}
+use Rattle.dna_station.specs.Station.{Station}
 use Rattle.dna_links.specs.declared.port.Phase.TheVariants.{Running}
 use Rattle.dna_links.specs.declared.port.LinkTest.{LinkTest}
 use Rattle.dna_links.specs.declared.port.LinkTest.TheVariants.{ActedOn}
 use Rattle.dna_links.specs.LookUps.{is_connected, is_at, has_both}
 use Rattle.dna_links.specs.Segmentation.{Piece, in_whole_messages}
-use Rattle.dna_links.specs.Links.{LinkOf, LinkTruth, check, number_of, at_number, changed, in_phase, with_segments}
+use Rattle.dna_links.specs.Links.{LinkOf, LinkTruth, check, changed, in_phase, with_segments}
 use Rattle.dna_links.specs.Arriving.{of_partner, is_of_pair, running, message_arrived}
 use Rattle.dna_links.specs.TrueSegments.{TrueSegments, Numbers, takes_segment, true_segments}
 use Rattle.dna_links.specs.TrueLinks.{Links}
 use Rattle.dna_links.specs.WireSegments.{WireSegments, acknowledged_by_all, segment_taken}
 use Rattle.dna_links.specs.CutSegments.{cut, IsOrdered}
 use Rattle.dna_links.specs.CutLinks.{ArrivesNear}
-use Rattle.dna_station.specs.Station.{Station}
 use Rattle.dna_play.specs.HasLine.{numbers_fit, are_bytes}
-use Rattle.dna_play.specs.Owed.{Debt, all_acknowledged}
-use Rattle.dna_play.specs.LinkOwed.{LinkOwed, LinksOwed, LinkDebt, NoDebt, Owes, DataAckDuty, with_duty, with_debt, variables_of, still_owed}
+use Rattle.dna_play.specs.LinkOwed.{LinkOwed, DataAckDuty, with_duty}
 use Rattle.dna_play.specs.NextSent.{LinkEnd}
-use Rattle.dna_play.specs.Player.{End, links_of, after_record}
-use Rattle.dna_play.specs.Player as player
-use Rattle.dna_play.specs.Stepped.{owing_more, links_owing_more}
-use Rattle.dna_play.specs.Receipt.{complete, delivered_by, delivered_now, carried_debt, gets_all, passing}
-use Rattle.dna_play.specs.StoredEnd.{StoredLinks, stored}
+use Rattle.dna_play.specs.Receipt.{complete}
+use Rattle.dna_play.specs.StoredEnd.{StoredLinks}
 use Rattle.dna_play.specs.StoredLinks.{Delivering, delivering_none, delivering_at, took_segment, arrives, message_came}
-use Rattle.dna_play.specs.StoredLinks as of_links
+use Rattle.dna_play.specs.StoredLinks as keeping
 use Rattle.dna_play.specs.StoredPlay.{arrived, up_address, ups, all_short}
-use Rattle.dna_play.proofs.Played.Steps.{PlayHalf}
 use Rattle.dna_links.proofs.Cut.SegmentsArriving.{takes_segment_same}
 use Rattle.dna_links.proofs.Runs.Reads.{at_is}
-use Rattle.dna_links.proofs.Tables.Outcomes.{IsFound, looked, checked}
 use Rattle.dna_links.proofs.Runs.Sides.{set_same}
-use Rattle.dna_play.proofs.Links.Pays.{found_at, with_found}
-use Rattle.dna_play.proofs.Links.Stage.{left_links}
+use Rattle.dna_links.proofs.Tables.Outcomes.{IsFound, checked}
+use Rattle.dna_play.proofs.Played.Steps.{PlayHalf, MakesAll, Nothing}
+use Rattle.dna_play.proofs.Links.Pays.{variables_of, end_of, OwedFits, found_at, with_found, without_found}
+use Rattle.dna_play.proofs.Links.Fits.{IsPlain}
+use Rattle.dna_play.proofs.Links.Owing.{duty_fits, still_fits, still_owed}
+use Rattle.dna_play.proofs.Links.Goes.{Goes, SegmentsGo, runs_on}
+use Rattle.dna_play.proofs.Links.Goes as goes
+use Rattle.dna_play.proofs.Links.Keeps.{At, is_kept, acted_on_lives, look}
+use Rattle.dna_play.proofs.Links.Stage.{LinkHolds, set_holds}
+use Rattle.dna_play.proofs.Links.Comes.{EndsHold, message_holds, acted_end}
+use Rattle.dna_play.proofs.Ends.TrueEnd.{End, links_of}
 use Rattle.dna_play.proofs.Ends.UpsFollow.{AllLined, AreDistinct, IsLined}
-use Rattle.dna_play.proofs.Stored.LiveEnds.{Counted, with_owed, owed_beside, left_changed}
-use Rattle.dna_play.proofs.Stored.LiveLinks.{stored_links, place_among, acted_on_lives, live_set, record_same, end_missing, end_found}
-use Rattle.dna_play.proofs.Stored.LinkComes.{NoSegment, message_kept, acted_end}
-use Rattle.dna_play.proofs.Stored.Deliveries.{segments_got, with_links, gets_made, got_stage}
-use Rattle.dna_play.proofs.Links.Choices.{end_of}
-use Rattle.dna_play.proofs.Ends.Stage.{Stage}
+use Rattle.dna_play.proofs.Stored.Deliveries.{segments_got, gets_made}
 
 -- each message that is whole has a line
 lined_short : (address : ℕ) (messages : List (List ℕ)) → AllLined address messages → all_short messages ≡ true
@@ -61,50 +56,39 @@ lined_short address (message ∷ later) lined =
     let q = and_parts (are_bytes (record_bytes r)) (nat_le (length (record_bytes r)) (most_bytes r)) p.1 in
     ap₂ (λ (b c : Bool). b && c) q.1 (lined_short address later lined.1)
 
--- the half that a receipt leaves, with this station and these links; and the end, with what is owed then
+-- the half that a receipt leaves, with this station and these links
 abbrev pub left_half : End → Station → Links → PlayHalf
 left_half own station links = record {
   state = record own.half.state { station = record own.half.state.station { station = station; links = links }; front = own.passed + 1 };
   sent = own.half.sent;
 }
 
-abbrev pub left_end : End → Station → Option Debt → Option NspValue → Links → End
-left_end own station debt message links =
-    passing (links_owing_more (carried_debt (links_of own.half) message) (owing_more debt (after_record own (left_half own station links))))
+-- what is whole then is delivered, and numbers go on as they did
+got_goes : (f g : TrueSegments) (messages : List (List ℕ)) → SegmentsGo f g → SegmentsGo f (segments_got g messages)
+got_goes f g messages goes = record {
+  fits = λ h. let fits = goes.fits h in record { unsent = fits.unsent; given = fits.given };
+  moves = λ o. let m = goes.moves o in record { given = m.given; least = m.least; most = m.most };
+}
 
-module _ (own : End) (other : PlayHalf) (counted : Counted (links_of own.half).links own.links_owed)
-    (ordered : (i : ℕ) (l : LinkOf TrueSegments) → slice_get (links_of own.half).links i ≡ Some l → IsOrdered l.segments)
-    (records : List Record) (station : Station) (debt : Option Debt) where
+module _ (own : End) (other : PlayHalf) (h : LinkHolds (links_of own.half).links own.addresses own.links)
+    (ordered : (i : ℕ) (l : LinkOf TrueSegments) → slice_get (links_of own.half).links i ≡ Some l → IsOrdered l.segments) (station : Station) where
   abbrev s : Links
   s = links_of own.half
 
-  abbrev owed : LinksOwed
-  owed = own.links_owed
-
-  abbrev live : StoredLinks
-  live = (stored own).links
-
-  -- what the user gets, by all links and by those that live
-  pub record Got (e : End) (message : Option NspValue) : Type 0 where
+  -- of these links that were left: what the user gets is delivered, and what is kept then is kept of those that are left then
+  pub record GotBy (links : Links) (address : ℕ) (d : Delivering) : Type 0 where
     pub final : Links
-    pub gets : gets_all (delivered_now (links_of e.half) message) other (record { end = e; records = records })
-        ≡ Ok (record { end = with_links e final; records = records ++ ups (up_address message) (arrived message live).messages })
-    pub links : stored_links final.links e.links_owed ≡ (arrived message live).links
-    pub short : all_short (arrived message live).messages ≡ true
-    pub stage : Stage e → Stage (with_links e final)
+    pub gets : MakesAll other (left_half own station links) (ups address d.messages) (left_half own station final)
+    pub holds : LinkHolds final.links own.addresses d.links
+    pub short : all_short d.messages ≡ true
+
+  abbrev pub Got : Links → Option NspValue → Type 0
+  Got links message = GotBy links (up_address message) (arrived message own.links)
 
   -- nothing is whole
-  pub nothing_got : (e : End) (message : Option NspValue) (left : StoredLinks) → delivered_now (links_of e.half) message ≡ [] →
-      arrived message live ≡ delivering_none left → stored_links (links_of e.half).links e.links_owed ≡ left → Got e message
-  nothing_got e message left none as_kept same = record {
-    final = links_of e.half;
-    gets = ap (λ (list : List Event). gets_all list other (record { end = e; records = records })) none
-        ∙ ap (λ (all : List Record). Ok (record { end = e; records = all }))
-        (sym (append-nil records) ∙ ap (λ (d : Delivering). records ++ ups (up_address message) d.messages) (sym as_kept));
-    links = same ∙ sym (ap (λ (d : Delivering). d.links) as_kept);
-    short = ap (λ (d : Delivering). all_short d.messages) as_kept;
-    stage = λ h. h;
-  }
+  pub nothing_got : (links : Links) (address : ℕ) (kept : StoredLinks) → LinkHolds links.links own.addresses kept →
+      GotBy links address (delivering_none kept)
+  nothing_got links address kept holds = record { final = links; gets = Nothing; holds = holds; short = refl }
 
   -- ---- a segment
 
@@ -112,26 +96,10 @@ module _ (own : End) (other : PlayHalf) (counted : Counted (links_of own.half).l
     abbrev test : LinkTest
     test = ActedOn segment.dstaddr segment.srcaddr
 
-    abbrev up_events : ℕ → LinkOf TrueSegments → List Event
-    up_events number link = map (λ (message : List ℕ). events.Up segment.dstaddr message) (complete [] (variables_of link).pieces)
-
     abbrev take_kept : ℕ → LinkEnd → Delivering
-    take_kept place link = delivering_at place (took_segment segment link) live
+    take_kept place link = delivering_at place (took_segment segment link) own.links
 
-    abbrev owes_ack : ℕ → LinkOf TrueSegments → LinkDebt
-    owes_ack number link = Owes number DataAckDuty
-
-    abbrev after : Links → End
-    after links = left_end own station debt (Some (DataSegment segment)) links
-
-    not_found : number_of test s ≡ None → Got (after s) (Some (DataSegment segment))
-    not_found none = nothing_got (after s) (Some (DataSegment segment)) live
-        (ap (λ (o : Option ℕ). at_number s.links o [] up_events) none)
-        (end_missing test (acted_on_lives segment.dstaddr segment.srcaddr) s owed counted (delivering_none live) take_kept none)
-        (ap (λ (o : Option ℕ). stored_links s.links (with_debt (at_number s.links o NoDebt owes_ack) (left_links s.links s.links owed))) none
-        ∙ record_same s.links owed counted)
-
-    module _ (n : ℕ) (l : LinkOf TrueSegments) (o : LinkOwed) (found : IsFound test s n l) (owes : slice_get owed.links n ≡ Some o)
+    module _ (n place : ℕ) (l : LinkOf TrueSegments) (o : LinkOwed) (found : IsFound test s n l) (at_it : At l o n place s.links own.links.links)
         (same : (cut (takes_segment segment truth.known l.segments)).variables
         ≡ segment_taken segment (acknowledged_by_all segment.acks (variables_of l)))
       where
@@ -153,23 +121,38 @@ module _ (own : End) (other : PlayHalf) (counted : Counted (links_of own.half).l
         there : slice_get x.links n ≡ Some k
         there = set_same s.links n l k found.there
 
-        owed_is : (after x).links_owed ≡ with_owed (slice_set owed.links n left_owes) owed
-        owed_is =
-            ap (λ (d : LinkDebt). with_debt d (left_links s.links x.links owed)) (with_found s test n l NoDebt owes_ack found)
-            ∙ left_changed s.links owed counted n l k o found.there owes (with_duty DataAckDuty true)
-
         took : end_of k left_owes ≡ took_segment segment (end_of l o)
-        took = ap (of_links.owes DataAckDuty)
+        took = ap (keeping.owes DataAckDuty)
             (acted_end l (takes_segment segment truth.known l.segments) o (segment_taken segment (acknowledged_by_all segment.acks (variables_of l)))
             same)
 
-        as_kept : arrived (Some (DataSegment segment)) live ≡ delivering_at (place_among s.links owed n) (end_of k left_owes) live
-        as_kept =
-            end_found test (acted_on_lives segment.dstaddr segment.srcaddr) s owed counted (delivering_none live) take_kept n l o found owes
-            ∙ ap (λ (link : LinkEnd). delivering_at (place_among s.links owed n) link live) (sym took)
+        abbrev messages : List (List ℕ)
+        messages = complete [] (variables_of k).pieces
 
-        module _ (distinct : AreDistinct x.links) (lined : IsLined x (DataSegment segment))
-            (rep : (after x).owed.rep ≡ true → all_acknowledged (player.variables_of (after x).half) ≡ false) where
+        abbrev got : LinkOf TrueSegments
+        got = with_segments (segments_got k.segments (complete [] (variables_of k).pieces)) k
+
+        got_goes_on : Goes own.addresses l got
+        got_goes_on = runs_on own.addresses l (segments_got k.segments (complete [] (variables_of k).pieces))
+            (and_parts (is_connected l.port.phase) (has_both l.port segment.dstaddr segment.srcaddr) found.passed).0
+            (got_goes l.segments k.segments messages (goes.took_segment l.segments segment truth.known))
+
+        got_owes : OwedFits got left_owes
+        got_owes =
+            let in_order = ordered n l found.there in
+            let moves = (goes.took_segment l.segments segment truth.known).moves in_order in
+            let f = duty_fits k (still_owed l k o) DataAckDuty refl (still_fits l k o in_order moves (is_kept at_it).owes) in
+            record { duties = f.duties; ahead = f.ahead }
+
+        got_holds : LinkHolds (changed n got x).links own.addresses (delivering_at place (end_of k left_owes) own.links).links
+        got_holds = subst (λ (all : List (LinkOf TrueSegments)). LinkHolds all own.addresses
+            (delivering_at place (end_of k left_owes) own.links).links) (sym (set-set s.links n k got))
+            (subst (λ (pieces : List (Option Piece)). LinkHolds (changed n got s).links own.addresses
+            (keeping.changed place (record (end_of k left_owes) { variables = record (variables_of k) { pieces = pieces } }) own.links))
+            (sym (drop-drop (in_whole_messages (variables_of k).pieces) k.segments.passed k.segments.received))
+            (set_holds s own.addresses own.links h at_it got left_owes own.addresses (omega arith) got_goes_on refl got_owes))
+
+        module _ (distinct : AreDistinct x.links) (lined : IsLined x (DataSegment segment)) where
           only : (j : ℕ) (m : LinkOf TrueSegments) → slice_get x.links j ≡ Some m → is_at m.port.own segment.dstaddr ≡ true → j ≡ n
           only j m here e = distinct j n segment.dstaddr (record { link = m; there = here; owns = at_is m.port.own segment.dstaddr e })
               (record { link = k; there = there; owns = at_is l.port.own segment.dstaddr at_own })
@@ -179,78 +162,55 @@ module _ (own : End) (other : PlayHalf) (counted : Counted (links_of own.half).l
               let both = (and_parts (is_connected m.port.phase) (has_both m.port segment.dstaddr segment.srcaddr) e).1 in
               only j m here (and_parts (is_at m.port.own segment.dstaddr) (is_at m.port.far segment.srcaddr) both).0)
 
-          abbrev messages : List (List ℕ)
-          messages = complete [] (variables_of k).pieces
-
-          abbrev got : LinkOf TrueSegments
-          got = with_segments (segments_got k.segments (complete [] (variables_of k).pieces)) k
-
-          got_links : stored_links (slice_set x.links n got) (after x).links_owed ≡ (arrived (Some (DataSegment segment)) live).links
-          got_links =
-              ap₂ stored_links (set-set s.links n k got) owed_is
-              ∙ live_set s.links owed n l o found.there owes (acted_on_lives segment.dstaddr segment.srcaddr l.port found.passed) got left_owes refl
-              ∙ ap (λ (pieces : List (Option Piece)). of_links.changed (place_among s.links owed n)
-              (record (end_of k left_owes) { variables = record (variables_of k) { pieces = pieces } }) live)
-              (sym (drop-drop (in_whole_messages (variables_of k).pieces) k.segments.passed k.segments.received))
-              ∙ sym (ap (λ (d : Delivering). d.links) as_kept)
-
-          segment_found : Got (after x) (Some (DataSegment segment))
-          segment_found = record {
+          segment_found : GotBy x segment.dstaddr (take_kept place (end_of l o))
+          segment_found = subst (λ (link : LinkEnd). GotBy x segment.dstaddr (delivering_at place link own.links)) took (record {
             final = changed n got x;
-            gets = ap (λ (list : List Event). gets_all list other (record { end = after x; records = records }))
-                (with_found x test n k [] up_events still_found)
-                ∙ gets_made other segment.dstaddr n (complete [] (variables_of k).pieces) (after x) records k left_owes (lined n k still_found) there
-                at_own only refl
-                (ap (λ (w : LinksOwed). slice_get w.links n) owed_is ∙ set_same owed.links n o left_owes owes)
-                (ap (λ (w : LinksOwed). length w.links) owed_is ∙ length-set owed.links n left_owes ∙ counted ∙ sym (length-set s.links n k)) rep
-                ∙ ap (λ (d : Delivering). Ok
-                (record { end = with_links (after x) (changed n got x); records = records ++ ups segment.dstaddr d.messages })) (sym as_kept);
-            links = got_links;
-            short = ap (λ (d : Delivering). all_short d.messages) as_kept ∙ lined_short segment.dstaddr (complete [] (variables_of k).pieces)
-                (lined n k still_found);
-            stage = got_stage (after x) n k (complete [] (variables_of k).pieces) there;
-          }
+            gets = gets_made other segment.dstaddr n (complete [] (variables_of k).pieces) (left_half own station x) k (lined n k still_found) there
+                at_own only refl;
+            holds = got_holds;
+            short = lined_short segment.dstaddr (complete [] (variables_of k).pieces) (lined n k still_found);
+          })
 
   -- ---- a message
 
   module _ (truth : LinkTruth Numbers) (left : Links) where
-    abbrev after_message : NspValue → End
-    after_message m = left_end own station debt (Some m) left
-
     same_links : (x : Links) → ◌≡◌ {A = Result Links LinkRefusal} (Ok x) (Ok left) → x ≡ left
     same_links x e = cc
 
     segment_got : (segment : SegmentValue) → ArrivesNear of_partner s (DataSegment segment) truth →
         message_arrived true_segments of_partner s (DataSegment segment) truth ≡ Ok left → AreDistinct left.links →
-        IsLined left (DataSegment segment) →
-        ((after_message (DataSegment segment)).owed.rep ≡ true →
-        all_acknowledged (player.variables_of (after_message (DataSegment segment)).half) ≡ false) →
-        Got (after_message (DataSegment segment)) (Some (DataSegment segment))
-    segment_got segment near does distinct lined rep =
-        let takes : LinkOf TrueSegments → TrueSegments = λ (link : LinkOf TrueSegments). takes_segment segment truth.known link.segments in
-        looked (ActedOn segment.dstaddr segment.srcaddr) s (Ok s)
-        (λ number link. check (of_partner (is_of_pair number link.partner truth.tag)) CrossedLink
-        (Ok (changed number (running true_segments of_partner takes link) s))) (Ok left) does
-        (λ none e. subst (λ (x : Links). Got (after segment truth x) (Some (DataSegment segment))) (same_links s e) (not_found segment truth none))
-        (λ n l found e.
-        let b = owed_beside s.links owed.links n l counted found.there in
-        let c = checked (of_partner (is_of_pair n l.partner truth.tag)) CrossedLink (Ok (changed n (running true_segments of_partner takes l) s)) left
-        e in
-        let m = near n l found.there found.passed c.0 in
-        let is = takes_segment_same segment truth.known l.segments (ordered n l found.there) m.0 m.1 m.2 m.3 in
-        subst (λ (x : Links). AreDistinct x.links → IsLined x (DataSegment segment) → Got (after segment truth x) (Some (DataSegment segment)))
-        (same_links (changed n (running true_segments of_partner takes l) s) c.1)
-        (λ distinct lined. segment_found segment truth n l b.0 found b.1
-        (ap (λ (w : WireSegments). w.variables) is) distinct lined rep) distinct lined)
+        IsLined left (DataSegment segment) → Got left (Some (DataSegment segment))
+    segment_got segment near does distinct lined =
+        look (ActedOn segment.dstaddr segment.srcaddr) (acted_on_lives segment.dstaddr segment.srcaddr)
+        (GotBy left segment.dstaddr) s own.links h.keeps
+        (delivering_none own.links) (take_kept segment truth)
+        (λ none. subst (λ (x : Links). GotBy x segment.dstaddr (delivering_none own.links))
+        (same_links s (sym (without_found s (ActedOn segment.dstaddr segment.srcaddr) (Ok s) goes_on none) ∙ does))
+        (nothing_got s segment.dstaddr own.links h)) found_it
+      where
+        takes : LinkOf TrueSegments → TrueSegments
+        takes link = takes_segment segment truth.known link.segments
 
-    plain : (m : NspValue) → NoSegment m → delivered_by left m ≡ [] → arrives m live ≡ delivering_none (message_came m live) →
-        ArrivesNear of_partner s m truth →
-        message_arrived true_segments of_partner s m truth ≡ Ok left → Got (after_message m) (Some m)
-    plain m other_kind none as_kept near does = nothing_got (after_message m) (Some m) (message_came m live) none as_kept
-        (message_kept of_partner s owed counted ordered truth left m other_kind near does)
+        goes_on : ℕ → LinkOf TrueSegments → Result Links LinkRefusal
+        goes_on number link = check (of_partner (is_of_pair number link.partner truth.tag)) CrossedLink
+            (Ok (changed number (running true_segments of_partner takes link) s))
 
-    pub message_got : (m : NspValue) → ArrivesNear of_partner s m truth → message_arrived true_segments of_partner s m truth ≡ Ok left →
-        AreDistinct left.links → IsLined left m →
-        ((after_message m).owed.rep ≡ true → all_acknowledged (player.variables_of (after_message m).half) ≡ false) → Got (after_message m) (Some m)
-    message_got (DataSegment segment) near does distinct lined rep = segment_got segment near does distinct lined rep
-    message_got m near does distinct lined rep = plain m tt refl refl near does
+        found_it : (n place : ℕ) (l : LinkOf TrueSegments) (o : LinkOwed) → IsFound (ActedOn segment.dstaddr segment.srcaddr) s n l →
+            At l o n place s.links own.links.links → GotBy left segment.dstaddr (take_kept segment truth place (end_of l o))
+        found_it n place l o found at =
+            let c = checked (of_partner (is_of_pair n l.partner truth.tag)) CrossedLink
+            (Ok (changed n (running true_segments of_partner takes l) s)) left
+            (sym (with_found s (ActedOn segment.dstaddr segment.srcaddr) n l (Ok s) goes_on found) ∙ does) in
+            let m = near n l found.there found.passed c.0 in
+            let is = takes_segment_same segment truth.known l.segments (ordered n l found.there) m.0 m.1 m.2 m.3 in
+            subst (λ (x : Links). AreDistinct x.links → IsLined x (DataSegment segment) →
+            GotBy x segment.dstaddr (take_kept segment truth place (end_of l o)))
+            (same_links (changed n (running true_segments of_partner takes l) s) c.1)
+            (λ distinct lined. segment_found segment truth n place l o found at (ap (λ (w : WireSegments). w.variables) is) distinct lined)
+            distinct lined
+
+    pub message_got : (m : NspValue) → IsPlain m → EndsHold s own.addresses m → ArrivesNear of_partner s m truth →
+        message_arrived true_segments of_partner s m truth ≡ Ok left → AreDistinct left.links → IsLined left m → Got left (Some m)
+    message_got (DataSegment segment) plain ends near does distinct lined = segment_got segment near does distinct lined
+    message_got m plain ends near does distinct lined = nothing_got left (up_address (Some m)) (message_came m own.links)
+        (message_holds s own.addresses own.links h ordered truth left m tt plain ends near does)

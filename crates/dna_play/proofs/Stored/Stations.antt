@@ -16,12 +16,12 @@ use Rattle.dna_station.specs.WireStation.{StationVariables, WireStation}
 use Rattle.dna_station.specs.WireBook.{wire_sends, variables_after, wire_does}
 use Rattle.dna_play.specs.Owed.{Owed, Debt, with_debt, arrival_debt, still_owed}
 use Rattle.dna_play.specs.NextSent.{Choice, after_choice}
-use Rattle.dna_play.specs.Receipt as receiving
-use Rattle.dna_play.specs.Player.{End}
-use Rattle.dna_play.specs.StoredEnd.{StoredStation, stored}
+use Rattle.dna_play.proofs.Ends.TrueEnd as receiving
+use Rattle.dna_play.specs.StoredEnd.{StoredStation}
 use Rattle.dna_play.specs.StoredStation as keeping
 use Rattle.dna_play.proofs.Ends.DamagedUnits.{ShownDamage, OfHeader, OfData, read_of, arrival_of}
 use Rattle.dna_play.proofs.Ends.StationStage.{cut_of, left_owed, sent_kept, came_kept}
+use Rattle.dna_play.proofs.Ends.TrueEnd.{End, stored}
 
 -- the station variables, and what is owed
 abbrev pub station_with : StationVariables (Unit {0}) → Owed → StoredStation

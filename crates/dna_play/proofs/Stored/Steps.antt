@@ -4,17 +4,13 @@ use Rattle.capture.specs.declared.record.Record.TheVariants as recorded
 use Rattle.std.proofs.Common.{length, ◌<◌, ℕ, ◌≤◌}
 use Rattle.capture.specs.declared.record.Record.TheVariants.{User}
 use Rattle.dna_play.proofs.Played.PlayLines.{line_tested, bytes_tested}
-use Rattle.dna_play.proofs.Stored.Made.{place, start_right, halt_right}
+use Rattle.dna_play.proofs.Stored.Made.{start_right, halt_right}
 use Rattle.dna_play.proofs.Stored.Now.{StoredNow}
-use Rattle.dna_play.specs.StoredEnd.{stored}
 use Rattle.dna_play.specs.StoredPlay.{stored_plays}
-use Rattle.dna_play.specs.Play.{plays}
-use Rattle.dna_play.specs.Player.{End}
 use Rattle.dna_play.specs.Script.{Close, Retry, In, Open, Accept, Reject, ScriptStep, Start, Halt, StepValue, Timer, Send, Deliver, Refuse, Lose}
 use Rattle.dna_play.specs.Script.{Damage, Noise}
 use Rattle.dna_play.specs.ScriptText.{IsStep, NumbersFit, step_bytes, most_bytes}
 use Rattle.std.specs.Prelude.{slice_index}
-use Rattle.dna_play.specs.StoredRun.{coming}
 use Rattle.dna_play.proofs.Stored.Right.{IsRight}
 use Rattle.dna_play.proofs.Stored.Opened.{open_right, accept_right, reject_right}
 use Rattle.dna_play.proofs.Stored.Timers.{timer_right, lose_right}
@@ -22,11 +18,12 @@ use Rattle.dna_play.proofs.Stored.Receipts.{deliver_right, refuse_right, damage_
 use Rattle.dna_play.proofs.Stored.Noise.{noise_right}
 use Rattle.dna_play.proofs.Stored.Sends.{send_right}
 use Rattle.dna_play.proofs.Stored.Handed.{in_right, close_right, retry_right}
+use Rattle.dna_play.proofs.Ends.TrueEnd.{stored, End, coming}
 
 module _ (own other : End) (now : StoredNow own other) where
   value_right : (value : StepValue) → NumbersFit value → ((i : ℕ) → slice_index (step_bytes value) i < 256) →
       length (step_bytes value) ≤ most_bytes value →
-      IsRight own other value (stored_plays (stored own) (coming own other.half) value) (plays own other.half value)
+      IsRight own other value (stored_plays (stored own) (coming own other.half) value)
   unfolding stored_plays
   value_right Start numbers bytes short = start_right own other now
   value_right Halt numbers bytes short = halt_right own other now
@@ -51,5 +48,5 @@ module _ (own other : End) (now : StoredNow own other) where
   value_right (Retry link) numbers bytes short = retry_right own other now link
 
   pub step_right : (step : ScriptStep) → IsStep step →
-      IsRight own other step.step (stored_plays (stored own) (coming own other.half) step.step) (plays own other.half step.step)
+      IsRight own other step.step (stored_plays (stored own) (coming own other.half) step.step)
   step_right step fits = value_right step.step fits.spelling.numbers fits.spelling.bytes fits.short

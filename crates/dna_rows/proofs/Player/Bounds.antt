@@ -1,7 +1,6 @@
 -- Worked rows of the player: full windows, numbers across their wrap, pieces, the last address, and what no script can show.
 use Rattle.std.proofs.Common.{◌≡◌, ℕ, Bool, true, false, Some, None, List, [], ◌∷◌, Result, Ok, Err, replicate}
 use Rattle.std.specs.Prelude.{codes}
-use Rattle.two_nodes.specs.Nodes.{Half}
 use Rattle.ddcmp_msg.specs.Message.{Data, Rep}
 use Rattle.ddcmp_msg.specs.Reading.{HeaderBad, DataBad}
 use Rattle.dna_packet.specs.Nsp.{nsp_bytes}
@@ -10,7 +9,6 @@ use Rattle.capture.specs.declared.record.Record.TheVariants.{User}
 use Rattle.capture.specs.declared.event.Event.TheVariants as event
 use Rattle.dna_links.specs.declared.port.Phase.TheVariants.{Running}
 use Rattle.dna_station.specs.declared.state.State.TheVariants as states
-use Rattle.dna_node.specs.Layers.{LayersNode, LayersUnit}
 use Rattle.dna_links.specs.Segmentation.{Piece, Unsent, next_piece}
 use Rattle.dna_station.specs.WireStation.{HeldPacket, StationVariables}
 use Rattle.dna_play.specs.Script.{Start, Send, Deliver, Open, Accept}
@@ -20,11 +18,11 @@ use Rattle.dna_play.specs.LinkOwed.{LinkOwed, DataAckDuty, SegmentDuty}
 use Rattle.dna_play.specs.LinkOwed as links_owing
 use Rattle.dna_play.specs.NextSent.{LinkEnd, duty_of, OfLink, choice, SendAgain, SendNew, SendAck, SendRep}
 use Rattle.dna_play.specs.Compose.{duty_message, message_of, no_flags}
-use Rattle.dna_play.specs.Play.{plays}
-use Rattle.dna_play.specs.Player.{End, new_end}
-use Rattle.dna_play.specs.Stepped.{Stop, BadStep, Full, Stepped}
-use Rattle.dna_play.specs.Played.{Played, Stopped, play}
-use Rattle.dna_rows.proofs.Courses.{head_1, head_2}
+use Rattle.dna_play.specs.StoredEnd.{StoredEnd, new_stored_end}
+use Rattle.dna_play.specs.StoredPlay.{StoredStepped, stored_plays}
+use Rattle.dna_play.specs.StoredPlayed.{StoredPlayed, StoredStopped, stored_play}
+use Rattle.dna_play.specs.Stop.{Stop, BadStep, Full}
+use Rattle.dna_rows.proofs.Courses.{head_1}
 use Rattle.dna_rows.proofs.Units.{hex}
 use Rattle.dna_rows.proofs.Scripts.{a, b, script, called, playing}
 
@@ -61,18 +59,15 @@ abbrev unsent : Bool → (length : ℕ) → Unsent
 unsent begun length = record { begun = begun; messages = replicate length 7 ∷ (8 ∷ []) ∷ [] }
 
 -- an end that has given so many addresses
-abbrev with_given : ℕ → End → End
+abbrev with_given : ℕ → StoredEnd → StoredEnd
 with_given count end = record end { addresses = count }
 
-abbrev end_b : Result Played Stopped → End
-end_b (Ok played) = played.b
-end_b (Err stopped) = stopped.so_far.b
+abbrev end_b : Result StoredPlayed StoredStopped → StoredEnd
+end_b (Ok played) = played.pair.b
+end_b (Err stopped) = stopped.so_far.pair.b
 
-abbrev nothing_there : Half LayersNode LayersUnit
-nothing_there = (new_end head_2).half
-
-abbrev records_of : Result Stepped Stop → Result (List Record) Stop
-records_of (Ok stepped) = Ok stepped.records
+abbrev records_of : Result StoredStepped Stop → Result (List Record) Stop
+records_of (Ok made) = Ok made.records
 records_of (Err stop) = Err stop
 
 record Rows : Type 0 where
@@ -103,14 +98,15 @@ record Rows : Type 0 where
   last_of_two : next_piece (unsent true 1) ≡ record { begins = false; ends = true; body = 7 ∷ [] }
   piece_of_nothing : next_piece (unsent false 0) ≡ record { begins = true; ends = true; body = [] }
   -- ---- addresses
-  last_address : records_of (plays (with_given 65534 (new_end head_1)) nothing_there Open) ≡ Ok (User (event.Open 65535) ∷ [])
-  no_address : records_of (plays (with_given 65535 (new_end head_1)) nothing_there Open) ≡ Err Full
+  last_address : records_of (stored_plays (with_given 65534 (new_stored_end head_1)) [] Open) ≡ Ok (User (event.Open 65535) ∷ [])
+  no_address : records_of (stored_plays (with_given 65535 (new_stored_end head_1)) [] Open) ≡ Err Full
   -- an answer wants a call, and then an address
-  no_address_for_the_answer : records_of (plays (with_given 65535 (end_b (play (script called)))) nothing_there (Accept 1)) ≡ Err Full
-  no_call_and_no_address : records_of (plays (with_given 65535 (end_b (play (script called)))) nothing_there (Accept 2)) ≡ Err BadStep
+  no_address_for_the_answer : records_of (stored_plays (with_given 65535 (end_b (stored_play (script called)))) [] (Accept 1)) ≡ Err Full
+  no_call_and_no_address : records_of (stored_plays (with_given 65535 (end_b (stored_play (script called)))) [] (Accept 2)) ≡ Err BadStep
   -- ---- data that lead from ASTRT to RUNNING and are taken bring ACK; the connect ack that goes first clears it
   data_in_astrt_bring_ack :
-      (end_b (play (script (a Start ∷ b Start ∷ a Send ∷ b Deliver ∷ b Send ∷ a Deliver ∷ a Open ∷ a Send ∷ b Deliver ∷ [])))).owed ≡ owes_ack
+      (end_b (stored_play (script (a Start ∷ b Start ∷ a Send ∷ b Deliver ∷ b Send ∷ a Deliver ∷ a Open ∷ a Send ∷ b Deliver ∷ [])))).station.owed
+      ≡ owes_ack
 
 computed : Rows
 unfolding playing

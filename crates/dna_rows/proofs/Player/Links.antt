@@ -3,7 +3,7 @@ use Rattle.std.proofs.Common.{true, false, [], ◌∷◌, ◌++◌}
 use Rattle.capture.specs.declared.record.Record.TheVariants.{Sent, Received, User}
 use Rattle.capture.specs.declared.event.Event.TheVariants as event
 use Rattle.dna_play.specs.Script.{Start, Halt, Send, Deliver, Open, Accept, Reject, In, Close, Retry}
-use Rattle.dna_play.specs.Stepped.{BadStep}
+use Rattle.dna_play.specs.Stop.{BadStep}
 use Rattle.dna_rows.proofs.Units.{STRT, STACK, ACK, CI, CC, CONNECT_ACK, DI, DC, ack, DATA_ACK, SEGMENT, carries, data_a, data_b}
 use Rattle.dna_rows.proofs.Captures.{acked_a, acked_b}
 use Rattle.dna_rows.proofs.Scripts.{a, b, Plays, Captures, StopsAt, running, called, confirmed, linked, playing}

@@ -2,7 +2,7 @@
 use Rattle.std.proofs.Common.{[], ◌∷◌, ◌++◌}
 use Rattle.std.specs.Prelude.{codes}
 use Rattle.dna_play.specs.Script.{Start, Halt, Timer, Send, Deliver, Refuse, Lose, Damage, Noise, Open}
-use Rattle.dna_play.specs.Stepped.{BadStep}
+use Rattle.dna_play.specs.Stop.{BadStep}
 use Rattle.dna_rows.proofs.Units.{hex}
 use Rattle.dna_rows.proofs.Scripts.{ASendsOne, BSendsOne, a, b, s, r, n, IsBad, ASends, BSends, Adds, Captures, StopsAt, running, called, playing}
 

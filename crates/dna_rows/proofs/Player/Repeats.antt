@@ -4,7 +4,7 @@ use Rattle.std.specs.Prelude.{codes}
 use Rattle.capture.specs.declared.record.Record.TheVariants.{User}
 use Rattle.capture.specs.declared.event.Event.TheVariants as event
 use Rattle.dna_play.specs.Script.{Send, Deliver, Open, Accept, Reject, In, Close, Retry}
-use Rattle.dna_play.specs.Stepped.{BadStep}
+use Rattle.dna_play.specs.Stop.{BadStep}
 use Rattle.dna_rows.proofs.Scripts.{ASendsOne, BSendsOne, a, b, s, k, IsBad, ASends, Adds, Captures, StopsAt, running, called, accepted, linked}
 use Rattle.dna_rows.proofs.Scripts.{rejected, playing}
 

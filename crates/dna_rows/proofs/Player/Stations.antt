@@ -3,7 +3,7 @@ use Rattle.std.proofs.Common.{true, false, [], ◌∷◌, ◌++◌}
 use Rattle.capture.specs.declared.record.Record.TheVariants.{Sent, Received, Noise as OfNoise, User}
 use Rattle.capture.specs.declared.event.Event.TheVariants as event
 use Rattle.dna_play.specs.Script.{Start, Halt, Timer, Send, Deliver, Refuse, Lose, Noise, Open}
-use Rattle.dna_play.specs.Stepped.{BadStep}
+use Rattle.dna_play.specs.Stop.{BadStep}
 use Rattle.dna_rows.proofs.Units.{STRT, STACK, ACK, NAK, REP, CI, CONNECT_ACK, data_a, data_b}
 use Rattle.dna_rows.proofs.Captures.{started, answered, acked_a, acked_b}
 use Rattle.dna_rows.proofs.Scripts.{a, b, Plays, Captures, StopsAt, running, playing}

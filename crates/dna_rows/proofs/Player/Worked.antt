@@ -5,7 +5,7 @@ use Rattle.capture.specs.declared.record.Record.{Record}
 use Rattle.capture.specs.declared.record.Record.TheVariants.{User}
 use Rattle.capture.specs.declared.event.Event.TheVariants as event
 use Rattle.dna_play.specs.Script.{ScriptStep, Start, Timer, Send, Deliver, Refuse, Lose, Damage, Noise, Open, Close}
-use Rattle.dna_play.specs.Stepped.{BadStep}
+use Rattle.dna_play.specs.Stop.{BadStep}
 use Rattle.dna_rows.proofs.Scripts.{a, b, s, r, k, n, Plays, Captures, StopsAt, playing}
 use Rattle.dna_rows.proofs.Layers.Rows.{player_example_a, player_example_b}
 

@@ -1,14 +1,18 @@
 -- How the links of an end are found without a look at all that ever were. An end keeps each link that ever was at its number, and looks at those
 -- that live.
 use Rattle.std.specs.Prelude.{◌≡◌, ℕ, zero, suc, Bool, true, false, List, [], ◌∷◌, Option, Some, None, length, slice_get, if◌then◌else◌}
+use Rattle.std.specs.List.{filter}
 use Rattle.dna_links.specs.declared.port.LinkTest.{LinkTest}
 use Rattle.dna_links.specs.declared.port.LinkTest.TheVariants.{HasAddress, LiveAt, TheLink, LiveTo, OpenedAt, CallingAt, CalledBy, BegunBy, ActedOn}
 use Rattle.dna_links.specs.LookUps.{is_live}
 use Rattle.dna_play.specs.LinkOwed.{Duty}
 use Rattle.dna_play.specs.NextSent.{LinkEnd, LinkChoice, Confirms, OfLink, duty_of}
-use Rattle.dna_play.specs.StoredEnd.{StoredLinks, live_ends}
+use Rattle.dna_play.specs.StoredEnd.{StoredLinks}
 
 -- those that live, of all that ever were
+abbrev pub live_ends : List LinkEnd → List LinkEnd
+live_ends links = filter (λ (l : LinkEnd). is_live l.port.phase) links
+
 abbrev pub live_of : StoredLinks → StoredLinks
 live_of s = record s { links = live_ends s.links }
 

@@ -2,7 +2,7 @@
 use Rattle.std.specs.Prelude.{ℕ, Result, Some}
 use Rattle.dna_station.specs.declared.head.Head.{Head}
 use Rattle.dna_play.specs.NextSent.{LinkChoice, SendNew}
-use Rattle.dna_play.specs.Stepped.{Stop}
+use Rattle.dna_play.specs.Stop.{Stop}
 use Rattle.dna_play.specs.StoredEnd.{StoredStation, StoredLinks, StoredEnd}
 use Rattle.dna_play.specs.StoredPlay.{StoredStepped, sends_choice}
 use Rattle.player_end.specs.inner.Index.{among_live, live_of}

@@ -6,7 +6,7 @@ ghost use Rattle.dna_packet.specs.Nsp.{nsp_bytes};
 ghost use Rattle.dna_packet.specs.Nsp as nsp;
 ghost use Rattle.dna_play.specs.NextSent.{LinkEnd as StoredLink, first_duty, link_choice, duty_of};
 ghost use Rattle.dna_play.specs.Compose.{link_message, message_at};
-ghost use Rattle.dna_play.specs.StoredEnd.{live_ends};
+ghost use Rattle.player_end.specs.inner.Index.{live_ends};
 ghost use Rattle.dna_play.specs.StoredLinks.{after_sent};
 ghost use Rattle.dna_play.specs.StoredLinks as stored;
 ghost use Rattle.player_end.specs.inner.Index.{AreMarked, LivesAt, among_live, live_of, place_among};

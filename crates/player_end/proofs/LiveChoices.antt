@@ -17,8 +17,8 @@ use Rattle.dna_play.specs.NextSent.{LinkEnd, LinkChoice, Confirms, OfLink, duty_
 use Rattle.dna_play.specs.NextSent.{SendStack, SendNak, SendRep, SendAgain, SendNew, SendAck, when, or_else, lowest_nak, new_packet, data_choice}
 use Rattle.dna_play.specs.NextSent.{choice_in, choice}
 use Rattle.dna_play.specs.Compose.{new_data, message_at, link_message, message_of}
-use Rattle.dna_play.specs.StoredEnd.{live_ends}
-use Rattle.dna_play.proofs.Stored.LiveLists.{place_in, filter_get}
+use Rattle.player_end.specs.inner.Index.{live_ends}
+use Rattle.player_end.proofs.LiveLists.{place_in, filter_get}
 
 abbrev pub lives : LinkEnd → Bool
 lives l = is_live l.port.phase

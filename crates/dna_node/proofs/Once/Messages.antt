@@ -20,7 +20,7 @@ use Rattle.dna_links.specs.TrueLinks.{Links}
 use Rattle.dna_links.proofs.Runs.Reads.{at_is}
 use Rattle.dna_links.proofs.Tables.Outcomes.{looked, checked, SentDid, OfNone, Stays, EndsCalled, Segment, Acks, IsFound, Connects, ArrivedDid}
 use Rattle.dna_links.proofs.Tables.Outcomes.{Ignores, Begins, Confirms, Ends, TakesSegment, TakesAcks, TakesOther}
-use Rattle.dna_play.proofs.Once.Addresses.{LinkList, Owner, owner_kept, KeepsAddresses, AreAddressed, LeavesAddressed, one_left, one_kept, one_more}
+use Rattle.dna_node.proofs.Once.Addresses.{LinkList, Owner, owner_kept, KeepsAddresses, AreAddressed, LeavesAddressed, one_left, one_kept, one_more}
 use Rattle.std.proofs.lemmas.Option.{same_Some}
 use Rattle.dna_links.specs.declared.port.Phase.TheVariants.{Running}
 

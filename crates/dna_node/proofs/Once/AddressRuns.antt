@@ -18,12 +18,12 @@ use Rattle.dna_links.specs.TrueLinks.{Links, links_arrived}
 use Rattle.dna_links.specs.Captures.{given_address}
 use Rattle.dna_links.specs.Runs.{SentMessage, LinkSide, LinkWorld, LinkStep, ByUser, Sends, SendsNone, Keeps, KeepsNone, Reached, Start, ByA, ByB}
 use Rattle.dna_links.specs.Runs.{sends, new_world}
-use Rattle.dna_play.proofs.Once.Orderly.{higher, highest, AddressesRise, highest-join}
+use Rattle.dna_node.proofs.Once.Orderly.{higher, highest, AddressesRise, highest-join}
 use Rattle.two_nodes.proofs.NumberedSteps.{at_pushed}
 use Rattle.dna_links.proofs.Runs.Reads.{at_is}
 use Rattle.dna_links.proofs.Tables.Outcomes.{IsFound, looked, checked, user_did, sent_did, arrived_did}
-use Rattle.dna_play.proofs.Once.Addresses.{AreAddressed, none_addressed, addressed_beside, user_addressed, AtNodes, LeavesAddressed}
-use Rattle.dna_play.proofs.Once.Messages.{source, target, IsAddressed, message_kept, sent_from, sent_stays, came_stays, same_links}
+use Rattle.dna_node.proofs.Once.Addresses.{AreAddressed, none_addressed, addressed_beside, user_addressed, AtNodes, LeavesAddressed}
+use Rattle.dna_node.proofs.Once.Messages.{source, target, IsAddressed, message_kept, sent_from, sent_stays, came_stays, same_links}
 
 -- of one side beside the other, where this is the highest address that it gave
 pub record IsAddressedSide (own other : LinkSide) (most : ℕ) : Type 0 where

@@ -1,55 +1,11 @@
--- Items of a list that pass a test, beside all of them: which is found first, and what a change of one item makes of those that pass.
-use Rattle.std.proofs.Common.{◌≡◌, ℕ, zero, suc, ◌+◌, ◌<◌, ◌≤◌, Bool, true, false, not, ltb, cond, Option, Some, None, List, [], ◌∷◌, ◌++◌, length}
-use Rattle.std.proofs.Common.{position, refl, sym, ap, ◌∙◌, arith, lt-ltb, le-ltb, ◌⊎◌, inl, inr, option_map}
+-- Items of a list that pass a test, beside all of them: what a change of one item makes of those that pass.
+use Rattle.std.proofs.Common.{◌≡◌, ℕ, zero, suc, Bool, true, false, cond, Option, Some, None, List, [], ◌∷◌, ◌++◌, position, refl, sym, ap, ◌∙◌}
+use Rattle.std.proofs.Common.{option_map}
 use Rattle.std.specs.Prelude.{slice_get, slice_set}
-use Rattle.std.specs.List.{filter, prefix_len, remove}
-use Rattle.std.proofs.lemmas.Bool.{cases_lt}
+use Rattle.std.specs.List.{filter, remove}
 use Rattle.std.proofs.lemmas.Option.{same_Some}
 use Rattle.std.proofs.lemmas.List.Elements.{filter-append}
-
--- ---- one item
-
-module _ {X : Type 0} where
-  -- an item that is set where it stands
-  pub set_back : (xs : List X) (n : ℕ) (x : X) → slice_get xs n ≡ Some x → slice_set xs n x ≡ xs
-  set_back [] n x at = refl
-  set_back (y ∷ xs) zero x at = ap (λ (z : X). z ∷ xs) (sym (same_Some y x at))
-  set_back (y ∷ xs) (suc n) x at = ap (λ (zs : List X). y ∷ zs) (set_back xs n x at)
-
--- ---- the first item that is found
-
-module _ {X : Type 0} (test : X → Bool) where
-  -- it is this place, so far in front of the end
-  abbrev found_at : (place count : ℕ) → Option ℕ
-  found_at place count = cond (ltb place count) (Some place) None
-
-  abbrev first_of : List X → ℕ
-  first_of xs = prefix_len (λ (y : X). not (test y)) xs
-
-  pub position_here : (x : X) (xs : List X) → test x ≡ true → position test (x ∷ xs) ≡ Some 0
-  position_here x xs passes =
-      ap (λ (b : Bool). found_at (cond (not b) (1 + first_of xs) 0) (suc (length xs))) passes
-      ∙ ap (λ (b : Bool). cond b (Some 0) None) (lt-ltb 0 (suc (length xs)) (omega arith))
-
-  later : (k count : ℕ) → found_at (1 + k) (suc count) ≡ option_map suc (found_at k count)
-  later k count = go (cases_lt k count)
-    where
-      next : 1 + k ≡ suc k
-      next = omega arith
-
-      go : (k < count) ⊎ (count ≤ k) → found_at (1 + k) (suc count) ≡ option_map suc (found_at k count)
-      go (inl l) =
-          ap (λ (b : Bool). cond b (Some (1 + k)) None) (lt-ltb (1 + k) (suc count) (omega arith)) ∙ ap Some next
-          ∙ sym (ap (λ (b : Bool). option_map suc (cond b (Some k) None)) (lt-ltb k count l))
-      go (inr m) =
-          ap (λ (b : Bool). cond b (Some (1 + k)) None) (le-ltb (1 + k) (suc count) (omega arith))
-          ∙ sym (ap (λ (b : Bool). option_map suc (cond b (Some k) None)) (le-ltb k count m))
-
-  pub position_later : (x : X) (xs : List X) → test x ≡ false → position test (x ∷ xs) ≡ option_map suc (position test xs)
-  position_later x xs fails =
-      ap (λ (b : Bool). found_at (cond (not b) (1 + first_of xs) 0) (suc (length xs))) fails ∙ later (first_of xs) (length xs)
-
--- ---- those that pass
+use Rattle.dna_play.proofs.Links.Lists.{position_here, position_later}
 
 module _ {X : Type 0} (p : X → Bool) where
   -- how many pass in front of a place: the place among those that pass
@@ -70,6 +26,7 @@ module _ {X : Type 0} (p : X → Bool) where
       go false rest = rest
 
   -- one that passes changes, and passes still
+
   pub filter_set : (xs : List X) (n : ℕ) (x z : X) → slice_get xs n ≡ Some x → p x ≡ true → p z ≡ true →
       filter p (slice_set xs n z) ≡ slice_set (filter p xs) (place_in n xs) z
   filter_set [] n x z at passes still = absurd cc

@@ -26,7 +26,7 @@ use Rattle.dna_station.specs.Line.{SentUnit}
 use Rattle.dna_station.specs.Node.{Node}
 use Rattle.dna_station.specs.Pair.{pair}
 use Rattle.dna_links.proofs.Runs.Sides.{all_pushed}
-use Rattle.dna_play.proofs.Once.Orderly.{starts_in, starts, starts-join}
+use Rattle.dna_node.proofs.Once.Orderly.{starts_in, starts, starts-join}
 use Rattle.dna_station.proofs.Steps.Effects.{sending_stays, by_response, by_packet, by_rep, arrival_stays}
 use Rattle.dna_station.proofs.Steps.Happens.{Happens, ComesOf, Itself, BadHeader, BadData, Nothing, UserEvent, Sending, Receipt, Counted, Unheard}
 use Rattle.dna_station.proofs.Steps.Happens.{happens, event_of}

@@ -1,5 +1,5 @@
 use Rattle.dna_play.proofs.Stored.Law.{whole_kept, stopped_kept}
-use Rattle.dna_play.proofs.laws.stored_ends_play_the_same.Goals as goal
+use Rattle.dna_play.proofs.laws.nodes_make_what_ends_make.Goals as goal
 
 pub returns : goal.returns
 returns c = record {

@@ -8,7 +8,7 @@ use Rattle.dna_station.specs.PeriodRule.{is_period, meets}
 use Rattle.dna_station.specs.Station.{Station}
 use Rattle.dna_station.specs.Truth.{tag_of}
 use Rattle.dna_station.specs.Line.{SentUnit}
-use Rattle.dna_play.proofs.Once.Starts.{is_on, goes_with, is_strt, IsBegun, UnitBegun}
+use Rattle.dna_node.proofs.Once.Starts.{is_on, goes_with, is_strt, IsBegun, UnitBegun}
 
 -- the one period
 only : (known : Option ℕ) (periods period : ℕ) → IsBegun known periods → periods ≤ 1 → 1 ≤ period → period ≤ 1 → is_period known period ≡ true

@@ -33,15 +33,14 @@ use Rattle.dna_station.specs.Machine.{met, comes, receives, sent_step, noise_ste
 use Rattle.dna_links.specs.TrueLinks.{Links, links_arrived}
 use Rattle.dna_links.specs.Runs.{SentMessage}
 use Rattle.dna_node.specs.Layers.{Layers, LayersNode, LayersUnit, with_links, keeps, meets_on, layers_machine, stations, unit_of_station}
-use Rattle.dna_node.specs.LayersPair.{layers_pair, layers_start, link_event_in, link_events, side_of}
-use Rattle.dna_play.proofs.Once.Orderly.{AddressesRise, IsOrderly, starts-join}
-use Rattle.dna_play.specs.PlayRun.{player_pair}
+use Rattle.dna_node.specs.LayersPair.{layers_pair, layers_start, link_event_in, link_events, side_of, bytes_pair}
+use Rattle.dna_node.proofs.Once.Orderly.{AddressesRise, IsOrderly, starts-join}
 use Rattle.dna_station.proofs.Bounds.Numbers.{is_data}
 use Rattle.dna_node.proofs.OnTop.{of_stations, lifted}
 use Rattle.dna_node.proofs.Joined.{AreTold, LayersJoined, joined_kept, start_joined}
-use Rattle.dna_play.proofs.Once.Starts.{AreBegun, BothBegun, begun_kept}
-use Rattle.dna_play.proofs.Once.Meets.{meets_always}
-use Rattle.dna_play.proofs.Once.AddressRuns.{IsAddressedSide, reached_addressed, rise_parts, anyone_same}
+use Rattle.dna_node.proofs.Once.Starts.{AreBegun, BothBegun, begun_kept}
+use Rattle.dna_node.proofs.Once.Meets.{meets_always}
+use Rattle.dna_node.proofs.Once.AddressRuns.{IsAddressedSide, reached_addressed, rise_parts, anyone_same}
 use Rattle.two_nodes.specs.Kept.{IsKept}
 
 -- a row that takes a packet is of data
@@ -228,7 +227,7 @@ module _ (head_a head_b : Head) where
   abbrev IsChecked : World LayersNode LayersUnit → List Record → List Record → Type 0
   IsChecked w of_a of_b = IsOrderly of_a → IsOrderly of_b → Run layers_pair (layers_start head_a head_b) of_a of_b w
 
-  checked_kept : IsKept player_pair IsChecked
+  checked_kept : IsKept bytes_pair IsChecked
   checked_kept = record {
     by_a = λ w made_a made_b r h now made orderly_a orderly_b.
         let first = orderly_first made_a (r ∷ []) orderly_a in
@@ -241,6 +240,6 @@ module _ (head_a head_b : Head) where
   }
 
   -- the run of nodes that ask no rule on tags is one of nodes that do
-  pub is_checked_run : {end : World LayersNode LayersUnit} (of_a of_b : List Record) → Run player_pair (layers_start head_a head_b) of_a of_b end →
+  pub is_checked_run : {end : World LayersNode LayersUnit} (of_a of_b : List Record) → Run bytes_pair (layers_start head_a head_b) of_a of_b end →
       IsOrderly of_a → IsOrderly of_b → Run layers_pair (layers_start head_a head_b) of_a of_b end
-  is_checked_run of_a of_b run = lasts player_pair IsChecked checked_kept [] [] (λ orderly_a orderly_b. Done) run
+  is_checked_run of_a of_b run = lasts bytes_pair IsChecked checked_kept [] [] (λ orderly_a orderly_b. Done) run

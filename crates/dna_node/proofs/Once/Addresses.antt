@@ -15,7 +15,7 @@ use Rattle.dna_links.specs.User.{LinkEventValue, opened, answered}
 use Rattle.dna_links.specs.TrueSegments.{TrueSegments, true_segments}
 use Rattle.dna_links.specs.TrueLinks.{Links}
 use Rattle.dna_links.specs.Captures.{given_address}
-use Rattle.dna_play.proofs.Once.Orderly.{IsHigher, higher}
+use Rattle.dna_node.proofs.Once.Orderly.{IsHigher, higher}
 use Rattle.two_nodes.proofs.NumberedSteps.{at_pushed}
 use Rattle.dna_links.proofs.Runs.Reads.{at_is}
 use Rattle.dna_links.proofs.Tables.Outcomes.{looked, UserDid, Opens, Accepts, Rejects, HandsIn, Delivers, Closes}

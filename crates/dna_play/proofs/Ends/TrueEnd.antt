@@ -1,0 +1,76 @@
+-- An end with its node beside it, as the proofs see it: the station variables that it keeps are read off the node, and so is its head.
+use Rattle.std.specs.Prelude.{ℕ, ◌+◌, Bool, false, Option, List, [], map, drop}
+use Rattle.two_nodes.specs.Nodes.{Half}
+use Rattle.ddcmp_msg.specs.Reading.{ReadingValue, Sound}
+use Rattle.dna_station.specs.declared.head.Head.{Head}
+use Rattle.dna_station.specs.Station.{Station}
+use Rattle.dna_station.specs.Cut.{cut}
+use Rattle.dna_station.specs.WireStation.{StationVariables}
+use Rattle.dna_station.specs.WireNode.{unlabelled}
+use Rattle.dna_links.specs.TrueLinks.{Links}
+use Rattle.dna_node.specs.Layers.{LayersNode, LayersUnit, new_layers_node}
+use Rattle.dna_play.specs.Owed.{Owed, Debt, can_take, still_owed}
+use Rattle.dna_play.specs.Owed as owing
+use Rattle.dna_play.specs.StoredEnd.{StoredEnd, StoredLinks, no_stored_links}
+
+pub record End : Type 0 where
+  -- its node, and all units that it ever sent
+  pub half : Half LayersNode LayersUnit
+  pub owed : Owed
+  pub links : StoredLinks
+  pub addresses : ℕ
+  pub passed : ℕ
+
+abbrev pub new_end : Head → End
+new_end head = record {
+  half = record { state = new_layers_node head; sent = [] };
+  owed = owing.nothing;
+  links = no_stored_links;
+  addresses = 0;
+  passed = 0;
+}
+
+abbrev pub station_of : Half LayersNode LayersUnit → Station
+station_of half = half.state.station.station
+
+abbrev pub links_of : Half LayersNode LayersUnit → Links
+links_of half = half.state.station.links
+
+-- the station variables of the node. No packet has a label
+abbrev pub variables_of : Half LayersNode LayersUnit → StationVariables (Unit {0})
+variables_of half = (cut (unlabelled (station_of half).packets) (station_of half)).variables
+
+-- what the end keeps
+abbrev pub stored : End → StoredEnd
+stored e = record {
+  head = e.half.state.head;
+  station = record { variables = variables_of e.half; owed = e.owed };
+  links = e.links;
+  addresses = e.addresses;
+  passed = e.passed;
+}
+
+-- after a record, with these links: what its station still owes
+abbrev pub after_record : End → Half LayersNode LayersUnit → StoredLinks → End
+after_record e half links = record e { half = half; owed = still_owed (variables_of e.half) (variables_of half) e.owed; links = links }
+
+-- one more thing is owed, and a unit is off the line
+abbrev pub owing_more : Option Debt → End → End
+owing_more debt e = record e { owed = owing.with_debt debt e.owed }
+
+abbrev pub passing : End → End
+passing e = record e { passed = e.passed + 1 }
+
+-- whether the packet of what came can be taken
+abbrev pub can_keep : End → ReadingValue → Bool
+can_keep e (Sound m) = can_take (variables_of e.half) m
+can_keep e read = false
+
+-- ---- the line
+
+abbrev pub bytes_of : List LayersUnit → List (List ℕ)
+bytes_of units = map (λ (unit : LayersUnit). unit.bytes) units
+
+-- what the other end sent and has not passed yet
+abbrev pub coming : End → Half LayersNode LayersUnit → List (List ℕ)
+coming e other = drop e.passed (bytes_of other.sent)

@@ -1,0 +1,50 @@
+-- An item that is set where it stands, and the first item of a list that passes a test.
+use Rattle.std.proofs.Common.{◌≡◌, ℕ, zero, suc, ◌+◌, ◌<◌, ◌≤◌, Bool, true, false, not, ltb, cond, Option, Some, None, List, [], ◌∷◌, length}
+use Rattle.std.proofs.Common.{position}
+use Rattle.std.proofs.Common.{refl, sym, ap, ◌∙◌, arith, lt-ltb, le-ltb, ◌⊎◌, inl, inr, option_map}
+use Rattle.std.specs.Prelude.{slice_get, slice_set}
+use Rattle.std.specs.List.{prefix_len}
+use Rattle.std.proofs.lemmas.Bool.{cases_lt}
+use Rattle.std.proofs.lemmas.Option.{same_Some}
+
+-- ---- one item
+
+module _ {X : Type 0} where
+  -- an item that is set where it stands
+  pub set_back : (xs : List X) (n : ℕ) (x : X) → slice_get xs n ≡ Some x → slice_set xs n x ≡ xs
+  set_back [] n x at = refl
+  set_back (y ∷ xs) zero x at = ap (λ (z : X). z ∷ xs) (sym (same_Some y x at))
+  set_back (y ∷ xs) (suc n) x at = ap (λ (zs : List X). y ∷ zs) (set_back xs n x at)
+
+-- ---- the first item that is found
+
+module _ {X : Type 0} (test : X → Bool) where
+  -- it is this place, so far in front of the end
+  abbrev found_at : (place count : ℕ) → Option ℕ
+  found_at place count = cond (ltb place count) (Some place) None
+
+  abbrev first_of : List X → ℕ
+  first_of xs = prefix_len (λ (y : X). not (test y)) xs
+
+  pub position_here : (x : X) (xs : List X) → test x ≡ true → position test (x ∷ xs) ≡ Some 0
+  position_here x xs passes =
+      ap (λ (b : Bool). found_at (cond (not b) (1 + first_of xs) 0) (suc (length xs))) passes
+      ∙ ap (λ (b : Bool). cond b (Some 0) None) (lt-ltb 0 (suc (length xs)) (omega arith))
+
+  later : (k count : ℕ) → found_at (1 + k) (suc count) ≡ option_map suc (found_at k count)
+  later k count = go (cases_lt k count)
+    where
+      next : 1 + k ≡ suc k
+      next = omega arith
+
+      go : (k < count) ⊎ (count ≤ k) → found_at (1 + k) (suc count) ≡ option_map suc (found_at k count)
+      go (inl l) =
+          ap (λ (b : Bool). cond b (Some (1 + k)) None) (lt-ltb (1 + k) (suc count) (omega arith)) ∙ ap Some next
+          ∙ sym (ap (λ (b : Bool). option_map suc (cond b (Some k) None)) (lt-ltb k count l))
+      go (inr m) =
+          ap (λ (b : Bool). cond b (Some (1 + k)) None) (le-ltb (1 + k) (suc count) (omega arith))
+          ∙ sym (ap (λ (b : Bool). option_map suc (cond b (Some k) None)) (le-ltb k count m))
+
+  pub position_later : (x : X) (xs : List X) → test x ≡ false → position test (x ∷ xs) ≡ option_map suc (position test xs)
+  position_later x xs fails =
+      ap (λ (b : Bool). found_at (cond (not b) (1 + first_of xs) 0) (suc (length xs))) fails ∙ later (first_of xs) (length xs)
