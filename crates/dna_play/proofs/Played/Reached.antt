@@ -54,6 +54,7 @@ after_a so_far step made half = let pair = so_far.ends.pair in record {
   nodes = record so_far.nodes { a = half };
 }
 
+-- by its end, and by the node beside it
 pub data StepOfA (so_far : Played) (step : StepValue) : Played → Type 0 where
   OfStep : (made : StoredStepped) (half : PlayHalf) → stored_plays so_far.ends.pair.a so_far.ends.pair.to_a step ≡ Ok made →
       MakesAll so_far.nodes.b so_far.nodes.a made.records half → StepOfA so_far step (after_a so_far step made half)
@@ -73,6 +74,7 @@ abbrev StepAt : Side → Played → StepValue → Played → Type 0
 StepAt A so_far step next = StepOfA so_far step next
 StepAt B so_far step next = StepOfA (exchanged so_far) step (exchanged next)
 
+-- the node makes the records, or not
 by_half : (Q : Played → Type 0) (ends : StoredPlayed) (nodes : PlayHalf → World LayersNode LayersUnit) (o : Option PlayHalf) →
     ((half : PlayHalf) → o ≡ Some half → Q (record { ends = ends; nodes = nodes half })) → IfMade Q (with_nodes ends (option_map nodes o))
 by_half Q ends nodes None all = tt
@@ -122,11 +124,13 @@ exchanged_progress p =
 abbrev pub one_more : StepValue → Progress → Progress
 one_more step p = record p { starts_a = p.starts_a + starts_now step; steps = p.steps + 1 }
 
+-- what is kept by each step of side a that is made, and holds too with the sides exchanged
 module _ (Holds : Progress → Played → Type 0)
     (exchange : (p : Progress) (so_far : Played) → Holds p so_far → Holds (exchanged_progress p) (exchanged so_far))
     (Fits : ScriptStep → Type 0)
     (keeps : (p : Progress) (so_far next : Played) (step : ScriptStep) → Fits step → StepOfA so_far step.step next → Holds p so_far →
     Holds (one_more step.step p) next) where
+  -- with the counts of all steps that were made
   counts_as : (script : Script) (first : List ScriptStep) (step : ScriptStep) (next : Played) (n m : ℕ) →
       starts_of A first + (starts_at A step.side step.step + 0) ≡ n → starts_of B first + (starts_at B step.side step.step + 0) ≡ m →
       Holds (record (progress_of script first) { starts_a = n; starts_b = m; steps = length first + 1 }) next →
@@ -181,6 +185,7 @@ module _ (script : Script) where
     pub few : stopped.steps ≤ length script.steps
     pub stops : plays_step stopped.so_far step ≡ Err stopped.stop
 
+  -- behind the first steps
   stops_at : (first : List ScriptStep) (so_far : Played) (step : ScriptStep) (later : List ScriptStep) →
       Reached script first (step ∷ later) so_far → (stop : Stop) → plays_step so_far step ≡ Err stop →
       StopsAt (record { steps = length first; stop = stop; so_far = so_far })

@@ -96,6 +96,7 @@ module _ (both : TrueEnds) (steps : ℕ) (a : IsAt both.a both.b steps) (b : IsA
   passed_then : m.after.passed ≡ both.a.passed + off_line step
   passed_then = ap (λ (e : StoredEnd). e.passed) m.same ∙ left.passed
 
+  -- both with what the step makes of side a
   abbrev then_played : StoredEnd → (to_a to_b : List (List ℕ)) → PlayHalf → Played
   then_played e to_a to_b own = record {
     ends = record {
@@ -141,6 +142,7 @@ stages_keep p so_far s step fits (OfStep made half is makes) =
 
 -- ---- all steps
 
+-- what is kept where no side starts twice
 abbrev Stands : Progress → Played → Type 0
 Stands p so_far = Allowed p → Standing p so_far
 
