@@ -95,13 +95,10 @@ a_run text r h once =
     let found = of_truth text r h once in
     let so_far : Played = found.0 in
     let makes = found.1.makes in
-    let same_a : so_far.of_a ≡ r.played.of_a = ap (λ (p : StoredPlayed). p.of_a) found.1.keeps in
-    let same_b : so_far.of_b ≡ r.played.of_b = ap (λ (p : StoredPlayed). p.of_b) found.1.keeps in
     let texts = all_texts text r h in
     record {
-      run = subst (λ (of_a : List Record). IsLayersRun (head_a r.script) (head_b r.script) of_a r.played.of_b) same_a
-          (subst (λ (of_b : List Record). IsLayersRun (head_a r.script) (head_b r.script) so_far.of_a of_b) same_b
-          (_, whole_is_run r.script so_far makes once));
+      run = subst (λ (p : StoredPlayed). IsLayersRun (head_a r.script) (head_b r.script) p.of_a p.of_b) found.1.keeps
+          (_, whole_is_run r.script so_far makes once);
       is_text_a = texts.is_text_a;
       is_text_b = texts.is_text_b;
     }
