@@ -8,15 +8,11 @@ pub mod OwedPays
 -- what it chooses to send it sends
 pub mod UnitLines
 pub mod SendMakes
-pub mod Sends
 -- all this is kept by each thing that happens
 pub mod StationOwes
 pub mod StationStage
 pub mod Stage
 pub mod ReceiptStage
-pub mod User
 pub mod SendStage
 -- messages that are whole go to the user
 pub mod UpsFollow
--- records of what comes have lines
-pub mod ComesLined

@@ -1,3 +1,6 @@
+-- lists of bytes, and what holds of each element of a list
+pub mod Bytes
+pub mod EachElement
 -- whole scripts
 pub mod Played
 -- what holds of the links of an end

@@ -1,9 +1,7 @@
--- What holds of the links of an end: what they choose to send they may send
+-- What holds of the links of an end: what they are and owe, how one is found, and a DC that is owed
 pub mod Lists
-pub mod SegmentsPay
 pub mod Pays
 pub mod Confirms
-pub mod SegmentsDid
 -- what they owe goes with their phases, and what these ask
 pub mod Owing
 pub mod Fits
@@ -15,8 +13,10 @@ pub mod Stage
 pub mod Choices
 -- what the user may do is done; of a message that is sent, and of one that comes
 pub mod Made
+pub mod SegmentsPay
 pub mod Duties
 pub mod Sent
 pub mod Comes
--- pieces that wait
-pub mod WaitingPieces
+-- what holds behind each change of them, and pieces that wait
+pub mod Looked
+pub mod Waiting

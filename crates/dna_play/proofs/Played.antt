@@ -2,6 +2,7 @@
 pub mod Steps
 pub mod Order
 pub mod Walk
+pub mod Behind
 pub mod Reached
 pub mod PlayLines
 pub mod Runs
@@ -13,7 +14,6 @@ pub mod SentLined
 pub mod SidesLined
 pub mod Facts
 -- their captures have few records
-pub mod WaitingRecords
 pub mod FewRecords
 -- the next step goes by its rule
 pub mod Stages

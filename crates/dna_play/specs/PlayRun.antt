@@ -43,8 +43,8 @@ pub record IsOfNode (e : StoredEnd) (half : Half LayersNode LayersUnit) : Type 0
   pub links : map of_end e.links.links ≡ map of_link (live_links half.state.station.links.links)
 
 pub record AreOfNodes (played : Played) : Type 0 where
-  pub of_a : IsOfNode played.ends.pair.a played.nodes.a
-  pub of_b : IsOfNode played.ends.pair.b played.nodes.b
+  pub of_a : IsOfNode played.ends.pair.a.end played.nodes.a
+  pub of_b : IsOfNode played.ends.pair.b.end played.nodes.b
 
 -- how often a side is started by these steps
 abbrev pub starts_now : StepValue → ℕ

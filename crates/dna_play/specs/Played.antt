@@ -1,7 +1,7 @@
 -- What ends with a node beside each make of a script. A node is one of a judge, on true numbers, but for the two rules that it alone asks; it makes
 -- each record of its end, and a step whose record it can't make, or that would have no line in a capture, can't be made.
-use Rattle.std.specs.Prelude.{ℕ, ◌+◌, if◌then◌else◌, Option, Some, None, option_map, option_and_then, List, [], ◌∷◌, Result, Ok, Err}
-use Rattle.two_nodes.specs.Nodes.{Answer, Half, World, Outcome, Made, Waits, Refused, advance}
+use Rattle.std.specs.Prelude.{if◌then◌else◌, Option, Some, None, option_map, option_and_then, ok_or, List, [], ◌∷◌, Result, Ok, Err}
+use Rattle.two_nodes.specs.Nodes.{Answer, Half, World, Outcome, Made, advance}
 use Rattle.wire_base.specs.declared.side.Side.{Side}
 use Rattle.wire_base.specs.declared.side.Side.TheVariants.{A, B}
 use Rattle.capture.specs.declared.record.Record.{Record}
@@ -11,10 +11,11 @@ use Rattle.dna_station.specs.Machine.{step}
 use Rattle.dna_node.specs.TagRules.{by_bytes}
 use Rattle.dna_node.specs.Layers.{LayersNode, LayersUnit, layers_machine}
 use Rattle.dna_node.specs.LayersPair.{layers_start}
-use Rattle.dna_play.specs.Script.{ScriptStep, Script}
+use Rattle.dna_play.specs.Script.{StepValue, ScriptStep, Script}
 use Rattle.dna_play.specs.HasLine.{has_line}
-use Rattle.dna_play.specs.Stop.{Stop, BadStep}
-use Rattle.dna_play.specs.StoredPlayed.{StoredMade, StoredPlayed, StoredStopped, stored_plays_step, with_records, stored_not_begun}
+use Rattle.dna_play.specs.Stop.{Stop, BadStep, Stopped, plays_all}
+use Rattle.dna_play.specs.StoredPlay.{StoredStepped}
+use Rattle.dna_play.specs.StoredPlayed.{StoredPlayed, stored_plays_step, played_after, stored_not_begun}
 
 -- ---- the records of one end
 
@@ -24,8 +25,7 @@ end_step n r = step (layers_machine by_bytes) n r
 
 abbrev pub made_half : Outcome LayersNode LayersUnit StepRefusal → Option (Half LayersNode LayersUnit)
 made_half (Made half) = Some half
-made_half Waits = None
-made_half (Refused refusal) = None
+made_half outcome = None
 
 -- a record that has a line, beside the other node
 abbrev pub makes : (own other : Half LayersNode LayersUnit) → Record → Option (Half LayersNode LayersUnit)
@@ -58,39 +58,20 @@ abbrev pub by_node : World LayersNode LayersUnit → Side → List Record → Op
 by_node nodes A records = option_map (λ (half : Half LayersNode LayersUnit). record nodes { a = half }) (makes_all nodes.a nodes.b records)
 by_node nodes B records = option_map (λ (half : Half LayersNode LayersUnit). record nodes { b = half }) (makes_all nodes.b nodes.a records)
 
-abbrev pub with_nodes : StoredPlayed → Option (World LayersNode LayersUnit) → Result Played Stop
-with_nodes ends None = Err BadStep
-with_nodes ends (Some nodes) = Ok (record { ends = ends; nodes = nodes })
-
-abbrev pub made_by : Played → Side → Result StoredMade Stop → Result Played Stop
-made_by so_far side (Ok made) = with_nodes (with_records so_far.ends side made) (by_node so_far.nodes side made.records)
-made_by so_far side (Err stop) = Err stop
+-- where they make the records of a step, too
+abbrev pub made_by : Played → Side → StepValue → Result StoredStepped Stop → Result Played Stop
+made_by so_far side step (Ok made) = ok_or (option_map (λ (nodes : World LayersNode LayersUnit).
+    record { ends = played_after so_far.ends side step made; nodes = nodes }) (by_node so_far.nodes side made.records)) BadStep
+made_by so_far side step (Err stop) = Err stop
 
 unfoldable pub plays_step : Played → ScriptStep → Result Played Stop
-plays_step so_far step = made_by so_far step.side (stored_plays_step so_far.ends.pair step)
-
--- ---- all steps
-
--- how many steps were made, what stops the one behind them, and all that they made
-pub record Stopped : Type 0 where
-  pub steps : ℕ
-  pub stop : Stop
-  pub so_far : Played
-
-abbrev pub if_made : Result Played Stop → (Played → Result Played Stopped) → (Stop → Stopped) → Result Played Stopped
-if_made (Ok so_far) next stopped = next so_far
-if_made (Err stop) next stopped = Err (stopped stop)
-
-abbrev pub plays_all : (steps : ℕ) → Played → List ScriptStep → Result Played Stopped
-plays_all steps so_far [] = Ok so_far
-plays_all steps so_far (step ∷ later) = if_made (plays_step so_far step) (λ next. plays_all (steps + 1) next later)
-    (λ stop. record { steps = steps; stop = stop; so_far = so_far })
+plays_step so_far step = made_by so_far step.side step.step (stored_plays_step so_far.ends.pair step)
 
 -- what both ends make with their nodes, or the first step that can't be made
-abbrev pub play : Script → Result Played Stopped
-play script = plays_all 0 (not_begun script) script.steps
+abbrev pub play : Script → Result Played (Stopped Played)
+play script = plays_all plays_step 0 (not_begun script) script.steps
 
 -- the ends alone
-abbrev pub ends_of : Result Played Stopped → Result StoredPlayed StoredStopped
+abbrev pub ends_of : Result Played (Stopped Played) → Result StoredPlayed (Stopped StoredPlayed)
 ends_of (Ok played) = Ok played.ends
 ends_of (Err stopped) = Err (record { steps = stopped.steps; stop = stopped.stop; so_far = stopped.so_far.ends })

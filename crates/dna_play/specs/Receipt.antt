@@ -1,6 +1,6 @@
 -- What comes to an end of the player off the line: the message of the links in it, what is whole then, and how a unit is damaged.
 use Rattle.std.specs.Prelude.{ℕ, Bool, true, ◌&&◌, nat_lt, nat_le, bit_xor, if◌then◌else◌, Option, Some, None, List, [], ◌∷◌, ◌++◌, length}
-use Rattle.std.specs.Prelude.{slice_index, slice_set, Result, Ok, Err}
+use Rattle.std.specs.Prelude.{slice_index, slice_set, Result, Ok}
 use Rattle.ddcmp_msg.specs.Reading.{ReadingValue, Sound}
 use Rattle.dna_packet.specs.Nsp.{NspValue}
 use Rattle.dna_station.specs.declared.refusal.StepRefusal.{StepRefusal}
@@ -18,8 +18,7 @@ complete begun (Some p ∷ later) = if p.ends then (begun ++ p.body) ∷ complet
 -- the message of the links in a packet that was kept
 abbrev pub carried_in : Result (Option Carried) StepRefusal → Option NspValue
 carried_in (Ok (Some packet)) = Some packet.message
-carried_in (Ok None) = None
-carried_in (Err refusal) = None
+carried_in read = None
 
 abbrev pub carried : (kept : Bool) → ReadingValue → Option NspValue
 carried true (Sound m) = carried_in (content (body_of m))

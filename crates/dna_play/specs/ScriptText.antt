@@ -8,7 +8,7 @@ use Rattle.capture.specs.declared.fault.Departure.{Departure}
 use Rattle.capture.specs.declared.fault.Departure.TheVariants.{Syntax, TooLong, TooMany}
 use Rattle.capture.specs.Text.{bytes_text, spaced}
 use Rattle.capture.specs.Range.{IsLink}
-use Rattle.capture.specs.Listed.{Listed, ListForm, list_head, item_line, IsList, BeginsWithList, ItemDeparts, ListHeadDeparts}
+use Rattle.capture.specs.Listed.{Listed, ListForm, item_line, IsList, BeginsWithList, ItemDeparts, ListHeadDeparts}
 use Rattle.dna_play.specs.Script.{StepValue, ScriptStep, Script, Start, Halt, Timer, Send, Deliver, Refuse, Lose, Damage, Noise, Open, Accept, Reject}
 use Rattle.dna_play.specs.Script.{In, Close, Retry}
 
@@ -99,10 +99,6 @@ script_form = record {
 -- its steps are the items
 abbrev pub listed : Script → Listed ScriptStep
 listed script = record { node_a = script.node_a; node_b = script.node_b; items = script.steps }
-
--- the head, without its LF
-abbrev pub script_head : (node_a node_b : ℕ) → List ℕ
-script_head node_a node_b = list_head script_form.first_words node_a node_b
 
 abbrev pub script_line : ScriptStep → List ℕ
 script_line step = item_line script_form step

@@ -2,8 +2,6 @@
 -- it, but needs a new link address where all of the end are given, is full; every other step can be made.
 use Rattle.std.specs.Prelude.{◌≡◌, ℕ, ◌<◌, ◌≤◌, ◌⊎◌, Bool, true, false, Some, List, [], ◌∷◌, ◌++◌, length, slice_get, Result, Ok, Err}
 use Rattle.ddcmp_msg.specs.Reading.{reading, HeaderBad, DataBad}
-use Rattle.wire_base.specs.declared.side.Side.{Side}
-use Rattle.wire_base.specs.declared.side.Side.TheVariants.{A, B}
 use Rattle.capture.specs.declared.limit.TheConstants.{MAX_LINK}
 use Rattle.dna_station.specs.declared.state.State.TheVariants.{Halted}
 use Rattle.dna_links.specs.declared.port.Phase.{Phase}
@@ -12,9 +10,9 @@ use Rattle.dna_play.specs.Script.{StepValue, Start, Halt, Timer, Send, Deliver, 
 use Rattle.dna_play.specs.Script.{ScriptStep, Script}
 use Rattle.dna_play.specs.NextSent.{LinkEnd, Choice, choice, link_choice}
 use Rattle.dna_play.specs.StoredEnd.{StoredEnd}
-use Rattle.dna_play.specs.StoredPlayed.{StoredPair}
-use Rattle.dna_play.specs.Stop.{Stop, BadStep, Full}
-use Rattle.dna_play.specs.Played.{Played, Stopped}
+use Rattle.dna_play.specs.StoredPlayed.{StoredPair, own_side}
+use Rattle.dna_play.specs.Stop.{Stop, BadStep, Full, Stopped}
+use Rattle.dna_play.specs.Played.{Played}
 
 -- ---- what a step may ask
 
@@ -107,20 +105,16 @@ GoesByRule own coming step (Err Full) = Asks own coming step × IsFull own step
 
 -- ---- in a script
 
-abbrev pub rule_at : {X : Type 0} → StoredPair → Side → StepValue → Result X Stop → Type 0
-rule_at pair A step result = GoesByRule pair.a pair.to_a step result
-rule_at pair B step result = GoesByRule pair.b pair.to_b step result
-
 -- of the end that the step is of, beside the line to it
 abbrev pub StepsByRule : {X : Type 0} → StoredPair → ScriptStep → Result X Stop → Type 0
-StepsByRule pair step result = rule_at pair step.side step.step result
+StepsByRule pair step result = let own = own_side step.side pair in GoesByRule own.end own.coming step.step result
 
 -- a script with one step more
 abbrev pub and_then : Script → ScriptStep → Script
 and_then script step = record script { steps = script.steps ++ step ∷ [] }
 
 -- the step that stops a script is the one behind those that were made, and stops it by its rule
-pub record StopsByRule (script : Script) (stopped : Stopped) : Type 0 where
+pub record StopsByRule (script : Script) (stopped : Stopped Played) : Type 0 where
   pub step : ScriptStep
   pub there : slice_get script.steps stopped.steps ≡ Some step
   pub rule : StepsByRule {X = Played} stopped.so_far.ends.pair step (Err stopped.stop)

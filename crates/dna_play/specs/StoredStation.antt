@@ -1,7 +1,7 @@
 -- What happens to the station of an end of the player: what the tables make of the station variables, and what is owed then.
 use Rattle.std.specs.Prelude.{ℕ, Bool, false, ◌&&◌, Option, List, fold}
 use Rattle.ddcmp_msg.specs.Message.{MessageValue}
-use Rattle.ddcmp_msg.specs.Reading.{ReadingValue, Sound, HeaderBad, DataBad, Malformed}
+use Rattle.ddcmp_msg.specs.Reading.{ReadingValue, Sound}
 use Rattle.dna_station.specs.declared.state.StationEvent.{StationEvent}
 use Rattle.dna_station.specs.declared.state.StationEvent.TheVariants.{Start, Halt}
 use Rattle.dna_station.specs.Table.{Change, Nothing, UseCause, SendPacket, change_of, row, state_after}
@@ -48,9 +48,7 @@ message_came m kept k = fold (variables_after m kept) k (row k.state m).effects
 
 abbrev pub came : ReadingValue → (kept : Bool) → StationVariables (Unit {0}) → StationVariables (Unit {0})
 came (Sound m) kept k = message_came m kept k
-came HeaderBad kept k = k
-came DataBad kept k = k
-came (Malformed departure) kept k = k
+came read kept k = k
 
 abbrev pub after_arrival : ReadingValue → (kept : Bool) → StoredStation → StoredStation
 after_arrival read kept s = owing (arrival_debt s.variables read kept) (becoming (came read kept s.variables) s)

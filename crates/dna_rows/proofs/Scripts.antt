@@ -6,9 +6,10 @@ use Rattle.capture.specs.declared.record.Record.{Record}
 use Rattle.capture.specs.declared.record.Record.TheVariants.{Sent, Received, Noise}
 use Rattle.dna_play.specs.Script.{StepValue, ScriptStep, Script, Start, Send, Deliver, Open, Accept, Reject}
 use Rattle.dna_play.specs.Stop.{Stop, BadStep}
-use Rattle.dna_play.specs.Played.{end_step, Played, Stopped, plays_step, plays_all, play, ends_of}
+use Rattle.dna_play.specs.Played.{end_step, Played, plays_step, play, ends_of}
 use Rattle.dna_play.specs.StoredPlay.{stored_plays}
-use Rattle.dna_play.specs.StoredPlayed.{StoredPlayed, StoredStopped, stored_plays_step, stored_plays_all, stored_play}
+use Rattle.dna_play.specs.StoredPlayed.{StoredPlayed, stored_plays_step, stored_plays_on, stored_play}
+use Rattle.dna_play.specs.Stop.{Stopped, plays_all}
 use Rattle.dna_rows.proofs.Units.{computing, hex}
 
 -- what the computation of a script opens
@@ -49,18 +50,18 @@ pub data Becomes : Type 0 where
   Captures : (of_a of_b : List Record) → Becomes
   StopsAt : (steps : ℕ) → Stop → (of_a of_b : List Record) → Becomes
 
-abbrev pub becomes : Result StoredPlayed StoredStopped → Becomes
+abbrev pub becomes : Result StoredPlayed (Stopped StoredPlayed) → Becomes
 becomes (Ok end) = Captures end.of_a end.of_b
 becomes (Err stopped) = StopsAt stopped.steps stopped.stop stopped.so_far.of_a stopped.so_far.of_b
 
 -- what these steps add behind those
-abbrev behind : Result StoredPlayed StoredStopped → List ScriptStep → Result StoredPlayed StoredStopped
-behind (Ok end) steps = stored_plays_all 0 (record end { of_a = []; of_b = [] }) steps
+abbrev behind : Result StoredPlayed (Stopped StoredPlayed) → List ScriptStep → Result StoredPlayed (Stopped StoredPlayed)
+behind (Ok end) steps = plays_all stored_plays_on 0 (record end { of_a = []; of_b = [] }) steps
 behind (Err stopped) steps = Err stopped
 
 -- the same with their nodes
-abbrev behind_with_nodes : Result Played Stopped → List ScriptStep → Result Played Stopped
-behind_with_nodes (Ok end) steps = plays_all 0 (record end { ends = record end.ends { of_a = []; of_b = [] } }) steps
+abbrev behind_with_nodes : Result Played (Stopped Played) → List ScriptStep → Result Played (Stopped Played)
+behind_with_nodes (Ok end) steps = plays_all plays_step 0 (record end { ends = record end.ends { of_a = []; of_b = [] } }) steps
 behind_with_nodes (Err stopped) steps = Err stopped
 
 -- ---- a row is of both

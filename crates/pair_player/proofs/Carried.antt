@@ -3,15 +3,13 @@ use Rattle.std.proofs.Common.{◌≡◌, ℕ, Bool, true, false, cond, None, Lis
 use Rattle.std.specs.Option.{IfSome}
 use Rattle.std.proofs.lemmas.Bool.{and_parts}
 use Rattle.ddcmp_msg.specs.Message.{MessageValue, Data}
-use Rattle.ddcmp_msg.specs.Spelling.{IsUnit, IsRest}
-use Rattle.ddcmp_msg.specs.Reading.{ReadingValue, reading, Sound, HeaderBad, DataBad, Malformed}
-use Rattle.ddcmp_msg.specs.ReadingRule.{IsReading}
-use Rattle.ddcmp_msg.proofs.Rule.{reading_follows}
+use Rattle.ddcmp_msg.specs.Spelling.{IsRest}
+use Rattle.ddcmp_msg.specs.Reading.{ReadingValue, reading, Sound}
 use Rattle.dna_packet.specs.declared.fault.PacketFault.{PacketFault}
 use Rattle.dna_packet.specs.declared.fault.NspFault.{NspFault}
 use Rattle.dna_packet.specs.Fields.{word}
 use Rattle.dna_packet.specs.AckWord.{ack_bytes}
-use Rattle.dna_packet.specs.Packet.{PacketValue, packet_bytes}
+use Rattle.dna_packet.specs.Packet.{PacketValue}
 use Rattle.dna_packet.specs.Packet as packets
 use Rattle.dna_packet.specs.Nsp.{NspValue, DataSegment, addresses, nsp_bytes, segnum}
 use Rattle.dna_packet.specs.ReadingPacket.{packet_at}
@@ -22,18 +20,18 @@ use Rattle.dna_play.specs.HasLine.{are_bytes}
 use Rattle.dna_station.specs.Book.{body_of}
 use Rattle.dna_node.specs.Content.{is_returned, message_in, content_of}
 use Rattle.dna_play.specs.Receipt.{carried_in, carried}
-use Rattle.pair_player.proofs.ByteLists.{bytes_told, first_part, second_part}
+use Rattle.dna_play.proofs.Bytes.{bytes_told, first_part, second_part}
+use Rattle.dna_play.proofs.Ends.DamagedUnits.{unit_of}
 
 -- ---- a unit
 
 rest_bytes : (m : MessageValue) (rest : List ℕ) → IsRest m rest → are_bytes rest ≡ true → are_bytes (body_of m) ≡ true
-rest_bytes (Data flags resp num body) rest is e =
-    first_part body (is.0 ∷ is.1 ∷ []) (subst (λ (bytes : List ℕ). are_bytes bytes ≡ true) is.2 e)
+rest_bytes (Data flags resp num body) rest is e = first_part body (is.0 ∷ is.1 ∷ []) (subst (λ (bytes : List ℕ). are_bytes bytes ≡ true) is.2 e)
 rest_bytes m rest is e = refl
 
 pub body_bytes : (m : MessageValue) (unit : List ℕ) → are_bytes unit ≡ true → reading unit ≡ Sound m → are_bytes (body_of m) ≡ true
 body_bytes m unit e read =
-    let is : IsUnit m unit = subst (λ (r : ReadingValue). IsReading r unit) read (reading_follows unit (bytes_told unit e)) in
+    let is = unit_of m unit e read in
     rest_bytes m is.rest is.rest_is (second_part is.head is.rest (subst (λ (bytes : List ℕ). are_bytes bytes ≡ true) is.whole e))
 
 -- ---- a packet
@@ -67,18 +65,11 @@ in_packet packet (Ok (packets.Data rtflg dst src forward nsp)) e read =
     let all : are_bytes (rtflg ∷ (word dst ++ word src ++ forward ∷ nsp)) ≡ true = subst (λ (bytes : List ℕ). are_bytes bytes ≡ true) whole e in
     in_data (is_returned rtflg) dst src nsp (and_parts _ _
     (second_part (word src) (forward ∷ nsp) (second_part (word dst) (word src ++ forward ∷ nsp) (and_parts _ _ all).1))).1
-in_packet packet (Ok (packets.Control bytes)) e read = tt
-in_packet packet (Err fault) e read = tt
+in_packet packet r e read = tt
 
 in_reading : (kept : Bool) (r : ReadingValue) (unit : List ℕ) → are_bytes unit ≡ true → reading unit ≡ r → IfSome (carried kept r) SegmentBytes
 in_reading true (Sound m) unit e read = in_packet (body_of m) (packet_at (body_of m)) (body_bytes m unit e read) refl
-in_reading false (Sound m) unit e read = tt
-in_reading true HeaderBad unit e read = tt
-in_reading false HeaderBad unit e read = tt
-in_reading true DataBad unit e read = tt
-in_reading false DataBad unit e read = tt
-in_reading true (Malformed departure) unit e read = tt
-in_reading false (Malformed departure) unit e read = tt
+in_reading kept r unit e read = tt
 
 -- the message of the links in a unit that was kept
 pub carried_bytes : (kept : Bool) (unit : List ℕ) → are_bytes unit ≡ true → IfSome (carried kept (reading unit)) SegmentBytes

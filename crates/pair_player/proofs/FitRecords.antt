@@ -1,22 +1,20 @@
 -- An end that is in its ranges, and what a step of it makes: records that have lines.
-use Rattle.std.proofs.Common.{◌≡◌, ℕ, ◌+◌, ◌≤◌, Bool, true, nat_le, List, [], ◌∷◌, length, Result, Ok, Err, refl, arith, leb-true}
+use Rattle.std.proofs.Common.{◌≡◌, ℕ, true, nat_le, List, [], ◌∷◌, length, refl, arith, leb-true}
 use Rattle.std.specs.List.{AllByRecursion}
 use Rattle.std.proofs.lemmas.Bool.{and_parts}
-use Rattle.capture.specs.declared.limit.TheConstants.{MAX_HINT, MAX_UNIT, MAX_MESSAGE}
-use Rattle.capture.specs.declared.event.Event.{Event}
+use Rattle.capture.specs.declared.limit.TheConstants.{MAX_UNIT, MAX_MESSAGE}
 use Rattle.capture.specs.declared.event.Event.TheVariants as events
-use Rattle.capture.specs.declared.record.Record.TheVariants.{Sent, Received, User}
-use Rattle.capture.specs.declared.record.Record.TheVariants as recorded
-use Rattle.capture.specs.Range.{EventNumbersFit, IsRecord, event_bytes}
+use Rattle.capture.specs.declared.record.Record.{Record}
+use Rattle.capture.specs.declared.record.Record.TheVariants.{User}
+use Rattle.capture.specs.Range.{NumbersFit, IsRecord, most_bytes, record_bytes}
 use Rattle.dna_play.specs.HasLine.{are_bytes}
 use Rattle.dna_play.specs.NextSent.{LinkEnd}
-use Rattle.dna_play.specs.Stop.{Stop}
 use Rattle.dna_play.specs.StoredEnd.{StoredEnd}
 use Rattle.dna_play.specs.StoredLinks.{handed}
 use Rattle.dna_play.specs.StoredPlay.{StoredStepped, all_short, ups}
-use Rattle.pair_player.proofs.ByteLists.{HasBytes, bytes_told}
-use Rattle.pair_player.proofs.EachElement.{more_all}
-use Rattle.pair_player.proofs.FitLinks.{AllFit, IsOfLink, LinkFits, waiting}
+use Rattle.dna_play.proofs.Bytes.{HasBytes, bytes_told}
+use Rattle.dna_play.proofs.EachElement.{more_all}
+use Rattle.pair_player.proofs.FitLinks.{AllFit, IsOfLink, LinkFits}
 use Rattle.pair_player.proofs.FitStation.{StationFits}
 
 -- ---- what is in range
@@ -29,30 +27,16 @@ pub record EndFits (e : StoredEnd) : Type 0 where
 abbrev pub UnitFits : List ℕ → Type 0
 UnitFits unit = HasBytes MAX_UNIT unit
 
-pub record StepFits (waited : ℕ) (stepped : StoredStepped) : Type 0 where
+pub record StepFits (stepped : StoredStepped) : Type 0 where
   pub end : EndFits stepped.end
   pub sent : AllByRecursion UnitFits stepped.sent
   pub records : AllByRecursion IsRecord stepped.records
-  pub few : length stepped.records + waiting stepped.end.links.links ≤ waited + 2
 
-abbrev pub ResultFits : ℕ → Result StoredStepped Stop → Type 0
-ResultFits waited (Ok stepped) = StepFits waited stepped
-ResultFits waited (Err stop) = Unit {0}
+pub lined : (r : Record) → NumbersFit r → HasBytes (most_bytes r) (record_bytes r) → IsRecord r
+lined r numbers h = record { spelling = record { numbers = numbers; bytes = bytes_told (record_bytes r) h.are }; short = h.few }
 
-pub unit_record : (hint : ℕ) (kept : Bool) (unit : List ℕ) → hint ≤ MAX_HINT → UnitFits unit → IsRecord (Received hint kept unit)
-unit_record hint kept unit l h = record { spelling = record { numbers = l; bytes = bytes_told unit h.are }; short = h.few }
-
-pub sent_record : (unit : List ℕ) → UnitFits unit → IsRecord (Sent unit)
-sent_record unit h = record { spelling = record { numbers = tt; bytes = bytes_told unit h.are }; short = h.few }
-
-pub noise_record : (unit : List ℕ) → UnitFits unit → IsRecord (recorded.Noise unit)
-noise_record unit h = record { spelling = record { numbers = tt; bytes = bytes_told unit h.are }; short = h.few }
-
-pub user_record : (event : Event) → EventNumbersFit event → HasBytes MAX_MESSAGE (event_bytes event) → IsRecord (User event)
-user_record event numbers h = record { spelling = record { numbers = numbers; bytes = bytes_told (event_bytes event) h.are }; short = h.few }
-
-pub no_bytes : (most : ℕ) → HasBytes most []
-no_bytes most = record { are = refl; few = omega arith }
+pub no_bytes : HasBytes MAX_MESSAGE []
+no_bytes = record { are = refl; few = omega arith }
 
 pub handed_link : (message : List ℕ) (link : LinkEnd) → are_bytes message ≡ true → LinkFits link → LinkFits (handed message link)
 handed_link message link bytes h = record {
@@ -69,8 +53,5 @@ pub ups_lined : (own : ℕ) (messages : List (List ℕ)) → all_short messages 
 ups_lined own [] short h = tt
 ups_lined own (message ∷ later) short h =
     let p = and_parts (nat_le (length message) MAX_MESSAGE) (all_short later) short in
-    (user_record (events.Up own message) h.0.0 (record { are = h.0.1; few = leb-true (length message) MAX_MESSAGE p.0 }), ups_lined own later p.1 h.1)
-
-pub ups_count : (own : ℕ) (messages : List (List ℕ)) → length (ups own messages) ≡ length messages
-ups_count own [] = refl
-ups_count own (message ∷ later) = let e = ups_count own later in omega arith
+    let bytes : HasBytes MAX_MESSAGE message = record { are = h.0.1; few = leb-true (length message) MAX_MESSAGE p.0 } in
+    (lined (User (events.Up own message)) h.0.0 bytes, ups_lined own later p.1 h.1)

@@ -50,17 +50,9 @@ number_short : (n : ℕ) → n ≤ MAX_HINT → length (decimal n) ≤ 18
 number_short n small = length-decimal-le 18 n (lit< tt) (omega arith) (omega arith)
 
 step_short : (step : StepValue) → NumbersFit step → length (step_bytes step) ≤ most_bytes step → length (step_text step) ≤ 131079
-step_short Start h short = omega arith
-step_short Halt h short = omega arith
-step_short Timer h short = omega arith
-step_short Send h short = omega arith
-step_short Deliver h short = omega arith
-step_short Refuse h short = omega arith
-step_short Lose h short = omega arith
 step_short (Damage place value) h short =
     let n = spaced_short (decimal place) (decimal value) 18 18 (number_short place h.0) (number_short value h.1) in omega arith
 step_short (Noise bytes) h short = let n = bytes_short MAX_UNIT bytes (omega arith) short in omega arith
-step_short Open h short = omega arith
 step_short (Accept partner) h short = let n = link_short partner h in omega arith
 step_short (Reject partner) h short = let n = link_short partner h in omega arith
 step_short (In link message) h short =
@@ -68,6 +60,7 @@ step_short (In link message) h short =
     omega arith
 step_short (Close link) h short = let n = link_short link h in omega arith
 step_short (Retry link) h short = let n = link_short link h in omega arith
+step_short step h short = omega arith
 
 pub line_short : (line : ScriptStep) → IsStep line → length (line_text line) ≤ MAX_LINE
 line_short line h = spaced_short (side_letter line.side) (step_text line.step) 1 131079 (letter_short line.side)

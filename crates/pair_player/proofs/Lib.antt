@@ -3,13 +3,12 @@ pub mod LineWords
 pub mod LackLaws
 pub mod TextLaws
 pub mod PlayLaws
+pub mod CutLaws
 pub mod WholeLaws
 pub mod RunLaws
 pub mod StopLaws
 pub mod NextUnit
 pub mod Sides
-mod ByteLists
-mod EachElement
 mod Carried
 mod PiecesWaiting
 mod FitLinks

@@ -19,15 +19,11 @@ module _ (next : List ℕ → Result StoredStepped Stop) where
   no_unit (first ∷ later) e = absurd cc
 
 module _ (e : StoredEnd) (place value : ℕ) (bytes : List ℕ) where
-  damage_by : (b : Bool) → is_damage place value bytes ≡ b →
-      comes_damaged e place value bytes ≡ cond b (comes e true (damaged place value bytes)) (Err BadStep)
-  damage_by b is = ap (λ (c : Bool). cond c (comes e true (damaged place value bytes)) (Err BadStep)) is
-
   pub damage_comes : is_damage place value bytes ≡ true → comes_damaged e place value bytes ≡ comes e true (damaged place value bytes)
-  damage_comes is = damage_by true is
+  damage_comes is = ap (λ (c : Bool). cond c (comes e true (damaged place value bytes)) (Err BadStep)) is
 
   pub no_damage : is_damage place value bytes ≡ false → comes_damaged e place value bytes ≡ Err BadStep
-  no_damage is = damage_by false is
+  no_damage is = ap (λ (c : Bool). cond c (comes e true (damaged place value bytes)) (Err BadStep)) is
 
 -- what was sent was there to send
 module _ (e : StoredEnd) (text : List ℕ) (x : StoredEnd × List (List ℕ) × List ℕ) where

@@ -9,15 +9,17 @@ use Rattle.capture.specs.declared.format.Format.TheVariants.{One}
 use Rattle.capture.specs.declared.hint.HintForm.TheVariants.{Number}
 use Rattle.capture.specs.declared.phase.Phase.TheVariants.{Reading}
 use Rattle.capture.specs.declared.record.Record.{Record}
-use Rattle.capture.specs.Lines.{IsCutBehind, to_come}
+use Rattle.capture.specs.Lines.{to_come}
 use Rattle.capture.specs.ListReader.{Advances, ListState}
 use Rattle.capture.specs.Paged.{HandsOver}
 use Rattle.capture.specs.Text.{capture_text, head_line, record_lines, record_line}
-use Rattle.dna_play.specs.Script.{ScriptStep}
+use Rattle.dna_play.specs.Script.{StepValue, ScriptStep, Script}
 use Rattle.dna_play.specs.ScriptText.{IsStep, StepDeparts, listed, script_form, script_line, MAX_STEPS}
-use Rattle.dna_play.specs.StoredPlayed.{StoredMade, StoredPair, StoredPlayed, StoredStopped, if_made, stored_not_begun, stored_plays_all}
+use Rattle.dna_play.specs.StoredPlay.{StoredStepped}
+use Rattle.dna_play.specs.StoredPlayed.{StoredPair, StoredPlayed, pair_after, played_after, stored_not_begun, stored_play, stored_plays_on}
 use Rattle.dna_play.specs.StoredPlayed.{stored_plays_step}
-use Rattle.dna_play.specs.StoredPlayed.{with_records}
+use Rattle.dna_play.proofs.Played.Behind.{behind, next}
+use Rattle.dna_play.proofs.Stored.Law.{plays_on}
 use Rattle.dna_play.specs.Stop.{Stop, BadStep, Full}
 use Rattle.pair_player.specs.declared.fault.PlayFault.{PlayFault}
 use Rattle.pair_player.specs.declared.fault.PlayFault.TheVariants as faults
@@ -27,10 +29,9 @@ use Rattle.player_end.specs.declared.fault.StepFault.{StepFault}
 use Rattle.player_end.specs.declared.fault.StepFault.TheVariants as stops
 use Rattle.pair_player.specs.declared.played.Played.{Played}
 use Rattle.pair_player.specs.inner.Beginning.{IsBegun, fault_of, fault_at}
-use Rattle.pair_player.specs.Playing.{DepartsBehind, EndsBehind, HasPlayed, HasWritten, Held, Plays, PlaysWholeLines, Reached, RefusedBehind}
+use Rattle.pair_player.specs.Playing.{DepartsBehind, EndsBehind, HasPlayed, HasWritten, Held, Plays, Reached, RefusedBehind}
 use Rattle.pair_player.specs.Playing.{StopsBehind, held, text_a, text_b}
-use Rattle.capture.specs.Faulty.{is_read_fault}
-use Rattle.capture.specs.Reader.{FaultShows, WhereReadFails}
+use Rattle.capture.specs.Reader.{FaultShows}
 use Rattle.pair_player.specs.SoFar.{no_steps, with_step}
 use Rattle.player_end.specs.Stepping.{StopMeans}
 use Rattle.pair_player.specs.inner.Making.{PutsLines, Standing, Steps, StopsStep, standing}
@@ -86,10 +87,7 @@ pub under_way : (text left : Option (List ℕ)) (old : Held) (lines : ListState)
     IsUnderWay text old (place lines (to_come lines.unread left) at old 0)
 under_way text left old lines at begun = let opens = begun.0 in record {
   reached = no_step lines (to_come lines.unread left);
-  played = record {
-    read = opened script_form text (to_come lines.unread left) lines.node_a lines.node_b opens.0 opens.1 opens.4;
-    made = refl;
-  };
+  played = record { read = opened script_form text (to_come lines.unread left) lines.node_a lines.node_b opens.0 opens.1 opens.4; made = refl };
   come_is = refl;
   pair_is = sym begun.1;
   count = refl;
@@ -103,57 +101,44 @@ under_way text left old lines at begun = let opens = begun.0 in record {
 
 -- ---- one step more
 
-pub same_Ok : (x y : StoredPlayed) → ◌≡◌ {A = Result StoredPlayed StoredStopped} (Ok x) (Ok y) → x ≡ y
-same_Ok x y e = cc
+step_more : (script : Script) (played : StoredPlayed) (step : ScriptStep) (made : StoredStepped) → stored_play script ≡ Ok played →
+    stored_plays_step played.pair step ≡ Ok made → stored_play (with_step script step) ≡ Ok (played_after played step.side step.step made)
+step_more script played step made e f =
+    behind stored_plays_on 0 (stored_not_begun script) played script.steps (step ∷ []) e
+    ∙ next stored_plays_on _ played step [] (Ok (played_after played step.side step.step made)) (plays_on played step (Ok made) f)
 
--- where the first step is made, what more steps behind the others make is what they make behind it
-first-made : (n : ℕ) (so_far played after : StoredPlayed) (first : ScriptStep) (steps more : List ScriptStep) (now : Result StoredMade Stop)
-    → ((made : StoredMade) → stored_plays_all (n + 1) (with_records so_far first.side made) steps ≡ Ok played →
-    stored_plays_all (n + 1) (with_records so_far first.side made) more ≡ Ok after)
-    → if_made now (λ made. stored_plays_all (n + 1) (with_records so_far first.side made) steps)
-    (λ stop. record { steps = n; stop = stop; so_far = so_far }) ≡ Ok played
-    → if_made now (λ made. stored_plays_all (n + 1) (with_records so_far first.side made) more)
-    (λ stop. record { steps = n; stop = stop; so_far = so_far }) ≡ Ok after
-first-made n so_far played after first steps more (Ok made) on e = on made e
-first-made n so_far played after first steps more (Err stop) on e = absurd cc
-
-steps-push : (n : ℕ) (so_far played : StoredPlayed) (steps : List ScriptStep) (step : ScriptStep) (made : StoredMade) →
-    stored_plays_all n so_far steps ≡ Ok played → stored_plays_step played.pair step ≡ Ok made
-    → stored_plays_all n so_far (steps ++ step ∷ []) ≡ Ok (with_records played step.side made)
-steps-push n so_far played [] step made e f = rw (same_Ok so_far played e, f) refl
-steps-push n so_far played (first ∷ steps) step made e f =
-    first-made n so_far played (with_records played step.side made) first steps (steps ++ step ∷ []) (stored_plays_step so_far.pair first)
-    (λ now k. steps-push (n + 1) (with_records so_far first.side now) played steps step made k f) e
-
-pair_with : (so_far : StoredPlayed) (side : Side) (made : StoredMade) → (with_records so_far side made).pair ≡ made.pair
-pair_with so_far A made = refl
-pair_with so_far B made = refl
+pair_with : (so_far : StoredPlayed) (side : Side) (step : StepValue) (made : StoredStepped) →
+    (played_after so_far side step made).pair ≡ pair_after side step made so_far.pair
+pair_with so_far A step made = refl
+pair_with so_far B step made = refl
 
 module _ (text : Option (List ℕ)) (old : Held) (p : Place) (h : IsUnderWay text old p) where
-  abbrev reached_on : ScriptStep → StoredMade → Option (List ℕ) → Reached
+  abbrev reached_on : ScriptStep → StoredStepped → Option (List ℕ) → Reached
   reached_on step made after =
-      record { script = with_step h.reached.script step; played = with_records h.reached.played step.side made; come = after }
+      record { script = with_step h.reached.script step; played = played_after h.reached.played step.side step.step made; come = after }
 
-  played_on : (step : ScriptStep) (made : StoredMade) (after : Option (List ℕ)) → IsStep step → length h.reached.script.steps < MAX_STEPS →
+  played_on : (step : ScriptStep) (made : StoredStepped) (after : Option (List ℕ)) → IsStep step → length h.reached.script.steps < MAX_STEPS →
       Consumes p.come after (script_line step)
       → stored_plays_step p.pair step ≡ Ok made → HasPlayed text (reached_on step made after)
   played_on step made after fits few consumes e = record {
     read = one_more script_form text h.reached.come after (listed h.reached.script) step h.played.read few fits
         (subst (λ (x : Option (List ℕ)). Consumes x after (script_line step)) (sym h.come_is) consumes);
-    made = steps-push 0 (stored_not_begun h.reached.script) h.reached.played h.reached.script.steps step made h.played.made
+    made = step_more h.reached.script h.reached.played step made h.played.made
         (ap (λ (x : StoredPair). stored_plays_step x step) h.pair_is ∙ e);
   }
 
   -- the lines of its records wait behind those of its side
-  put_on : (side : Side) (made : StoredMade) (a b : List ℕ) → PutsLines side (p.a, p.b) (a, b) (record_lines Number made.records)
-      → HandsOver (capture_text One h.reached.script.node_a h.reached.script.node_b (with_records h.reached.played side made).of_a) a old.a p.now.a
-      × HandsOver (capture_text One h.reached.script.node_b h.reached.script.node_a (with_records h.reached.played side made).of_b) b old.b p.now.b
-  put_on A made a b puts = (
+  put_on : (side : Side) (step : StepValue) (made : StoredStepped) (a b : List ℕ) →
+      PutsLines side (p.a, p.b) (a, b) (record_lines Number made.records) →
+      let script = h.reached.script in let after = played_after h.reached.played side step made in
+      HandsOver (capture_text One script.node_a script.node_b after.of_a) a old.a p.now.a
+      × HandsOver (capture_text One script.node_b script.node_a after.of_b) b old.b p.now.b
+  put_on A step made a b puts = (
     more_over _ p.a old.a p.now.a h.over_a (record_lines Number made.records) _ a
         (text-more h.reached.script.node_a h.reached.script.node_b h.reached.played.of_a made.records) puts.0,
     subst (λ (x : List ℕ). HandsOver (text_b h.reached) x old.b p.now.b) (sym puts.1) h.over_b,
   )
-  put_on B made a b puts = (
+  put_on B step made a b puts = (
     subst (λ (x : List ℕ). HandsOver (text_a h.reached) x old.a p.now.a) (sym puts.0) h.over_a,
     more_over _ p.b old.b p.now.b h.over_b (record_lines Number made.records) _ b
         (text-more h.reached.script.node_b h.reached.script.node_a h.reached.played.of_b made.records) puts.1,
@@ -169,12 +154,13 @@ module _ (text : Option (List ℕ)) (old : Held) (p : Place) (h : IsUnderWay tex
   step_on step lines after at advances steps =
       let count = h.count in
       let counted = h.counted in
-      let puts = put_on step.side steps.made at.a at.b steps.puts in
+      let puts = put_on step.side step.step steps.made at.a at.b steps.puts in
       record {
         reached = reached_on step steps.made after;
         played = played_on step steps.made after advances.0 (few_steps advances.1) advances.4 steps.makes;
         come_is = refl;
-        pair_is = pair_with h.reached.played step.side steps.made ∙ sym steps.pair;
+        pair_is = pair_with h.reached.played step.side step.step steps.made
+            ∙ ap (pair_after step.side step.step steps.made) h.pair_is ∙ sym steps.pair;
         count = omega (arith, length-append h.reached.script.steps (step ∷ []));
         counted = omega (arith, advances.2);
         reading = advances.3;
@@ -204,7 +190,7 @@ module _ (text : Option (List ℕ)) (old : Held) (p : Place) (h : IsUnderWay tex
   fails A n m new f = (h.reached, h.played, (beginning_over _ _ _ _ h.over_a new.0.held f.0.some, some_over _ _ _ _ h.over_b new.1.held f.1.some))
   fails B n m new f = (h.reached, h.played, (some_over _ _ _ _ h.over_a new.0.held f.0.some, beginning_over _ _ _ _ h.over_b new.1.held f.1.some))
 
-  written : (later : Held) (a b : List ℕ) → HandsOver p.a a p.now.a later.a → HandsOver p.b b p.now.b later.b → a ≡ [] → b ≡ [] →
+  pub written : (later : Held) (a b : List ℕ) → HandsOver p.a a p.now.a later.a → HandsOver p.b b p.now.b later.b → a ≡ [] → b ≡ [] →
       HasWritten old later h.reached
   written later a b over_a over_b none_a none_b = record {
     a = all_over _ _ _ _ (on_over _ _ _ _ h.over_a a later.a over_a) none_a;
@@ -306,42 +292,3 @@ module _ (text : Option (List ℕ)) (old : Held) (p : Place) (h : IsUnderWay tex
       ended (Err (fault_at (p.steps + 2) fault)) answer n m new (at_stop step lines after fault advances stops.means)
       (subst (λ (x : List ℕ). EndsAll (Err (fault_at (p.steps + 2) fault)) (outlet p.a p.now.a n, outlet x p.now.b m) new answer) stops.b
       (subst (λ (x : List ℕ). EndsAll (Err (fault_at (p.steps + 2) fault)) (outlet x p.now.a n, outlet at.b p.now.b m) new answer) stops.a ends))
-
--- ---- where a read failed
-
--- the writers have what was meant, or one failed
-pub lines_on : (text left : Option (List ℕ)) (old new : Held) (meant answer : Result Played PlayFault) (was now : Outlet × Outlet) →
-    PlaysWholeLines text left old new meant → EndsAll meant was now answer
-    → PlaysWholeLines text left old new answer
-lines_on text left old new meant answer was now is (inl all) = subst (PlaysWholeLines text left old new) (sym all.4) is
-lines_on text left old new meant answer was now is (inr some) = subst (PlaysWholeLines text left old new) (sym some.2) tt
-
--- no step's fault is a failed read
-pub lines_stopped : (text left : Option (List ℕ)) (old new : Held) (line : ℕ) (fault : StepFault) →
-    PlaysWholeLines text left old new (Err (fault_at line fault))
-lines_stopped text left old new line stops.BadStep = tt
-lines_stopped text left old new line stops.Full = tt
-lines_stopped text left old new line stops.OutOfMemory = tt
-
-module _ (text left : Option (List ℕ)) (old : Held) (p : Place) (h : IsUnderWay text old p) where
-  -- its next line is not known
-  pub lines_at_fault : (fault : CaptureFault) (answer : Result Played PlayFault) (n m : ℕ) (new : Outlet × Outlet) →
-      FaultShows (StepDeparts p.lines.items) (p.lines.items + 2) p.come fault → WhereReadFails (is_read_fault fault) (IsCutBehind p.come left)
-      → EndsAll (Err (fault_of fault)) (outlet p.a p.now.a n, outlet p.b p.now.b m) new answer →
-      PlaysWholeLines text left old (held new.0.held new.1.held) answer
-  lines_at_fault fault answer n m new shows cut (inr some) = subst (PlaysWholeLines text left old (held new.0.held new.1.held)) (sym some.2) tt
-  lines_at_fault fault answer n m new shows cut (inl all) =
-      subst (PlaysWholeLines text left old (held new.0.held new.1.held)) (sym all.4) (by_fault fault shows cut)
-    where
-      by_fault : (fault : CaptureFault) → FaultShows (StepDeparts p.lines.items) (p.lines.items + 2) p.come fault →
-          WhereReadFails (is_read_fault fault) (IsCutBehind p.come left)
-          → PlaysWholeLines text left old (held new.0.held new.1.held) (Err (fault_of fault))
-      by_fault (of_script.Departs kind line) shows cut = tt
-      by_fault of_script.Read shows cut = inr (
-        h.reached,
-        h.played,
-        written text old p h (held new.0.held new.1.held) new.0.text new.1.text all.0.over all.1.over all.2 all.3,
-        subst (λ (x : Option (List ℕ)). IsCutBehind x left) (sym h.come_is) cut,
-      )
-      by_fault of_script.OutOfMemory shows cut = tt
-      by_fault of_script.Failed shows cut = absurd shows

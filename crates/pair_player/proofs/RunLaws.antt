@@ -1,8 +1,6 @@
 -- What was played of a script has texts; and of one that starts each side at most once it is played by ends with their nodes too, and is a run.
-use Rattle.std.proofs.Common.{◌≡◌, ℕ, ◌≤◌, List, [], ◌∷◌, ◌++◌, length, Option, Some, None, Result, Ok, Err, refl, sym, ap, subst, ◌∙◌, arith}
+use Rattle.std.proofs.Common.{◌≡◌, ℕ, ◌≤◌, List, [], length, Option, Some, None, Result, Ok, Err, refl, sym, ap, subst, ◌∙◌}
 use Rattle.std.specs.List.{AllByRecursion}
-use Rattle.wire_base.specs.declared.side.Side.{Side}
-use Rattle.wire_base.specs.declared.side.Side.TheVariants.{A, B}
 use Rattle.capture.specs.declared.format.Format.TheVariants.{One}
 use Rattle.capture.specs.declared.limit.TheConstants.{MAX_RECORDS}
 use Rattle.capture.specs.declared.record.Record.{Record}
@@ -10,12 +8,14 @@ use Rattle.capture.specs.Range.{IsNode, IsRecord, IsText}
 use Rattle.capture.specs.Text.{capture_text}
 use Rattle.capture.proofs.ListedSoFar.{goes_on}
 use Rattle.dna_node.specs.LayersPair.{IsLayersRun}
-use Rattle.dna_play.specs.Script.{ScriptStep, Script}
+use Rattle.dna_play.specs.Script.{Script}
 use Rattle.dna_play.specs.ScriptText.{IsScriptText, script_form, listed}
-use Rattle.dna_play.specs.Played.{Played, Stopped, head_a, head_b, play, ends_of}
-use Rattle.dna_play.specs.PlayRun.{StartsOnce, starts_of}
-use Rattle.dna_play.specs.StoredPlayed.{StoredPlayed}
-use Rattle.dna_play.proofs.Stored.Law.{whole_kept}
+use Rattle.dna_play.specs.Stop.{Stopped}
+use Rattle.dna_play.specs.Played.{Played, head_a, head_b, play, ends_of}
+use Rattle.dna_play.specs.PlayRun.{StartsOnce}
+use Rattle.dna_play.specs.StoredPlayed.{StoredPlayed, stored_plays_on}
+use Rattle.dna_play.proofs.Played.Behind.{same_Ok}
+use Rattle.dna_play.proofs.Stored.Law.{once_begun, whole_kept}
 use Rattle.dna_play.proofs.Played.Checked.{whole_is_run}
 use Rattle.pair_player.specs.declared.fault.PlayFault.{PlayFault}
 use Rattle.pair_player.specs.declared.played.Played as answers
@@ -23,24 +23,10 @@ use Rattle.pair_player.specs.Playing.{AnswersWhole, HasPlayed, Held, Plays, Reac
 use Rattle.pair_player.specs.Runs.{AreARun, AreTexts, IsOfTruth, StartsOnceThroughout}
 use Rattle.pair_player.specs.SoFar.{IsReadSoFar}
 use Rattle.pair_player.proofs.FitPlays.{played_lines}
-use Rattle.pair_player.proofs.PlayLaws.{same_Ok}
 use Rattle.pair_player.proofs.TextLaws.{lines}
 use Rattle.pair_player.proofs.WholeLaws.{whole_played}
 
 -- ---- starts
-
--- steps start a side no more often than those that begin with them
-starts_less : (side : Side) (steps more : List ScriptStep) → starts_of side steps ≤ starts_of side (steps ++ more)
-starts_less side [] more = omega arith
-starts_less side (step ∷ steps) more = let l = starts_less side steps more in omega arith
-
-once_begun : (steps more all : List ScriptStep) → all ≡ steps ++ more → StartsOnce all → StartsOnce steps
-once_begun steps more all e once =
-    let of_a = once.of_a in
-    let of_b = once.of_b in
-    let less_a = subst (λ (x : List ScriptStep). starts_of A steps ≤ starts_of A x) (sym e) (starts_less A steps more) in
-    let less_b = subst (λ (x : List ScriptStep). starts_of B steps ≤ starts_of B x) (sym e) (starts_less B steps more) in
-    record { of_a = omega arith; of_b = omega arith }
 
 pub once_throughout : (bytes : List ℕ) (script : Script) → IsScriptText script bytes → StartsOnce script.steps → StartsOnceThroughout (Some bytes)
 once_throughout bytes script is_text once r h = go r.come h.read
@@ -50,14 +36,14 @@ once_throughout bytes script is_text once r h = go r.come h.read
     go (Some rest) read =
         let begun = goes_on script_form lines bytes rest (listed r.script) (listed script) is_text
         (record { fits = read.fits; spelled = read.begins }) in
-        once_begun r.script.steps begun.more script.steps begun.items once
+        once_begun r.script.steps begun.more (subst StartsOnce begun.items once)
 
 -- ---- true numbers
 
 -- what is kept of a whole play is of a whole play
-of_whole : (result : Result Played Stopped) (played : StoredPlayed) → ends_of result ≡ Ok played →
+of_whole : (result : Result Played (Stopped Played)) (played : StoredPlayed) → ends_of result ≡ Ok played →
     (so_far : Played) × (result ≡ Ok so_far) × (so_far.ends ≡ played)
-of_whole (Ok so_far) played e = (so_far, refl, same_Ok so_far.ends played e)
+of_whole (Ok so_far) played e = (so_far, refl, same_Ok stored_plays_on so_far.ends played e)
 of_whole (Err stopped) played e = absurd cc
 
 pub of_truth : (text : Option (List ℕ)) (r : Reached) → HasPlayed text r → StartsOnce r.script.steps → (so_far : Played) × IsOfTruth r so_far

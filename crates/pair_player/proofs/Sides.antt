@@ -1,11 +1,13 @@
 -- What a step makes of one end, put beside the other end.
 use Rattle.std.proofs.Common.{◌≡◌, ℕ, List, [], ◌++◌, Result, Ok, Err, refl, ap, ◌∙◌}
 use Rattle.std.proofs.lemmas.List.{append-nil}
-use Rattle.dna_play.specs.Script.{StepValue}
+use Rattle.wire_base.specs.declared.side.Side.{Side}
+use Rattle.wire_base.specs.declared.side.Side.TheVariants.{A, B}
+use Rattle.dna_play.specs.Script.{StepValue, ScriptStep}
 use Rattle.dna_play.specs.Stop.{Stop}
 use Rattle.dna_play.specs.StoredEnd.{StoredEnd}
 use Rattle.dna_play.specs.StoredPlay.{StoredStepped, silent}
-use Rattle.dna_play.specs.StoredPlayed.{StoredPair, left_by, stored_with_a, stored_with_b}
+use Rattle.dna_play.specs.StoredPlayed.{StoredPair, left_by}
 use Rattle.player_end.specs.Stepping.{with_lines}
 use Rattle.pair_player.specs.Stepping.{sends, sides, with_text}
 
@@ -50,38 +52,32 @@ pub ruleset sides_of = (with_no_units, with_sent, with_silence)
 -- ---- beside the other end
 
 module _ (pair : StoredPair) (step : StepValue) (text : List ℕ) where
+  abbrev at : Side → ScriptStep
+  at side = record { side = side; step = step }
+
   abbrev as_a : Result (StoredEnd × Units × Units × List ℕ) Stop → Result (StoredPair × List ℕ) Stop
-  as_a (Ok x) = Ok (record pair { a = x.0; to_a = x.1; to_b = x.2 }, x.3)
+  as_a (Ok x) = Ok (record { a = record { end = x.0; coming = x.1 }; b = record pair.b { coming = x.2 } }, x.3)
   as_a (Err stop) = Err stop
 
-  a_same : (made : Result StoredStepped Stop) → with_text text (stored_with_a pair step made) ≡ as_a (sides step pair.to_a pair.to_b text made)
+  a_same : (made : Result StoredStepped Stop) → with_text text pair (at A) made ≡ as_a (sides step pair.a.coming pair.b.coming text made)
   a_same (Ok made) = refl
   a_same (Err stop) = refl
 
   abbrev as_b : Result (StoredEnd × Units × Units × List ℕ) Stop → Result (StoredPair × List ℕ) Stop
-  as_b (Ok x) = Ok (record pair { b = x.0; to_b = x.1; to_a = x.2 }, x.3)
+  as_b (Ok x) = Ok (record { a = record pair.a { coming = x.2 }; b = record { end = x.0; coming = x.1 } }, x.3)
   as_b (Err stop) = Err stop
 
-  b_same : (made : Result StoredStepped Stop) → with_text text (stored_with_b pair step made) ≡ as_b (sides step pair.to_b pair.to_a text made)
+  b_same : (made : Result StoredStepped Stop) → with_text text pair (at B) made ≡ as_b (sides step pair.b.coming pair.a.coming text made)
   b_same (Ok made) = refl
   b_same (Err stop) = refl
 
   module _ (made : Result StoredStepped Stop) (e : StoredEnd) (coming going : Units) (t : List ℕ) where
-    pub side_a : sides step pair.to_a pair.to_b text made ≡ Ok (e, coming, going, t) →
-        with_text text (stored_with_a pair step made) ≡ Ok (record pair { a = e; to_a = coming; to_b = going }, t)
+    pub side_a : sides step pair.a.coming pair.b.coming text made ≡ Ok (e, coming, going, t) →
+        with_text text pair (at A) made ≡ Ok (record { a = record { end = e; coming = coming }; b = record pair.b { coming = going } }, t)
     side_a is = a_same made ∙ ap as_a is
 
-    pub side_b : sides step pair.to_b pair.to_a text made ≡ Ok (e, coming, going, t) →
-        with_text text (stored_with_b pair step made) ≡ Ok (record pair { b = e; to_b = coming; to_a = going }, t)
+    pub side_b : sides step pair.b.coming pair.a.coming text made ≡ Ok (e, coming, going, t) →
+        with_text text pair (at B) made ≡ Ok (record { a = record pair.a { coming = going }; b = record { end = e; coming = coming } }, t)
     side_b is = b_same made ∙ ap as_b is
 
--- a step that can't be made
-pub a_stops : (pair : StoredPair) (step : StepValue) (made : Result StoredStepped Stop) (stop : Stop) → made ≡ Err stop →
-    stored_with_a pair step made ≡ Err stop
-a_stops pair step made stop e = ap (stored_with_a pair step) e
-
-pub b_stops : (pair : StoredPair) (step : StepValue) (made : Result StoredStepped Stop) (stop : Stop) → made ≡ Err stop →
-    stored_with_b pair step made ≡ Err stop
-b_stops pair step made stop e = ap (stored_with_b pair step) e
-
-pub ruleset both_sides = (side_a, side_b, a_stops, b_stops)
+pub ruleset both_sides = (side_a, side_b)

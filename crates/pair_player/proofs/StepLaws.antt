@@ -16,7 +16,7 @@ use Rattle.capture.proofs.NumberLaws.{number_takes, number_again, decimal_lacks}
 use Rattle.capture.proofs.BytesLaws.{IsBytesOf, IsLongOf, bytes_shows, bytes_again, limited, limited_then}
 use Rattle.capture.proofs.EventLaws.{link_takes, link_again, IsMessageOf, IsLongMessageOf, message_shows, message_again, no_bytes}
 use Rattle.capture.proofs.Shown.{Shows, shows_map, shows_must, shows_or_else}
-use Rattle.dna_play.specs.Script.{StepValue, Start, Halt, Timer, Send, Deliver, Refuse, Lose, Damage, Noise, Open, Accept, Reject, In, Close, Retry}
+use Rattle.dna_play.specs.Script.{StepValue, Damage, Noise, Accept, Reject, In, Close, Retry}
 use Rattle.dna_play.specs.ScriptText.{step_text, NumbersFit, step_bytes, most_bytes}
 use Rattle.pair_player.specs.inner.Reading.{plain_at, damage_at, link_step_at, step_at}
 
@@ -122,18 +122,11 @@ step_shows text =
 pub step_again : (step : StepValue) → NumbersFit step → IsBytes (step_bytes step) → step_at (step_text step) ≡ limited (most_bytes step)
     (step_bytes step) step
 unfolding step_at plain_at link_step_at
-step_again Start h fits = refl
-step_again Halt h fits = refl
-step_again Timer h fits = refl
-step_again Send h fits = refl
-step_again Deliver h fits = refl
-step_again Refuse h fits = refl
-step_again Lose h fits = refl
 step_again (Damage place value) h fits = rw (damage_again place value h.0 h.1) refl
 step_again (Noise bytes) h fits = rw (bytes_again MAX_UNIT bytes fits) (limited_then MAX_UNIT bytes bytes (λ b. Noise b))
-step_again Open h fits = refl
 step_again (Accept partner) h fits = rw (link_again partner h) refl
 step_again (Reject partner) h fits = rw (link_again partner h) refl
 step_again (In link message) h fits = rw (message_again link message h fits) (limited_then MAX_MESSAGE message (link, message) (λ m. In m.0 m.1))
 step_again (Close link) h fits = rw (link_again link h) refl
 step_again (Retry link) h fits = rw (link_again link h) refl
+step_again step h fits = refl

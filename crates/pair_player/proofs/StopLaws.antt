@@ -15,9 +15,10 @@ use Rattle.pair_player.specs.SoFar.{with_step}
 use Rattle.pair_player.proofs.RunLaws.{of_truth}
 
 -- what the end can't make, it can't make with its node
-stops_too : (so_far : Played) (step : ScriptStep) (stop : Stop) → stored_plays_step so_far.ends.pair step ≡ Err stop → plays_step so_far step ≡ Err stop
+stops_too : (so_far : Played) (step : ScriptStep) (stop : Stop) → stored_plays_step so_far.ends.pair step ≡ Err stop →
+    plays_step so_far step ≡ Err stop
 unfolding plays_step
-stops_too so_far step stop e = ap (made_by so_far step.side) e
+stops_too so_far step stop e = ap (made_by so_far step.side step.step) e
 
 pub by_its_rule : (text : Option (List ℕ)) (r : Reached) (stop : Stop) (line : ℕ) → HasPlayed text r → StartsOnce r.script.steps →
     (s : StopsBehind stop line r) → StopsByRule r s.step stop

@@ -1,57 +1,39 @@
 -- What is answered of the text of a script that is played whole.
-use Rattle.std.proofs.Common.{◌≡◌, ℕ, ◌+◌, inl, inr, List, [], ◌∷◌, ◌++◌, length, Option, Some, None, Result, Ok, Err, sym, ap, ◌∙◌}
+use Rattle.std.proofs.Common.{◌≡◌, ℕ, inl, inr, List, [], ◌∷◌, ◌++◌, length, Option, Some, None, Result, Ok, Err, sym, ap, ◌∙◌, append_assoc}
 use Rattle.std.specs.Option.{IfSome}
 use Rattle.capture.specs.declared.fault.Departure.{Departure}
 use Rattle.capture.specs.Listed.{IsBeginningOf, Listed}
 use Rattle.capture.proofs.ListedSoFar.{departs_nowhere, goes_on, head_stands, one_list, one_more, whole}
-use Rattle.dna_play.specs.StoredPlayed.{StoredMade, StoredPlayed, StoredStopped, if_made, stored_not_begun, stored_play, stored_plays_all}
-use Rattle.dna_play.specs.StoredPlayed.{stored_plays_step}
-use Rattle.dna_play.specs.StoredPlayed.{new_pair, with_records}
+use Rattle.dna_play.specs.StoredPlayed.{StoredPlayed, new_pair, stored_not_begun, stored_play, stored_plays_on, stored_plays_step}
+use Rattle.dna_play.proofs.Played.Behind.{behind, next, same_Ok}
+use Rattle.dna_play.proofs.Stored.Law.{plays_on}
 use Rattle.dna_play.specs.Script.{ScriptStep, Script}
 use Rattle.dna_play.specs.ScriptText.{IsScriptText, StepDeparts, script_form, listed}
-use Rattle.dna_play.specs.Stop.{Stop, BadStep, Full}
+use Rattle.dna_play.specs.Stop.{Stop, BadStep, Full, Stopped, plays_all}
 use Rattle.pair_player.specs.declared.fault.PlayFault.TheVariants as faults
 use Rattle.pair_player.specs.declared.fault.PlayFault.{PlayFault}
 use Rattle.pair_player.specs.declared.played.Played.{Played}
 use Rattle.pair_player.specs.Playing.{AnswersWhole, HasPlayed, HasWritten, Held, Plays, Reached, StopsBehind}
 use Rattle.pair_player.specs.SoFar.{IsReadSoFar, with_step}
-use Rattle.pair_player.proofs.PlayLaws.{same_Ok}
 use Rattle.pair_player.proofs.TextLaws.{lines}
 
 -- ---- where a step stops, no more are made
 
-first-made : (n : ℕ) (so_far played after : StoredPlayed) (first : ScriptStep) (steps more : List ScriptStep) (now : Result StoredMade Stop)
-    → ((made : StoredMade) → stored_plays_all (n + 1) (with_records so_far first.side made) steps ≡ Ok played →
-    stored_plays_all (n + 1) (with_records so_far first.side made) more ≡ Ok after → ⊥)
-    → if_made now (λ made. stored_plays_all (n + 1) (with_records so_far first.side made) steps)
-    (λ stop. record { steps = n; stop = stop; so_far = so_far }) ≡ Ok played
-    → if_made now (λ made. stored_plays_all (n + 1) (with_records so_far first.side made) more)
-    (λ stop. record { steps = n; stop = stop; so_far = so_far }) ≡ Ok after → ⊥
-first-made n so_far played after first steps more (Ok made) on e f = on made e f
-first-made n so_far played after first steps more (Err stop) on e f = absurd cc
-
-stops_there : (n : ℕ) (so_far after : StoredPlayed) (step : ScriptStep) (more : List ScriptStep) (stop : Stop) →
-    stored_plays_step so_far.pair step ≡ Err stop → stored_plays_all n so_far (step ∷ more) ≡ Ok after → ⊥
-stops_there n so_far after step more stop e f = by_step (stored_plays_step so_far.pair step) e f
+stops_behind : (begun played : StoredPlayed) (steps : List ScriptStep) (step : ScriptStep) (more : List ScriptStep) (stop : Stop) →
+    plays_all stored_plays_on 0 begun steps ≡ Ok played → stored_plays_step played.pair step ≡ Err stop → (after : StoredPlayed) →
+    plays_all stored_plays_on 0 begun ((steps ++ step ∷ []) ++ more) ≡ Ok after → ⊥
+stops_behind begun played steps step more stop e f after g = never _ _ (
+    sym g ∙ ap (plays_all stored_plays_on 0 begun) (append_assoc steps (step ∷ []) more)
+    ∙ behind stored_plays_on 0 begun played steps (step ∷ more) e
+    ∙ next stored_plays_on _ played step more (Err stop) (plays_on played step (Err stop) f)
+    )
   where
-    by_step : (now : Result StoredMade Stop) → now ≡ Err stop →
-        if_made now (λ made. stored_plays_all (n + 1) (with_records so_far step.side made) more)
-        (λ stop. record { steps = n; stop = stop; so_far = so_far }) ≡ Ok after → ⊥
-    by_step (Ok made) p q = absurd cc
-    by_step (Err why) p q = absurd cc
-
-stops_behind : (n : ℕ) (so_far played after : StoredPlayed) (steps : List ScriptStep) (step : ScriptStep) (more : List ScriptStep) (stop : Stop) →
-    stored_plays_all n so_far steps ≡ Ok played
-    → stored_plays_step played.pair step ≡ Err stop → stored_plays_all n so_far ((steps ++ step ∷ []) ++ more) ≡ Ok after → ⊥
-stops_behind n so_far played after [] step more stop e f g =
-    stops_there n so_far after step more stop (ap (λ (x : StoredPlayed). stored_plays_step x.pair step) (same_Ok so_far played e) ∙ f) g
-stops_behind n so_far played after (first ∷ steps) step more stop e f g =
-    first-made n so_far played after first steps ((steps ++ step ∷ []) ++ more) (stored_plays_step so_far.pair first)
-    (λ now k l. stops_behind (n + 1) (with_records so_far first.side now) played after steps step more stop k f l) e g
+    never : (x : StoredPlayed) (y : Stopped StoredPlayed) → ◌≡◌ {A = Result StoredPlayed (Stopped StoredPlayed)} (Ok x) (Err y) → ⊥
+    never x y e = cc
 
 -- what these steps make behind the heads of these nodes
-abbrev play_of : (node_a node_b : ℕ) (steps : List ScriptStep) → Result StoredPlayed StoredStopped
-play_of node_a node_b steps = stored_plays_all 0 (record { pair = new_pair node_a node_b; of_a = []; of_b = [] }) steps
+abbrev play_of : (node_a node_b : ℕ) (steps : List ScriptStep) → Result StoredPlayed (Stopped StoredPlayed)
+play_of node_a node_b steps = plays_all stored_plays_on 0 (record { pair = new_pair node_a node_b; of_a = []; of_b = [] }) steps
 
 same_play : (a a' b b' : ℕ) (steps steps' : List ScriptStep) → a ≡ a' → b ≡ b' → steps ≡ steps' → play_of a b steps ≡ play_of a' b' steps'
 same_play a a' b b' steps steps' e f g = ap (λ (x : ℕ). play_of x b steps) e ∙ ap (λ (x : ℕ). play_of a' x steps) f ∙
@@ -85,12 +67,12 @@ module _ (bytes : List ℕ) (script : Script) (played : StoredPlayed) (is_text :
   not_stopped stop line r h s =
       let begun = begun_of (with_step r.script s.step) s.later
       (one_more script_form (Some bytes) r.come s.later (listed r.script) s.step h.read s.few s.fits s.spelled) in
-      stops_behind 0 (stored_not_begun r.script) r.played played r.script.steps s.step begun.more stop h.made s.stops
+      stops_behind (stored_not_begun r.script) r.played r.script.steps s.step begun.more stop h.made s.stops played
       (sym (same_play script.node_a r.script.node_a script.node_b r.script.node_b script.steps ((r.script.steps ++ s.step ∷ []) ++ begun.more)
       begun.node_a begun.node_b begun.items) ∙ made)
 
   same_reached : (r : Reached) → HasPlayed (Some bytes) r → r.script ≡ script → r.played ≡ played
-  same_reached r h same = same_Ok r.played played (sym h.made ∙ ap stored_play same ∙ made)
+  same_reached r h same = same_Ok stored_plays_on r.played played (sym h.made ∙ ap stored_play same ∙ made)
 
   same_written : (old new : Held) (r : Reached) → HasWritten old new r → r.script ≡ script → r.played ≡ played →
       HasWritten old new (record { script = script; played = played; come = Some [] })
@@ -107,6 +89,4 @@ module _ (bytes : List ℕ) (script : Script) (played : StoredPlayed) (is_text :
   whole_played old new (Err (faults.Departs kind line)) (inr h) = absurd (nowhere kind line h.0 h.0.come h.1.read h.3.departs)
   whole_played old new (Err (faults.BadStep line)) h = absurd (not_stopped BadStep line h.0 h.1 h.3)
   whole_played old new (Err (faults.Full line)) h = absurd (not_stopped Full line h.0 h.1 h.3)
-  whole_played old new (Err faults.Read) h = tt
-  whole_played old new (Err (faults.Write side)) h = tt
-  whole_played old new (Err faults.OutOfMemory) h = tt
+  whole_played old new (Err fault) h = tt

@@ -1,13 +1,11 @@
 -- What a contract says of a step of an end, beside the line to it and the line from it, and of a step of both ends; and which may ask for memory.
 use Rattle.std.specs.Prelude.{ℕ, ◌++◌, List, Result, Ok, Err, IsOk}
-use Rattle.wire_base.specs.declared.side.Side.{Side}
-use Rattle.wire_base.specs.declared.side.Side.TheVariants.{A, B}
 use Rattle.capture.specs.declared.hint.HintForm.TheVariants.{Number}
 use Rattle.capture.specs.Text.{record_lines}
 use Rattle.dna_play.specs.Stop.{Stop}
 use Rattle.dna_play.specs.StoredEnd.{StoredEnd}
 use Rattle.dna_play.specs.StoredPlay.{StoredStepped, if_so, stored_plays, loses, silent, with_next}
-use Rattle.dna_play.specs.StoredPlayed.{StoredPair, StoredMade, left_by}
+use Rattle.dna_play.specs.StoredPlayed.{StoredPair, left_by, own_side, pair_after}
 use Rattle.dna_play.specs.Receipt.{is_damage}
 use Rattle.dna_play.specs.Script.{StepValue, ScriptStep, Timer, Send, Deliver, Refuse, Lose, Damage, Retry}
 use Rattle.player_end.specs.Stepping.{HasUnit}
@@ -24,9 +22,9 @@ sides step coming going text (Ok made) = Ok (made.end, left_by step coming, goin
 sides step coming going text (Err stop) = Err stop
 
 -- the same of both ends
-abbrev pub with_text : List ℕ → Result StoredMade Stop → Result (StoredPair × List ℕ) Stop
-with_text text (Ok made) = Ok (made.pair, text ++ record_lines Number made.records)
-with_text text (Err stop) = Err stop
+abbrev pub with_text : List ℕ → StoredPair → ScriptStep → Result StoredStepped Stop → Result (StoredPair × List ℕ) Stop
+with_text text pair step (Ok made) = Ok (pair_after step.side step.step made pair, text ++ record_lines Number made.records)
+with_text text pair step (Err stop) = Err stop
 
 -- ---- which steps may ask for memory
 
@@ -50,9 +48,5 @@ AsksMemory e coming (Damage place value) = CanBeHurt e coming place value
 AsksMemory e coming Send = HasUnit e
 AsksMemory e coming step = IsOk (stored_plays e coming step)
 
-abbrev pub asks_at : StoredPair → Side → StepValue → Type 0
-asks_at pair A step = AsksMemory pair.a pair.to_a step
-asks_at pair B step = AsksMemory pair.b pair.to_b step
-
 abbrev pub Asks : StoredPair → ScriptStep → Type 0
-Asks pair step = asks_at pair step.side step.step
+Asks pair step = let own = own_side step.side pair in AsksMemory own.end own.coming step.step

@@ -36,7 +36,7 @@ impl Model for Ends {
 
     ghost Value = { StoredPair };
 
-    ghost view = { λ e. record { a = e.a; b = e.b; to_a = e.to_a; to_b = e.to_b } };
+    ghost view = { λ e. record { a = record { end = e.a; coming = e.to_a }; b = record { end = e.b; coming = e.to_b } } };
 }
 
 impl Ends {
@@ -73,7 +73,8 @@ impl Ends {
     /// the text is of any use.
     #[tactic(auto, using(crate::proofs::Sides::both_sides), unfolding(dna_play::specs::StoredPlayed::stored_plays_step))]
     pub fn play_step(&mut self, step: ScriptStep<'_>, text: &mut Vec<u8>) -> Result<(), StepFault>
-        ensures ok { OnOk result (with_text text.old.items (stored_plays_step self.old (view_of_line step.entry)) ≡ Ok (self.new, text.new.items)) }
+        ensures ok { OnOk result (with_text text.old.items self.old (view_of_line step.entry)
+            (stored_plays_step self.old (view_of_line step.entry)) ≡ Ok (self.new, text.new.items)) }
         ensures stop { IfErr result (λ fault. StopMeans (stored_plays_step self.old (view_of_line step.entry)) fault) }
         ensures memory { result ≡ Err StepFault.OutOfMemory → Asks self.old (view_of_line step.entry) }
     {

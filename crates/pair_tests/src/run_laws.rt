@@ -38,7 +38,7 @@ fn a_script_of_a_head_has_no_bad_step()
 // The user of b starts it.
 fn a_start_that_is_bad_is_of_a_station_that_is_not_halted()
     ensures { (text : Option (List ℕ)) (r : Reached) (line : ℕ) → HasPlayed text r → StartsOnce r.script.steps → (stops : StopsBehind Bad line r) →
-        stops.step.side ≡ B → stops.step.step ≡ Start → (so_far : TruePlayed) × IsOfTruth r so_far × ¬ (IsHalted so_far.ends.pair.b) }
+        stops.step.side ≡ B → stops.step.step ≡ Start → (so_far : TruePlayed) × IsOfTruth r so_far × ¬ (IsHalted so_far.ends.pair.b.end) }
 {
     stopped_by_its_rule();
 }

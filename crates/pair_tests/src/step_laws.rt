@@ -14,7 +14,7 @@ use dna_play::{played_captures_are_few, steps_go_by_their_rules};
 // It comes to b, and is taken.
 fn a_unit_on_the_line_can_be_delivered()
     ensures { (script : Script) (step : ScriptStep) (so_far : Played) → IsScript (and_then script step) → play script ≡ Ok so_far
-        → StartsOnce script.steps → step.side ≡ B → step.step ≡ Deliver → HasNext so_far.ends.pair.to_b
+        → StartsOnce script.steps → step.side ≡ B → step.step ≡ Deliver → HasNext so_far.ends.pair.b.coming
         → (next : Played) × (plays_step so_far step ≡ Ok next) }
 {
     steps_go_by_their_rules();
@@ -23,7 +23,7 @@ fn a_unit_on_the_line_can_be_delivered()
 // The user of b opens it.
 fn a_link_can_be_opened_while_an_address_is_left()
     ensures { (script : Script) (step : ScriptStep) (so_far : Played) → IsScript (and_then script step) → play script ≡ Ok so_far
-        → StartsOnce script.steps → step.side ≡ B → step.step ≡ Open → so_far.ends.pair.b.addresses < MAX_LINK
+        → StartsOnce script.steps → step.side ≡ B → step.step ≡ Open → so_far.ends.pair.b.end.addresses < MAX_LINK
         → (next : Played) × (plays_step so_far step ≡ Ok next) }
 {
     steps_go_by_their_rules();

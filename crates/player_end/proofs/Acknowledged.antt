@@ -1,7 +1,7 @@
 -- Acknowledgement words that come, one after the other.
 use Rattle.std.proofs.Common.{◌≡◌, ℕ, ◌+◌, ◌-◌, ◌%◌, ◌<◌, ◌≤◌, Bool, true, false, ◌&&◌, List, [], ◌∷◌, length, refl, ap, ◌∙◌, arith, length-drop, ap₂}
 use Rattle.std.proofs.Common.{sym}
-use Rattle.std.proofs.lemmas.Bool.{leb-true}
+use Rattle.std.proofs.lemmas.Bool.{and_parts, leb-true}
 use Rattle.std.specs.Prelude.{nat_le}
 use Rattle.wire_base.specs.Window.{WindowView}
 use Rattle.dna_links.specs.declared.port.Port.{Port}
@@ -30,23 +30,15 @@ one_up true number w f few near =
     let le = near refl in let left = length-drop (distance w.first number) w.items in
     record { less = omega (arith, left, le); first = omega (arith, f, few, left, le) }
 
-both_up : (w v u : WindowView Piece) → GoesUp w v → GoesUp v u → GoesUp w u
-both_up w v u h k = record { less = omega (arith, h.less, k.less); first = omega (arith, h.less, k.less, h.first, k.first) }
-
-near_by : (b : Bool) (number : ℕ) (w : WindowView Piece) → (b && nat_le (distance w.first number) (length w.items)) ≡ true →
-    distance w.first number ≤ length w.items
-near_by true number w e = leb-true (distance w.first number) (length w.items) e
-near_by false number w e = absurd cc
-
 words_up : (words : List AckWord) (w : WindowView Piece) → w.first < 4096 → length w.items ≤ 2047 → GoesUp w (acknowledged_words words w)
 words_up [] w f few = record { less = omega arith; first = omega (arith, f) }
 words_up (word ∷ words) w f few =
-    let test = is_of_data word.qualifier && nat_le (distance w.first word.number) (length w.items) in
-    let one = one_up test word.number w f few (near_by (is_of_data word.qualifier) word.number w) in
-    let small : (acknowledged_word w word).first < 4096 = omega (arith, one.first) in
-    let fewer : length (acknowledged_word w word).items ≤ 2047 = omega (arith, one.less, few) in
-    both_up w (acknowledged_word w word) (acknowledged_words words (acknowledged_word w word)) one
-    (words_up words (acknowledged_word w word) small fewer)
+    let one = one_up (is_of_data word.qualifier && nat_le (distance w.first word.number) (length w.items)) word.number w f few
+    (λ e. leb-true _ _ (and_parts (is_of_data word.qualifier) _ e).1) in
+    let h = one.less in let first = one.first in
+    let up = words_up words (acknowledged_word w word) (omega (arith, first)) (omega (arith, h, few)) in
+    let more = up.less in let last = up.first in
+    record { less = omega (arith, h, more); first = omega (arith, h, more, first, last) }
 
 pub words_count : (words : List AckWord) (w : WindowView Piece) → w.first < 4096 → length w.items ≤ 2047 →
     distance w.first (acknowledged_words words w).first + length (acknowledged_words words w).items ≡ length w.items

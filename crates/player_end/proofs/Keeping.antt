@@ -1,14 +1,15 @@
 -- What changes a link and leaves it the addresses that it has.
-use Rattle.std.proofs.Common.{◌≡◌, ℕ, Bool, true, false, Option, Some, None, List, Result, Ok, Err, OnOk, refl, ap, ◌∙◌}
-use Rattle.std.specs.Prelude.{OnErr}
-use Rattle.std.specs.Prelude.{slice_get}
+use Rattle.std.proofs.Common.{◌≡◌, ℕ, Bool, true, false, Option, Some, None, List, Result, Ok, Err, OnOk, refl, ap, ◌∙◌, sym}
+use Rattle.std.specs.Prelude.{OnErr, slice_get}
 use Rattle.dna_links.specs.declared.port.Phase.{Phase}
-use Rattle.dna_links.specs.declared.port.Phase.TheVariants.{Calling, Called, Confirming, Running, Disconnecting, Ended}
+use Rattle.dna_links.specs.declared.port.Phase.TheVariants.{Calling}
 use Rattle.dna_links.specs.declared.port.Port.{Port}
 use Rattle.dna_packet.specs.declared.ack_word.AckWord.{AckWord}
 use Rattle.dna_links.specs.LookUps.{is_live, is_running}
 use Rattle.dna_links.specs.Segmentation.{Piece}
-use Rattle.dna_play.specs.LinkOwed.{Duty, ConnectAckDuty, InitiateDuty, ConfirmDuty, DisconnectDuty, DataAckDuty, SegmentDuty}
+use Rattle.std.proofs.lemmas.Option.{same_Some}
+use Rattle.player_end.specs.inner.Links.{retried_end, with_change}
+use Rattle.dna_play.specs.LinkOwed.{LinkOwed, retried, Duty, SegmentDuty}
 use Rattle.dna_play.specs.NextSent.{LinkEnd}
 use Rattle.dna_play.specs.StoredLinks.{called_again, confirmed_again, acted_on, took_acks, handed, closed, duty_sent, gave, gave_by}
 
@@ -38,11 +39,7 @@ either_made (Err e) ok err keeps = same_port (ap (λ (x : LinkEnd). x.port) err)
 
 called_port : (phase : Phase) (l : LinkEnd) → (called_again phase l).port ≡ l.port
 called_port Calling l = refl
-called_port Called l = refl
-called_port Confirming l = refl
-called_port Running l = refl
-called_port Disconnecting l = refl
-called_port Ended l = refl
+called_port phase l = refl
 
 pub keeps_called : (l : LinkEnd) → Keeps l (called_again l.port.phase l)
 keeps_called l = same_port (called_port l.port.phase l)
@@ -62,12 +59,8 @@ gave_port (Some p) l = refl
 gave_port None l = refl
 
 by_port : (duty : Duty) (l : LinkEnd) → (gave_by duty l).port ≡ l.port
-by_port ConnectAckDuty l = refl
-by_port InitiateDuty l = refl
-by_port ConfirmDuty l = refl
-by_port DisconnectDuty l = refl
-by_port DataAckDuty l = refl
 by_port SegmentDuty l = gave_port (slice_get l.variables.outstanding l.owed.ahead) l
+by_port duty l = refl
 
 pub keeps_sent : (duty : Duty) (l : LinkEnd) → Keeps l (duty_sent duty l)
 keeps_sent duty l = same_port (by_port duty l)
@@ -80,3 +73,15 @@ keeps_acks words l = record { live = λ h. refl; own = refl; far = refl }
 
 pub keeps_closed : (l : LinkEnd) → Keeps l (closed l)
 keeps_closed l = record { live = λ h. refl; own = refl; far = refl }
+
+-- its timer runs out, if it can
+pub retry_port : (l m : LinkEnd) → retried_end l ≡ Some m → Keeps l m
+retry_port l m e = same_port (go (retried l.port.phase) e)
+  where
+    go : (o : Option (LinkOwed → LinkOwed)) → with_change o l ≡ Some m → m.port ≡ l.port
+    go None h = absurd cc
+    go (Some change) h = ap (λ (k : LinkEnd). k.port) (sym (same_Some (record l { owed = change l.owed }) m h))
+
+pub retry_keeps : {l m : LinkEnd} (r : Bool) → (r ≡ true → retried_end l ≡ Some m) → (r ≡ false → m ≡ l) → Keeps l m
+retry_keeps {l} {m} true made same = retry_port l m (made refl)
+retry_keeps false made same = same_port (ap (λ (k : LinkEnd). k.port) (same refl))

@@ -2,16 +2,12 @@
 use Rattle.std.proofs.Common.{◌≡◌, ◌≤◌, length, refl, arith, length-append}
 use Rattle.wire_base.specs.BlockCheck.{check_bytes}
 use Rattle.capture.specs.declared.limit.TheConstants.{MAX_MESSAGE}
-use Rattle.ddcmp_msg.specs.Message.{MessageValue, Data, Ack, Nak, Rep, Strt, Stack, IsInRange}
+use Rattle.ddcmp_msg.specs.Message.{MessageValue, Data, IsInRange}
 use Rattle.ddcmp_msg.specs.Spelling.{header, with_check, rest_of, spelling}
 
 six : (m : MessageValue) → length (header m) ≡ 6
 six (Data flags resp num body) = refl
-six (Ack flags resp) = refl
-six (Nak flags reason resp) = refl
-six (Rep flags num) = refl
-six (Strt flags) = refl
-six (Stack flags) = refl
+six m = refl
 
 rest_short : (m : MessageValue) → IsInRange m → length (rest_of m) ≤ 16385
 rest_short (Data flags resp num body) h = let e = length-append body (check_bytes body) in omega (arith, e, h.0, h.1)

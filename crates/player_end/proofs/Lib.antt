@@ -1,7 +1,6 @@
 pub mod Acknowledged
 pub mod Acting
 pub mod Holding
-pub mod Places
 pub mod Pairs
 pub mod Marked
 pub mod Indexed
@@ -9,9 +8,7 @@ pub mod Finding
 pub mod Keeping
 pub mod Duties
 pub mod LiveLists
-pub mod LiveChoices
 pub mod Searching
-pub mod Answered
 pub mod Choosing
 pub mod Change
 pub mod Lengths

@@ -1,92 +1,81 @@
--- Items of a list that pass a test, beside all of them: what a change of one item makes of those that pass.
-use Rattle.std.proofs.Common.{◌≡◌, ℕ, zero, suc, Bool, true, false, cond, Option, Some, None, List, [], ◌∷◌, ◌++◌, position, refl, sym, ap, ◌∙◌}
-use Rattle.std.proofs.Common.{option_map}
+-- The links that live, at their places among all: what stands at a place, what a change of one link makes of them, and what a search among
+-- them finds.
+use Rattle.std.proofs.Common.{◌≡◌, ℕ, zero, suc, Bool, true, false, cond, Option, Some, None, List, [], ◌∷◌, position, refl, sym, ap, ◌∙◌, option_map}
 use Rattle.std.specs.Prelude.{slice_get, slice_set}
-use Rattle.std.specs.List.{filter, remove}
+use Rattle.std.specs.List.{remove}
 use Rattle.std.proofs.lemmas.Option.{same_Some}
-use Rattle.std.proofs.lemmas.List.Elements.{filter-append}
+use Rattle.dna_links.specs.LookUps.{is_live}
+use Rattle.dna_play.specs.NextSent.{LinkEnd}
 use Rattle.dna_play.proofs.Links.Lists.{position_here, position_later}
+use Rattle.player_end.specs.inner.Index.{live_ends, place_among}
 
-module _ {X : Type 0} (p : X → Bool) where
-  -- how many pass in front of a place: the place among those that pass
-  abbrev pub place_in : ℕ → List X → ℕ
-  place_in zero xs = 0
-  place_in (suc n) [] = 0
-  place_in (suc n) (x ∷ xs) = cond (p x) (suc (place_in n xs)) (place_in n xs)
+abbrev pub lives : LinkEnd → Bool
+lives l = is_live l.port.phase
 
-  pub filter_get : (xs : List X) (n : ℕ) (x : X) → slice_get xs n ≡ Some x → p x ≡ true → slice_get (filter p xs) (place_in n xs) ≡ Some x
-  filter_get [] n x at passes = absurd cc
-  filter_get (y ∷ xs) zero x at passes =
-      ap (λ (b : Bool). slice_get (cond b (y ∷ filter p xs) (filter p xs)) 0) (ap p (same_Some y x at) ∙ passes) ∙ at
-  filter_get (y ∷ xs) (suc n) x at passes = go (p y) (filter_get xs n x at passes)
+pub live_get : (links : List LinkEnd) (n : ℕ) (l : LinkEnd) → slice_get links n ≡ Some l → lives l ≡ true →
+    slice_get (live_ends links) (place_among n links) ≡ Some l
+live_get [] n l at live = absurd cc
+live_get (k ∷ links) zero l at live =
+    ap (λ (b : Bool). slice_get (cond b (k ∷ live_ends links) (live_ends links)) 0) (ap lives (same_Some k l at) ∙ live) ∙ at
+live_get (k ∷ links) (suc n) l at live = go (lives k) (live_get links n l at live)
+  where
+    go : (b : Bool) → slice_get (live_ends links) (place_among n links) ≡ Some l →
+        slice_get (cond b (k ∷ live_ends links) (live_ends links)) (cond b (suc (place_among n links)) (place_among n links)) ≡ Some l
+    go true rest = rest
+    go false rest = rest
+
+-- one that lives changes, and lives on or ends
+module _ (m : LinkEnd) where
+  abbrev pub left : Bool → List LinkEnd → ℕ → List LinkEnd
+  left b links place = cond b (slice_set links place m) (remove links place)
+
+  pub live_change : (links : List LinkEnd) (n : ℕ) (l : LinkEnd) → slice_get links n ≡ Some l → lives l ≡ true → (b : Bool) → lives m ≡ b →
+      live_ends (slice_set links n m) ≡ left b (live_ends links) (place_among n links)
+  live_change [] n l at live b is = absurd cc
+  live_change (k ∷ links) zero l at live b is =
+      ap (λ (a : Bool). cond a (m ∷ live_ends links) (live_ends links)) is ∙ go b
+      ∙ sym (ap (λ (a : Bool). left b (cond a (k ∷ live_ends links) (live_ends links)) 0) (ap lives (same_Some k l at) ∙ live))
     where
-      go : (b : Bool) → slice_get (filter p xs) (place_in n xs) ≡ Some x →
-          slice_get (cond b (y ∷ filter p xs) (filter p xs)) (cond b (suc (place_in n xs)) (place_in n xs)) ≡ Some x
-      go true rest = rest
-      go false rest = rest
-
-  -- one that passes changes, and passes still
-
-  pub filter_set : (xs : List X) (n : ℕ) (x z : X) → slice_get xs n ≡ Some x → p x ≡ true → p z ≡ true →
-      filter p (slice_set xs n z) ≡ slice_set (filter p xs) (place_in n xs) z
-  filter_set [] n x z at passes still = absurd cc
-  filter_set (y ∷ xs) zero x z at passes still =
-      ap (λ (b : Bool). cond b (z ∷ filter p xs) (filter p xs)) still
-      ∙ sym (ap (λ (b : Bool). slice_set (cond b (y ∷ filter p xs) (filter p xs)) 0 z) (ap p (same_Some y x at) ∙ passes))
-  filter_set (y ∷ xs) (suc n) x z at passes still = go (p y) (filter_set xs n x z at passes still)
+      go : (a : Bool) → cond a (m ∷ live_ends links) (live_ends links) ≡ left a (k ∷ live_ends links) 0
+      go true = refl
+      go false = refl
+  live_change (k ∷ links) (suc n) l at live b is = go (lives k) b (live_change links n l at live b is)
     where
-      go : (b : Bool) → filter p (slice_set xs n z) ≡ slice_set (filter p xs) (place_in n xs) z →
-          cond b (y ∷ filter p (slice_set xs n z)) (filter p (slice_set xs n z))
-          ≡ slice_set (cond b (y ∷ filter p xs) (filter p xs)) (cond b (suc (place_in n xs)) (place_in n xs)) z
-      go true rest = ap (λ (ys : List X). y ∷ ys) rest
-      go false rest = rest
+      go : (a c : Bool) → live_ends (slice_set links n m) ≡ left c (live_ends links) (place_among n links) →
+          cond a (k ∷ live_ends (slice_set links n m)) (live_ends (slice_set links n m))
+          ≡ left c (cond a (k ∷ live_ends links) (live_ends links)) (cond a (suc (place_among n links)) (place_among n links))
+      go true true rest = ap (λ (ls : List LinkEnd). k ∷ ls) rest
+      go true false rest = ap (λ (ls : List LinkEnd). k ∷ ls) rest
+      go false c rest = rest
 
-  -- or passes no more
-  pub filter_drop : (xs : List X) (n : ℕ) (x z : X) → slice_get xs n ≡ Some x → p x ≡ true → p z ≡ false →
-      filter p (slice_set xs n z) ≡ remove (filter p xs) (place_in n xs)
-  filter_drop [] n x z at passes over = absurd cc
-  filter_drop (y ∷ xs) zero x z at passes over =
-      ap (λ (b : Bool). cond b (z ∷ filter p xs) (filter p xs)) over
-      ∙ sym (ap (λ (b : Bool). remove (cond b (y ∷ filter p xs) (filter p xs)) 0) (ap p (same_Some y x at) ∙ passes))
-  filter_drop (y ∷ xs) (suc n) x z at passes over = go (p y) (filter_drop xs n x z at passes over)
-    where
-      go : (b : Bool) → filter p (slice_set xs n z) ≡ remove (filter p xs) (place_in n xs) →
-          cond b (y ∷ filter p (slice_set xs n z)) (filter p (slice_set xs n z))
-          ≡ remove (cond b (y ∷ filter p xs) (filter p xs)) (cond b (suc (place_in n xs)) (place_in n xs))
-      go true rest = ap (λ (ys : List X). y ∷ ys) rest
-      go false rest = rest
+-- what is found among all is found among those that live, where no other is looked for
+module _ (test : LinkEnd → Bool) where
+  abbrev placed : List LinkEnd → Option ℕ → Option ℕ
+  placed links o = option_map (λ (n : ℕ). place_among n links) o
 
-  -- a new one that passes
-  pub filter_push : (xs : List X) (z : X) → p z ≡ true → filter p (xs ++ z ∷ []) ≡ filter p xs ++ z ∷ []
-  filter_push xs z passes = filter-append p xs (z ∷ []) ∙ ap (λ (b : Bool). filter p xs ++ cond b (z ∷ []) []) passes
+  module _ (l : LinkEnd) (links : List LinkEnd) where
+    behind : lives l ≡ true → (o : Option ℕ) → option_map suc (placed links o) ≡ placed (l ∷ links) (option_map suc o)
+    behind f None = refl
+    behind f (Some n) = ap (λ (b : Bool). Some (cond b (suc (place_among n links)) (place_among n links))) (sym f)
 
-  -- what is found among all is found among those that pass, where nothing else is looked for
-  module _ (test : X → Bool) (only : (x : X) → test x ≡ true → p x ≡ true) where
-    abbrev placed : List X → Option ℕ → Option ℕ
-    placed xs o = option_map (λ (n : ℕ). place_in n xs) o
+    beside : lives l ≡ false → (o : Option ℕ) → placed links o ≡ placed (l ∷ links) (option_map suc o)
+    beside f None = refl
+    beside f (Some n) = ap (λ (b : Bool). Some (cond b (suc (place_among n links)) (place_among n links))) (sym f)
 
-    module _ (x : X) (xs : List X) where
-      behind : p x ≡ true → (o : Option ℕ) → option_map suc (placed xs o) ≡ placed (x ∷ xs) (option_map suc o)
-      behind f None = refl
-      behind f (Some n) = ap (λ (b : Bool). Some (cond b (suc (place_in n xs)) (place_in n xs))) (sym f)
+    abbrev front : Bool → Option ℕ
+    front b = position test (cond b (l ∷ live_ends links) (live_ends links))
 
-      beside : p x ≡ false → (o : Option ℕ) → placed xs o ≡ placed (x ∷ xs) (option_map suc o)
-      beside f None = refl
-      beside f (Some n) = ap (λ (b : Bool). Some (cond b (suc (place_in n xs)) (place_in n xs))) (sym f)
+    one_more : (found : Bool) → test l ≡ found → (test l ≡ true → lives l ≡ true) → (b : Bool) → lives l ≡ b →
+        position test (live_ends links) ≡ placed links (position test links) → front (lives l) ≡ placed (l ∷ links) (position test (l ∷ links))
+    one_more true e only b f rest =
+        ap front (only e) ∙ position_here test l (live_ends links) e ∙ sym (ap (placed (l ∷ links)) (position_here test l links e))
+    one_more false e only true f rest =
+        ap front f ∙ position_later test l (live_ends links) e ∙ ap (option_map suc) rest ∙ behind f (position test links)
+        ∙ sym (ap (placed (l ∷ links)) (position_later test l links e))
+    one_more false e only false f rest =
+        ap front f ∙ rest ∙ beside f (position test links) ∙ sym (ap (placed (l ∷ links)) (position_later test l links e))
 
-      abbrev front : Bool → Option ℕ
-      front b = position test (cond b (x ∷ filter p xs) (filter p xs))
-
-      one_more : (found : Bool) → test x ≡ found → (b : Bool) → p x ≡ b → position test (filter p xs) ≡ placed xs (position test xs) →
-          front (p x) ≡ placed (x ∷ xs) (position test (x ∷ xs))
-      one_more true e b f rest =
-          ap front (only x e) ∙ position_here test x (filter p xs) e ∙ sym (ap (placed (x ∷ xs)) (position_here test x xs e))
-      one_more false e true f rest =
-          ap front f ∙ position_later test x (filter p xs) e ∙ ap (option_map suc) rest ∙ behind f (position test xs)
-          ∙ sym (ap (placed (x ∷ xs)) (position_later test x xs e))
-      one_more false e false f rest =
-          ap front f ∙ rest ∙ beside f (position test xs) ∙ sym (ap (placed (x ∷ xs)) (position_later test x xs e))
-
-    pub position_filter : (xs : List X) → position test (filter p xs) ≡ placed xs (position test xs)
-    position_filter [] = refl
-    position_filter (x ∷ xs) = one_more x xs (test x) refl (p x) refl (position_filter xs)
+  pub live_position : (links : List LinkEnd) → ((n : ℕ) (l : LinkEnd) → slice_get links n ≡ Some l → test l ≡ true → lives l ≡ true) →
+      position test (live_ends links) ≡ placed links (position test links)
+  live_position [] only = refl
+  live_position (l ∷ links) only = one_more l links (test l) refl (only 0 l refl) (lives l) refl (live_position links (λ n. only (suc n)))

@@ -1,6 +1,7 @@
 -- What a look at the pairs of addresses and numbers finds: those with one address stand beside each other, in the order of their numbers.
 use Rattle.std.proofs.Common.{◌≡◌, ℕ, ◌<◌, ◌≤◌, Bool, true, false, cond, List, [], ◌∷◌, Option, Some, None, refl, ap, subst, arith, ◌⊎◌, inl, inr}
 use Rattle.std.specs.Prelude.{slice_get, IfSome, ⊤}
+use Rattle.std.proofs.lemmas.Bool.{false_from_ne_true}
 use Rattle.std.specs.declared.cmp.Ordering.{Ordering}
 use Rattle.std.specs.declared.cmp.Ordering.TheVariants.{Less, Equal, Greater}
 use Rattle.std.specs.declared.ops.Bound.TheVariants.{Included, Unbounded}
@@ -9,10 +10,6 @@ use Rattle.std.specs.BTreeMap.Range.{IsLeBy}
 use Rattle.std.specs.BTreeSet.{BTreeSet, IsKeyRangeOf}
 use Rattle.std.specs.Cmp.{ranked}
 use Rattle.player_end.specs.inner.Addresses.{pair_cmp, has}
-
-not_true : (b : Bool) → (b ≡ true → ⊥) → b ≡ false
-not_true true h = absurd (h refl)
-not_true false h = refl
 
 pub cond_yes : (b c : Bool) → c ≡ true → cond b true c ≡ true
 cond_yes true c h = refl
@@ -28,17 +25,15 @@ le_parts p q h = go (nat_cmp p.0 q.0) refl (nat_cmp p.1 q.1) refl h
     go Less e u f h = inl (ranked p.0 q.0 Less e)
     go Equal e Less f h = inr (ranked p.0 q.0 Equal e, (let less : p.1 < q.1 = ranked p.1 q.1 Less f in omega (arith, less)))
     go Equal e Equal f h = inr (ranked p.0 q.0 Equal e, (let same : p.1 ≡ q.1 = ranked p.1 q.1 Equal f in omega (arith, same)))
-    go Equal e Greater f h = absurd cc
-    go Greater e u f h = absurd cc
+    go o e u f h = absurd cc
 
 le_pair : (a m n : ℕ) → m ≤ n → is_gt (pair_cmp (a, m) (a, n)) ≡ false
 le_pair a m n le = go (nat_cmp a a) refl (nat_cmp m n) refl
   where
     go : (o : Ordering) → o ≡ nat_cmp a a → (u : Ordering) → u ≡ nat_cmp m n → is_gt (ordering_then o u) ≡ false
     go Less e u f = absurd (let less : a < a = ranked a a Less e in omega (arith, less))
-    go Equal e Less f = refl
-    go Equal e Equal f = refl
     go Equal e Greater f = absurd (let less : n < m = ranked m n Greater f in omega (arith, less, le))
+    go Equal e u f = refl
     go Greater e u f = absurd (let less : a < a = ranked a a Greater e in omega (arith, less))
 
 -- a pair with another number is another pair
@@ -46,11 +41,8 @@ pub other_pair : (a m q n : ℕ) → (n ≡ m → ⊥) → is_eq (pair_cmp (a, m
 other_pair a m q n other = go (nat_cmp a q) (nat_cmp m n) refl
   where
     go : (o u : Ordering) → u ≡ nat_cmp m n → is_eq (ordering_then o u) ≡ false
-    go Less u f = refl
-    go Greater u f = refl
-    go Equal Less f = refl
-    go Equal Greater f = refl
     go Equal Equal f = absurd (let same : m ≡ n = ranked m n Equal f in other (omega (arith, same)))
+    go o u f = refl
 
 module _ (s : BTreeSet (ℕ × ℕ)) (address from : ℕ) (r : List (ℕ × ℕ))
     (of : IsKeyRangeOf pair_cmp (Included (address, from)) Unbounded s r) where
@@ -59,7 +51,7 @@ module _ (s : BTreeSet (ℕ × ℕ)) (address from : ℕ) (r : List (ℕ × ℕ)
 
   pub none_before : (p : ℕ × ℕ) (rest : List (ℕ × ℕ)) → r ≡ p ∷ rest → (other : ℕ) → from ≤ other → (p.0 ≡ address → other < p.1) →
       has s address other ≡ false
-  none_before p rest e other h less = not_true (has s address other) (λ there.
+  none_before p rest e other h less = false_from_ne_true (has s address other) (λ there.
       let first : slice_get r 0 ≡ Some p = ap (λ (xs : List (ℕ × ℕ)). slice_get xs 0) e in
       let least = subst (λ (o : Option (ℕ × ℕ)). IfSome o (λ k. IsLeBy pair_cmp k (address, other))) first
       (of.2 (address, other) (le_pair address from other h, tt) there) in

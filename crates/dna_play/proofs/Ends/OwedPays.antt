@@ -1,6 +1,6 @@
 -- What a station of the player owes stays payable with one thing more, and where a record leaves its causes open.
-use Rattle.std.proofs.Common.{◌≡◌, ◌+◌, Bool, true, false, ◌&&◌, not, cond, Option, Some, None, refl, sym, ◌∙◌, arith, lt-ltb}
-use Rattle.std.proofs.lemmas.Bool.{and_parts}
+use Rattle.std.proofs.Common.{◌≡◌, ◌+◌, Bool, true, false, cond, Option, Some, None, refl, sym, ◌∙◌, arith, lt-ltb}
+use Rattle.std.proofs.lemmas.Bool.{and_parts, not-true}
 use Rattle.ddcmp_msg.specs.declared.nak_reason.NakReason.{NakReason}
 use Rattle.ddcmp_msg.specs.declared.nak_reason.NakReason.TheVariants.{HeaderCheck, DataCheck, RepResponse, NoBuffer}
 use Rattle.dna_station.specs.declared.state.State.{State}
@@ -65,27 +65,18 @@ pub rep_aside : (reason : NakReason) (b : Bool) (owed : Owed) → (with_nak reas
 rep_aside HeaderCheck b owed = refl
 rep_aside reason b owed = refl
 
-not_true : (b : Bool) → not b ≡ true → b ≡ false
-not_true true e = absurd cc
-not_true false e = refl
-
 module _ {L : Type 0} where
   -- ---- after every record
 
   pub still : (k v : StationVariables L) (c d : Causes) (owed : Owed) → (same_state k.state v.state ≡ true → StayOpen c d) → IsPayable k c owed →
       IsPayable v d (still_owed k v owed)
   still k v c d owed has p = record {
-    nak = λ reason e. go (same_state k.state v.state) refl reason (sym (naks reason) ∙ e);
-    rep = λ e. not_true _
-        (and_parts _ _ e).1;
+    nak = λ reason e. go (same_state k.state v.state) refl reason (sym (aside reason left left.strt left.stack left.ack _) ∙ e);
+    rep = λ e. not-true _ (and_parts _ _ e).1;
   }
     where
       left : Owed
       left = unless_left (same_state k.state v.state) owed
-
-      naks : (reason : NakReason) → owes_nak reason (still_owed k v owed) ≡ owes_nak reason (unless_left (same_state k.state v.state) owed)
-      naks reason = let left = unless_left (same_state k.state v.state) owed in
-          aside reason left left.strt left.stack left.ack (left.rep && not (all_acknowledged v))
 
       go : (b : Bool) → same_state k.state v.state ≡ b → (reason : NakReason) → owes_nak reason (unless_left b owed) ≡ true →
           has_cause reason d ≡ true
@@ -115,10 +106,7 @@ module _ {L : Type 0} where
   debt_pays v d owed (Some OwesRep) can p =
       record { nak = λ reason e. p.nak reason (sym (aside reason owed owed.strt owed.stack owed.ack true) ∙ e); rep = λ e. can }
   debt_pays v d owed (Some (OwesNak reason)) can p =
-      record {
-        nak = λ other e. nak_added reason other d owed can (p.nak other) e;
-        rep = λ e. p.rep (sym (rep_aside reason true owed) ∙ e);
-      }
+      record { nak = λ other e. nak_added reason other d owed can (p.nak other) e; rep = λ e. p.rep (sym (rep_aside reason true owed) ∙ e) }
 
   -- the timer runs out
   pub timer_pays : (k : StationVariables L) (c : Causes) (owed : Owed) (state : State) → IsPayable k c owed →

@@ -1,21 +1,13 @@
--- What holds of an end of the player that takes what comes: the DC for a DI names a link that is over, and the end holds on.
-use Rattle.std.proofs.Common.{◌+◌, arith, ap}
+-- What holds of an end of the player that takes what comes: the DC for a DI names a link that is over.
+use Rattle.std.proofs.Common.{arith, ap}
 use Rattle.dna_packet.specs.Nsp.{NspValue}
-use Rattle.dna_station.specs.Station.{Station}
 use Rattle.dna_links.specs.declared.tag.LinkTag.{LinkTag}
 use Rattle.dna_links.specs.Arriving.{of_partner}
-use Rattle.dna_links.specs.TrueLinks.{Links}
-use Rattle.dna_play.specs.Owed.{Owed}
-use Rattle.dna_play.specs.StoredEnd.{StoredLinks}
 use Rattle.dna_node.proofs.Once.Messages.{IsAddressed, source, target}
 use Rattle.dna_play.proofs.Links.Confirms.{end_done}
 use Rattle.dna_play.proofs.Links.Comes.{EndsHold}
-use Rattle.dna_play.proofs.Links.Stage.{LinkHolds}
 use Rattle.dna_play.proofs.Ends.TrueEnd.{End, links_of}
-use Rattle.dna_play.proofs.Ends.SendMakes.{PacketsFit}
-use Rattle.dna_play.proofs.Ends.StationStage.{StationPays}
 use Rattle.dna_play.proofs.Ends.Stage.{Stage, Known}
-use Rattle.dna_play.proofs.Stored.Segments.{left_half}
 
 module _ (own other : End) (h : Stage own) (theirs : Stage other) (known : Known own other) where
   -- the DC for a DI
@@ -30,10 +22,3 @@ module _ (own other : End) (h : Stage own) (theirs : Stage other) (known : Known
         small = record { dst = omega arith; src = omega arith; reason = small };
         some = some;
       }
-
-  -- the end after what comes, with this station and these links
-  pub left_stage : (station : Station) (owed : Owed) (links : Links) (kept : StoredLinks) → StationPays station owed → PacketsFit station →
-      LinkHolds links.links own.addresses kept →
-      Stage (record own { half = left_half own station links; owed = owed; links = kept; passed = own.passed + 1 })
-  left_stage station owed links kept pays packets holds =
-      record { pays = pays; packets = packets; links = holds; plain = h.plain; few = h.few; ahead = omega arith }

@@ -1,20 +1,20 @@
 -- That an end of the player sends what it has chosen keeps what holds of it.
-use Rattle.std.proofs.Common.{◌≡◌, ℕ, ◌⊎◌, inl, inr, Some, length, Ok, sym, subst}
-use Rattle.std.specs.Prelude.{slice_get}
+use Rattle.std.proofs.Common.{◌≡◌, ℕ, ◌∙◌, Option, Some, Ok, ap, refl, subst}
 use Rattle.std.proofs.lemmas.Option.{same_Some}
 use Rattle.ddcmp_msg.specs.Message.{MessageValue}
 use Rattle.dna_packet.specs.Nsp.{NspValue}
 use Rattle.dna_links.specs.Links.{Carried}
 use Rattle.dna_links.specs.Sending as links_sending
-use Rattle.dna_links.specs.TrueSegments.{TrueSegments, Numbers, true_segments}
+use Rattle.dna_links.specs.TrueSegments.{TrueSegments, Numbers}
 use Rattle.dna_links.specs.TrueLinks.{links_sent}
 use Rattle.dna_links.specs.Runs.{SentMessage}
 use Rattle.dna_play.specs.NextSent.{LinkChoice, Choice, SendNew, after_choice}
 use Rattle.dna_play.specs.Compose.{message_of}
 use Rattle.dna_play.specs.StoredEnd.{StoredLinks}
 use Rattle.dna_play.specs.StoredLinks.{after_sent}
-use Rattle.two_nodes.proofs.NumberedSteps.{at_pushed}
-use Rattle.dna_links.proofs.Tables.Outcomes.{SentDid, sent_did}
+use Rattle.dna_links.proofs.Runs.Sides.{all_pushed}
+use Rattle.dna_links.proofs.Tables.Outcomes.{checked}
+use Rattle.dna_station.specs.declared.link_refusal.LinkRefusal.TheVariants.{WrongNode}
 use Rattle.dna_play.proofs.Played.Steps.{PlayHalf}
 use Rattle.dna_play.proofs.Links.Choices.{IsAsked, OfDuty, OfConfirm}
 use Rattle.dna_play.proofs.Links.Fits.{IsPlain, duty_plain}
@@ -24,7 +24,7 @@ use Rattle.dna_play.proofs.Ends.TrueEnd.{End, variables_of, station_of, links_of
 use Rattle.dna_play.proofs.Ends.UnitLines.{IsOfBytes}
 use Rattle.dna_play.proofs.Ends.SendMakes.{sent_left, again_after, first_after}
 use Rattle.dna_play.proofs.Ends.StationStage.{sent_stage, sent_packets}
-use Rattle.dna_play.proofs.Ends.Stage.{Stage, Known, ordered_of, station_stage}
+use Rattle.dna_play.proofs.Ends.Stage.{Stage, Known, station_stage}
 
 -- the end after what it sends by this choice, with these links
 abbrev pub after_sending : Choice → End → PlayHalf → StoredLinks → End
@@ -34,7 +34,7 @@ module _ (own other : End) (h : Stage own) (known : Known own other) where
   -- a unit without a new packet
   pub stage_again : (c : Choice) (m : MessageValue) → message_of c own.half.state.head (variables_of own.half) own.links.links ≡ Some m →
       IsOfBytes m →
-      Stage (after_sending c own (sent_left own.half other.half m (again_after own.half other.half m)) own.links)
+      Stage (after_sending c own (sent_left own.half m (again_after own.half m)) own.links)
   stage_again c m put b = station_stage own h _ _ _ _ _
       (sent_stage (station_of own.half) own.owed h.pays known.bounded.ordered c own.half.state.head own.links.links m put)
       (sent_packets (station_of own.half) m b h.packets) h.ahead
@@ -44,28 +44,23 @@ module _ (own other : End) (h : Stage own) (known : Known own other) where
   message_plain c message (OfDuty number place duty l o at due) = duty_plain l o duty (is_kept at).fits.segments
   message_plain c message (OfConfirm confirm first) = tt
 
+  abbrev AreAllPlain : ℕ → Option SentMessage → Type 0
+  AreAllPlain k o = (u : SentMessage) → o ≡ Some u → IsPlain u.packet.message
+
   -- a new packet
-  pub stage_first : (one : LinkChoice) (message : NspValue) → IsAsked (links_of own.half).links own.links one message → (packet : Carried)
-      (made : links_sending.Sent TrueSegments Numbers) → packet.message ≡ message → links_sent (links_of own.half) packet ≡ Ok made →
+  pub stage_first : (one : LinkChoice) (packet : Carried) → IsAsked (links_of own.half).links own.links one packet.message →
+      (made : links_sending.Sent TrueSegments Numbers) → links_sent (links_of own.half) packet ≡ Ok made →
       (m : MessageValue) → message_of (SendNew one) own.half.state.head (variables_of own.half) own.links.links ≡ Some m → IsOfBytes m →
-      Stage (after_sending (SendNew one) own (sent_left own.half other.half m (first_after own.half other.half m packet made))
-      (after_sent one own.links))
-  stage_first one message asked packet made of_it does_it m put b = record {
+      Stage (after_sending (SendNew one) own (sent_left own.half m (first_after own.half m packet made)) (after_sent one own.links))
+  stage_first one packet asked made does_it m put b = record {
     pays = sent_stage (station_of own.half) own.owed h.pays known.bounded.ordered (SendNew one) own.half.state.head own.links.links m put;
     packets = sent_packets (station_of own.half) m b h.packets;
-    links = sent_holds (links_of own.half) own.addresses own.links h.links (ordered_of (links_of own.half).links known.numbers)
-        known.addressed.distinct
-        made one message asked
-        (subst (λ (x : NspValue). SentDid true_segments (links_of own.half) x made) of_it
-        (sent_did true_segments (links_of own.half) made packet does_it));
-    plain = λ k u at. go k u (at_pushed own.half.state.station.messages (Some (record { packet = packet; truth = made.truth })) (Some u) k at);
+    links = sent_holds (links_of own.half) own.addresses own.links h.links (links_of other.half).links known.addressed known.numbers one
+        packet.message
+        made asked (checked _ WrongNode _ made does_it).1;
+    plain = λ k u at. all_pushed AreAllPlain own.half.state.station.messages (Some (record { packet = packet; truth = made.truth }))
+        (λ u e. subst (λ (x : SentMessage). IsPlain x.packet.message) (same_Some (record { packet = packet; truth = made.truth }) u e)
+        (message_plain one packet.message asked)) (λ j o at u e. h.plain j u (at ∙ ap Some e)) k (Some u) at u refl;
     few = h.few;
     ahead = h.ahead;
   }
-    where
-      go : (k : ℕ) (u : SentMessage) →
-          (slice_get own.half.state.station.messages k ≡ Some (Some u)) ⊎
-          ((k ≡ length own.half.state.station.messages) × (Some (record { packet = packet; truth = made.truth }) ≡ Some u)) → IsPlain u.packet.message
-      go k u (inl at) = h.plain k u at
-      go k u (inr is) = subst (λ (x : SentMessage). IsPlain x.packet.message) (same_Some (record { packet = packet; truth = made.truth }) u is.1)
-          (subst IsPlain (sym of_it) (message_plain one message asked))

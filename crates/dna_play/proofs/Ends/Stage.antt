@@ -1,8 +1,8 @@
 -- What holds of an end of the player at any time of a script, with what is known of both in a run that is checked: all that it chooses it may
 -- send; and that it is kept by what its user does and by its timers.
 use Rattle.std.proofs.Common.{◌≡◌, ℕ, ◌<◌, ◌≤◌, ◌^◌, Option, Some, List, subst, arith}
+use Rattle.std.specs.Option.{IfSome}
 use Rattle.std.specs.Prelude.{slice_get}
-use Rattle.std.proofs.lemmas.Option.{same_Some}
 use Rattle.two_nodes.specs.Nodes.{stepped}
 use Rattle.two_nodes.specs.Cutting.{cut_half}
 use Rattle.capture.specs.declared.limit.TheConstants.{MAX_LINK}
@@ -34,7 +34,8 @@ use Rattle.dna_play.proofs.Links.Stage.{LinkHolds}
 use Rattle.dna_play.proofs.Ends.TrueEnd.{End, new_end, variables_of, station_of, links_of, after_record, owing_more, passing}
 use Rattle.dna_play.proofs.Ends.OwedPays.{timer_pays, none_owed, debt_pays}
 use Rattle.dna_play.proofs.Ends.SendMakes.{PacketsFit}
-use Rattle.dna_play.proofs.Ends.StationStage.{StationPays, unchanged_stage, start_stage, halt_stage, event_packets}
+use Rattle.dna_play.proofs.Ends.StationStage.{StationPays, cut_of}
+use Rattle.dna_play.proofs.Ends.StationOwes.{start_pays, halt_pays, same_pays}
 
 pub record Stage (e : End) : Type 0 where
   pub pays : StationPays (station_of e.half) e.owed
@@ -50,7 +51,7 @@ pub record Stage (e : End) : Type 0 where
 pub new_stage : (head : Head) → Stage (new_end head)
 new_stage head = record {
   pays = record { nak = λ reason e. let f = none_owed reason in absurd cc; rep = λ e. absurd cc };
-  packets = λ i packet at. absurd cc;
+  packets = tt;
   links = record { keeps = NoLink; confirms = λ i confirm at. absurd cc };
   plain = λ k u at. absurd cc;
   few = omega arith;
@@ -80,11 +81,18 @@ ordered_of links numbers i l at = (numbers i l at).0
 abbrev pub with_left : PlayHalf → Links → PlayHalf
 with_left own left = stepped own (record own.state { station = record own.state.station { links = left } })
 
+-- this station is left
+abbrev pub with_station : PlayHalf → Station → PlayHalf
+with_station own left = stepped own (record own.state { station = record own.state.station { station = left } })
+
+abbrev pub with_event : PlayHalf → StationEvent → PlayHalf
+with_event own event = with_station own (after_event (station_of own) event)
+
 module _ (e : End) (h : Stage e) where
   pub links_stage : (left : Links) (kept : StoredLinks) (top : ℕ) → top ≤ MAX_LINK → LinkHolds left.links top kept →
       Stage (record (after_record e (with_left e.half left) kept) { addresses = top })
   links_stage left kept top few holds = record {
-    pays = unchanged_stage (station_of e.half) e.owed h.pays;
+    pays = same_pays (cut_of (station_of e.half)) e.owed h.pays;
     packets = h.packets;
     links = holds;
     plain = h.plain;
@@ -101,17 +109,11 @@ module _ (e : End) (h : Stage e) where
   station_stage station owed front passed sent pays packets ahead =
       record { pays = pays; packets = packets; links = h.links; plain = h.plain; few = h.few; ahead = ahead }
 
-  abbrev with_station : StationEvent → PlayHalf
-  with_station event =
-      stepped e.half (record e.half.state { station = record e.half.state.station { station = after_event (station_of e.half) event } })
+  pub start_event_stage : (station_of e.half).state ≡ Halted → Stage (after_record e (with_event e.half events.Start) e.links)
+  start_event_stage is = station_stage _ _ _ _ _ (start_pays (cut_of (station_of e.half)) e.owed h.pays is) tt h.ahead
 
-  pub start_event_stage : (station_of e.half).state ≡ Halted → Stage (after_record e (with_station events.Start) e.links)
-  start_event_stage is = station_stage _ _ _ _ _ (start_stage (station_of e.half) e.owed h.pays is)
-      (event_packets (station_of e.half) events.Start h.packets) h.ahead
-
-  pub halt_event_stage : Stage (after_record e (with_station events.Halt) e.links)
-  halt_event_stage = station_stage _ _ _ _ _ (halt_stage (station_of e.half) e.owed h.pays)
-      (event_packets (station_of e.half) events.Halt h.packets) h.ahead
+  pub halt_event_stage : Stage (after_record e (with_event e.half events.Halt) e.links)
+  halt_event_stage = station_stage _ _ _ _ _ (halt_pays (cut_of (station_of e.half)) e.owed h.pays) h.packets h.ahead
 
   -- ---- timers, and one thing more is owed
 
@@ -132,14 +134,11 @@ module _ (e : End) (h : Stage e) where
   pub passing_stage : Stage (passing e)
   passing_stage = record { pays = h.pays; packets = h.packets; links = h.links; plain = h.plain; few = h.few; ahead = let a = h.ahead in omega arith }
 
-pub retried_fits : (l : LinkOf TrueSegments) (o : LinkOwed) (phase : Phase) → l.port.phase ≡ phase → (change : LinkOwed → LinkOwed) →
-    retried phase ≡ Some change → OwedFits l o → OwedFits l (change o)
-retried_fits l o Calling is change e' f =
-    subst (λ (c : LinkOwed → LinkOwed). OwedFits l (c o)) (same_Some _ change e') (duty_fits l o InitiateDuty is f)
-retried_fits l o Confirming is change e' f =
-    subst (λ (c : LinkOwed → LinkOwed). OwedFits l (c o)) (same_Some _ change e') (duty_fits l o ConfirmDuty is f)
-retried_fits l o Disconnecting is change e' f =
-    subst (λ (c : LinkOwed → LinkOwed). OwedFits l (c o)) (same_Some _ change e') (duty_fits l o DisconnectDuty is f)
-retried_fits l o Running is change e' f = subst (λ (c : LinkOwed → LinkOwed). OwedFits l (c o)) (same_Some _ change e')
-    (record { duties = λ duty e. f.duties duty (ahead_owes duty 0 o e); ahead = omega arith })
-retried_fits l o phase is change e' f = absurd cc
+-- what it owes then where the timer of a link runs out
+pub retried_fits : (l : LinkOf TrueSegments) (o : LinkOwed) (phase : Phase) → l.port.phase ≡ phase → OwedFits l o →
+    IfSome (retried phase) (λ change. OwedFits l (change o))
+retried_fits l o Calling is f = duty_fits l o InitiateDuty is f
+retried_fits l o Confirming is f = duty_fits l o ConfirmDuty is f
+retried_fits l o Disconnecting is f = duty_fits l o DisconnectDuty is f
+retried_fits l o Running is f = record { duties = λ duty e. f.duties duty (ahead_owes duty 0 o e); ahead = omega arith }
+retried_fits l o phase is f = tt

@@ -1,29 +1,28 @@
 -- What a station of the player owes stays payable, whatever its user does, whatever it sends of what is owed, and whatever comes.
 use Rattle.std.proofs.Common.{◌≡◌, ℕ, ◌+◌, Bool, true, false, ◌&&◌, not, cond, eqb, nat_lt, nat_le, Option, Some, List, [], ◌∷◌, length, fold, refl}
-use Rattle.std.proofs.Common.{sym, ap, ap₂, ◌∙◌}
+use Rattle.std.proofs.Common.{sym, ap, ◌∙◌}
 use Rattle.std.proofs.lemmas.Bool.{and_parts}
 use Rattle.ddcmp_msg.specs.Message.{MessageValue, Data, Nak, Rep, Strt}
 use Rattle.ddcmp_msg.specs.declared.flags.Flags.{Flags}
 use Rattle.ddcmp_msg.specs.declared.nak_reason.NakReason.{NakReason}
-use Rattle.ddcmp_msg.specs.declared.nak_reason.NakReason.TheVariants.{HeaderCheck, DataCheck, RepResponse, NoBuffer}
+use Rattle.ddcmp_msg.specs.declared.nak_reason.NakReason.TheVariants.{RepResponse, NoBuffer}
 use Rattle.dna_station.specs.declared.head.Head.{Head}
 use Rattle.dna_station.specs.declared.state.State.{State}
 use Rattle.dna_station.specs.declared.state.State.TheVariants.{Halted, Istrt, Astrt, Running}
 use Rattle.dna_station.specs.declared.state.StationEvent.TheVariants as events
 use Rattle.dna_station.specs.declared.tag.Tag.{Tag}
-use Rattle.dna_station.specs.NakCauses.{with_cause, has_cause}
+use Rattle.dna_station.specs.NakCauses.{Causes, with_cause, has_cause}
 use Rattle.dna_station.specs.Table.{Effect, Respond, TakePacket, AnswerRep, row, counts_damage}
-use Rattle.dna_station.specs.Book.{Sound, num_of, resp_of, has_packet, damaged_by}
+use Rattle.dna_station.specs.Book.{Sound, num_of, resp_of, has_packet}
 use Rattle.dna_station.specs.Station.{wire}
 use Rattle.dna_station.specs.WireStation.{StationVariables, WireStation, wire_after_event}
 use Rattle.dna_station.specs.WireBook.{acknowledges, wire_acknowledged_by, wire_responded, wire_is_next, wire_does, wire_book, wire_after_sending}
 use Rattle.dna_station.specs.WireBook.{wire_after_arrival}
 use Rattle.dna_play.specs.Owed.{Owed, Debt, OwesNak, with_debt, data_debt, rep_debt, damage_debt, same_state, can_take, message_debt}
-use Rattle.dna_play.specs.Owed.{arrival_debt, still_owed}
+use Rattle.dna_play.specs.Owed.{still_owed}
 use Rattle.dna_play.specs.NextSent.{LinkEnd, Choice, SendNak, after_choice}
 use Rattle.dna_play.specs.Compose.{no_flags, packet_with, message_of}
 use Rattle.dna_station.proofs.Steps.Effects.{kept_by_all}
-use Rattle.dna_play.proofs.Ends.DamagedUnits.{ShownDamage, OfHeader, OfData, read_of, arrival_of}
 use Rattle.dna_play.proofs.Ends.StationPays.{IsPayable, IsPut, PutStrt, PutStack, PutNak, PutRep, PutAgain, PutNew, PutAck, put_is}
 use Rattle.dna_play.proofs.Ends.OwedPays.{StayOpen, one_more, now_open, used_up, rep_aside, still, lessened, CanPay, debt_pays}
 
@@ -76,8 +75,7 @@ module _ {L : Type 0} where
     put_pays c head links m (PutNak reason) = nak_pays reason no_flags k.received
     put_pays c head links m PutRep = let o = still_owed k k owed in lessened k w.causes o o.strt o.stack o.ack false (λ r. absurd cc) same_pays
     put_pays c head links m (PutAgain packet there) = data_pays no_flags k.received (wire (k.acknowledged + 1 + k.ahead)) packet.body
-    put_pays c head links m (PutNew one message put) =
-        data_pays no_flags k.received (wire (k.acknowledged + 1 + k.ahead)) (packet_with head message)
+    put_pays c head links m (PutNew one message put) = data_pays no_flags k.received (wire (k.acknowledged + 1 + k.ahead)) (packet_with head message)
     put_pays c head links m PutAck = let o = still_owed k k owed in lessened k w.causes o o.strt o.stack false o.rep (λ r. r) same_pays
 
     pub choice_pays : (c : Choice) (head : Head) (links : List LinkEnd) (m : MessageValue) → message_of c head k links ≡ Some m →
@@ -90,19 +88,17 @@ module _ {L : Type 0} where
       abbrev comes : WireStation L → Effect → WireStation L
       comes v effect = wire_does m tag kept v effect
 
+      either_open : (reason : NakReason) (b : Bool) (c d : Causes) → has_cause reason c ≡ true → has_cause reason d ≡ true →
+          has_cause reason (cond b c d) ≡ true
+      either_open reason true c d e f = e
+      either_open reason false c d e f = f
+
       -- no cause is closed
-      effect_opens : (v : WireStation L) (effect : Effect) (reason : NakReason) → has_cause reason v.causes ≡ true →
-          has_cause reason (comes v effect).causes ≡ true
-      effect_opens v TakePacket reason e = go (wire_is_next v.variables (num_of m) && not kept)
-        where
-          go : (b : Bool) → has_cause reason (cond b (with_cause NoBuffer v.causes) v.causes) ≡ true
-          go true = one_more NoBuffer v.causes reason e
-          go false = e
-      effect_opens v AnswerRep reason e = go (eqb (num_of m) v.variables.received)
-        where
-          go : (b : Bool) → has_cause reason (cond b v.causes (with_cause RepResponse v.causes)) ≡ true
-          go true = e
-          go false = one_more RepResponse v.causes reason e
+      effect_opens : (v : WireStation L) (effect : Effect) → StayOpen v.causes (comes v effect).causes
+      effect_opens v TakePacket reason e =
+          either_open reason (wire_is_next v.variables (num_of m) && not kept) _ v.causes (one_more NoBuffer v.causes reason e) e
+      effect_opens v AnswerRep reason e =
+          either_open reason (eqb (num_of m) v.variables.received) v.causes _ e (one_more RepResponse v.causes reason e)
       effect_opens v effect reason e = e
 
       all_open : (effects : List Effect) (v : WireStation L) → StayOpen v.causes (fold comes v effects).causes
@@ -122,11 +118,9 @@ module _ {L : Type 0} where
           wire_is_next v.variables (num_of m) ≡ true → has_cause NoBuffer (fold comes v effects).causes ≡ true
       not_kept_opens none [] v has next = absurd cc
       not_kept_opens none (TakePacket ∷ later) v has next =
-          all_open later (comes v TakePacket) NoBuffer
-          (ap (λ (b : Bool). has_cause NoBuffer (cond b (with_cause NoBuffer v.causes) v.causes)) (ap₂ (λ (x y : Bool). x && not y) next none)
-          ∙ now_open NoBuffer v.causes)
+          all_open later (comes v TakePacket) NoBuffer (rw (next, none) (now_open NoBuffer v.causes))
       not_kept_opens none (Respond ∷ later) v has next =
-          not_kept_opens none later (comes v Respond) has (ap (λ (n : ℕ). eqb (num_of m) (wire (n + 1))) (response_same v) ∙ next)
+          not_kept_opens none later (comes v Respond) has (rw (response_same v) next)
       not_kept_opens none (effect ∷ later) v has next = not_kept_opens none later (comes v effect) has next
 
       -- ---- what is newly owed for it
@@ -153,8 +147,7 @@ module _ {L : Type 0} where
     message_can Running is (Data flags resp num body) tag kept =
         let m = Data flags resp num body in data_can m tag kept (can_take k m) kept (taken_opens m tag kept)
     message_can Running is (Rep flags num) tag kept = rep_can (Rep flags num) tag kept (eqb num k.received)
-        (λ other. ap (λ (s : State). has_cause RepResponse (fold (comes (Rep flags num) tag kept) w (row s (Rep flags num)).effects).causes) is
-        ∙ ap (λ (b : Bool). has_cause RepResponse (cond b w.causes (with_cause RepResponse w.causes))) other ∙ now_open RepResponse w.causes)
+        (λ other. rw (is, other) (now_open RepResponse w.causes))
     message_can state is m tag kept = tt
 
     -- a sound message
@@ -167,19 +160,8 @@ module _ {L : Type 0} where
         (still k v.variables w.causes v.causes owed (λ same reason e. all_open m tag kept (row k.state m).effects w reason e) p)
 
     -- damage
-    damaged_pays : (reason : NakReason) (state : State) → k.state ≡ state →
-        let v = damaged_by wire_book reason w in Pays v (with_debt (damage_debt state reason) (still_owed k v.variables owed))
-    damaged_pays reason state is = go state (counts_damage k.state) (ap counts_damage is)
-      where
-        go : (state : State) (b : Bool) → b ≡ counts_damage state →
-            let v = cond b (wire_book.counts reason w) w in Pays v (with_debt (damage_debt state reason) (still_owed k v.variables owed))
-        go Running true e = debt_pays k (with_cause reason w.causes) (still_owed k k owed) (Some (OwesNak reason)) (now_open reason w.causes)
-            (still k k w.causes (with_cause reason w.causes) owed (λ same other f. one_more reason w.causes other f) p)
-        go Running false e = absurd cc
-        go state true e = absurd cc
-        go state false e = same_pays
-
-    pub damage_pays : (d : ShownDamage) → let v = wire_after_arrival w (arrival_of d) false in
-        Pays v (with_debt (arrival_debt k (read_of d) false) (still_owed k v.variables owed))
-    damage_pays OfHeader = damaged_pays HeaderCheck k.state refl
-    damage_pays OfData = damaged_pays DataCheck k.state refl
+    pub damaged_pays : (reason : NakReason) (state : State) → let v = cond (counts_damage state) (wire_book.counts reason w) w in
+        Pays v (with_debt (damage_debt state reason) (still_owed k v.variables owed))
+    damaged_pays reason Running = debt_pays k (with_cause reason w.causes) (still_owed k k owed) (Some (OwesNak reason)) (now_open reason w.causes)
+        (still k k w.causes (with_cause reason w.causes) owed (λ same other f. one_more reason w.causes other f) p)
+    damaged_pays reason state = same_pays

@@ -1,7 +1,6 @@
 -- An end with its node beside it, as the proofs see it: the station variables that it keeps are read off the node, and so is its head.
-use Rattle.std.specs.Prelude.{ℕ, ◌+◌, Bool, false, Option, List, [], map, drop}
+use Rattle.std.specs.Prelude.{ℕ, ◌+◌, Option, List, [], map, drop}
 use Rattle.two_nodes.specs.Nodes.{Half}
-use Rattle.ddcmp_msg.specs.Reading.{ReadingValue, Sound}
 use Rattle.dna_station.specs.declared.head.Head.{Head}
 use Rattle.dna_station.specs.Station.{Station}
 use Rattle.dna_station.specs.Cut.{cut}
@@ -60,11 +59,6 @@ owing_more debt e = record e { owed = owing.with_debt debt e.owed }
 
 abbrev pub passing : End → End
 passing e = record e { passed = e.passed + 1 }
-
--- whether the packet of what came can be taken
-abbrev pub can_keep : End → ReadingValue → Bool
-can_keep e (Sound m) = can_take (variables_of e.half) m
-can_keep e read = false
 
 -- ---- the line
 

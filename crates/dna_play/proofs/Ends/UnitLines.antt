@@ -1,15 +1,14 @@
 -- The units of an end of the player have lines, and its packets are read as they were put together.
-use Rattle.std.proofs.Common.{◌≡◌, ℕ, ◌+◌, ◌*◌, ◌/◌, ◌%◌, ◌^◌, ◌<◌, ◌≤◌, Bool, true, false, ◌&&◌, nat_lt, Some, List, [], ◌∷◌, ◌++◌, length, Ok, refl}
-use Rattle.std.proofs.Common.{ap, ap₂, ◌∙◌, arith, lt-ltb, le-leb, length-append}
+use Rattle.std.proofs.Common.{◌≡◌, ℕ, ◌+◌, ◌/◌, ◌%◌, ◌^◌, ◌<◌, ◌≤◌, Bool, true, false, ◌&&◌, Some, List, [], ◌∷◌, ◌++◌, length, Ok, refl, ap, ap₂}
+use Rattle.std.proofs.Common.{◌∙◌, arith, le-leb, lt-ltb, length-append}
 use Rattle.std.specs.Prelude.{slice_get}
-use Rattle.std.proofs.lemmas.Bool.{and_parts}
 use Rattle.wire_base.specs.BlockCheck.{check_of, check_bytes}
 use Rattle.wire_base.proofs.BlockCheck.{check_of_lt}
 use Rattle.ddcmp_msg.specs.declared.flags.Flags.{Flags}
 use Rattle.ddcmp_msg.specs.declared.nak_reason.NakReason.{NakReason}
 use Rattle.ddcmp_msg.specs.declared.nak_reason.NakReason.TheVariants.{HeaderCheck}
 use Rattle.ddcmp_msg.specs.Message.{MessageValue, Data, Ack, Nak, Rep, Strt, Stack, IsInRange, bit, flags_byte, reason_number}
-use Rattle.ddcmp_msg.specs.Spelling.{SOH, ENQ, ADDRESS, header, with_check, rest_of, spelling}
+use Rattle.ddcmp_msg.specs.Spelling.{SOH, ENQ, ADDRESS, control, header, with_check, rest_of, spelling}
 use Rattle.dna_packet.specs.Fields.{word}
 use Rattle.dna_packet.specs.AckWord.{ack_word}
 use Rattle.dna_packet.specs.Packet as packets
@@ -20,56 +19,42 @@ use Rattle.capture.specs.declared.record.Record.TheVariants.{Sent}
 use Rattle.capture.specs.declared.limit.TheConstants.{MAX_UNIT}
 use Rattle.dna_station.specs.declared.head.Head.{Head}
 use Rattle.dna_station.specs.Book.{resp_of, num_of, body_of}
-use Rattle.dna_links.specs.Links.{LinkOf}
-use Rattle.dna_links.specs.TrueSegments.{TrueSegments}
 use Rattle.dna_node.specs.Content.{message_in, content_of, content}
 use Rattle.dna_play.specs.HasLine.{are_bytes, has_line}
-use Rattle.dna_play.specs.LinkOwed.{LinkOwed, Duty, ConnectAckDuty, InitiateDuty, ConfirmDuty, DisconnectDuty, DataAckDuty, SegmentDuty}
+use Rattle.dna_play.specs.LinkOwed.{Duty, ConnectAckDuty, InitiateDuty, ConfirmDuty, DisconnectDuty, DataAckDuty, SegmentDuty}
 use Rattle.dna_play.specs.NextSent.{LinkEnd}
 use Rattle.dna_play.specs.Compose.{SERVICES, INFO, USER_DATA, address, packet_with, piece_to_send, segment_with, ack_of, duty_message}
-use Rattle.dna_links.specs.Segmentation.{SEGSIZE}
-use Rattle.dna_play.proofs.Played.PlayLines.{bytes_told}
-use Rattle.dna_play.proofs.Links.Fits.{IsPlain}
-use Rattle.dna_play.proofs.Links.Pays.{variables_of}
+use Rattle.dna_links.specs.Segmentation.{Piece, SEGSIZE}
+use Rattle.dna_play.proofs.Bytes.{HasBytes, addressed, bytes_told, front, joined_bytes, word_bytes}
+use Rattle.dna_play.proofs.Links.Fits.{PieceFits}
 
--- ---- bytes
-
-is_byte : (n : ℕ) → n < 256 → nat_lt n 256 ≡ true
-is_byte n l = lt-ltb n 256 l
-
-pub joined_bytes : (xs ys : List ℕ) → are_bytes xs ≡ true → are_bytes ys ≡ true → are_bytes (xs ++ ys) ≡ true
-joined_bytes [] ys e f = f
-joined_bytes (x ∷ xs) ys e f = let p = and_parts (nat_lt x 256) (are_bytes xs) e in ap₂ (λ (b c : Bool). b && c) p.0 (joined_bytes xs ys p.1 f)
-
--- one more in front
-front : (n : ℕ) (bytes : List ℕ) → n < 256 → are_bytes bytes ≡ true → are_bytes (n ∷ bytes) ≡ true
-front n bytes l e = ap₂ (λ (b c : Bool). b && c) (is_byte n l) e
+-- ---- a unit
 
 checked_bytes : (field : List ℕ) → are_bytes field ≡ true → are_bytes (with_check field) ≡ true
 checked_bytes field e =
     let small = check_of_lt field (bytes_told field e) in
     joined_bytes field (check_bytes field) e
-    (front (check_of field % 256) (check_of field / 256 ∷ []) (omega arith) (front (check_of field / 256) [] (omega arith) refl))
+    (rw (lt-ltb (check_of field % 256) 256 (omega arith), lt-ltb (check_of field / 256) 256 (omega arith)) refl)
 
--- ---- a unit
+bit_small : (b : Bool) → bit b ≤ 1
+bit_small true = omega arith
+bit_small false = omega arith
 
 flags_small : (flags : Flags) → flags_byte flags ≤ 192
-flags_small flags = go flags.quick_sync flags.select
-  where
-    go : (q s : Bool) → 64 * bit q + 128 * bit s ≤ 192
-    go true true = omega arith
-    go true false = omega arith
-    go false true = omega arith
-    go false false = omega arith
+flags_small flags = let q = bit_small flags.quick_sync in let s = bit_small flags.select in omega arith
 
 reason_small : (reason : NakReason) → reason_number reason ≤ 17
 reason_small HeaderCheck = omega arith
 reason_small reason = omega arith
 
-six : (a b c d e f : ℕ) → a < 256 → b < 256 → c < 256 → d < 256 → e < 256 → f < 256 → are_bytes (a ∷ b ∷ c ∷ d ∷ e ∷ f ∷ []) ≡ true
-six a b c d e f p q r s t u =
-    front a (b ∷ c ∷ d ∷ e ∷ f ∷ []) p
-    (front b (c ∷ d ∷ e ∷ f ∷ []) q (front c (d ∷ e ∷ f ∷ []) r (front d (e ∷ f ∷ []) s (front e (f ∷ []) t (front f [] u refl)))))
+-- six bytes, of which the last is the address
+six : (a b c d e : ℕ) → a < 256 → b < 256 → c < 256 → d < 256 → e < 256 → are_bytes (a ∷ b ∷ c ∷ d ∷ e ∷ ADDRESS ∷ []) ≡ true
+six a b c d e p q r s t = rw (lt-ltb a 256 p, lt-ltb b 256 q, lt-ltb c 256 r, lt-ltb d 256 s, lt-ltb e 256 t) refl
+
+control_bytes : (type subtype : ℕ) (flags : Flags) (resp num : ℕ) → type < 256 → subtype ≤ 17 → resp < 256 → num < 256 →
+    are_bytes (control type subtype flags resp num) ≡ true
+control_bytes type subtype flags resp num t u r n = let f = flags_small flags in
+    six ENQ type (subtype + flags_byte flags) resp num (omega arith) t (omega arith) r n
 
 -- its numbers are bytes
 pub record IsOfBytes (m : MessageValue) : Type 0 where
@@ -80,41 +65,29 @@ pub record IsOfBytes (m : MessageValue) : Type 0 where
 
 header_bytes : (m : MessageValue) → IsOfBytes m → are_bytes (header m) ≡ true
 header_bytes (Data flags resp num body) h = let f = flags_small flags in let n = h.in_range.1 in
-    six SOH (length body % 256) (length body / 256 + flags_byte flags) resp num ADDRESS (omega arith) (omega arith) (omega arith) h.resp h.num
-    (omega arith)
-header_bytes (Ack flags resp) h = let f = flags_small flags in
-    six ENQ 1 (0 + flags_byte flags) resp 0 ADDRESS (omega arith) (omega arith) (omega arith) h.resp (omega arith) (omega arith)
-header_bytes (Nak flags reason resp) h = let f = flags_small flags in let r = reason_small reason in
-    six ENQ 2 (reason_number reason + flags_byte flags) resp 0 ADDRESS (omega arith) (omega arith) (omega arith) h.resp (omega arith) (omega arith)
-header_bytes (Rep flags num) h = let f = flags_small flags in
-    six ENQ 3 (0 + flags_byte flags) 0 num ADDRESS (omega arith) (omega arith) (omega arith) (omega arith) h.num (omega arith)
-header_bytes (Strt flags) h = let f = flags_small flags in
-    six ENQ 6 (0 + flags_byte flags) 0 0 ADDRESS (omega arith) (omega arith) (omega arith) (omega arith) (omega arith) (omega arith)
-header_bytes (Stack flags) h = let f = flags_small flags in
-    six ENQ 7 (0 + flags_byte flags) 0 0 ADDRESS (omega arith) (omega arith) (omega arith) (omega arith) (omega arith) (omega arith)
+    six SOH (length body % 256) (length body / 256 + flags_byte flags) resp num (omega arith) (omega arith) (omega arith) h.resp h.num
+header_bytes (Ack flags resp) h = control_bytes 1 0 flags resp 0 (omega arith) (omega arith) h.resp (omega arith)
+header_bytes (Nak flags reason resp) h = control_bytes 2 (reason_number reason) flags resp 0 (omega arith) (reason_small reason) h.resp (omega arith)
+header_bytes (Rep flags num) h = control_bytes 3 0 flags 0 num (omega arith) (omega arith) (omega arith) h.num
+header_bytes (Strt flags) h = control_bytes 6 0 flags 0 0 (omega arith) (omega arith) (omega arith) (omega arith)
+header_bytes (Stack flags) h = control_bytes 7 0 flags 0 0 (omega arith) (omega arith) (omega arith) (omega arith)
 
 header_six : (m : MessageValue) → length (header m) ≡ 6
 header_six (Data flags resp num body) = refl
-header_six (Ack flags resp) = refl
 header_six m = refl
 
-rest_bytes : (m : MessageValue) → IsOfBytes m → are_bytes (rest_of m) ≡ true
-rest_bytes (Data flags resp num body) h = checked_bytes body h.body
-rest_bytes (Ack flags resp) h = refl
-rest_bytes m h = refl
-
-rest_short : (m : MessageValue) → IsOfBytes m → length (rest_of m) ≤ 16385
-rest_short (Data flags resp num body) h = let e = length-append body (check_bytes body) in let n = h.in_range.1 in omega arith
-rest_short (Ack flags resp) h = omega arith
-rest_short m h = omega arith
+rest_fits : (m : MessageValue) → IsOfBytes m → HasBytes 16385 (rest_of m)
+rest_fits (Data flags resp num body) h = let e = length-append body (check_bytes body) in let n = h.in_range.1 in
+    record { are = checked_bytes body h.body; few = omega arith }
+rest_fits m h = record { are = refl; few = omega arith }
 
 -- it has a line
 pub unit_line : (m : MessageValue) → IsOfBytes m → has_line (Sent (spelling m)) ≡ true
 unfolding spelling
 unit_line m h =
     let e = length-append (with_check (header m)) (rest_of m) in let f = length-append (header m) (check_bytes (header m)) in
-    let six = header_six m in let short = rest_short m h in
-    ap₂ (λ (b c : Bool). b && c) (joined_bytes (with_check (header m)) (rest_of m) (checked_bytes (header m) (header_bytes m h)) (rest_bytes m h))
+    let six = header_six m in let rest = rest_fits m h in let short = rest.few in
+    ap₂ (λ (b c : Bool). b && c) (joined_bytes (with_check (header m)) (rest_of m) (checked_bytes (header m) (header_bytes m h)) rest.are)
     (le-leb (length (with_check (header m) ++ rest_of m)) MAX_UNIT (omega arith))
 
 -- ---- a packet
@@ -125,108 +98,80 @@ composed_content head m own peer n =
     ap content_of (packet_again (packets.Data 2 head.peer head.own 0 (nsp_bytes m)) ((omega arith, refl), (peer, own, omega arith)))
     ∙ ap (message_in head.peer head.own) (nsp_again m n)
 
-word_are_bytes : (n : ℕ) → are_bytes (word n) ≡ true
-word_are_bytes n = front (n % 256) ((n / 256 % 256) ∷ []) (omega arith) (front (n / 256 % 256) [] (omega arith) refl)
-
 -- bytes of a packet, and how many
 pub record PacketFits (body : List ℕ) : Type 0 where
   pub bytes : are_bytes body ≡ true
   pub some : 1 ≤ length body
   pub most : length body ≤ 16383
 
-pub packet_fits : (head : Head) (m : NspValue) → are_bytes (nsp_bytes m) ≡ true → length (nsp_bytes m) ≤ 1024 → PacketFits (packet_with head m)
-packet_fits head m e l =
+-- a message of the links that has room in one
+abbrev pub NspFits : NspValue → Type 0
+NspFits m = HasBytes 1024 (nsp_bytes m)
+
+pub packet_fits : (head : Head) (m : NspValue) → NspFits m → PacketFits (packet_with head m)
+packet_fits head m fits =
+    let few = fits.few in
     record {
-      bytes = front 2 (word head.peer ++ (word head.own ++ (0 ∷ nsp_bytes m))) (omega arith)
-          (joined_bytes (word head.peer) (word head.own ++ (0 ∷ nsp_bytes m)) (word_are_bytes head.peer)
-          (joined_bytes (word head.own) (0 ∷ nsp_bytes m) (word_are_bytes head.own) (front 0 (nsp_bytes m) (omega arith) e)));
+      bytes = addressed 2 head.peer head.own (0 ∷ nsp_bytes m) (omega arith) (front 0 (nsp_bytes m) (omega arith) fits.are);
       some = omega arith;
       most = omega arith;
     }
 
 -- ---- a message of the links
 
-pub record MessageFits (m : NspValue) : Type 0 where
-  pub is_nsp : IsNsp m
-  pub bytes : are_bytes (nsp_bytes m) ≡ true
-  pub short : length (nsp_bytes m) ≤ 1024
+pub confirm_fits : (dst src reason : ℕ) → NspFits (DisconnectConfirm dst src reason)
+confirm_fits dst src reason = record { are = addressed 0x48 dst src (word reason) (omega arith) (word_bytes reason); few = omega arith }
 
-pub confirm_fits : (dst src reason : ℕ) → dst < 2 ^ 16 → src < 2 ^ 16 → reason < 2 ^ 16 → MessageFits (DisconnectConfirm dst src reason)
-confirm_fits dst src reason d s r = record {
-  is_nsp = (tt, ((d, s), r));
-  bytes = front 0x48 ((word dst ++ word src) ++ word reason) (omega arith)
-      (joined_bytes (word dst ++ word src) (word reason) (joined_bytes (word dst) (word src) (word_are_bytes dst) (word_are_bytes src))
-      (word_are_bytes reason));
-  short = omega arith;
-}
+flag_small : (b e : Bool) → segment_flag b e < 256
+flag_small true true = omega arith
+flag_small true false = omega arith
+flag_small false true = omega arith
+flag_small false false = omega arith
 
-module _ (l : LinkOf TrueSegments) (owed : LinkOwed) (own_small : address l.port.own < 2 ^ 16) (far_small : address l.port.far < 2 ^ 16) where
-  abbrev it : LinkEnd
-  it = record { port = l.port; variables = variables_of l; owed = owed }
+module _ (l : LinkEnd) where
+  abbrev own : ℕ
+  own = address l.port.own
 
-  addresses_bytes : (a b : ℕ) → are_bytes (word a ++ word b) ≡ true
-  addresses_bytes a b = joined_bytes (word a) (word b) (word_are_bytes a) (word_are_bytes b)
+  abbrev far : ℕ
+  far = address l.port.far
 
-  flag_small : (b e : Bool) → segment_flag b e < 256
-  flag_small true true = omega arith
-  flag_small true false = omega arith
-  flag_small false true = omega arith
-  flag_small false false = omega arith
-
-  -- two addresses in front
-  addressed_bytes : (flag a b : ℕ) (rest : List ℕ) → flag < 256 → are_bytes rest ≡ true → are_bytes (flag ∷ ((word a ++ word b) ++ rest)) ≡ true
-  addressed_bytes flag a b rest l e = front flag ((word a ++ word b) ++ rest) l (joined_bytes (word a ++ word b) rest (addresses_bytes a b) e)
+  abbrev piece : Piece
+  piece = piece_to_send (slice_get l.variables.outstanding l.owed.ahead) l.variables.unsent
 
   -- what is put together of it fits
-  pub duty_message_fits : (duty : Duty) → IsPlain (duty_message duty it) → MessageFits (duty_message duty it)
-  duty_message_fits ConnectAckDuty plain =
-      record {
-        is_nsp = (tt, far_small);
-        bytes = front 0x24 (word (address l.port.far)) (omega arith) (word_are_bytes (address l.port.far));
-        short =
-            omega arith;
-      }
-  duty_message_fits InitiateDuty plain = go owed.initiated
+  pub duty_fits : PieceFits piece → (duty : Duty) → NspFits (duty_message duty l)
+  duty_fits fits ConnectAckDuty = record { are = front 0x24 (word far) (omega arith) (word_bytes far); few = omega arith }
+  duty_fits fits InitiateDuty = go l.owed.initiated
     where
-      go : (b : Bool) → MessageFits (ConnectInitiate b (address l.port.own) SERVICES INFO SEGSIZE [])
-      go true = record {
-        is_nsp = (tt, (own_small, (omega arith, omega arith, omega arith)));
-        bytes =
-            addressed_bytes 0x68 0 (address l.port.own) (connect_fields SERVICES INFO SEGSIZE ++ []) (omega arith) refl;
-        short = omega arith;
-      }
-      go false = record {
-        is_nsp = (tt, (own_small, (omega arith, omega arith, omega arith)));
-        bytes =
-            addressed_bytes 0x18 0 (address l.port.own) (connect_fields SERVICES INFO SEGSIZE ++ []) (omega arith) refl;
-        short = omega arith;
-      }
-  duty_message_fits ConfirmDuty plain = record {
-    is_nsp = (tt, ((far_small, own_small), (omega arith, omega arith, omega arith)));
-    bytes = addressed_bytes 0x28 (address l.port.far) (address l.port.own) (connect_fields SERVICES INFO SEGSIZE ++ USER_DATA) (omega arith) refl;
-    short = omega arith;
-  }
-  duty_message_fits DisconnectDuty plain = record {
-    is_nsp = (tt, ((far_small, own_small), omega arith));
-    bytes = addressed_bytes 0x38 (address l.port.far) (address l.port.own) (word 0 ++ USER_DATA) (omega arith) refl;
-    short = omega arith;
-  }
-  duty_message_fits DataAckDuty plain =
-      let number = ack_word (ack_of it.variables.received) in
+      rest : List ℕ
+      rest = connect_fields SERVICES INFO SEGSIZE ++ []
+
+      go : (b : Bool) → NspFits (ConnectInitiate b own SERVICES INFO SEGSIZE [])
+      go true = record { are = addressed 0x68 0 own rest (omega arith) refl; few = omega arith }
+      go false = record { are = addressed 0x18 0 own rest (omega arith) refl; few = omega arith }
+  duty_fits fits ConfirmDuty =
+      record { are = addressed 0x28 far own (connect_fields SERVICES INFO SEGSIZE ++ USER_DATA) (omega arith) refl; few = omega arith }
+  duty_fits fits DisconnectDuty = record { are = addressed 0x38 far own (word 0 ++ USER_DATA) (omega arith) refl; few = omega arith }
+  duty_fits fits DataAckDuty =
+      let number = ack_word (ack_of l.variables.received) in
       record {
-        is_nsp = (((omega arith, tt), omega arith), ((far_small, own_small), omega arith));
-        bytes = addressed_bytes 0x04 (address l.port.far) (address l.port.own) (word number ++ []) (omega arith)
-            (joined_bytes (word number) [] (word_are_bytes number) refl);
-        short = omega arith;
+        are = addressed 0x04 far own (word number ++ []) (omega arith) (joined_bytes (word number) [] (word_bytes number) refl);
+        few = omega arith;
       }
-  duty_message_fits SegmentDuty plain =
-      let p = piece_to_send (slice_get it.variables.outstanding owed.ahead) it.variables.unsent in
-      let s = segment_with it p in
-      let short = plain.short in
+  duty_fits fits SegmentDuty =
+      let number = segnum (segment_with l piece).number false in
+      let few = fits.few in
       record {
-        is_nsp = ((tt, omega arith), ((far_small, own_small), omega arith));
-        bytes = addressed_bytes (segment_flag p.begins p.ends) (address l.port.far) (address l.port.own) (word (segnum s.number false) ++ p.body)
-            (flag_small p.begins p.ends)
-            (joined_bytes (word (segnum s.number false)) p.body (word_are_bytes (segnum s.number false)) plain.bytes);
-        short = omega arith;
+        are = addressed (segment_flag piece.begins piece.ends) far own (word number ++ piece.body) (flag_small piece.begins piece.ends)
+            (joined_bytes (word number) piece.body (word_bytes number) fits.are);
+        few = omega arith;
       }
+
+  -- and has bytes, where the addresses are words
+  pub duty_is_nsp : own < 2 ^ 16 → far < 2 ^ 16 → l.variables.received < 0x1000 → (duty : Duty) → IsNsp (duty_message duty l)
+  duty_is_nsp own_small far_small received ConnectAckDuty = (tt, far_small)
+  duty_is_nsp own_small far_small received InitiateDuty = (tt, (own_small, (omega arith, omega arith, omega arith)))
+  duty_is_nsp own_small far_small received ConfirmDuty = (tt, ((far_small, own_small), (omega arith, omega arith, omega arith)))
+  duty_is_nsp own_small far_small received DisconnectDuty = (tt, ((far_small, own_small), omega arith))
+  duty_is_nsp own_small far_small received DataAckDuty = (((received, tt), omega arith), ((far_small, own_small), omega arith))
+  duty_is_nsp own_small far_small received SegmentDuty = ((tt, omega arith), ((far_small, own_small), omega arith))

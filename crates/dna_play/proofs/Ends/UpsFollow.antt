@@ -1,35 +1,30 @@
 -- What a receipt makes whole the user gets at once: each delivery that follows it is made.
-use Rattle.std.proofs.Common.{◌≡◌, ℕ, suc, ◌+◌, Bool, true, false, cond, Option, Some, None, List, [], ◌∷◌, ◌++◌, drop, Ok, Err, refl, sym, ap, ◌∙◌}
-use Rattle.std.proofs.Common.{arith, append_assoc, ◌⊎◌, inl, inr, ap₂}
-use Rattle.std.specs.Prelude.{slice_get}
+use Rattle.std.proofs.Common.{◌≡◌, ℕ, ◌+◌, Bool, true, false, cond, Option, Some, None, List, [], ◌∷◌, ◌++◌, drop, refl, sym, ap, ◌∙◌, append_assoc}
+use Rattle.std.proofs.Common.{ap₂}
+use Rattle.std.proofs.Math.Numerals.{suc-eq-add-one}
 use Rattle.std.proofs.lemmas.List.{drop-drop}
 use Rattle.std.proofs.lemmas.Slice.Eq.{bytes_eq-Decides}
 use Rattle.dna_packet.specs.Nsp.{NspValue, DataSegment}
 use Rattle.capture.specs.declared.event.Event.TheVariants as events
 use Rattle.capture.specs.declared.record.Record.TheVariants.{User}
-use Rattle.dna_station.specs.declared.link_refusal.LinkRefusal.TheVariants.{NoLink}
-use Rattle.dna_links.specs.declared.port.LinkTest.TheVariants.{HasAddress, ActedOn}
-use Rattle.dna_links.specs.LookUps.{is_at}
+use Rattle.dna_links.specs.declared.port.LinkTest.TheVariants.{ActedOn}
 use Rattle.dna_links.specs.Segmentation.{Piece, Whole, with_piece, next_message}
-use Rattle.dna_links.specs.Links.{LinkOf, changed, with_segments}
-use Rattle.dna_links.specs.User.{Up, delivered}
-use Rattle.dna_links.specs.TrueSegments.{TrueSegments, true_segments, delivered_as, delivers_whole, delivers}
-use Rattle.dna_links.specs.TrueLinks.{Links, links_user}
+use Rattle.dna_links.specs.Links.{LinkOf}
+use Rattle.dna_links.specs.TrueSegments.{TrueSegments, delivers}
+use Rattle.dna_links.specs.TrueLinks.{Links}
+use Rattle.dna_links.specs.Segmentation.{in_whole_messages}
+use Rattle.dna_links.proofs.Cut.Ended.{Splits, splits}
 use Rattle.dna_play.specs.HasLine.{has_line}
 use Rattle.dna_play.proofs.Links.Pays as owing
 use Rattle.dna_play.specs.Receipt.{complete}
 use Rattle.dna_links.proofs.Tables.Outcomes.{IsFound}
-use Rattle.dna_links.proofs.Runs.Sides.{set_same, at_set}
 use Rattle.dna_node.proofs.Once.Addresses.{LinkList, OwnsIn}
 use Rattle.dna_play.proofs.Links.Pays.{found_at, with_found}
 
 -- ---- the first message that is whole is the next one, and the others are whole behind it
 
-pub drop_more : {X : Type 0} (n : ℕ) (x : X) (xs : List X) → drop (n + 1) (x ∷ xs) ≡ drop n xs
-drop_more n x xs = ap (λ (k : ℕ). drop k (x ∷ xs)) (more n)
-  where
-    more : (n : ℕ) → n + 1 ≡ suc n
-    more n = omega arith
+drop_more : {X : Type 0} (n : ℕ) (x : X) (xs : List X) → drop (n + 1) (x ∷ xs) ≡ drop n xs
+drop_more n x xs = ap (λ (k : ℕ). drop k (x ∷ xs)) (sym (suc-eq-add-one n))
 
 abbrev from_next : (begun : List ℕ) → List (Option Piece) → Option Whole → List (List ℕ)
 from_next begun pieces None = []
@@ -48,27 +43,13 @@ complete_next begun (Some p ∷ later) = go p.ends (next_message later) (complet
     go false (Some v) e = e ∙ ap₂ (λ (message : List ℕ) (rest : List (Option Piece)). message ∷ complete [] rest)
         (append_assoc begun p.body v.message) (sym (drop_more v.pieces (Some p) later))
 
--- where nothing is whole there is no next message
-pub none_next : (pieces : List (Option Piece)) → complete [] pieces ≡ [] → next_message pieces ≡ None
-none_next pieces e = go (next_message pieces) (sym (complete_next [] pieces) ∙ e)
+-- where nothing is whole no piece is in a whole message
+pub none_whole : (pieces : List (Option Piece)) → complete [] pieces ≡ [] → in_whole_messages pieces ≡ 0
+none_whole pieces e = go (next_message pieces) (splits pieces) (sym (complete_next [] pieces) ∙ e)
   where
-    go : (o : Option Whole) → from_next [] pieces o ≡ [] → o ≡ None
-    go None e = refl
-    go (Some w) e = absurd cc
-
-pub record IsNextWhole (pieces : List (Option Piece)) (message : List ℕ) (rest : List (List ℕ)) : Type 0 where
-  pub w : Whole
-  pub is : next_message pieces ≡ Some w
-  pub message_is : w.message ≡ message
-  pub left : complete [] (drop w.pieces pieces) ≡ rest
-
-pub next_whole : (pieces : List (Option Piece)) (message : List ℕ) (rest : List (List ℕ)) → complete [] pieces ≡ message ∷ rest →
-    IsNextWhole pieces message rest
-next_whole pieces message rest e = go (next_message pieces) refl (sym (complete_next [] pieces) ∙ e)
-  where
-    go : (o : Option Whole) → next_message pieces ≡ o → from_next [] pieces o ≡ message ∷ rest → IsNextWhole pieces message rest
-    go None is e = absurd cc
-    go (Some w) is e = record { w = w; is = is; message_is = cc; left = cc }
+    go : (o : Option Whole) → Splits pieces o → from_next [] pieces o ≡ [] → in_whole_messages pieces ≡ 0
+    go None none e = none
+    go (Some w) split e = absurd cc
 
 -- the segments after this message is delivered, which came in so many pieces
 abbrev pub delivering : List ℕ → Whole → TrueSegments → TrueSegments
@@ -77,63 +58,24 @@ delivering message w f = record f { delivered = f.delivered ++ message ∷ []; p
 -- where this is the first whole message, it is delivered
 pub record DeliversNext (f : TrueSegments) (message : List ℕ) (rest : List (List ℕ)) : Type 0 where
   pub w : Whole
-  pub is : next_message (drop f.passed f.received) ≡ Some w
+  pub counted : in_whole_messages (drop f.passed f.received) ≡ w.pieces + in_whole_messages (drop w.pieces (drop f.passed f.received))
   pub does : delivers message f ≡ Some (delivering message w f)
   pub left : complete [] (drop (f.passed + w.pieces) f.received) ≡ rest
 
 pub delivers_next : (f : TrueSegments) (message : List ℕ) (rest : List (List ℕ)) → complete [] (drop f.passed f.received) ≡ message ∷ rest →
     DeliversNext f message rest
-delivers_next f message rest e =
-    let n = next_whole (drop f.passed f.received) message rest e in
-    record {
-      w = n.w;
-      is = n.is;
-      does = ap (λ (o : Option Whole). delivers_whole o message f) n.is
-          ∙ ap (λ (b : Bool). delivered_as b n.w f) ((bytes_eq-Decides message n.w.message).1 (sym n.message_is))
-          ∙ ap (λ (bytes : List ℕ). Some (delivering bytes n.w f)) n.message_is;
-      left = ap (complete []) (sym (drop-drop n.w.pieces f.passed f.received)) ∙ n.left;
-    }
-
--- ---- the deliveries of a link
-
--- the link with this number is the only one that has this address, and these messages of it are whole
-pub record IsWholeAt (s : Links) (address number : ℕ) (messages : List (List ℕ)) : Type 0 where
-  pub link : LinkOf TrueSegments
-  pub there : slice_get s.links number ≡ Some link
-  pub owns : is_at link.port.own address ≡ true
-  pub only : (j : ℕ) (m : LinkOf TrueSegments) → slice_get s.links j ≡ Some m → is_at m.port.own address ≡ true → j ≡ number
-  pub whole : complete [] (drop link.segments.passed link.segments.received) ≡ messages
-
--- one of this link that is delivered leaves the others
-pub record IsDelivered (s : Links) (address number : ℕ) (link : LinkOf TrueSegments) (message : List ℕ) (rest : List (List ℕ)) : Type 0 where
-  pub next : DeliversNext link.segments message rest
-  pub does : links_user s (Up address message) ≡ Ok (changed number (with_segments (delivering message next.w link.segments) link) s)
-  pub others : IsWholeAt (changed number (with_segments (delivering message next.w link.segments) link) s) address number rest
-
-pub one_delivered : (s : Links) (address number : ℕ) (message : List ℕ) (rest : List (List ℕ)) (h : IsWholeAt s address number (message ∷ rest)) →
-    IsDelivered s address number h.link message rest
-one_delivered s address number message rest h =
-    let d = delivers_next h.link.segments message rest h.whole in
-    let k = with_segments (delivering message d.w h.link.segments) h.link in
-    let found = found_at s (HasAddress address) number h.link h.there h.owns h.only in
-    record {
-      next = d;
-      does = with_found s (HasAddress address) number h.link (Err NoLink)
-          (λ number link. delivered true_segments number link s (true_segments.delivers message link.segments)) found ∙
-          ap (delivered true_segments number h.link s) d.does;
-      others = record {
-        link = k;
-        there = set_same s.links number h.link k h.there;
-        owns = h.owns;
-        only = λ j m at e. go j m e (at_set s.links number j k m at);
-        whole = d.left;
-      };
-    }
+delivers_next f message rest e = go (next_message (drop f.passed f.received)) refl (splits (drop f.passed f.received))
+    (sym (complete_next [] (drop f.passed f.received)) ∙ e)
   where
-    go : {k : LinkOf TrueSegments} (j : ℕ) (m : LinkOf TrueSegments) → is_at m.port.own address ≡ true →
-        ((j ≡ number) × (k ≡ m)) ⊎ ((j ≡ number → ⊥) × (slice_get s.links j ≡ Some m)) → j ≡ number
-    go j m e (inl is) = is.0
-    go j m e (inr is) = h.only j m is.1 e
+    go : (o : Option Whole) → next_message (drop f.passed f.received) ≡ o → Splits (drop f.passed f.received) o →
+        from_next [] (drop f.passed f.received) o ≡ message ∷ rest → DeliversNext f message rest
+    go None is split e = absurd cc
+    go (Some w) is split e = let same : w.message ≡ message = cc in record {
+      w = w;
+      counted = split.1;
+      does = rw (is, (bytes_eq-Decides message w.message).1 (sym same), same) refl;
+      left = ap (complete []) (sym (drop-drop w.pieces f.passed f.received)) ∙ cc;
+    }
 
 -- each has a line
 abbrev pub AllLined : (address : ℕ) → List (List ℕ) → Type 0

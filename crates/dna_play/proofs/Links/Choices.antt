@@ -1,4 +1,4 @@
--- The message that the links of an end of the player choose next they may send, and it is there to be put together.
+-- What the links of an end of the player choose next is due, and its message is there to be put together.
 use Rattle.std.proofs.Common.{◌≡◌, ℕ, suc, ◌+◌, Option, Some, None, List, [], ◌∷◌, refl, sym, ap, ◌∙◌, subst, arith}
 use Rattle.std.specs.Prelude.{slice_get}
 use Rattle.std.proofs.lemmas.Option.{same_Some}
@@ -6,43 +6,36 @@ use Rattle.dna_packet.specs.Nsp.{NspValue, DisconnectConfirm}
 use Rattle.dna_links.specs.Links.{LinkOf}
 use Rattle.dna_links.specs.TrueSegments.{TrueSegments}
 use Rattle.dna_links.specs.TrueLinks.{Links}
-use Rattle.dna_links.specs.CutSegments.{IsOrdered, IsAnswered}
 use Rattle.dna_play.specs.LinkOwed.{LinkOwed, EndConfirm, Duty}
 use Rattle.dna_play.specs.NextSent.{LinkEnd, LinkChoice, Confirms, OfLink, duty_of, duty_or_next, first_duty, link_choice}
 use Rattle.dna_play.specs.Compose.{duty_message, message_at, link_message}
 use Rattle.dna_play.specs.StoredEnd.{StoredLinks}
-use Rattle.dna_node.proofs.Once.Addresses.{LinkList, AreAddressed}
-use Rattle.dna_play.proofs.Links.Pays.{end_of, IsDue, duty_due, MaySendIt, due_may, confirm_may}
-use Rattle.dna_play.proofs.Links.Confirms.{done_over}
-use Rattle.dna_play.proofs.Links.Keeps.{At, is_kept, link_there, kept_of}
+use Rattle.dna_node.proofs.Once.Addresses.{LinkList}
+use Rattle.dna_play.proofs.Links.Pays.{end_of, IsDue, duty_due}
+use Rattle.dna_play.proofs.Links.Keeps.{At, kept_of}
 use Rattle.dna_play.proofs.Links.Stage.{LinkHolds}
 
--- the first link that has a duty
-pub record DutyAt (ends : List LinkEnd) (from number : ℕ) (duty : Duty) : Type 0 where
+-- it is the duty of the first link that has one
+pub record FirstDuty (ends : List LinkEnd) (from : ℕ) (c : LinkChoice) : Type 0 where
   pub place : ℕ
-  pub is : number ≡ from + place
+  pub duty : Duty
+  pub is : OfLink (from + place) duty ≡ c
   pub e : LinkEnd
   pub there : slice_get ends place ≡ Some e
   pub has : duty_of e ≡ Some duty
 
-abbrev pub IsChosen : (ends : List LinkEnd) (from : ℕ) → LinkChoice → Type 0
-IsChosen ends from (Confirms confirm) = ⊥
-IsChosen ends from (OfLink number duty) = DutyAt ends from number duty
-
-pub first_chosen : (from : ℕ) (ends : List LinkEnd) (c : LinkChoice) → first_duty from ends ≡ Some c → IsChosen ends from c
+pub first_chosen : (from : ℕ) (ends : List LinkEnd) (c : LinkChoice) → first_duty from ends ≡ Some c → FirstDuty ends from c
 first_chosen from [] c e = absurd cc
 first_chosen from (first ∷ ends) c e = go (first_chosen (from + 1) ends c) (duty_of first) refl e
   where
-    one_later : (c : LinkChoice) → IsChosen ends (from + 1) c → IsChosen (first ∷ ends) from c
-    one_later (Confirms confirm) x = x
-    one_later (OfLink number duty) x = let is = x.is in record { place = suc x.place; is = omega arith; e = x.e; there = x.there; has = x.has }
-
-    go : (first_duty (from + 1) ends ≡ Some c → IsChosen ends (from + 1) c) → (o : Option Duty) → duty_of first ≡ o →
-        duty_or_next from o (first_duty (from + 1) ends) ≡ Some c → IsChosen (first ∷ ends) from c
-    go later None is e = one_later c (later e)
+    go : (first_duty (from + 1) ends ≡ Some c → FirstDuty ends (from + 1) c) → (o : Option Duty) → duty_of first ≡ o →
+        duty_or_next from o (first_duty (from + 1) ends) ≡ Some c → FirstDuty (first ∷ ends) from c
+    go later None is e =
+        let x = later e in let same : from + suc x.place ≡ from + 1 + x.place = omega arith in
+        record { place = suc x.place; duty = x.duty; is = rw same x.is; e = x.e; there = x.there; has = x.has }
     go later (Some duty) is e =
-        subst (IsChosen (first ∷ ends) from) (same_Some (OfLink from duty) c e)
-        (record { place = 0; is = omega arith; e = first; there = refl; has = is })
+        let same : from + 0 ≡ from = omega arith in
+        record { place = 0; duty = duty; is = rw same (same_Some (OfLink from duty) c e); e = first; there = refl; has = is }
 
 -- ---- what is asked of the links
 
@@ -59,18 +52,15 @@ module _ (s : Links) (most : ℕ) (kept : StoredLinks) (h : LinkHolds s.links mo
     pub put : link_message c kept.links ≡ Some message
     pub is : IsAsked s.links kept c message
 
-  duty_asked : (c : LinkChoice) → IsChosen kept.links 0 c → Asked c
-  duty_asked (Confirms confirm) t = absurd t
-  duty_asked (OfLink place duty) t =
-      let same : place ≡ t.place = let e = t.is in omega arith in
-      let of_it = kept_of t.place t.e h.keeps t.there in
-      record {
-        message = duty_message duty (end_of of_it.link of_it.owed);
-        put = ap (λ (o : Option LinkEnd). message_at o duty) (ap (slice_get kept.links) same ∙ t.there ∙ ap Some (sym of_it.is));
-        is = subst (λ (n : ℕ). IsAsked s.links kept (OfLink n duty) (duty_message duty (end_of of_it.link of_it.owed))) (sym same)
-            (OfDuty of_it.number t.place duty of_it.link of_it.owed of_it.at
-            (subst (λ (e : LinkEnd). IsDue e duty) (sym of_it.is) (duty_due t.e duty t.has)));
-      }
+  duty_asked : (c : LinkChoice) → FirstDuty kept.links 0 c → Asked c
+  duty_asked c t =
+      let of_it = kept_of t.place t.e h.keeps t.there in let same : t.place ≡ 0 + t.place = omega arith in
+      subst Asked (ap (λ (n : ℕ). OfLink n t.duty) same ∙ t.is) (record {
+        message = duty_message t.duty (end_of of_it.link of_it.owed);
+        put = ap (λ (o : Option LinkEnd). message_at o t.duty) (t.there ∙ ap Some (sym of_it.is));
+        is = OfDuty of_it.number t.place t.duty of_it.link of_it.owed of_it.at
+            (subst (λ (e : LinkEnd). IsDue e t.duty) (sym of_it.is) (duty_due t.e t.duty t.has));
+      })
 
   pub asked_of : (c : LinkChoice) → link_choice kept.confirms kept.links ≡ Some c → Asked c
   asked_of c e = go kept.confirms refl e
@@ -82,13 +72,3 @@ module _ (s : Links) (most : ℕ) (kept : StoredLinks) (h : LinkHolds s.links mo
         put = refl;
         is = OfConfirm confirm (ap (λ (l : List EndConfirm). slice_get l 0) is);
       })
-
-  -- it may be sent
-  module _ (others : LinkList) (addressed : AreAddressed s.links others most)
-      (numbers : (i : ℕ) (l : LinkOf TrueSegments) → slice_get s.links i ≡ Some l → IsOrdered l.segments × IsAnswered l.segments) where
-    pub asked_may : (c : LinkChoice) (message : NspValue) → IsAsked s.links kept c message → MaySendIt s message
-    asked_may c message (OfDuty number place duty l o at due) =
-        let n = numbers number l (link_there at) in
-        due_may s others most addressed number l (link_there at) (is_kept at).fits.shape o (is_kept at).owes n.0 n.1 duty due
-    asked_may c message (OfConfirm confirm first) =
-        confirm_may s confirm.dst confirm.src confirm.reason (done_over s most confirm (h.confirms 0 confirm first).done)

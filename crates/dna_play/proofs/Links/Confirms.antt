@@ -1,6 +1,7 @@
 -- A DC that is owed names a link that is over, and stays so.
-use Rattle.std.proofs.Common.{◌≡◌, ℕ, ◌≤◌, Bool, true, false, ◌&&◌, ◌||◌, Option, Some, None, refl, sym, ap, ap₂, ◌∙◌, subst, eq-eqb, ◌⊎◌, inl, inr}
+use Rattle.std.proofs.Common.{◌≡◌, ℕ, ◌≤◌, Bool, true, false, ◌&&◌, ◌||◌, Option, Some, None, refl, sym, ap, ap₂, ◌∙◌, subst, ◌⊎◌, inl, inr}
 use Rattle.std.specs.Prelude.{slice_get}
+use Rattle.std.proofs.Math.Bool.{and-true, or-true}
 use Rattle.std.proofs.lemmas.Bool.{and_parts}
 use Rattle.dna_links.specs.declared.port.Phase.{Phase}
 use Rattle.dna_links.specs.declared.port.Phase.TheVariants.{Confirming, Running}
@@ -16,6 +17,7 @@ use Rattle.dna_links.proofs.Tables.Outcomes.{looked, position_none}
 use Rattle.dna_links.proofs.Runs.Reads.{at_is}
 use Rattle.dna_links.proofs.Runs.Sides.{at_set}
 use Rattle.dna_node.proofs.Once.Addresses.{LinkList, AreAddressed}
+use Rattle.dna_play.proofs.Links.Pays.{is_there}
 
 -- a link with this port might be, or come to be, one that goes with that far address
 abbrev pub may_be : (far : ℕ) → Port → Bool
@@ -30,17 +32,13 @@ pub record IsDone (links : LinkList) (most : ℕ) (confirm : EndConfirm) : Type 
   pub given : confirm.src ≤ most
   pub over : (j : ℕ) (m : LinkOf TrueSegments) → slice_get links j ≡ Some m → IsPast confirm m
 
-or_last : (b c : Bool) → c ≡ true → (b || c) ≡ true
-or_last true c e = refl
-or_last false c e = e
-
 pub done_over : (s : Links) (most : ℕ) (confirm : EndConfirm) → IsDone s.links most confirm → (j : ℕ) (m : LinkOf TrueSegments) →
     slice_get s.links j ≡ Some m → passes (TheLink confirm.src confirm.dst) m.port ≡ true → ⊥
 done_over s most confirm d j m at passed =
     let p = and_parts (is_live m.port.phase) (has_both m.port confirm.src confirm.dst) passed in
     let q = and_parts (is_at m.port.own confirm.src) (is_at m.port.far confirm.dst) p.1 in
     let f = d.over j m at (at_is m.port.own confirm.src q.0) in
-    let t = ap₂ (λ (b c : Bool). b && c) p.0 (or_last (is_calling m.port.phase) (is_at m.port.far confirm.dst) q.1) in
+    let t = ap₂ (λ (b c : Bool). b && c) p.0 (ap (λ (b : Bool). is_calling m.port.phase || b) q.1 ∙ or-true _) in
     cc
 
 pub connected_past : (phase : Phase) (far : ℕ) (known : Option ℕ) → is_connected phase ≡ true →
@@ -74,18 +72,10 @@ module _ (s : Links) (others : LinkList) (most : ℕ) (addressed : AreAddressed 
   none_is_done no_link not_calling = record {
     given = given;
     over = λ j m at e.
-        past (is_live m.port.phase) (is_calling m.port.phase) (is_at m.port.own own) (is_at m.port.far far)
-        (ap (λ (o : Option ℕ). is_at o own) e ∙ eq-eqb own own refl)
-        (position_none (λ (k : LinkOf TrueSegments). passes (TheLink own far) k.port) s.links j m no_link at)
-        (position_none (λ (k : LinkOf TrueSegments). passes (CallingAt own) k.port) s.links j m not_calling at);
+        let owns = is_there m.port.own own e in
+        let calls = rw (owns, and-true) at (position_none (λ (k : LinkOf TrueSegments). passes (CallingAt own) k.port) s.links j m not_calling at) in
+        rw calls (rw owns at (position_none (λ (k : LinkOf TrueSegments). passes (TheLink own far) k.port) s.links j m no_link at));
   }
-    where
-      past : (live calling at_own at_far : Bool) → at_own ≡ true → (live && (at_own && at_far)) ≡ false → (calling && at_own) ≡ false →
-          (live && (calling || at_far)) ≡ false
-      past false calling at_own at_far a b c = refl
-      past true false true at_far a b c = b
-      past true true true at_far a b c = c
-      past true calling false at_far a b c = absurd cc
 
   pub end_done : IsDone (ends_link true_segments rule own far s).links most confirm
   end_done = looked (TheLink own far) s (with_link (CallingAt own) s s (λ number link. changed number (ended true_segments link) s))

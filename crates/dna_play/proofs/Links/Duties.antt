@@ -1,211 +1,161 @@
--- What a message of the links that is sent makes of the link that has sent it, as its node keeps it.
-use Rattle.std.proofs.Common.{◌≡◌, ℕ, ◌+◌, ◌≤◌, true, false, Option, Some, None, List, [], ◌∷◌, length, Result, Ok, refl, sym, ap}
-use Rattle.std.proofs.Common.{◌∙◌, subst, arith, eq-eqb, length-drop, ap₂, length-append}
+-- What is due at a link of the player may be sent; and what its message makes of the link that has sent it, as its node keeps it.
+use Rattle.std.proofs.Common.{◌≡◌, ℕ, ◌+◌, ◌≤◌, true, false, ◌&&◌, ◌||◌, not, eqb, nat_lt, Option, Some, None, [], ◌∷◌, length, Result, Ok, Err, refl}
+use Rattle.std.proofs.Common.{sym, ap, ◌∙◌, arith, length-append, le-ltb, ltb-true, eqb-true}
+use Rattle.std.specs.Cmp.Derive.{both_true}
 use Rattle.std.specs.Prelude.{slice_get, is_some}
 use Rattle.two_nodes.proofs.Reached.{slice_get_none}
-use Rattle.std.proofs.lemmas.Bool.{and_parts, ne_eqb}
-use Rattle.std.proofs.lemmas.List.{drop-append-le}
-use Rattle.std.proofs.lemmas.Option.{same_Some, slice_get_within}
-use Rattle.dna_packet.specs.Nsp.{SegmentValue, DisconnectConfirm, NspValue, DataSegment, DataAck}
+use Rattle.std.proofs.lemmas.Bool.{and_parts}
+use Rattle.std.proofs.lemmas.Option.{slice_get_within}
 use Rattle.dna_station.specs.declared.link_refusal.LinkRefusal.{LinkRefusal}
+use Rattle.dna_station.specs.declared.link_refusal.LinkRefusal.TheVariants.{NoLink}
 use Rattle.dna_links.specs.declared.port.Phase.{Phase}
-use Rattle.dna_links.specs.declared.port.Phase.TheVariants.{Running}
-use Rattle.dna_links.specs.declared.port.LinkTest.TheVariants.{TheLink}
-use Rattle.dna_links.specs.LookUps.{is_live, is_at, has_both}
-use Rattle.dna_links.specs.SegmentBook.{Sending}
-use Rattle.dna_links.specs.Segmentation.{Piece, without_piece, next_piece}
+use Rattle.dna_links.specs.declared.port.Phase.TheVariants.{Calling, Called, Confirming, Running, Disconnecting}
+use Rattle.dna_links.specs.declared.port.LinkTest.TheVariants.{TheLink, OpenedAt, BegunBy}
+use Rattle.dna_links.specs.LookUps.{is_live, is_calling, is_confirming, is_running, is_disconnecting, is_at}
+use Rattle.dna_links.specs.SegmentBook.{Sending, REACH}
+use Rattle.dna_links.specs.Segmentation.{Piece, has_more, next_piece, SEGSIZE}
 use Rattle.dna_links.specs.Links.{LinkOf, changed, with_segments}
-use Rattle.dna_links.specs.Sending.{Sent, segment_of}
-use Rattle.dna_links.specs.TrueSegments.{TrueSegments, Numbers, true_segments, is_new, sends_segment, sends_acks}
+use Rattle.dna_links.specs.Sending.{Sent, unchanged, carries, in_run, segment_of, message_sent}
+use Rattle.dna_links.specs.TrueSegments.{TrueSegments, Numbers, true_segments, sends_segment}
 use Rattle.dna_links.specs.TrueLinks.{Links}
-use Rattle.dna_links.specs.CutSegments.{IsOrdered}
+use Rattle.dna_links.specs.CutSegments.{IsOrdered, IsAnswered}
 use Rattle.dna_play.specs.LinkOwed.{LinkOwed, Duty, ConnectAckDuty, InitiateDuty, ConfirmDuty, DisconnectDuty, DataAckDuty, SegmentDuty}
-use Rattle.dna_play.specs.NextSent.{LinkEnd}
+use Rattle.dna_play.specs.NextSent.{LinkEnd, has_new, has_repeat}
 use Rattle.dna_play.specs.Compose.{ack_of, address, piece_to_send, segment_with, duty_message}
 use Rattle.dna_play.specs.StoredLinks.{gave, gave_by}
-use Rattle.dna_play.proofs.Links.SegmentsDid.{SegmentDid, GivesIt, GivesAgain, segment_did, acks_did}
-use Rattle.dna_links.proofs.Tables.Outcomes.{has_numbers, IsFound, SentDid, OfNone, Stays, EndsCalled, Segment, Acks}
+use Rattle.dna_links.proofs.Tables.Outcomes.{IsFound}
 use Rattle.dna_links.proofs.Runs.Reads.{at_is}
-use Rattle.dna_play.proofs.Links.Pays.{variables_of, end_of, fits_in, Fits, OwedFits, IsDue, DueFlag, DueSegment, known_at, running_is}
-use Rattle.dna_node.proofs.Once.Addresses.{LinkList, OwnsIn}
+use Rattle.dna_node.proofs.Once.Addresses.{LinkList, AreAddressed}
 use Rattle.dna_play.proofs.Links.Lists.{set_back}
-use Rattle.dna_packet.specs.declared.ack_word.AckWord.{AckWord}
-use Rattle.dna_play.proofs.Links.Fits.{LinkFits, duty_plain}
-use Rattle.dna_play.proofs.Links.Goes.{Goes, segments_go, stays_as_it_is, acks_go, segment_goes}
+use Rattle.dna_play.proofs.Links.Pays.{end_of, fits_in, OwedFits, IsDue, DueFlag, DueSegment, known_at, is_there, running_is, found_at, some_found}
+use Rattle.dna_play.proofs.Links.Pays.{with_found, right_may}
+use Rattle.dna_play.proofs.Links.Fits.{LinkFits, fits_as, next_fits}
+use Rattle.dna_play.proofs.Links.Goes.{SegmentsGo, stays_as_it_is}
+use Rattle.dna_play.proofs.Links.SegmentsPay.{MaySend, data_ack_may, again_may, new_may}
 
--- ---- a segment
+-- this is sent by the link, and makes this of it
+pub record DutyMade (s : Links) (n : ℕ) (l : LinkOf TrueSegments) (o : LinkOwed) (duty : Duty) : Type 0 where
+  pub made : Sent TrueSegments Numbers
+  pub sent : message_sent true_segments s (duty_message duty (end_of l o)) ≡ Ok made
+  pub segments : TrueSegments
+  pub links : made.links ≡ changed n (with_segments segments l) s
+  pub acknowledged : segments.acknowledged ≡ l.segments.acknowledged
+  pub is : end_of (with_segments segments l) o ≡ gave_by duty (end_of l o)
+  pub goes : SegmentsGo l.segments segments
 
--- what a link of these makes of the segment that it has put together
-module _ (l : LinkOf TrueSegments) (o : LinkOwed) (ordered : IsOrdered l.segments) (within : o.ahead ≤ length (variables_of l).outstanding) where
+-- a segment that has gone is among those sent in this go
+pub gave_ahead : (link : LinkEnd) → link.owed.ahead ≤ length link.variables.outstanding →
+    link.owed.ahead + 1 ≤ length (gave_by SegmentDuty link).variables.outstanding
+gave_ahead link within = go (slice_get link.variables.outstanding link.owed.ahead) refl
+  where
+    go : (again : Option Piece) → slice_get link.variables.outstanding link.owed.ahead ≡ again →
+        link.owed.ahead + 1 ≤ length (gave again link).variables.outstanding
+    go None at = let more = length-append link.variables.outstanding (next_piece link.variables.unsent ∷ []) in omega arith
+    go (Some p) at = let less = slice_get_within link.variables.outstanding link.owed.ahead p at in omega arith
+
+module _ (s : Links) (others : LinkList) (most : ℕ) (addressed : AreAddressed s.links others most) (n : ℕ) (l : LinkOf TrueSegments)
+    (there : slice_get s.links n ≡ Some l) (fits : LinkFits l) (o : LinkOwed) (pays : OwedFits l o)
+    (ordered : IsOrdered l.segments) (answered : IsAnswered l.segments) where
+  abbrev own : ℕ
+  own = address l.port.own
+
+  abbrev far : ℕ
+  far = address l.port.far
+
+  -- no other link has its own address
+  only : is_some l.port.own ≡ true → (j : ℕ) (m : LinkOf TrueSegments) → slice_get s.links j ≡ Some m → is_at m.port.own own ≡ true → j ≡ n
+  only is j m at e = addressed.distinct j n own (record { link = m; there = at; owns = at_is m.port.own own e })
+      (record { link = l; there = there; owns = known_at l.port.own is })
+
+  -- in this phase
+  in_it : (phase : Phase) → l.port.phase ≡ phase → fits_in phase l ≡ true
+  in_it phase is = fits_as l phase is fits.shape
+
+  -- a link that knows both addresses
+  both : (phase : Phase) → l.port.phase ≡ phase → is_live phase ≡ true →
+      (is_some l.port.own && (is_some l.port.far && eqb l.segsize SEGSIZE)) ≡ true → IsFound (TheLink own far) s n l
+  both phase is live knows =
+      let p = and_parts (is_some l.port.own) _ knows in
+      found_at s (TheLink own far) n l there
+      (both_true (ap is_live is ∙ live)
+      (both_true (is_there _ _ (known_at l.port.own p.0)) (is_there _ _ (known_at l.port.far (and_parts (is_some l.port.far) _ p.1).0))))
+      (λ j m at e. only p.0 j m at (and_parts (is_at m.port.own own) (is_at m.port.far far) (and_parts (is_live m.port.phase) _ e).1).0)
+
   abbrev it : LinkEnd
   it = end_of l o
 
-  abbrev f : TrueSegments
-  f = l.segments
+  -- a message that leaves the links as they are
+  abbrev still : ℕ → LinkOf TrueSegments → Result (Sent TrueSegments Numbers) LinkRefusal
+  still number link = Ok (unchanged true_segments s number link)
 
-  abbrev segment_by : Option Piece → SegmentValue
-  segment_by again = segment_with (end_of l o) (piece_to_send again l.segments.unsent)
-
-  -- it is new where none is to be sent again
-  pub segment_gave : (segsize : ℕ) (sent : Sending TrueSegments Numbers) (again : Option Piece) →
-      slice_get (variables_of l).outstanding o.ahead ≡ again →
-      sends_segment segsize (segment_by again) l.segments ≡ Ok sent → end_of (with_segments sent.segments l) o ≡ gave again (end_of l o)
-  segment_gave segsize sent again at e = go again at sent.segments (segment_did l.segments segsize (segment_by again) sent e)
-    where
-      go : (again : Option Piece) → slice_get (variables_of l).outstanding o.ahead ≡ again → (g : TrueSegments) →
-          SegmentDid l.segments (segment_by again) g →
-          end_of (with_segments g l) o ≡ gave again (end_of l o)
-      go None at g (GivesIt last new) =
-          let p = next_piece f.unsent in
-          ap (λ (pieces : List Piece). record it { variables = record it.variables { unsent = without_piece p f.unsent; outstanding = pieces } })
-          (drop-append-le f.acknowledged f.given (p ∷ []) ordered.given)
-      go None at g (GivesAgain last old) =
-          let counted = length-drop f.acknowledged f.given in let some = ordered.given in
-          let all = slice_get_none (variables_of l).outstanding o.ahead at in
-          let new : is_new (segment_by None) f ≡ true = eq-eqb _ _ (omega arith) in
-          let e = sym new ∙ old in absurd cc
-      go (Some p) at g (GivesIt last new) =
-          let less = slice_get_within (variables_of l).outstanding o.ahead p at in
-          let counted = length-drop f.acknowledged f.given in let some = ordered.given in let few = ordered.few in
-          let old : is_new (segment_by (Some p)) f ≡ false = ne_eqb _ _ (λ e. omega arith) in
-          let e = sym new ∙ old in absurd cc
-      go (Some p) at g (GivesAgain last old) = refl
-
-  -- then it is among those sent in this go
-  pub gave_ahead : o.ahead + 1 ≤ length (gave_by SegmentDuty (end_of l o)).variables.outstanding
-  gave_ahead = go (slice_get (variables_of l).outstanding o.ahead) refl
-    where
-      go : (again : Option Piece) → slice_get (variables_of l).outstanding o.ahead ≡ again →
-          o.ahead + 1 ≤ length (gave again (end_of l o)).variables.outstanding
-      go None at = let more = length-append (variables_of l).outstanding (next_piece f.unsent ∷ []) in omega arith
-      go (Some p) at = let less = slice_get_within (variables_of l).outstanding o.ahead p at in omega arith
-
--- ---- what is left of the links
-
--- a message without numbers leaves them as they are, but for a DC without a source
-module _ (s : Links) (m : NspValue) (none : has_numbers m ≡ false)
-    (sourced : (dst reason : ℕ) → m ≡ DisconnectConfirm dst 0 reason → ⊥) where
-  numbered : (x : NspValue) → has_numbers x ≡ true → m ≡ x → ⊥
-  numbered x has is = let e = sym none ∙ ap has_numbers is ∙ has in cc
-
-  pub links_stay : (made : Sent TrueSegments Numbers) → SentDid true_segments s m made → made.links ≡ s
-  links_stay made (OfNone none) = refl
-  links_stay made (Stays number link none there) = refl
-  links_stay made (EndsCalled far reason number link none is found) = absurd (sourced far reason is)
-  links_stay made (Segment segment number link sent is found run does) = absurd (numbered (DataSegment segment) refl is)
-  links_stay made (Acks dst src acks number link sent is found run does) = absurd (numbered (DataAck dst src acks) refl is)
-
--- one with numbers is sent by the link with its source
-module _ (s : Links) (distinct : (i j a : ℕ) → OwnsIn s.links i a → OwnsIn s.links j a → i ≡ j) (n : ℕ) (l : LinkOf TrueSegments)
-    (there : slice_get s.links n ≡ Some l) (src : ℕ) (owns : l.port.own ≡ Some src) where
-  pub record RunMade (sends : LinkOf TrueSegments → Result (Sending TrueSegments Numbers) LinkRefusal) (left : Links) : Type 0 where
-    pub sent : Sending TrueSegments Numbers
-    pub is : sends l ≡ Ok sent
-    pub links : left ≡ changed n (with_segments sent.segments l) s
-
-  by_source : (sends : LinkOf TrueSegments → Result (Sending TrueSegments Numbers) LinkRefusal) (dst number : ℕ) (link : LinkOf TrueSegments) →
-      IsFound (TheLink src dst) s number link → (sent : Sending TrueSegments Numbers) → sends link ≡ Ok sent →
-      RunMade sends (changed number (with_segments sent.segments link) s)
-  by_source sends dst number link found sent is =
-      let both = (and_parts (is_live link.port.phase) (has_both link.port src dst) found.passed).1 in
-      let at = at_is link.port.own src (and_parts (is_at link.port.own src) (is_at link.port.far dst) both).0 in
-      let same = distinct number n src (record { link = link; there = found.there; owns = at }) (record { link = l; there = there; owns = owns }) in
-      let one = same_Some link l (sym found.there ∙ ap (slice_get s.links) same ∙ there) in
-      record {
-        sent = sent;
-        is = ap sends (sym one) ∙ is;
-        links = ap₂ (λ (i : ℕ) (k : LinkOf TrueSegments). changed i (with_segments sent.segments k) s) same one;
-      }
-
-  pub segment_run : (segment : SegmentValue) → src ≡ segment.srcaddr → (made : Sent TrueSegments Numbers) →
-      SentDid true_segments s (DataSegment segment) made → RunMade (segment_of true_segments segment) made.links
-  segment_run segment of_it made (Segment other number link sent is found run does) =
-      let same : segment ≡ other = cc in
-      by_source (segment_of true_segments segment) other.dstaddr number link
-      (subst (λ (a : ℕ). IsFound (TheLink a other.dstaddr) s number link) (ap (λ (x : SegmentValue). x.srcaddr) (sym same) ∙ sym of_it) found) sent
-      (ap (λ (x : SegmentValue). segment_of true_segments x link) same ∙ does)
-  segment_run segment of_it made (OfNone none) = absurd cc
-  segment_run segment of_it made (Stays number link none at) = absurd cc
-  segment_run segment of_it made (EndsCalled far reason number link none is found) = absurd cc
-  segment_run segment of_it made (Acks dst from acks number link sent is found run does) = absurd cc
-
-  pub acks_run : (dst : ℕ) (acks : List AckWord) (made : Sent TrueSegments Numbers) → SentDid true_segments s (DataAck dst src acks) made →
-      RunMade (λ link. sends_acks acks link.segments) made.links
-  acks_run dst acks made (Acks to from words number link sent is found run does) =
-      let from_is : from ≡ src = cc in let same : acks ≡ words = cc in
-      by_source (λ link. sends_acks acks link.segments) to number link
-      (subst (λ (a : ℕ). IsFound (TheLink a to) s number link) from_is found) sent
-      (ap (λ (w : List AckWord). sends_acks w link.segments) same ∙ does)
-  acks_run dst acks made (OfNone none) = absurd cc
-  acks_run dst acks made (Stays number link none at) = absurd cc
-  acks_run dst acks made (EndsCalled far reason number link none is found) = absurd cc
-  acks_run dst acks made (Segment segment number link sent is found run does) = absurd cc
-
--- ---- what each duty makes of its link
-
-pub record DutyMade (s : Links) (made : Sent TrueSegments Numbers) (n : ℕ) (l : LinkOf TrueSegments) (o : LinkOwed) (duty : Duty) : Type 0 where
-  pub left : LinkOf TrueSegments
-  pub links : made.links ≡ changed n left s
-  pub port : left.port ≡ l.port
-  pub acknowledged : left.segments.acknowledged ≡ l.segments.acknowledged
-  pub is : end_of left o ≡ gave_by duty (end_of l o)
-  pub goes : (most : ℕ) → Goes most l left
-
-module _ (s : Links) (made : Sent TrueSegments Numbers) (n : ℕ) (l : LinkOf TrueSegments) (o : LinkOwed) (there : slice_get s.links n ≡ Some l) where
-  -- one that leaves its link as it is
-  unmoved : (duty : Duty) → gave_by duty (end_of l o) ≡ end_of l o → made.links ≡ s → DutyMade s made n l o duty
-  unmoved duty none same = record {
-    left = l;
-    links = same ∙ ap (λ (all : LinkList). record s { links = all }) (sym (set_back s.links n l there));
-    port = refl;
+  unmoved : (duty : Duty) → gave_by duty it ≡ it → (number : ℕ) (link : LinkOf TrueSegments) →
+      message_sent true_segments s (duty_message duty it) ≡ Ok (unchanged true_segments s number link) → DutyMade s n l o duty
+  unmoved duty none number link sent = record {
+    made = unchanged true_segments s number link;
+    sent = sent;
+    segments = l.segments;
+    links = ap (λ (all : LinkList). record s { links = all }) (sym (set_back s.links n l there));
     acknowledged = refl;
     is = sym none;
-    goes = λ most. segments_go most l l.segments (stays_as_it_is l.segments);
+    goes = stays_as_it_is l.segments;
   }
 
-  -- in RUN it has an own address
-  run_owns : Fits l → l.port.phase ≡ Running → l.port.own ≡ Some (address l.port.own)
-  run_owns shape run = known_at l.port.own (and_parts (is_some l.port.own) _ (subst (λ (phase : Phase). fits_in phase l ≡ true) run shape)).0
+  -- in RUN, where its segments may be sent
+  moved : (duty : Duty) → l.port.phase ≡ Running → (sends : LinkOf TrueSegments → Result (Sending TrueSegments Numbers) LinkRefusal) →
+      MaySend it l.segments (sends l) (gave_by duty it) →
+      message_sent true_segments s (duty_message duty it) ≡ in_run true_segments own far sends s → DutyMade s n l o duty
+  moved duty is sends m of_it = record {
+    made = _;
+    sent = of_it ∙ right_may s (TheLink own far) is_running (λ number link. carries true_segments s number link (sends link)) n l
+        (both Running is refl (in_it Running is)) (ap is_running is) ∙ ap (carries true_segments s n l) m.is;
+    segments = m.sent.segments;
+    links = refl;
+    acknowledged = m.acknowledged;
+    is = m.left;
+    goes = m.goes;
+  }
 
-  acknowledged_still : (s : SegmentValue) (g : TrueSegments) → SegmentDid l.segments s g → g.acknowledged ≡ l.segments.acknowledged
-  acknowledged_still s g (GivesIt last new) = refl
-  acknowledged_still s g (GivesAgain last old) = refl
+  segment_may : SEGSIZE ≤ l.segsize → (has_repeat it || has_new it) ≡ true → (again : Option Piece) →
+      slice_get it.variables.outstanding o.ahead ≡ again →
+      MaySend it l.segments (sends_segment l.segsize (segment_with it (piece_to_send again it.variables.unsent)) l.segments) (gave again it)
+  segment_may wide due (Some p) at = again_may l.port l.segments o ordered l.segsize p at
+  segment_may wide due None at =
+      let beyond = slice_get_none it.variables.outstanding o.ahead at in let within = pays.ahead in
+      let none : has_repeat it ≡ false = le-ltb o.ahead (length it.variables.outstanding) beyond in
+      let parts = and_parts (nat_lt (length it.variables.outstanding) REACH) (has_more it.variables.unsent.messages) (rw none at due) in
+      new_may l.port l.segments o ordered l.segsize wide (ltb-true _ _ parts.0) (omega arith) parts.1
+      (next_fits l.segments.unsent.begun l.segments.unsent.messages fits.segments.unsent)
 
-  module _ (ordered : IsOrdered l.segments) (fits : LinkFits l) (owes : OwedFits l o)
-      (distinct : (i j a : ℕ) → OwnsIn s.links i a → OwnsIn s.links j a → i ≡ j) where
-    pub duty_made : (duty : Duty) → IsDue (end_of l o) duty → SentDid true_segments s (duty_message duty (end_of l o)) made →
-        DutyMade s made n l o duty
-    duty_made ConnectAckDuty due did =
-        unmoved ConnectAckDuty refl (links_stay s (duty_message ConnectAckDuty (end_of l o)) refl (λ dst reason e. cc) made did)
-    duty_made InitiateDuty due did =
-        unmoved InitiateDuty refl (links_stay s (duty_message InitiateDuty (end_of l o)) refl (λ dst reason e. cc) made did)
-    duty_made ConfirmDuty due did = unmoved ConfirmDuty refl (links_stay s (duty_message ConfirmDuty (end_of l o)) refl (λ dst reason e. cc) made did)
-    duty_made DisconnectDuty due did =
-        unmoved DisconnectDuty refl (links_stay s (duty_message DisconnectDuty (end_of l o)) refl (λ dst reason e. cc) made did)
-    duty_made DataAckDuty (DueFlag owed) did =
-        let words = ack_of (variables_of l).received ∷ [] in
-        let r = acks_run s distinct n l there (address l.port.own) (run_owns fits.shape (owes.duties DataAckDuty owed)) (address l.port.far)
-        words made did in
-        let d = acks_did l.segments words r.sent r.is in
-        record {
-          left = with_segments r.sent.segments l;
-          links = r.links;
-          port = refl;
-          acknowledged = ap (λ (g : TrueSegments). g.acknowledged) d.1;
-          is = ap (λ (g : TrueSegments). end_of (with_segments g l) o) d.1;
-          goes = λ most. segments_go most l r.sent.segments (acks_go l.segments words r.sent r.is);
-        }
-    duty_made SegmentDuty (DueFlag owed) did = absurd cc
-    duty_made SegmentDuty (DueSegment running due) did =
-        let again = slice_get (variables_of l).outstanding o.ahead in
-        let segment = segment_with (end_of l o) (piece_to_send again l.segments.unsent) in
-        let r = segment_run s distinct n l there (address l.port.own) (run_owns fits.shape (running_is l.port.phase running)) segment refl made did in
-        record {
-          left = with_segments r.sent.segments l;
-          links = r.links;
-          port = refl;
-          acknowledged = acknowledged_still segment r.sent.segments (segment_did l.segments l.segsize segment r.sent r.is);
-          is = segment_gave l o ordered owes.ahead l.segsize r.sent again refl r.is;
-          goes = λ most. segments_go most l r.sent.segments (segment_goes l.segments r.sent.segments segment
-              (duty_plain l o SegmentDuty fits.segments) (segment_did l.segments l.segsize segment r.sent r.is));
-        }
+  -- what is due may be sent
+  pub duty_made : (duty : Duty) → IsDue it duty → DutyMade s n l o duty
+  duty_made ConnectAckDuty (DueFlag is) =
+      let phase = pays.duties ConnectAckDuty is in
+      let p = and_parts (not l.port.opened) _ (in_it Called phase) in
+      some_found s (BegunBy far) n l there
+      (both_true (ap is_live phase) (both_true p.0 (is_there _ _ (known_at l.port.far (and_parts (is_some l.port.far) _ p.1).0))))
+      (λ number link found. unmoved ConnectAckDuty refl number link (with_found s (BegunBy far) number link (Err NoLink) still found))
+  duty_made InitiateDuty (DueFlag is) =
+      let phase = pays.duties InitiateDuty is in
+      let p = and_parts l.port.opened (is_some l.port.own) (in_it Calling phase) in
+      unmoved InitiateDuty refl n l (right_may s (OpenedAt own) is_calling still n l
+      (found_at s (OpenedAt own) n l there (both_true (ap is_live phase) (both_true p.0 (is_there _ _ (known_at l.port.own p.1))))
+      (λ j m at e. only p.1 j m at (and_parts m.port.opened (is_at m.port.own own) (and_parts (is_live m.port.phase) _ e).1).1))
+      (ap is_calling phase))
+  duty_made ConfirmDuty (DueFlag is) =
+      let phase = pays.duties ConfirmDuty is in
+      let found = both Confirming phase refl (in_it Confirming phase) in
+      unmoved ConfirmDuty refl n l (right_may s (TheLink own far) is_confirming still n l found (ap is_confirming phase))
+  duty_made DisconnectDuty (DueFlag is) =
+      let phase = pays.duties DisconnectDuty is in
+      let found = both Disconnecting phase refl (in_it Disconnecting phase) in
+      unmoved DisconnectDuty refl n l (right_may s (TheLink own far) is_disconnecting still n l found (ap is_disconnecting phase))
+  duty_made DataAckDuty (DueFlag is) =
+      moved DataAckDuty (pays.duties DataAckDuty is) (λ link. true_segments.sends_acks (ack_of it.variables.received ∷ []) link.segments)
+      (data_ack_may l.port l.segments o ordered answered) refl
+  duty_made SegmentDuty (DueFlag is) = absurd cc
+  duty_made SegmentDuty (DueSegment running due) =
+      let is = running_is l.port.phase running in
+      let wide = eqb-true l.segsize SEGSIZE (and_parts (is_some l.port.far) _ (and_parts (is_some l.port.own) _ (in_it Running is)).1).1 in
+      let again = slice_get it.variables.outstanding o.ahead in
+      moved SegmentDuty is (segment_of true_segments (segment_with it (piece_to_send again it.variables.unsent)))
+      (segment_may (omega arith) due again refl) refl

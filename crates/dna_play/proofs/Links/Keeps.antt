@@ -3,20 +3,20 @@
 use Rattle.std.proofs.Common.{◌≡◌, ℕ, zero, suc, Bool, true, false, Option, Some, None, option_map, List, [], ◌∷◌, ◌++◌, refl, sym, ap, subst, ◌∙◌}
 use Rattle.std.specs.Prelude.{position, slice_get, slice_set}
 use Rattle.std.specs.List.{remove}
-use Rattle.std.proofs.lemmas.Bool.{and_parts}
+use Rattle.std.proofs.lemmas.Bool.{and_parts, false_from_ne_true}
 use Rattle.std.proofs.lemmas.Option.{same_Some}
 use Rattle.dna_links.specs.declared.port.LinkTest.{LinkTest}
 use Rattle.dna_links.specs.declared.port.LinkTest.TheVariants.{TheLink, LiveTo, LiveAt, CallingAt, CalledBy, ActedOn}
 use Rattle.dna_links.specs.declared.port.Port.{Port}
 use Rattle.dna_links.specs.LookUps.{passes, is_live, is_called, is_calling, is_connected, is_at, has_both}
-use Rattle.dna_links.specs.Links.{LinkOf, number_of, with_link}
+use Rattle.dna_links.specs.Links.{LinkOf, number_of, at_number, with_link}
 use Rattle.dna_links.specs.TrueSegments.{TrueSegments}
 use Rattle.dna_links.specs.TrueLinks.{Links}
 use Rattle.dna_play.specs.LinkOwed.{LinkOwed}
 use Rattle.dna_play.specs.NextSent.{LinkEnd}
 use Rattle.dna_play.specs.StoredEnd.{StoredLinks}
-use Rattle.dna_play.specs.StoredLinks.{on_end, at_place, with_end}
-use Rattle.dna_links.proofs.Tables.Outcomes.{IsFound, looked}
+use Rattle.dna_play.specs.StoredLinks.{at_place, with_end}
+use Rattle.dna_links.proofs.Tables.Outcomes.{IsFound, position_passes}
 use Rattle.dna_node.proofs.Once.Addresses.{LinkList}
 use Rattle.dna_play.proofs.Links.Fits.{LinkFits}
 use Rattle.dna_play.proofs.Links.Pays.{OwedFits, end_of}
@@ -67,13 +67,6 @@ module _ {l : LinkOf TrueSegments} {o : LinkOwed} where
   keeps_set k p (BehindOver over at) kept = Over over (keeps_set k p at kept)
   keeps_set k p (BehindOne one at) kept = Lives one (keeps_set k p at kept)
 
-  -- or nothing but what it owes
-  pub keeps_owed : {n place : ℕ} {links : LinkList} {ends : List LinkEnd} (p : LinkOwed) → At l o n place links ends → OwedFits l p →
-      Keeps links (slice_set ends place (end_of l p))
-  keeps_owed p (Here was rest) owes = Lives (record { lives = was.lives; fits = was.fits; owes = owes }) rest
-  keeps_owed p (BehindOver over at) owes = Over over (keeps_owed p at owes)
-  keeps_owed p (BehindOne one at) owes = Lives one (keeps_owed p at owes)
-
   -- it is over
   pub keeps_no_more : {n place : ℕ} {links : LinkList} {ends : List LinkEnd} (k : LinkOf TrueSegments) → At l o n place links ends →
       is_live k.port.phase ≡ false → Keeps (slice_set links n k) (remove ends place)
@@ -89,24 +82,6 @@ keeps_begun k p (Over over rest) kept = Over over (keeps_begun k p rest kept)
 keeps_begun k p (Lives one rest) kept = Lives one (keeps_begun k p rest kept)
 
 -- ---- where a link is kept
-
-pub record IsAt (n : ℕ) (l : LinkOf TrueSegments) (links : LinkList) (ends : List LinkEnd) : Type 0 where
-  pub place : ℕ
-  pub owed : LinkOwed
-  pub at : At l owed n place links ends
-
-pub at_number : {links : LinkList} {ends : List LinkEnd} (n : ℕ) (l : LinkOf TrueSegments) → Keeps links ends → slice_get links n ≡ Some l →
-    is_live l.port.phase ≡ true → IsAt n l links ends
-at_number n l NoLink there lives = absurd cc
-at_number zero l (Over {links = links} {ends = ends} over rest) there lives =
-    let e = ap (λ (x : LinkOf TrueSegments). is_live x.port.phase) (same_Some _ l there) ∙ lives in let f = sym over ∙ e in absurd cc
-at_number (suc n) l (Over over rest) there lives =
-    let a = at_number n l rest there lives in record { place = a.place; owed = a.owed; at = BehindOver over a.at }
-at_number zero l (Lives {l = k} {o = o} {links = links} {ends = ends} one rest) there lives =
-    subst (λ (x : LinkOf TrueSegments). IsAt 0 x (k ∷ links) (end_of k o ∷ ends)) (same_Some k l there)
-    (record { place = 0; owed = o; at = Here one rest })
-at_number (suc n) l (Lives one rest) there lives =
-    let a = at_number n l rest there lives in record { place = suc a.place; owed = a.owed; at = BehindOne one a.at }
 
 -- the link that is kept here
 pub record IsOf (place : ℕ) (e : LinkEnd) (links : LinkList) (ends : List LinkEnd) : Type 0 where
@@ -161,53 +136,56 @@ module _ (test : LinkTest) (needs : NeedsLife test) where
   of_link l = passes test l.port
 
   -- where no link is found none is found among those that are kept; and where one is, it is found at its place
-  abbrev FoundAt : Option ℕ → LinkList → List LinkEnd → Type 0
-  FoundAt None links ends = position of_end ends ≡ None
-  FoundAt (Some n) links ends = (l : LinkOf TrueSegments) → slice_get links n ≡ Some l →
-      (place : ℕ) × (o : LinkOwed) × At l o n place links ends × (position of_end ends ≡ Some place)
+  data FoundAt (links : LinkList) (ends : List LinkEnd) : Option ℕ → Type 0 where
+    Nowhere : position of_end ends ≡ None → FoundAt links ends None
+    There : {n place : ℕ} {l : LinkOf TrueSegments} {o : LinkOwed} → At l o n place links ends → position of_end ends ≡ Some place →
+        FoundAt links ends (Some n)
 
   -- behind a link that does not pass
-  further : (links : LinkList) (ends : List LinkEnd) (k : LinkOf TrueSegments) (found : Option ℕ) → is_live k.port.phase ≡ false →
-      FoundAt found links ends → FoundAt (option_map suc found) (k ∷ links) ends
-  further links ends k None over f = f
-  further links ends k (Some n) over f = λ l there. let a = f l there in (a.0, a.1, BehindOver over a.2, a.3)
+  further : {links : LinkList} {ends : List LinkEnd} {k : LinkOf TrueSegments} {found : Option ℕ} → is_live k.port.phase ≡ false →
+      FoundAt links ends found → FoundAt (k ∷ links) ends (option_map suc found)
+  further over (Nowhere e) = Nowhere e
+  further over (There at e) = There (BehindOver over at) e
 
-  further_one : (links : LinkList) (ends : List LinkEnd) (k : LinkOf TrueSegments) (p : LinkOwed) (found : Option ℕ) → IsKept k p →
-      passes test k.port ≡ false → FoundAt found links ends → FoundAt (option_map suc found) (k ∷ links) (end_of k p ∷ ends)
-  further_one links ends k p None one fails f = position_later of_end (end_of k p) ends fails ∙ ap (option_map suc) f
-  further_one links ends k p (Some n) one fails f = λ l there.
-      let a = f l there in
-      (suc a.0, a.1, BehindOne one a.2, position_later of_end (end_of k p) ends fails ∙ ap (option_map suc) a.3)
+  further_one : {links : LinkList} {ends : List LinkEnd} (k : LinkOf TrueSegments) (p : LinkOwed) {found : Option ℕ} → IsKept k p →
+      passes test k.port ≡ false → FoundAt links ends found → FoundAt (k ∷ links) (end_of k p ∷ ends) (option_map suc found)
+  further_one {ends = ends} k p one fails (Nowhere e) = Nowhere (position_later of_end (end_of k p) ends fails ∙ ap (option_map suc) e)
+  further_one {ends = ends} k p one fails (There at e) =
+      There (BehindOne one at) (position_later of_end (end_of k p) ends fails ∙ ap (option_map suc) e)
 
-  found_at_place : {links : LinkList} {ends : List LinkEnd} → Keeps links ends → FoundAt (position of_link links) links ends
-  found_at_place NoLink = refl
+  found_at_place : {links : LinkList} {ends : List LinkEnd} → Keeps links ends → FoundAt links ends (position of_link links)
+  found_at_place NoLink = Nowhere refl
   found_at_place (Over {l = k} {links = links} {ends = ends} over rest) =
-      subst (λ (o : Option ℕ). FoundAt o (k ∷ links) ends) (sym (position_later of_link k links (never (passes test k.port) refl)))
-      (further links ends k (position of_link links) over (found_at_place rest))
-    where
-      never : (b : Bool) → passes test k.port ≡ b → passes test k.port ≡ false
-      never true e = let f = sym over ∙ needs k.port e in absurd cc
-      never false e = e
+      rw (position_later of_link k links (false_from_ne_true (passes test k.port) (λ e. let f = sym over ∙ needs k.port e in cc)))
+      (further over (found_at_place rest))
   found_at_place (Lives {l = k} {o = p} {links = links} {ends = ends} one rest) = go (passes test k.port) refl (found_at_place rest)
     where
-      go : (b : Bool) → passes test k.port ≡ b → FoundAt (position of_link links) links ends →
-          FoundAt (position of_link (k ∷ links)) (k ∷ links) (end_of k p ∷ ends)
-      go true e rest_found = subst (λ (o : Option ℕ). FoundAt o (k ∷ links) (end_of k p ∷ ends)) (sym (position_here of_link k links e))
-          (λ l there. subst (λ (x : LinkOf TrueSegments). (place : ℕ) × (o : LinkOwed) × At x o 0 place (k ∷ links) (end_of k p ∷ ends) ×
-          (position of_end (end_of k p ∷ ends) ≡ Some place)) (same_Some k l there) (0, p, Here one rest, position_here of_end (end_of k p) ends e))
-      go false e rest_found = subst (λ (o : Option ℕ). FoundAt o (k ∷ links) (end_of k p ∷ ends)) (sym (position_later of_link k links e))
-          (further_one links ends k p (position of_link links) one e rest_found)
+      go : (b : Bool) → passes test k.port ≡ b → FoundAt links ends (position of_link links) →
+          FoundAt (k ∷ links) (end_of k p ∷ ends) (position of_link (k ∷ links))
+      go true e later = rw (position_here of_link k links e) (There (Here one rest) (position_here of_end (end_of k p) ends e))
+      go false e later = rw (position_later of_link k links e) (further_one k p one e later)
 
-  -- what holds in both cases of a look-up among all links holds of the look-up among those that are kept
+  -- what holds in both cases of a look-up among all links and of that among those that are kept holds of what they come to
+  pub look_both : {R T : Type 0} (P : R → T → Type 0) (s : Links) (kept : StoredLinks) → Keeps s.links kept.links →
+      (none : R) (one : ℕ → LinkOf TrueSegments → R) (none_kept : T) (one_kept : ℕ → LinkEnd → T) → (number_of test s ≡ None → P none none_kept) →
+      ((n place : ℕ) (l : LinkOf TrueSegments) (o : LinkOwed) → IsFound test s n l → At l o n place s.links kept.links →
+      P (one n l) (one_kept place (end_of l o))) →
+      P (with_link test s none one) (with_end test kept none_kept one_kept)
+  look_both P s kept keeps none one none_kept one_kept missing found = go (number_of test s) refl (found_at_place keeps)
+    where
+      go : (o : Option ℕ) → number_of test s ≡ o → FoundAt s.links kept.links o →
+          P (at_number s.links o none one) (with_end test kept none_kept one_kept)
+      go None is (Nowhere e) = subst (λ (o : Option ℕ). P none (at_place kept.links o none_kept one_kept)) (sym e) (missing is)
+      go (Some n) is (There {place = place} {l = l} {o = o} at e) = rw (link_there at, e, kept_there at) (found n place l o (record {
+        found = is;
+        there = link_there at;
+        passed = position_passes of_link s.links n l is (link_there at);
+      }) at)
+
+  -- of the look-up among those that are kept alone
   pub look : {R : Type 0} (P : R → Type 0) (s : Links) (kept : StoredLinks) → Keeps s.links kept.links → (otherwise : R) (next : ℕ → LinkEnd → R) →
       (number_of test s ≡ None → P otherwise) →
       ((n place : ℕ) (l : LinkOf TrueSegments) (o : LinkOwed) → IsFound test s n l → At l o n place s.links kept.links →
       P (next place (end_of l o))) →
       P (with_end test kept otherwise next)
-  look {R} P s kept keeps otherwise next none some = looked {R = ℕ} test s 0 (λ number link. 0) (with_link test s 0 (λ number link. 0)) refl
-      (λ missing e. subst P (sym (ap (λ (o : Option ℕ). at_place kept.links o otherwise next)
-      (subst (λ (o : Option ℕ). FoundAt o s.links kept.links) missing (found_at_place keeps)))) (none missing))
-      (λ n l found e.
-      let a = subst (λ (o : Option ℕ). FoundAt o s.links kept.links) found.found (found_at_place keeps) l found.there in
-      subst P (sym (ap (λ (o : Option ℕ). at_place kept.links o otherwise next) a.3
-      ∙ ap (λ (o : Option LinkEnd). on_end a.0 o otherwise next) (kept_there a.2))) (some n a.0 l a.1 found a.2))
+  look {R} P s kept keeps otherwise next = look_both {R = ℕ} (λ r x. P x) s kept keeps 0 (λ number link. 0) otherwise next

@@ -1,20 +1,18 @@
 -- An item that is set where it stands, and the first item of a list that passes a test.
-use Rattle.std.proofs.Common.{◌≡◌, ℕ, zero, suc, ◌+◌, ◌<◌, ◌≤◌, Bool, true, false, not, ltb, cond, Option, Some, None, List, [], ◌∷◌, length}
-use Rattle.std.proofs.Common.{position}
-use Rattle.std.proofs.Common.{refl, sym, ap, ◌∙◌, arith, lt-ltb, le-ltb, ◌⊎◌, inl, inr, option_map}
+use Rattle.std.proofs.Common.{◌≡◌, refl, ℕ, suc, ◌+◌, ◌<◌, ◌≤◌, Bool, true, false, not, ltb, cond, Option, Some, None, List, ◌∷◌, length}
+use Rattle.std.proofs.Common.{position, subst, ap, arith, lt-ltb, le-ltb, ◌⊎◌, inl, inr, option_map}
 use Rattle.std.specs.Prelude.{slice_get, slice_set}
 use Rattle.std.specs.List.{prefix_len}
 use Rattle.std.proofs.lemmas.Bool.{cases_lt}
-use Rattle.std.proofs.lemmas.Option.{same_Some}
+use Rattle.std.proofs.lemmas.Option.{get_or_from_slice_get}
+use Rattle.std.proofs.lemmas.List.{set-get_or}
 
 -- ---- one item
 
 module _ {X : Type 0} where
   -- an item that is set where it stands
   pub set_back : (xs : List X) (n : ℕ) (x : X) → slice_get xs n ≡ Some x → slice_set xs n x ≡ xs
-  set_back [] n x at = refl
-  set_back (y ∷ xs) zero x at = ap (λ (z : X). z ∷ xs) (sym (same_Some y x at))
-  set_back (y ∷ xs) (suc n) x at = ap (λ (zs : List X). y ∷ zs) (set_back xs n x at)
+  set_back xs n x at = subst (λ (y : X). slice_set xs n y ≡ xs) (get_or_from_slice_get xs n x x at) (set-get_or xs n x)
 
 -- ---- the first item that is found
 
@@ -27,9 +25,7 @@ module _ {X : Type 0} (test : X → Bool) where
   first_of xs = prefix_len (λ (y : X). not (test y)) xs
 
   pub position_here : (x : X) (xs : List X) → test x ≡ true → position test (x ∷ xs) ≡ Some 0
-  position_here x xs passes =
-      ap (λ (b : Bool). found_at (cond (not b) (1 + first_of xs) 0) (suc (length xs))) passes
-      ∙ ap (λ (b : Bool). cond b (Some 0) None) (lt-ltb 0 (suc (length xs)) (omega arith))
+  position_here x xs passes = rw (passes, lt-ltb 0 (suc (length xs)) (omega arith)) refl
 
   later : (k count : ℕ) → found_at (1 + k) (suc count) ≡ option_map suc (found_at k count)
   later k count = go (cases_lt k count)
@@ -38,13 +34,8 @@ module _ {X : Type 0} (test : X → Bool) where
       next = omega arith
 
       go : (k < count) ⊎ (count ≤ k) → found_at (1 + k) (suc count) ≡ option_map suc (found_at k count)
-      go (inl l) =
-          ap (λ (b : Bool). cond b (Some (1 + k)) None) (lt-ltb (1 + k) (suc count) (omega arith)) ∙ ap Some next
-          ∙ sym (ap (λ (b : Bool). option_map suc (cond b (Some k) None)) (lt-ltb k count l))
-      go (inr m) =
-          ap (λ (b : Bool). cond b (Some (1 + k)) None) (le-ltb (1 + k) (suc count) (omega arith))
-          ∙ sym (ap (λ (b : Bool). option_map suc (cond b (Some k) None)) (le-ltb k count m))
+      go (inl l) = rw (lt-ltb (1 + k) (suc count) (omega arith), lt-ltb k count l) (ap Some next)
+      go (inr m) = rw (le-ltb (1 + k) (suc count) (omega arith), le-ltb k count m) refl
 
   pub position_later : (x : X) (xs : List X) → test x ≡ false → position test (x ∷ xs) ≡ option_map suc (position test xs)
-  position_later x xs fails =
-      ap (λ (b : Bool). found_at (cond (not b) (1 + first_of xs) 0) (suc (length xs))) fails ∙ later (first_of xs) (length xs)
+  position_later x xs fails = rw fails (later (first_of xs) (length xs))

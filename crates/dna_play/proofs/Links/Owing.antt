@@ -1,5 +1,6 @@
 -- What a link of the player owes goes with its phase, and no more segments are sent in a go than are outstanding, whatever becomes of it.
-use Rattle.std.proofs.Common.{◌≡◌, ℕ, ◌+◌, ◌-◌, ◌≤◌, Bool, true, false, length, refl, sym, ap, ◌∙◌, subst, arith, length-drop}
+use Rattle.std.proofs.Common.{◌≡◌, ℕ, ◌+◌, ◌≤◌, Bool, true, false, length, refl, sym, ap, ◌∙◌, subst, arith, length-drop}
+use Rattle.std.proofs.Math.Nat.{sub-zero}
 use Rattle.dna_links.specs.declared.port.Phase.{Phase}
 use Rattle.dna_links.specs.declared.port.Phase.TheVariants.{Calling, Called, Confirming, Running, Disconnecting, Ended}
 use Rattle.dna_links.specs.Links.{LinkOf}
@@ -54,22 +55,16 @@ pub still_fits : (l k : LinkOf TrueSegments) (o : LinkOwed) → IsOrdered l.segm
     OwedFits k (still_owed l k o)
 still_fits l k o ordered moves fits = go (same_phase l.port.phase k.port.phase) refl
   where
-    lowered_by : ℕ
-    lowered_by = distance (variables_of l).acknowledged (variables_of k).acknowledged
-
-    left : distance (variables_of l).acknowledged (variables_of k).acknowledged ≡ k.segments.acknowledged - l.segments.acknowledged
-    left = let few = ordered.few in let least = moves.least in let most = moves.most in
-        distance_ahead l.segments.acknowledged k.segments.acknowledged least (omega arith)
-
     go : (b : Bool) → same_phase l.port.phase k.port.phase ≡ b →
         OwedFits k (lowered (distance (variables_of l).acknowledged (variables_of k).acknowledged) (unless_left b o))
     go true same =
-        let is = sym (same_is l.port.phase k.port.phase same) in
-        let d = left in let ahead = fits.ahead in let before = length-drop l.segments.acknowledged l.segments.given in
+        let is = sym (same_is l.port.phase k.port.phase same) in let few = ordered.few in let ahead = fits.ahead in
+        let least = moves.least in let most = moves.most in let given = moves.given in
+        let d = distance_ahead l.segments.acknowledged k.segments.acknowledged least (omega arith) in
+        let before = length-drop l.segments.acknowledged l.segments.given in
         let after = length-drop k.segments.acknowledged k.segments.given in
-        let least = moves.least in let given = moves.given in
-        record { duties = λ duty e. is ∙ fits.duties duty (ahead_owes duty (o.ahead - lowered_by) o e); ahead = omega arith }
-    go false same = record { duties = λ duty e. absurd (owes_nothing duty (ahead_owes duty (0 - lowered_by) nothing e)); ahead = omega arith }
+        record { duties = λ duty e. is ∙ fits.duties duty (ahead_owes duty _ o e); ahead = omega arith }
+    go false same = record { duties = λ duty e. absurd (owes_nothing duty (ahead_owes duty _ nothing e)); ahead = omega arith }
 
 phase_stays : (phase : Phase) → same_phase phase phase ≡ true
 phase_stays Calling = refl
@@ -78,26 +73,15 @@ phase_stays phase = refl
 none_more : (number : ℕ) → distance (wire number) (wire number) ≡ 0
 none_more number = omega arith
 
-lowered_none : (owed : LinkOwed) → lowered 0 owed ≡ owed
-lowered_none owed = ap (λ (ahead : ℕ). record owed { ahead = ahead }) (same owed.ahead)
-  where
-    same : (n : ℕ) → n - 0 ≡ n
-    same n = omega arith
-
 -- with the same number acknowledged, by its phase
 pub still_in_phase : (l k : LinkOf TrueSegments) (owed : LinkOwed) → k.segments.acknowledged ≡ l.segments.acknowledged →
     still_owed l k owed ≡ unless_left (same_phase l.port.phase k.port.phase) owed
-still_in_phase l k owed number =
-    ap (λ (to : ℕ). lowered (distance (variables_of l).acknowledged (wire to)) (unless_left (same_phase l.port.phase k.port.phase) owed)) number
-    ∙ ap (λ (n : ℕ). lowered n (unless_left (same_phase l.port.phase k.port.phase) owed)) (none_more l.segments.acknowledged)
-    ∙ lowered_none (unless_left (same_phase l.port.phase k.port.phase) owed)
+still_in_phase l k owed number = rw (number, none_more l.segments.acknowledged, sub-zero) refl
 
 -- and in the same phase, a link owes what it owed
 pub still_same : (l k : LinkOf TrueSegments) (owed : LinkOwed) → k.port.phase ≡ l.port.phase → k.segments.acknowledged ≡ l.segments.acknowledged →
     still_owed l k owed ≡ owed
-still_same l k owed phase number =
-    still_in_phase l k owed number ∙ ap (λ (to : Phase). unless_left (same_phase l.port.phase to) owed) phase
-    ∙ ap (λ (stays : Bool). unless_left stays owed) (phase_stays l.port.phase)
+still_same l k owed phase number = still_in_phase l k owed number ∙ rw (phase, phase_stays l.port.phase) refl
 
 -- where its segments stay, by its phase
 pub left_fits : (l k : LinkOf TrueSegments) (o : LinkOwed) → IsOrdered l.segments → k.segments ≡ l.segments → OwedFits l o →

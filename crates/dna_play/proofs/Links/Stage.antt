@@ -1,7 +1,8 @@
 -- What holds of the links of an end of the player is kept by each thing that happens: each that lives is kept and fits, what it owes goes with it,
 -- and each DC names a link that is over.
-use Rattle.std.proofs.Common.{◌≡◌, ℕ, suc, ◌+◌, ◌<◌, ◌≤◌, ◌^◌, true, false, Some, List, [], ◌∷◌, drop, ap, ◌∙◌, arith}
+use Rattle.std.proofs.Common.{◌≡◌, ℕ, ◌+◌, ◌<◌, ◌≤◌, ◌^◌, true, false, Some, List, drop, sym, subst, ◌∙◌, arith}
 use Rattle.std.specs.Prelude.{slice_get}
+use Rattle.two_nodes.proofs.NumberedSteps.{slice_get-drop}
 use Rattle.dna_links.specs.LookUps.{is_live}
 use Rattle.dna_links.specs.Links.{LinkOf, begun, changed}
 use Rattle.dna_links.specs.TrueSegments.{TrueSegments}
@@ -11,10 +12,11 @@ use Rattle.dna_play.specs.StoredEnd.{StoredLinks}
 use Rattle.dna_play.specs.StoredLinks as keeping
 use Rattle.dna_links.proofs.Runs.Sides.{all_pushed, all_set}
 use Rattle.dna_node.proofs.Once.Addresses.{LinkList}
+use Rattle.dna_play.proofs.Links.Lists.{set_back}
 use Rattle.dna_play.proofs.Links.Pays.{OwedFits, end_of}
 use Rattle.dna_play.proofs.Links.Confirms.{IsDone, IsPast}
-use Rattle.dna_play.proofs.Links.Goes.{Goes}
-use Rattle.dna_play.proofs.Links.Keeps.{Keeps, At, IsKept, is_kept, link_there, keeps_set, keeps_owed, keeps_no_more, keeps_begun}
+use Rattle.dna_play.proofs.Links.Goes.{Goes, segments_go, stays_as_it_is}
+use Rattle.dna_play.proofs.Links.Keeps.{Keeps, At, IsKept, is_kept, link_there, keeps_set, keeps_no_more, keeps_begun}
 
 -- its addresses and its reason are words
 pub record IsSmall (confirm : EndConfirm) : Type 0 where
@@ -54,14 +56,7 @@ module _ (s : Links) (most : ℕ) (kept : StoredLinks) (h : LinkHolds s.links mo
 
   -- the oldest DC is sent, and one more is owed
   pub first_sent_holds : LinkHolds s.links most (record kept { confirms = drop 1 kept.confirms })
-  first_sent_holds = record { keeps = h.keeps; confirms = λ i c at. h.confirms (i + 1) c (behind kept.confirms i c at) }
-    where
-      behind : (xs : List EndConfirm) (i : ℕ) (c : EndConfirm) → slice_get (drop 1 xs) i ≡ Some c → slice_get xs (i + 1) ≡ Some c
-      behind [] i c at = absurd cc
-      behind (x ∷ xs) i c at = ap (slice_get (x ∷ xs)) (more i) ∙ at
-        where
-          more : (i : ℕ) → i + 1 ≡ suc i
-          more i = omega arith
+  first_sent_holds = record { keeps = h.keeps; confirms = λ i c at. h.confirms (1 + i) c (sym (slice_get-drop 1 i kept.confirms) ∙ at) }
 
   pub confirming_holds : (dst src reason : ℕ) → ConfirmHolds s.links most (record { dst = dst; src = src; reason = reason }) →
       LinkHolds s.links most (keeping.confirming dst src reason kept)
@@ -90,4 +85,6 @@ module _ (s : Links) (most : ℕ) (kept : StoredLinks) (h : LinkHolds s.links mo
 
     -- nothing changes but what it owes
     pub owed_holds : (p : LinkOwed) → OwedFits l p → LinkHolds s.links most (keeping.changed place (end_of l p) kept)
-    owed_holds p owes = record { keeps = keeps_owed p at owes; confirms = h.confirms }
+    owed_holds p owes = subst (λ (links : LinkList). LinkHolds links most (keeping.changed place (end_of l p) kept))
+        (set_back s.links n l (link_there at))
+        (set_holds l p most (omega arith) (segments_go most l l.segments (stays_as_it_is l.segments)) (is_kept at).lives owes)

@@ -4,7 +4,8 @@ use Rattle.two_nodes.specs.Nodes.{Run}
 use Rattle.capture.specs.declared.record.Record.{Record}
 use Rattle.dna_node.specs.LayersPair.{layers_pair, layers_start}
 use Rattle.dna_play.specs.Script.{Script}
-use Rattle.dna_play.specs.Played.{Played, Stopped, play}
+use Rattle.dna_play.specs.Stop.{Stopped}
+use Rattle.dna_play.specs.Played.{Played, play}
 use Rattle.dna_play.specs.PlayRun.{StartsOnce}
 use Rattle.dna_node.proofs.Once.Orderly.{IsOrderly}
 use Rattle.dna_node.proofs.Once.Checked.{is_checked_run}
@@ -20,12 +21,12 @@ IsCheckedRun p played = Run layers_pair (layers_start (first_head p) (second_hea
 
 pub checked : (p : Progress) (played : Played) → Going p played → p.starts_a ≤ 1 → p.starts_b ≤ 1 → IsCheckedRun p played
 checked p played g few_a few_b = is_checked_run (first_head p) (second_head p) played.ends.of_a played.ends.of_b g.made.run
-    (orderly played.ends.of_a g.order.of_side_a few_a) (orderly played.ends.of_b g.order.of_side_b few_b)
+    (orderly played.ends.of_a g.order_a few_a) (orderly played.ends.of_b g.order_b few_b)
 
 module _ (script : Script) where
   pub whole_is_run : (played : Played) → play script ≡ Ok played → StartsOnce script.steps → IsCheckedRun (progress_of script script.steps) played
   whole_is_run played e once = checked _ played (reached_going (whole_reached script played e)) once.of_a once.of_b
 
-  pub stopped_is_run : (stopped : Stopped) → play script ≡ Err stopped → StartsOnce (take stopped.steps script.steps) →
+  pub stopped_is_run : (stopped : Stopped Played) → play script ≡ Err stopped → StartsOnce (take stopped.steps script.steps) →
       IsCheckedRun (progress_of script (take stopped.steps script.steps)) stopped.so_far
   stopped_is_run stopped e once = checked _ stopped.so_far (reached_going (stopped_reached script stopped e).before) once.of_a once.of_b

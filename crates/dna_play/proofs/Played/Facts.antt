@@ -1,6 +1,7 @@
 -- What is known of an end of the player beside the other while a script is played: of what may come to it, and of what its user may get then. It
 -- stays known while the end takes a unit and its user gets what is whole.
-use Rattle.std.proofs.Common.{◌≡◌, ℕ, ◌+◌, ◌<◌, ◌≤◌, ◌^◌, true, Option, Some, None, List, [], ◌++◌, Ok, sym, ap, ◌∙◌, arith, subst}
+use Rattle.std.proofs.Common.{◌≡◌, ℕ, ◌<◌, ◌≤◌, ◌^◌, true, Option, Some, None, List, [], ◌++◌, Ok, sym, ap, ◌∙◌, arith, subst}
+use Rattle.std.proofs.Math.Nat.{add-zero}
 use Rattle.std.specs.Prelude.{slice_get}
 use Rattle.two_nodes.specs.Cutting.{cut_half}
 use Rattle.two_nodes.proofs.Lasting.{lasts}
@@ -89,7 +90,10 @@ pub record TrueEnds : Type 0 where
 abbrev pub played_of : TrueEnds → Played
 played_of both = record {
   ends = record {
-    pair = record { a = stored both.a; b = stored both.b; to_a = coming both.a both.b.half; to_b = coming both.b both.a.half };
+    pair = record {
+      a = record { end = stored both.a; coming = coming both.a both.b.half };
+      b = record { end = stored both.b; coming = coming both.b both.a.half };
+    };
     of_a = both.of_a;
     of_b = both.of_b;
   };
@@ -113,23 +117,19 @@ module _ (p : Progress) (node_a : IsNode p.node_a) (node_b : IsNode p.node_b) (f
     links_world = record { a = side_of both.a.half met.joined.joined.front_a; b = side_of both.b.half met.joined.joined.front_b }
 
     all_sound : BothLinksSound links_world
-    all_sound = sound p.node_a p.node_b p.node_b p.node_a links_world (link_events both.of_a)
-        (link_events both.of_b) met.joined.joined.reached
+    all_sound = sound _ _ _ _ _ _ _ met.joined.joined.reached
 
     all_owned : BothOwned links_world (link_events both.of_a) (link_events both.of_b)
-    all_owned = owned p.node_a p.node_b p.node_b p.node_a links_world (link_events both.of_a)
-        (link_events both.of_b) met.joined.joined.reached
+    all_owned = owned _ _ _ _ _ _ _ met.joined.joined.reached
 
     bounds : AreLinksBounded links_world.a links_world.b × AreLinksBounded links_world.b links_world.a
-    bounds = bounded p.node_a p.node_b p.node_b p.node_a links_world (link_events both.of_a)
-        (link_events both.of_b) met.joined.joined.reached
+    bounds = bounded _ _ _ _ _ _ _ met.joined.joined.reached
 
     lines : AreSentLined both.a.half × AreSentLined both.b.half
     lines = sent_lined run g.made.lines_a g.made.lines_b (λ k unit at. absurd cc) (λ k unit at. absurd cc)
 
     addresses : BothAddressed p.node_a p.node_b p.node_b p.node_a links_world (link_events both.of_a) (link_events both.of_b)
-    addresses = reached_addressed p.node_a p.node_b p.node_b p.node_a met.joined.joined.reached g.order.of_side_a.rise
-        g.order.of_side_b.rise
+    addresses = reached_addressed p.node_a p.node_b p.node_b p.node_a met.joined.joined.reached g.order_a.rise g.order_b.rise
 
     known_a : Known both.a both.b
     known_a =
@@ -137,11 +137,11 @@ module _ (p : Progress) (node_a : IsNode p.node_a) (node_b : IsNode p.node_b) (f
         let head = (heads_stay run).0 in
         record {
           ready = ready_a (first_head p) (second_head p) (played_of both).nodes both.of_a both.of_b run
-              (orderly both.of_a g.order.of_side_a few_a) (orderly both.of_b g.order.of_side_b few_b);
+              (orderly both.of_a g.order_a few_a) (orderly both.of_b g.order_b few_b);
           bounded = sound_bounded (cut_half stations both.a.half) (cut_half stations both.b.half) order.of_a.sound order.of_b.sound;
           numbers = numbers_of links_world.a links_world.b bounds.0;
-          addressed = subst (AreAddressed (links_of both.a.half).links (links_of both.b.half).links) g.order.of_side_a.top addresses.of_a.links;
-          others = subst (AreAddressed (links_of both.b.half).links (links_of both.a.half).links) g.order.of_side_b.top addresses.of_b.links;
+          addressed = subst (AreAddressed (links_of both.a.half).links (links_of both.b.half).links) g.order_a.top addresses.of_a.links;
+          others = subst (AreAddressed (links_of both.b.half).links (links_of both.a.half).links) g.order_b.top addresses.of_b.links;
           head_own = subst (λ (x : Head). x.own < 2 ^ 16) (sym head) (word _ node_a);
           head_peer = subst (λ (x : Head). x.peer < 2 ^ 16) (sym head) (word _ node_b);
           node = addresses.at_a.node_is ∙ ap (λ (x : Head). x.own) (sym head);
@@ -155,9 +155,8 @@ module _ (p : Progress) (node_a : IsNode p.node_a) (node_b : IsNode p.node_b) (f
           known = known_a;
           from = λ k u at. let f = addresses.of_b.from k u at in
               (f.0 ∙ addresses.at_b.node_is ∙ sym addresses.at_a.peer_is, f.1 ∙ addresses.at_b.peer_is ∙ sym addresses.at_a.node_is);
-          whole = is_lined links_world.a links_world.b (link_events both.of_a)
-              (link_events both.of_b) all_sound.of_a all_sound.of_b all_owned.of_a all_owned.of_b
-              (events_lined both.of_a g.made.lines_a) (events_lined both.of_b g.made.lines_b);
+          whole = is_lined _ _ _ _ all_sound.of_a all_sound.of_b all_owned.of_a all_owned.of_b (events_lined both.of_a g.made.lines_a)
+              (events_lined both.of_b g.made.lines_b);
           lined = lines.1;
           reads = unit_reads both.b.half both.a.half order.of_b.sound;
           packets = λ k unit there. unit_content both.b.half both.a.half order.of_b.sound k unit there order.of_b.places met.joined.b_told
@@ -169,12 +168,7 @@ module _ (p : Progress) (node_a : IsNode p.node_a) (node_b : IsNode p.node_b) (f
   pub later_a : (both : TrueEnds) → Going p (played_of both) → Later both.a both.b
   later_a both g e records makes order = facts_a (record both { a = e; of_a = both.of_a ++ records }) (record {
     made = more_of_a _ both.b.half both.of_a both.of_b makes g.made;
-    order = record {
-      of_side_a = subst (λ (n : ℕ). InOrder 0 n (both.of_a ++ records) e.addresses) (none_more p.starts_a)
-          (order_join 0 both.a.addresses e.addresses p.starts_a 0 both.of_a records g.order.of_side_a order);
-      of_side_b = g.order.of_side_b;
-    };
+    order_a = subst (λ (n : ℕ). InOrder 0 n (both.of_a ++ records) e.addresses) (add-zero p.starts_a)
+        (order_join 0 both.a.addresses e.addresses p.starts_a 0 both.of_a records g.order_a order);
+    order_b = g.order_b;
   })
-    where
-      none_more : (n : ℕ) → n + 0 ≡ n
-      none_more n = omega arith

@@ -1,16 +1,16 @@
 -- What is handed in by records that have lines can stand in a line, and so can the own addresses of links; and what is whole of a link was handed
 -- in at its partner.
 use Rattle.std.proofs.Common.{◌≡◌, ℕ, zero, suc, ◌<◌, ◌≤◌, Bool, true, false, ◌==◌, cond, ◌⊎◌, inl, inr, Option, Some, None, List, [], ◌∷◌, ◌++◌}
-use Rattle.std.proofs.Common.{length, drop, refl, sym, ap, ◌∙◌, subst, append-nil, append_assoc}
+use Rattle.std.proofs.Common.{length, drop, refl, sym, ◌∙◌, subst, append-nil, append_assoc}
 use Rattle.std.specs.Prelude.{slice_get, slice_index}
 use Rattle.std.specs.List.{AllByRecursion}
+use Rattle.std.proofs.Math.Seq.{drop-nil}
 use Rattle.std.proofs.lemmas.Grind.{flat_map-append}
 use Rattle.std.proofs.lemmas.Option.{same_Some}
-use Rattle.capture.specs.declared.event.Event.{Event}
 use Rattle.capture.specs.declared.event.Event.TheVariants as events
 use Rattle.capture.specs.declared.limit.TheConstants.{MAX_MESSAGE}
 use Rattle.capture.specs.declared.record.Record.{Record}
-use Rattle.capture.specs.declared.record.Record.TheVariants.{Sent, Received, Noise, User}
+use Rattle.capture.specs.declared.record.Record.TheVariants.{User}
 use Rattle.capture.proofs.SoFarLaws.{All-behind}
 use Rattle.capture.specs.Range.{IsLink, IsRecord}
 use Rattle.two_nodes.specs.Beginning.{BeginsWith}
@@ -24,6 +24,7 @@ use Rattle.dna_node.specs.LayersPair.{link_event_in, link_events}
 use Rattle.dna_play.specs.Receipt.{complete}
 use Rattle.dna_links.proofs.Runs.Reads.{given_again, HoldsAt}
 use Rattle.dna_links.proofs.Runs.Pieces.{IsPassed, delivered_is, passed_delivered, passed_begins}
+use Rattle.dna_play.proofs.EachElement.{first_all, more_all, there}
 use Rattle.dna_play.proofs.Played.PlayLines.{line_tested}
 use Rattle.dna_play.proofs.Ends.UpsFollow.{AllLined, delivering, delivers_next}
 
@@ -37,21 +38,6 @@ pub record IsMessage (message : List ℕ) : Type 0 where
 abbrev pub AreMessages : List (List ℕ) → Type 0
 AreMessages messages = AllByRecursion IsMessage messages
 
--- all of both lists
-all_of_both : {X : Type 0} (P : X → Type 0) (xs ys : List X) → AllByRecursion P xs → AllByRecursion P ys → AllByRecursion P (xs ++ ys)
-all_of_both P [] ys h later = later
-all_of_both P (x ∷ xs) ys h later = (h.0, all_of_both P xs ys h.1 later)
-
--- those of the first list
-pub all_of_first : {X : Type 0} (P : X → Type 0) (xs ys : List X) → AllByRecursion P (xs ++ ys) → AllByRecursion P xs
-all_of_first P [] ys h = tt
-all_of_first P (x ∷ xs) ys h = (h.0, all_of_first P xs ys h.1)
-
-one_of_all : {X : Type 0} (P : X → Type 0) (xs : List X) (i : ℕ) (x : X) → slice_get xs i ≡ Some x → AllByRecursion P xs → P x
-one_of_all P [] i x at h = absurd cc
-one_of_all P (y ∷ xs) zero x at h = subst P (same_Some y x at) h.0
-one_of_all P (y ∷ xs) (suc i) x at h = one_of_all P xs i x at h.1
-
 -- what an event of the links hands in and gives has a line
 abbrev pub EventLined : LinkEventValue → Type 0
 EventLined (Open own) = IsLink own
@@ -63,27 +49,20 @@ EventLined event = Unit {0}
 abbrev pub EventsLined : List LinkEventValue → Type 0
 EventsLined list = AllByRecursion EventLined list
 
-event_lined : (event : Event) → IsRecord (User event) → EventsLined (link_events (User event ∷ []))
-event_lined events.Start h = tt
-event_lined events.Halt h = tt
-event_lined (events.Open own) h = (h.spelling.numbers, tt)
-event_lined (events.Accept far own) h = (h.spelling.numbers.1, tt)
-event_lined (events.Reject far own) h = (h.spelling.numbers.1, tt)
-event_lined (events.In own message) h = (record { bytes = h.spelling.bytes; short = h.short }, tt)
-event_lined (events.Up own message) h = (tt, tt)
-event_lined (events.Close own) h = (tt, tt)
-
 record_lined : (r : Record) → IsRecord r → EventsLined (link_events (r ∷ []))
-record_lined (User event) h = event_lined event h
-record_lined (Sent bytes) h = tt
-record_lined (Received hint kept bytes) h = tt
-record_lined (Noise bytes) h = tt
+record_lined (User (events.Open own)) h = (h.spelling.numbers, tt)
+record_lined (User (events.Accept far own)) h = (h.spelling.numbers.1, tt)
+record_lined (User (events.Reject far own)) h = (h.spelling.numbers.1, tt)
+record_lined (User (events.In own message)) h = (record { bytes = h.spelling.bytes; short = h.short }, tt)
+record_lined (User (events.Up own message)) h = (tt, tt)
+record_lined (User (events.Close own)) h = (tt, tt)
+record_lined r h = tt
 
 pub events_lined : (records : List Record) → AllByRecursion IsRecord records → EventsLined (link_events records)
 events_lined [] h = tt
 events_lined (r ∷ later) h =
     subst EventsLined (sym (flat_map-append link_event_in (r ∷ []) later))
-    (all_of_both EventLined (link_events (r ∷ [])) (link_events later) (record_lined r h.0) (events_lined later h.1))
+    (more_all EventLined (link_events (r ∷ [])) (link_events later) (record_lined r h.0) (events_lined later h.1))
 
 -- ---- off these events
 
@@ -106,7 +85,7 @@ handed_lined own (event ∷ list) h = go (handed_lined own list h.1) (gives_addr
   where
     go : AreMessages (handed_in own list) → (b : Bool) → AreMessages (cond b [] (message_in own event ++ handed_in own list))
     go later true = tt
-    go later false = all_of_both IsMessage (message_in own event) (handed_in own list) (message_lined own event h.0) later
+    go later false = more_all IsMessage (message_in own event) (handed_in own list) (message_lined own event h.0) later
 
 -- all that was handed in at a link can stand in a line
 pub link_handed_lined : (list : List LinkEventValue) (link : LinkOf TrueSegments) (place : Option ℕ) → IsRead list link place → EventsLined list →
@@ -127,7 +106,7 @@ address_lined list own held None h e lined = let none : held ≡ None = h in abs
 address_lined list own held (Some place) h e lined = go h.holds
   where
     of_event : IsLink h.address
-    of_event = given_lined h.event h.address h.gives (one_of_all EventLined list place h.event h.there lined)
+    of_event = given_lined h.event h.address h.gives (there EventLined list place h.event lined h.there)
 
     go : ((held ≡ Some h.address) × (given_again h.address (behind place list) ≡ false)) ⊎
         ((held ≡ None) × (given_again h.address (behind place list) ≡ true)) → IsLink own
@@ -150,24 +129,16 @@ whole_begins (message ∷ later) f g p cut held e =
     subst (BeginsWith g.handed) (append_assoc f.delivered (message ∷ []) later)
     (whole_begins later next g (passed_delivered message f next p (delivered_is message f next d.does)) cut held d.left)
 
--- without a piece nothing is whole
-none_whole : (f : TrueSegments) → f.received ≡ [] → complete [] (drop f.passed f.received) ≡ []
-none_whole f none = ap (λ (l : List (Option Piece)). complete [] (drop f.passed l)) none ∙ ap (complete []) (nothing f.passed)
-  where
-    nothing : (n : ℕ) → ◌≡◌ {A = List (Option Piece)} (drop n []) []
-    nothing zero = refl
-    nothing (suc n) = refl
-
 -- what is whole of a link can stand in a line, where all that was handed in at the other side can
 pub whole_lined : (f : TrueSegments) (partner : Option ℕ) (others : List (LinkOf TrueSegments)) → IsPassed f → HeldFrom partner f.received others →
     ((i : ℕ) (l : LinkOf TrueSegments) → slice_get others i ≡ Some l → IsCut l.segments × AreMessages l.segments.handed) →
     AreMessages (complete [] (drop f.passed f.received))
-whole_lined f None others p held all = subst AreMessages (sym (none_whole f held)) tt
+whole_lined f None others p held all = let none : f.received ≡ [] = held in rw (none, drop-nil) tt
 whole_lined f (Some partner) others p held all =
     let theirs = all partner held.0 held.1 in
     let messages = complete [] (drop f.passed f.received) in
     let b = whole_begins messages f (held.0).segments p theirs.0 held.2 refl in
-    All-behind IsMessage f.delivered messages (all_of_first IsMessage (f.delivered ++ messages) b.rest (subst AreMessages b.whole theirs.1))
+    All-behind IsMessage f.delivered messages (first_all IsMessage (f.delivered ++ messages) b.rest (subst AreMessages b.whole theirs.1))
 
 -- ---- the deliveries
 

@@ -1,5 +1,5 @@
 -- Records that start a side so often, and give its link addresses in order; a delivery starts nothing and gives no address.
-use Rattle.std.proofs.Common.{◌≡◌, ℕ, ◌+◌, List, [], ◌∷◌, ◌++◌, refl, sym, ap, ◌∙◌, subst, arith}
+use Rattle.std.proofs.Common.{◌≡◌, ℕ, ◌+◌, List, [], ◌∷◌, ◌++◌, refl, sym, ap, subst, arith}
 use Rattle.std.proofs.lemmas.Grind.{flat_map-append}
 use Rattle.capture.specs.declared.record.Record.{Record}
 use Rattle.dna_links.specs.User.{LinkEventValue}
@@ -29,11 +29,8 @@ order_join least between most count more first later x y =
     let parts = flat_map-append link_event_in first later in
     record {
       counted = omega arith;
-      rise = subst (AddressesRise least) (sym parts)
-          (rise_join least (link_events first) (link_events later) x.rise
-          (subst (λ (n : ℕ). AddressesRise n (link_events later)) (sym x.top) y.rise));
-      top = ap (highest least) parts ∙ highest-join least (link_events first) (link_events later) ∙
-          ap (λ (n : ℕ). highest n (link_events later)) x.top ∙ y.top;
+      rise = rw parts (rise_join least (link_events first) (link_events later) x.rise (rw x.top y.rise));
+      top = rw (parts, highest-join least (link_events first) (link_events later), x.top) y.top;
     }
 
 pub nothing_in_order : (least : ℕ) → InOrder least 0 [] least

@@ -1,9 +1,9 @@
 -- What a script plays is a run of nodes that ask no rule on tags, and each record has a line; it starts each side so often as its steps do, and gives
 -- link addresses in order.
-use Rattle.std.proofs.Common.{◌≡◌, ℕ, Bool, true, false, Some, None, List, [], ◌∷◌, ◌++◌, Ok, Err, refl, cond, subst, sym, ap, ◌∙◌, append_assoc}
-use Rattle.std.proofs.Common.{append-nil}
+use Rattle.std.proofs.Common.{◌≡◌, Bool, true, Some, None, List, [], ◌∷◌, ◌++◌, Ok, Err, refl, ap, ◌∙◌, cond, append_assoc, append-nil}
 use Rattle.std.specs.List.{AllByRecursion}
-use Rattle.two_nodes.specs.Nodes.{World, Run, Done, Outcome, Made, Waits, Refused, advance}
+use Rattle.std.proofs.lemmas.Option.{same_Some}
+use Rattle.two_nodes.specs.Nodes.{World, Run, Done, Outcome, Made, advance}
 use Rattle.two_nodes.proofs.Order.{one_more_of_a, exchange}
 use Rattle.capture.specs.declared.record.Record.{Record}
 use Rattle.capture.specs.Range.{IsRecord}
@@ -15,8 +15,9 @@ use Rattle.dna_node.specs.Layers.{LayersNode, LayersUnit}
 use Rattle.dna_node.specs.LayersPair.{layers_start, bytes_pair}
 use Rattle.dna_play.specs.Script.{StepValue, ScriptStep, Script}
 use Rattle.dna_play.specs.HasLine.{has_line}
+use Rattle.dna_play.specs.Stop.{Stopped}
 use Rattle.dna_play.specs.Played.{end_step, made_half, makes}
-use Rattle.dna_play.specs.Played.{Played, Stopped, not_begun, play}
+use Rattle.dna_play.specs.Played.{Played, not_begun, play}
 use Rattle.dna_play.specs.PlayRun.{starts_now, ArePlayed}
 use Rattle.dna_node.proofs.OnTop.{OnTop, follows}
 use Rattle.dna_play.proofs.Played.PlayLines.{line_told}
@@ -29,23 +30,18 @@ use Rattle.dna_play.proofs.Played.Reached.{OfStep, whole_reached, stopped_reache
 -- ---- one record
 
 -- a record that is made has a line, and is made by the node
-pub makes_tells : (own other : PlayHalf) (r : Record) (h : PlayHalf) → makes own other r ≡ Some h → (has_line r ≡ true) ×
+makes_tells : (own other : PlayHalf) (r : Record) (h : PlayHalf) → makes own other r ≡ Some h → (has_line r ≡ true) ×
     (advance end_step own other r ≡ Made h)
-makes_tells own other r h e = go (has_line r) refl e
+makes_tells own other r h e = go (has_line r) (advance end_step own other r) refl refl e
   where
-    by_outcome : (o : Outcome LayersNode LayersUnit StepRefusal) → made_half o ≡ Some h → o ≡ Made h
-    by_outcome (Made half) e = cc
-    by_outcome Waits e = absurd cc
-    by_outcome (Refused refusal) e = absurd cc
-
-    go : (b : Bool) → has_line r ≡ b → cond b (made_half (advance end_step own other r)) None ≡ Some h → (has_line r ≡ true) ×
-        (advance end_step own other r ≡ Made h)
-    go true line e = (line, by_outcome (advance end_step own other r) e)
-    go false line e = absurd cc
+    go : (b : Bool) (o : Outcome LayersNode LayersUnit StepRefusal) → has_line r ≡ b → advance end_step own other r ≡ o →
+        cond b (made_half o) None ≡ Some h → (has_line r ≡ true) × (advance end_step own other r ≡ Made h)
+    go true (Made half) line is e = (line, is ∙ ap Made (same_Some half h e))
+    go b o line is e = absurd cc
 
 pub line_makes : (own other : PlayHalf) (r : Record) (h : PlayHalf) → has_line r ≡ true → advance end_step own other r ≡ Made h →
     makes own other r ≡ Some h
-line_makes own other r h line e = ap (λ (b : Bool). cond b (made_half (advance end_step own other r)) None) line ∙ ap made_half e
+line_makes own other r h line e = rw (line, e) refl
 
 -- and does one of a few things with the links
 pub makes_on_top : (own other : PlayHalf) (r : Record) (h : PlayHalf) → makes own other r ≡ Some h → OnTop by_bytes own other r h
@@ -65,10 +61,10 @@ pub more_of_a : (start : World LayersNode LayersUnit) (b : PlayHalf) {own end : 
     AreMade start (record { a = end; b = b }) (of_a ++ records) of_b
 unfolding end_step
 more_of_a start b {own} of_a of_b Nothing h =
-    subst (λ (x : List Record). AreMade start (record { a = own; b = b }) x of_b) (sym (append-nil of_a)) h
+    rw (append-nil of_a) h
 more_of_a start b of_a of_b (First {own} {next} {end} {r} {later} m rest) h =
     let told = makes_tells own b r next m in
-    subst (λ (x : List Record). AreMade start (record { a = end; b = b }) x of_b) (append_assoc of_a (r ∷ []) later)
+    rw (← append_assoc of_a (r ∷ []) later)
     (more_of_a start b (of_a ++ r ∷ []) of_b rest
     (record {
       run = one_more_of_a bytes_pair r next h.run told.1;
@@ -78,43 +74,40 @@ more_of_a start b of_a of_b (First {own} {next} {end} {r} {later} m rest) h =
 
 -- ---- all steps
 
--- so many starts of each side so far, and addresses in order
-pub record AreInOrder (played : Played) (count_a count_b : ℕ) : Type 0 where
-  pub of_side_a : InOrder 0 count_a played.ends.of_a played.ends.pair.a.addresses
-  pub of_side_b : InOrder 0 count_b played.ends.of_b played.ends.pair.b.addresses
-
 abbrev pub first_head : Progress → Head
 first_head p = record { own = p.node_a; peer = p.node_b }
 
 abbrev pub second_head : Progress → Head
 second_head p = record { own = p.node_b; peer = p.node_a }
 
+-- with so many starts of each side so far, and addresses in order
 pub record Going (p : Progress) (so_far : Played) : Type 0 where
   pub made : AreMade (layers_start (first_head p) (second_head p)) so_far.nodes so_far.ends.of_a so_far.ends.of_b
-  pub order : AreInOrder so_far p.starts_a p.starts_b
+  pub order_a : InOrder 0 p.starts_a so_far.ends.of_a so_far.ends.pair.a.end.addresses
+  pub order_b : InOrder 0 p.starts_b so_far.ends.of_b so_far.ends.pair.b.end.addresses
 
 pub going_exchange : (p : Progress) (so_far : Played) → Going p so_far → Going (exchanged_progress p) (exchanged so_far)
 going_exchange p so_far g = record {
   made = record { run = exchange bytes_pair g.made.run; lines_a = g.made.lines_b; lines_b = g.made.lines_a };
-  order = record { of_side_a = g.order.of_side_b; of_side_b = g.order.of_side_a };
+  order_a = g.order_b;
+  order_b = g.order_a;
 }
 
 pub going_keeps : (p : Progress) (so_far : Played) {next : Played} (step : StepValue) → StepOfA so_far step next → Going p so_far →
     Going (one_more step p) next
 going_keeps p so_far step (OfStep made half is makes) g =
-    let own = so_far.ends.pair.a in record {
+    let own = so_far.ends.pair.a.end in record {
       made = more_of_a _ so_far.nodes.b so_far.ends.of_a so_far.ends.of_b makes g.made;
-      order = record {
-        of_side_a = order_join 0 own.addresses made.end.addresses p.starts_a (starts_now step) so_far.ends.of_a made.records
-            g.order.of_side_a (stored_leaves own so_far.ends.pair.to_a step made is).order;
-        of_side_b = g.order.of_side_b;
-      };
+      order_a = order_join 0 own.addresses made.end.addresses p.starts_a (starts_now step) so_far.ends.of_a made.records g.order_a
+          (stored_leaves own so_far.ends.pair.a.coming step made is).order;
+      order_b = g.order_b;
     }
 
 pub not_begun_going : (script : Script) → Going (progress_of script []) (not_begun script)
 not_begun_going script = record {
   made = record { run = Done; lines_a = tt; lines_b = tt };
-  order = record { of_side_a = nothing_in_order 0; of_side_b = nothing_in_order 0 };
+  order_a = nothing_in_order 0;
+  order_b = nothing_in_order 0;
 }
 
 pub reached_going : {script : Script} {first later : List ScriptStep} {so_far : Played} → Reached script first later so_far →
@@ -129,5 +122,5 @@ module _ (script : Script) where
   pub whole_is_played : (played : Played) → play script ≡ Ok played → ArePlayed script played
   whole_is_played played e = reached_played (whole_reached script played e)
 
-  pub stopped_is_played : (stopped : Stopped) → play script ≡ Err stopped → ArePlayed script stopped.so_far
+  pub stopped_is_played : (stopped : Stopped Played) → play script ≡ Err stopped → ArePlayed script stopped.so_far
   stopped_is_played stopped e = reached_played (stopped_reached script stopped e).before

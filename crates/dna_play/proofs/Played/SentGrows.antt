@@ -16,13 +16,9 @@ stays : (sent : List LayersUnit) → Grows sent sent
 stays sent = record { more = []; is = sym (append-nil sent) }
 
 left_grows : (own other half : PlayHalf) (r : Record) → OnTop by_bytes own other r half → Grows own.sent half.sent
-left_grows own other half r (ByStation event) = stays own.sent
-left_grows own other half r (ByLinks event of_links links is done) = stays own.sent
 left_grows own other half r (Again bytes m old) = record { more = _; is = refl }
 left_grows own other half r (on_top.First bytes m new links sent is) = record { more = _; is = refl }
-left_grows own other half r (Receipt hint kept bytes unit arrival there links met) = stays own.sent
-left_grows own other half r (Counted bytes reason) = stays own.sent
-left_grows own other half r (Unheard bytes) = stays own.sent
+left_grows own other half r done = stays own.sent
 
 pub all_grows : (other : PlayHalf) {own half : PlayHalf} {records : List Record} → MakesAll other own records half → Grows own.sent half.sent
 all_grows other {own} Nothing = stays own.sent

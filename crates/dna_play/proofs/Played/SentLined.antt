@@ -1,16 +1,15 @@
 -- What a node has sent by records that have lines can stand in a line: each unit on the line has no more bytes than one may hold.
-use Rattle.std.proofs.Common.{◌≡◌, ℕ, Some, List, [], ◌∷◌, ◌++◌}
+use Rattle.std.proofs.Common.{◌≡◌, ℕ, Some, List}
 use Rattle.std.specs.Prelude.{slice_get}
 use Rattle.std.specs.List.{AllByRecursion}
 use Rattle.two_nodes.specs.Nodes.{World, Run, Done, OfA, OfB}
-use Rattle.ddcmp_msg.specs.Message.{MessageValue}
 use Rattle.capture.specs.declared.record.Record.{Record}
 use Rattle.capture.specs.declared.record.Record.TheVariants.{Sent}
 use Rattle.capture.specs.Range.{IsRecord}
 use Rattle.dna_node.specs.TagRules.{judged}
-use Rattle.dna_node.specs.Layers.{LayersTruth, LayersNode, LayersUnit, first_sent, sends_again}
+use Rattle.dna_node.specs.Layers.{LayersNode, LayersUnit}
 use Rattle.dna_node.specs.LayersPair.{layers_pair}
-use Rattle.dna_node.proofs.OnTop.{sent_by, OnTop, ByStation, ByLinks, Again, First, Receipt, Counted, Unheard, follows}
+use Rattle.dna_node.proofs.OnTop.{OnTop, Again, First, follows}
 use Rattle.dna_links.proofs.Runs.Sides.{all_pushed}
 use Rattle.dna_play.proofs.Played.Steps.{PlayHalf}
 
@@ -18,26 +17,10 @@ use Rattle.dna_play.proofs.Played.Steps.{PlayHalf}
 abbrev pub AreSentLined : PlayHalf → Type 0
 AreSentLined half = (k : ℕ) (unit : LayersUnit) → slice_get half.sent k ≡ Some unit → IsRecord (Sent unit.bytes)
 
--- with one more
-one_more_lined : (sent : List LayersUnit) (bytes : List ℕ) (m : MessageValue) (known : LayersTruth) →
-    ((k : ℕ) (unit : LayersUnit) → slice_get sent k ≡ Some unit → IsRecord (Sent unit.bytes)) →
-    IsRecord (Sent bytes) → (k : ℕ) (unit : LayersUnit) → slice_get (sent ++ record {
-      bytes = bytes;
-      message = m;
-      known = known;
-    } ∷ []) k ≡ Some unit → IsRecord (Sent unit.bytes)
-one_more_lined sent bytes m known all line =
-    all_pushed (λ k unit. IsRecord (Sent unit.bytes)) sent (record { bytes = bytes; message = m; known = known }) line all
-
 lined_left : (own other h : PlayHalf) (r : Record) → OnTop judged own other r h → IsRecord r → AreSentLined own → AreSentLined h
-lined_left own other h r (ByStation event) line all = all
-lined_left own other h r (ByLinks event of_links links is done) line all = all
-lined_left own other h r (Again bytes m old) line all = one_more_lined own.sent bytes m (sends_again own.state.station m (sent_by own m)).1 all line
-lined_left own other h r (First bytes m new links carried made) line all = one_more_lined own.sent bytes m
-    (first_sent own.state.station (sent_by own m) links carried).1 all line
-lined_left own other h r (Receipt hint kept bytes unit arrival there links met) line all = all
-lined_left own other h r (Counted bytes reason) line all = all
-lined_left own other h r (Unheard bytes) line all = all
+lined_left own other h r (Again bytes m old) line all = all_pushed (λ k unit. IsRecord (Sent unit.bytes)) own.sent _ line all
+lined_left own other h r (First bytes m new links carried made) line all = all_pushed (λ k unit. IsRecord (Sent unit.bytes)) own.sent _ line all
+lined_left own other h r done line all = all
 
 -- of both sides, in every run of records that have lines
 pub sent_lined : {w end : World LayersNode LayersUnit} {of_a of_b : List Record} → Run layers_pair w of_a of_b end → AllByRecursion IsRecord of_a →

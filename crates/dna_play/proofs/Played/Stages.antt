@@ -1,18 +1,17 @@
 -- At any time of a script that starts each side at most once, both ends are read off ends with their nodes, of which holds all that lets an end send
 -- what it chooses and take what comes.
-use Rattle.std.proofs.Common.{◌≡◌, ℕ, ◌+◌, ◌≤◌, List, [], ◌++◌, length, drop, refl, sym, ap, ap₂, ◌∙◌, subst, arith}
+use Rattle.std.proofs.Common.{◌≡◌, ℕ, ◌+◌, ◌≤◌, List, [], ◌++◌, length, refl, sym, ap, ◌∙◌, subst, arith}
 use Rattle.capture.specs.Range.{IsNode}
-use Rattle.dna_play.specs.Script.{StepValue, ScriptStep, Script}
+use Rattle.dna_play.specs.Script.{ScriptStep, Script}
 use Rattle.dna_play.specs.ScriptText.{MAX_STEPS, IsStep, IsScript}
 use Rattle.dna_play.specs.StoredEnd.{StoredEnd}
-use Rattle.dna_play.specs.StoredPlay.{StoredStepped, stored_plays}
-use Rattle.dna_play.specs.StoredPlayed.{left_by}
+use Rattle.dna_play.specs.StoredPlay.{stored_plays}
 use Rattle.dna_play.specs.Played.{Played, head_a, head_b, not_begun}
 use Rattle.dna_play.specs.PlayRun.{StartsOnce}
-use Rattle.dna_play.proofs.Played.Steps.{PlayHalf, MakesAll, one_end}
+use Rattle.dna_play.proofs.Played.Steps.{one_end}
 use Rattle.dna_play.proofs.Played.SentGrows.{all_grows}
-use Rattle.dna_play.proofs.Played.Walk.{off_line, one_off, Leaves, stored_leaves}
-use Rattle.dna_play.proofs.Played.Reached.{Reached, Progress, progress_of, exchanged_progress, one_more, exchanged, StepOfA, OfStep, after_a}
+use Rattle.dna_play.proofs.Played.Walk.{off_line, one_off, stored_leaves}
+use Rattle.dna_play.proofs.Played.Reached.{Reached, Progress, progress_of, exchanged_progress, one_more, exchanged, StepOfA, OfStep}
 use Rattle.dna_play.proofs.Played.Reached.{reached_holds}
 use Rattle.dna_play.proofs.Played.Runs.{Going, going_exchange, going_keeps, not_begun_going}
 use Rattle.dna_play.proofs.Played.Facts.{TrueEnds, played_of, later_a}
@@ -36,14 +35,6 @@ pub record Stages (steps : ℕ) (so_far : Played) : Type 0 where
   pub of_a : IsAt both.a both.b steps
   pub of_b : IsAt both.b both.a steps
 
-abbrev stages_exchange : (steps : ℕ) (so_far : Played) → Stages steps so_far → Stages steps (exchanged so_far)
-stages_exchange steps so_far s = record {
-  both = record { a = s.both.b; b = s.both.a; of_a = s.both.of_b; of_b = s.both.of_a };
-  is = ap exchanged s.is;
-  of_a = s.of_b;
-  of_b = s.of_a;
-}
-
 -- each side was started at most once, by so many steps as a script may have
 pub record Allowed (p : Progress) : Type 0 where
   pub node_a : IsNode p.node_a
@@ -64,7 +55,12 @@ abbrev pub standing_exchange : (p : Progress) (so_far : Played) → Standing p s
 standing_exchange p so_far s = record {
   allowed = allowed_exchange p s.allowed;
   going = going_exchange p so_far s.going;
-  stages = stages_exchange p.steps so_far s.stages;
+  stages = record {
+    both = record { a = s.stages.both.b; b = s.stages.both.a; of_a = s.stages.both.of_b; of_b = s.stages.both.of_a };
+    is = ap exchanged s.stages.is;
+    of_a = s.stages.of_b;
+    of_b = s.stages.of_a;
+  };
 }
 
 -- ---- a step
@@ -90,55 +86,29 @@ module _ (p : Progress) (so_far : Played) (s : Standing p so_far) where
       IsRight own other step.step (stored_plays (stored own) (coming own other.half) step.step)
   right_of_a step fits = step_right own other now_of_a step fits
 
-module _ (both : TrueEnds) (steps : ℕ) (a : IsAt both.a both.b steps) (b : IsAt both.b both.a steps) (step : StepValue) (made : StoredStepped)
-    (half : PlayHalf) (m : IsMade both.a both.b step made) (left : Leaves (stored both.a) (coming both.a both.b.half) step made)
-    (makes : MakesAll both.b.half both.a.half made.records half) where
-  passed_then : m.after.passed ≡ both.a.passed + off_line step
-  passed_then = ap (λ (e : StoredEnd). e.passed) m.same ∙ left.passed
-
-  -- both with what the step makes of side a
-  abbrev then_played : StoredEnd → (to_a to_b : List (List ℕ)) → PlayHalf → Played
-  then_played e to_a to_b own = record {
-    ends = record {
-      pair = record { a = e; b = stored both.b; to_a = to_a; to_b = to_b };
-      of_a = both.of_a ++ made.records;
-      of_b = both.of_b;
-    };
-    nodes = record { a = own; b = both.b.half };
-  }
-
-  played_then : then_played (stored m.after) (coming m.after both.b.half) (coming both.b m.after.half) m.after.half
-      ≡ after_a (played_of both) step made half
-  played_then =
-      ap (λ (e : StoredEnd). then_played e (coming m.after both.b.half) (coming both.b m.after.half) m.after.half) m.same
-      ∙ ap₂ (λ (to_a to_b : List (List ℕ)). then_played made.end to_a to_b m.after.half)
-      (ap (λ (n : ℕ). drop n (bytes_of both.b.half.sent)) passed_then ∙ line_left step both.a.passed (bytes_of both.b.half.sent))
-      (line_grows both.b.passed both.a.half.sent m.after.half.sent b.there (all_grows both.b.half m.makes)
-      ∙ ap (λ (sent : List (List ℕ)). coming both.b both.a.half ++ sent) m.sent)
-      ∙ ap (then_played made.end (left_by step (coming both.a both.b.half)) (coming both.b both.a.half ++ made.sent)) (one_end m.makes makes)
-
-  stages_then : Stages (steps + 1) (after_a (played_of both) step made half)
-  stages_then =
-      let same = passed_then in let few_a = a.passed in let few_b = b.passed in let one = one_off step in
-      let there = was_sent both.a.passed (off_line step) both.b.half.sent a.there left.there in
-      record {
-        both = record { a = m.after; b = both.b; of_a = both.of_a ++ made.records; of_b = both.of_b };
-        is = played_then;
-        of_a = record { stage = m.stage; passed = omega arith; there = omega arith };
-        of_b = record {
-          stage = b.stage;
-          passed = omega arith;
-          there = longer both.a.half.sent m.after.half.sent both.b.passed (all_grows both.b.half m.makes) b.there;
-        };
-      }
-
 stages_keep : (p : Progress) (so_far : Played) (s : Standing p so_far) (step : ScriptStep) → IsStep step → {next : Played} →
     StepOfA (played_of s.stages.both) step.step next → Stages (p.steps + 1) next
 stages_keep p so_far s step fits (OfStep made half is makes) =
-    let both = s.stages.both in
-    stages_then both p.steps s.stages.of_a s.stages.of_b step.step made half
-    (subst (IsRight both.a both.b step.step) is (right_of_a p so_far s step fits))
-    (stored_leaves (stored both.a) (coming both.a both.b.half) step.step made is) makes
+    let both = s.stages.both in let a = s.stages.of_a in let b = s.stages.of_b in
+    let m : IsMade both.a both.b step.step made = subst (IsRight both.a both.b step.step) is (right_of_a p so_far s step fits) in
+    let left = stored_leaves (stored both.a) (coming both.a both.b.half) step.step made is in
+    let same : m.after.passed ≡ both.a.passed + off_line step.step = ap (λ (e : StoredEnd). e.passed) m.same ∙ left.passed in
+    let few_a = a.passed in let few_b = b.passed in let one = one_off step.step in
+    let there = was_sent both.a.passed (off_line step.step) both.b.half.sent a.there left.there in
+    let more = all_grows both.b.half m.makes in
+    record {
+      both = record { a = m.after; b = both.b; of_a = both.of_a ++ made.records; of_b = both.of_b };
+      is = rw (
+        m.same,
+        same,
+        line_left step.step both.a.passed (bytes_of both.b.half.sent),
+        line_grows both.b.passed both.a.half.sent m.after.half.sent b.there more,
+        m.sent,
+        one_end m.makes makes,
+      ) refl;
+      of_a = record { stage = m.stage; passed = omega arith; there = omega arith };
+      of_b = record { stage = b.stage; passed = omega arith; there = longer both.a.half.sent m.after.half.sent both.b.passed more b.there };
+    }
 
 -- ---- all steps
 

@@ -1,6 +1,7 @@
 -- Records that are made by an end's node beside the other end's, one after another.
 use Rattle.std.proofs.Common.{◌≡◌, Option, Some, None, List, [], ◌∷◌, refl, sym, ap, subst, ◌∙◌}
 use Rattle.std.specs.Prelude.{option_and_then}
+use Rattle.std.proofs.lemmas.Option.{same_Some}
 use Rattle.two_nodes.specs.Nodes.{Half}
 use Rattle.capture.specs.declared.record.Record.{Record}
 use Rattle.dna_node.specs.Layers.{LayersNode, LayersUnit}
@@ -22,10 +23,7 @@ all_made {other} (First {later = later} is rest) =
 
 pub made_all : (other own : PlayHalf) (records : List Record) (end : PlayHalf) → makes_all own other records ≡ Some end →
     MakesAll other own records end
-made_all other own [] end e = subst_nothing own end cc
-  where
-    subst_nothing : (own end : PlayHalf) → own ≡ end → MakesAll other own [] end
-    subst_nothing own end is = subst (λ (h : PlayHalf). MakesAll other own [] h) is Nothing
+made_all other own [] end e = subst (λ (h : PlayHalf). MakesAll other own [] h) (same_Some own end e) Nothing
 made_all other own (r ∷ later) end e = go (λ next e. made_all other next later end e) (makes own other r) refl e
   where
     go : ((next : PlayHalf) → makes_all next other later ≡ Some end → MakesAll other next later end) → (o : Option PlayHalf) →
@@ -36,7 +34,4 @@ made_all other own (r ∷ later) end e = go (λ next e. made_all other next late
 -- they lead to one half
 pub one_end : {other own end half : PlayHalf} {records : List Record} → MakesAll other own records end → MakesAll other own records half →
     end ≡ half
-one_end one two = same _ _ (sym (all_made one) ∙ all_made two)
-  where
-    same : (end half : PlayHalf) → ◌≡◌ {A = Option PlayHalf} (Some end) (Some half) → end ≡ half
-    same end half e = cc
+one_end one two = same_Some _ _ (sym (all_made one) ∙ all_made two)

@@ -2,6 +2,7 @@
 use Rattle.std.proofs.Common.{◌≡◌, ℕ, ◌+◌, ◌≤◌, Bool, true, false, cond, nat_lt, nat_le, Option, Some, None, List, [], ◌∷◌, length, Result, Ok, Err}
 use Rattle.std.proofs.Common.{refl, subst, arith}
 use Rattle.std.specs.Prelude.{slice_get, if◌then◌else◌, ◌&&◌}
+use Rattle.std.proofs.lemmas.List.{length-map}
 use Rattle.ddcmp_msg.specs.Message.{MessageValue}
 use Rattle.ddcmp_msg.specs.Reading.{ReadingValue, HeaderBad, DataBad, reading}
 use Rattle.ddcmp_msg.specs.Spelling.{spelling}
@@ -9,12 +10,11 @@ use Rattle.capture.specs.declared.event.Event.{Event}
 use Rattle.capture.specs.declared.event.Event.TheVariants as events
 use Rattle.capture.specs.declared.limit.TheConstants.{MAX_LINK, MAX_HINT, MAX_UNIT, MAX_MESSAGE}
 use Rattle.capture.specs.declared.record.Record.{Record}
-use Rattle.capture.specs.declared.record.Record.TheVariants.{Sent, Received, Noise, User}
+use Rattle.capture.specs.declared.record.Record.TheVariants.{Sent, Noise, User}
 use Rattle.dna_station.specs.declared.refusal.StationRefusal.{StationRefusal}
 use Rattle.dna_station.specs.declared.state.StationEvent.TheVariants as station_events
 use Rattle.dna_station.specs.Table.{user_refusal}
 use Rattle.dna_links.specs.declared.port.Phase.TheVariants.{Confirming, Disconnecting}
-use Rattle.dna_links.specs.declared.port.LinkTest.{LinkTest}
 use Rattle.dna_links.specs.declared.port.LinkTest.TheVariants.{LiveAt, CalledBy}
 use Rattle.dna_links.specs.LookUps.{is_connected, takes_messages}
 use Rattle.dna_play.specs.Script as script
@@ -26,12 +26,14 @@ use Rattle.dna_play.specs.NextSent.{LinkEnd, Choice, choice, link_choice}
 use Rattle.dna_play.specs.Compose.{message_of}
 use Rattle.dna_play.specs.Stop.{Stop, BadStep, Full}
 use Rattle.dna_play.specs.Receipt.{carried, is_damage, damaged}
-use Rattle.dna_play.specs.StoredEnd.{StoredEnd, StoredLinks}
+use Rattle.dna_play.specs.StoredEnd.{StoredEnd}
 use Rattle.dna_play.specs.StoredStation as stations
-use Rattle.dna_play.specs.StoredLinks.{on_end, at_place, place_of, with_end, answered}
-use Rattle.dna_play.specs.StoredPlay.{StoredStepped, unless_refused, answers, if_so, timed, retrying, sends_message, sends_choice, ups, all_short}
+use Rattle.dna_play.specs.StoredLinks.{answered, opened}
+use Rattle.dna_play.specs.StoredPlay.{StoredStepped, unless_refused, answers, if_so, timed, retrying, sends_message, sends_choice, all_short}
 use Rattle.dna_play.specs.StoredPlay.{up_address, arrived, receives, hears_as, with_next, stored_plays}
 use Rattle.dna_play.specs.StoredPlayed.{is_of_line}
+use Rattle.dna_play.proofs.Links.Looked.{looked}
+use Rattle.dna_play.proofs.Links.Waiting.{NoMore, arrived_waits, begun_waits, changed_waits, choice_waits, wait, waiting}
 use Rattle.dna_play.proofs.Played.Order.{InOrder, ups_in_order}
 
 -- how many units a step takes off the line
@@ -45,51 +47,35 @@ one_off step = go (is_of_line step)
     go true = omega arith
     go false = omega arith
 
--- no record, or one with deliveries behind it
-pub data Brings : List Record → Type 0 where
-  NoRecord : Brings []
-  OneRecord : (r : Record) (address : ℕ) (messages : List (List ℕ)) → Brings (r ∷ ups address messages)
-
 -- a step that starts its end so often, and takes so many units off the line, leaves this
 pub record LeavesSo (e : StoredEnd) (coming : List (List ℕ)) (starts units : ℕ) (made : StoredStepped) : Type 0 where
   pub order : InOrder e.addresses starts made.records made.end.addresses
   pub passed : made.end.passed ≡ e.passed + units
   pub there : units ≤ length coming
-  pub brings : Brings made.records
+  -- its records, with the pieces that wait behind it, are at most two more than those that waited
+  pub few : length made.records + waiting made.end.links.links ≤ waiting e.links.links + 2
 
 abbrev pub Leaves : (e : StoredEnd) (coming : List (List ℕ)) → StepValue → StoredStepped → Type 0
 Leaves e coming step made = LeavesSo e coming (starts_now step) (off_line step) made
 
 -- ---- what is left, if anything is made
 
-abbrev pub IfMade : {X : Type 0} → (X → Type 0) → Result X Stop → Type 0
+abbrev pub IfMade : {X E : Type 0} → (X → Type 0) → Result X E → Type 0
 IfMade P (Ok made) = P made
 IfMade P (Err stop) = Unit {0}
 
 module _ (P : StoredStepped → Type 0) where
-  unless_case : (o : Option StationRefusal) (next : Result StoredStepped Stop) → IfMade P next → IfMade P (unless_refused o next)
+  pub unless_case : (o : Option StationRefusal) (next : Result StoredStepped Stop) → IfMade P next → IfMade P (unless_refused o next)
   unless_case None next p = p
   unless_case (Some refusal) next p = tt
 
-  so_case : (b : Bool) (next : Result StoredStepped Stop) → IfMade P next → IfMade P (if_so b next)
+  pub so_case : (b : Bool) (next : Result StoredStepped Stop) → IfMade P next → IfMade P (if_so b next)
   so_case true next p = p
   so_case false next p = tt
 
-  test_case : (b : Bool) (next : Result StoredStepped Stop) (stop : Stop) → IfMade P next → IfMade P (cond b next (Err stop))
-  test_case true next stop p = p
+  pub test_case : (b : Bool) (next : Result StoredStepped Stop) (stop : Stop) → (b ≡ true → IfMade P next) → IfMade P (cond b next (Err stop))
+  test_case true next stop p = p refl
   test_case false next stop p = tt
-
-  link_case : (test : LinkTest) (s : StoredLinks) (next : ℕ → LinkEnd → Result StoredStepped Stop) →
-      ((place : ℕ) (link : LinkEnd) → IfMade P (next place link)) → IfMade P (with_end test s (Err BadStep) next)
-  link_case test s next p = found (place_of test s.links)
-    where
-      there : (place : ℕ) (o : Option LinkEnd) → IfMade P (on_end place o (Err BadStep) next)
-      there place None = tt
-      there place (Some link) = p place link
-
-      found : (o : Option ℕ) → IfMade P (at_place s.links o (Err BadStep) next)
-      found None = tt
-      found (Some place) = there place (slice_get s.links place)
 
 -- ---- the walk
 
@@ -100,40 +86,44 @@ module _ (e : StoredEnd) (coming : List (List ℕ)) where
   Stays = LeavesSo e coming 0 0
 
   record_leaves : (starts : ℕ) (end : StoredEnd) (sent : List (List ℕ)) (r : Record) → InOrder e.addresses starts (r ∷ []) end.addresses →
-      end.passed ≡ e.passed → LeavesSo e coming starts 0 (record { end = end; sent = sent; records = r ∷ [] })
-  record_leaves starts end sent r order same =
-      record { order = order; passed = omega arith; there = omega arith; brings = OneRecord r 0 [] }
+      end.passed ≡ e.passed → NoMore e.links end.links → LeavesSo e coming starts 0 (record { end = end; sent = sent; records = r ∷ [] })
+  record_leaves starts end sent r order same few = record { order = order; passed = omega arith; there = omega arith; few = omega arith }
 
   silent_leaves : (end : StoredEnd) (units : ℕ) → end.addresses ≡ e.addresses → end.passed ≡ e.passed + units → units ≤ length coming →
-      LeavesSo e coming 0 units (record { end = end; sent = []; records = [] })
-  silent_leaves end units stays passed there =
-      record { order = record { counted = refl; rise = tt; top = omega arith }; passed = passed; there = there; brings = NoRecord }
+      NoMore e.links end.links → LeavesSo e coming 0 units (record { end = end; sent = []; records = [] })
+  silent_leaves end units stays passed there few =
+      record { order = record { counted = refl; rise = tt; top = omega arith }; passed = passed; there = there; few = omega arith }
 
   debt_leaves : (o : Option Debt) → IfMade Stays (timed e o)
   debt_leaves None = tt
-  debt_leaves (Some debt) = silent_leaves _ 0 refl (omega arith) (omega arith)
+  debt_leaves (Some debt) = silent_leaves _ 0 refl (omega arith) (omega arith) (omega arith)
 
-  retry_leaves : (place : ℕ) (link : LinkEnd) (o : Option (LinkOwed → LinkOwed)) → IfMade Stays (retrying e place link o)
-  retry_leaves place link None = tt
-  retry_leaves place link (Some change) = silent_leaves _ 0 refl (omega arith) (omega arith)
+  retry_leaves : (place : ℕ) (link : LinkEnd) (o : Option (LinkOwed → LinkOwed)) → slice_get e.links.links place ≡ Some link →
+      IfMade Stays (retrying e place link o)
+  retry_leaves place link None at = tt
+  retry_leaves place link (Some change) at =
+      silent_leaves _ 0 refl (omega arith) (omega arith) (changed_waits e.links place link _ at refl)
 
   message_leaves : (next : Choice) (o : Option MessageValue) → IfMade Stays (sends_message e next o)
   message_leaves next None = tt
-  message_leaves next (Some m) = record_leaves 0 _ _ (Sent (spelling m)) (record { counted = refl; rise = tt; top = refl }) refl
+  message_leaves next (Some m) =
+      record_leaves 0 _ _ (Sent (spelling m)) (record { counted = refl; rise = tt; top = refl }) refl (choice_waits e.links next)
 
   choice_leaves : (o : Option Choice) → IfMade Stays (sends_choice e o)
   choice_leaves None = tt
   choice_leaves (Some next) = message_leaves next (message_of next e.head e.station.variables e.links.links)
 
   noise_leaves : (bytes : List ℕ) (read : ReadingValue) → IfMade Stays (hears_as e bytes read)
-  noise_leaves bytes HeaderBad = record_leaves 0 _ _ (Noise bytes) (record { counted = refl; rise = tt; top = refl }) refl
-  noise_leaves bytes DataBad = record_leaves 0 _ _ (Noise bytes) (record { counted = refl; rise = tt; top = refl }) refl
+  noise_leaves bytes HeaderBad = record_leaves 0 _ _ (Noise bytes) (record { counted = refl; rise = tt; top = refl }) refl (omega arith)
+  noise_leaves bytes DataBad = record_leaves 0 _ _ (Noise bytes) (record { counted = refl; rise = tt; top = refl }) refl (omega arith)
   noise_leaves bytes read = tt
 
   answer_leaves : (partner : ℕ) (change : ℕ → LinkEnd → LinkEnd) (event : ℕ → Event) →
-      InOrder e.addresses 0 (User (event (e.addresses + 1)) ∷ []) (e.addresses + 1) → IfMade Stays (answers e partner change event)
-  answer_leaves partner change event order = link_case Stays (CalledBy partner) e.links _ (λ place link.
-      test_case Stays (nat_lt e.addresses MAX_LINK) _ Full (record_leaves 0 _ [] (User (event (e.addresses + 1))) order refl))
+      InOrder e.addresses 0 (User (event (e.addresses + 1)) ∷ []) (e.addresses + 1) →
+      ((link : LinkEnd) → wait (change (e.addresses + 1) link) ≡ wait link) → IfMade Stays (answers e partner change event)
+  answer_leaves partner change event order same = looked (IfMade Stays) (CalledBy partner) e.links (Err BadStep) _ tt (λ place link at passed.
+      test_case Stays (nat_lt e.addresses MAX_LINK) _ Full (λ less. record_leaves 0 _ [] (User (event (e.addresses + 1))) order refl
+      (changed_waits e.links place link _ at (same link))))
 
   -- ---- a unit passes
 
@@ -152,20 +142,22 @@ module _ (e : StoredEnd) (coming : List (List ℕ)) where
   receives_leaves there bytes read kept =
       let address = up_address (carried kept read) in let messages = (arrived (carried kept read) e.links).messages in
       let rest = ups_in_order e.addresses address messages in let c = rest.counted in
-      test_case Passes (nat_le e.passed MAX_HINT) _ BadStep (test_case Passes (all_short messages) _ BadStep (record {
+      let n = length-map messages (λ (message : List ℕ). User (events.Up address message)) in
+      let more = arrived_waits e.links (carried kept read) in
+      test_case Passes (nat_le e.passed MAX_HINT) _ BadStep (λ hint. test_case Passes (all_short messages) _ BadStep (λ short. record {
         order = record { counted = omega arith; rise = rest.rise; top = rest.top };
         passed = refl;
         there = there;
-        brings = OneRecord (Received e.passed kept bytes) address messages;
+        few = omega arith;
       }))
 
   -- ---- the steps
 
-  plays_leave : (step : StepValue) → IfMade (Leaves e coming step) (stored_plays e coming step)
+  pub plays_leave : (step : StepValue) → IfMade (Leaves e coming step) (stored_plays e coming step)
   unfolding stored_plays
   plays_leave script.Start = unless_case (LeavesSo e coming 1 0) (user_refusal e.station.variables.state station_events.Start) _
-      (record_leaves 1 _ [] (User events.Start) (record { counted = refl; rise = tt; top = refl }) refl)
-  plays_leave script.Halt = record_leaves 0 _ [] (User events.Halt) (record { counted = refl; rise = tt; top = refl }) refl
+      (record_leaves 1 _ [] (User events.Start) (record { counted = refl; rise = tt; top = refl }) refl (omega arith))
+  plays_leave script.Halt = record_leaves 0 _ [] (User events.Halt) (record { counted = refl; rise = tt; top = refl }) refl (omega arith)
   plays_leave script.Timer = debt_leaves (timer_debt e.station.variables.state e.station.variables)
   plays_leave script.Send = choice_leaves (choice e.station.variables e.station.owed (link_choice e.links.confirms e.links.links))
   plays_leave script.Deliver =
@@ -173,24 +165,28 @@ module _ (e : StoredEnd) (coming : List (List ℕ)) where
   plays_leave script.Refuse =
       unit_case _ (λ there bytes. receives_leaves there bytes (reading bytes) (stations.keeps false (reading bytes) e.station))
   plays_leave script.Lose =
-      unit_case _ (λ there bytes. test_case Passes (nat_le e.passed MAX_HINT) _ BadStep (silent_leaves _ 1 refl refl there))
+      unit_case _ (λ there bytes. test_case Passes (nat_le e.passed MAX_HINT) _ BadStep (λ hint. silent_leaves _ 1 refl refl there (omega arith)))
   plays_leave (script.Damage place value) = unit_case _ (λ there bytes. let hurt = damaged place value bytes in
       test_case Passes (is_damage place value bytes) _ BadStep
-      (receives_leaves there hurt (reading hurt) (stations.keeps true (reading hurt) e.station)))
+      (λ is. receives_leaves there hurt (reading hurt) (stations.keeps true (reading hurt) e.station)))
   plays_leave (script.Noise bytes) = so_case Stays (nat_le (length bytes) MAX_UNIT) _ (noise_leaves bytes (reading bytes))
-  plays_leave script.Open = test_case Stays (nat_lt e.addresses MAX_LINK) _ Full
-      (record_leaves 0 _ [] (User (events.Open (e.addresses + 1))) (record { counted = refl; rise = (omega arith, tt); top = refl }) refl)
+  plays_leave script.Open = test_case Stays (nat_lt e.addresses MAX_LINK) _ Full (λ less.
+      record_leaves 0 _ [] (User (events.Open (e.addresses + 1))) (record { counted = refl; rise = (omega arith, tt); top = refl }) refl
+      (begun_waits e.links.links (opened (e.addresses + 1)) refl))
   plays_leave (script.Accept partner) = answer_leaves partner (answered Confirming ConfirmDuty) (events.Accept partner)
-      (record { counted = refl; rise = (omega arith, tt); top = refl })
+      (record { counted = refl; rise = (omega arith, tt); top = refl }) (λ link. refl)
   plays_leave (script.Reject partner) = answer_leaves partner (answered Disconnecting DisconnectDuty) (events.Reject partner)
-      (record { counted = refl; rise = (omega arith, tt); top = refl })
-  plays_leave (script.In own message) = link_case Stays (LiveAt own) e.links _ (λ place link.
+      (record { counted = refl; rise = (omega arith, tt); top = refl }) (λ link. refl)
+  plays_leave (script.In own message) = looked (IfMade Stays) (LiveAt own) e.links (Err BadStep) _ tt (λ place link at passed.
       so_case Stays (takes_messages link.port.phase && nat_le (length message) MAX_MESSAGE) _
-      (record_leaves 0 _ [] (User (events.In own message)) (record { counted = refl; rise = (tt, tt); top = refl }) refl))
-  plays_leave (script.Close own) = link_case Stays (LiveAt own) e.links _ (λ place link.
+      (record_leaves 0 _ [] (User (events.In own message)) (record { counted = refl; rise = (tt, tt); top = refl }) refl
+      (changed_waits e.links place link _ at refl)))
+  plays_leave (script.Close own) = looked (IfMade Stays) (LiveAt own) e.links (Err BadStep) _ tt (λ place link at passed.
       so_case Stays (is_connected link.port.phase) _
-      (record_leaves 0 _ [] (User (events.Close own)) (record { counted = refl; rise = (tt, tt); top = refl }) refl))
-  plays_leave (script.Retry own) = link_case Stays (LiveAt own) e.links _ (λ place link. retry_leaves place link (retried link.port.phase))
+      (record_leaves 0 _ [] (User (events.Close own)) (record { counted = refl; rise = (tt, tt); top = refl }) refl
+      (changed_waits e.links place link _ at refl)))
+  plays_leave (script.Retry own) = looked (IfMade Stays) (LiveAt own) e.links (Err BadStep) _ tt
+      (λ place link at passed. retry_leaves place link (retried link.port.phase) at)
 
   pub stored_leaves : (step : StepValue) (made : StoredStepped) → stored_plays e coming step ≡ Ok made → Leaves e coming step made
   stored_leaves step made is = subst (IfMade (Leaves e coming step)) is (plays_leave step)

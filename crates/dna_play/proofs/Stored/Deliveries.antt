@@ -1,40 +1,28 @@
 -- All that is whole of a link goes to the user at once: what the deliveries make of an end of the player. They change the segments of that link, and
 -- nothing else.
-use Rattle.std.proofs.Common.{◌≡◌, ℕ, ◌+◌, true, Option, Some, None, List, [], ◌∷◌, ◌++◌, drop, refl, sym, ap, ap₂, ◌∙◌, subst, append-nil}
-use Rattle.std.proofs.Common.{append_assoc, arith}
+use Rattle.std.proofs.Common.{◌≡◌, ℕ, ◌+◌, true, Some, List, [], ◌∷◌, ◌++◌, drop, refl, ap, ap₂, ◌∙◌, subst, append-nil, append_assoc}
+use Rattle.std.proofs.Common.{arith, ◌⊎◌, inl, inr, Ok, Err}
 use Rattle.std.specs.Prelude.{slice_get}
 use Rattle.std.proofs.lemmas.List.{drop-drop, set-set}
 use Rattle.capture.specs.declared.event.Event.TheVariants as events
 use Rattle.dna_links.specs.LookUps.{is_at}
-use Rattle.dna_links.specs.Segmentation.{Piece, Whole, next_message, in_whole_messages}
+use Rattle.dna_links.specs.Segmentation.{Whole, in_whole_messages}
 use Rattle.dna_links.specs.Links.{LinkOf, changed, with_segments}
 use Rattle.dna_links.specs.User as of_links
-use Rattle.dna_links.specs.TrueSegments.{TrueSegments}
-use Rattle.dna_links.specs.TrueLinks.{Links}
+use Rattle.dna_links.specs.TrueSegments.{TrueSegments, true_segments}
+use Rattle.dna_links.specs.TrueLinks.{Links, links_user}
 use Rattle.dna_play.specs.Receipt.{complete}
 use Rattle.dna_play.specs.StoredPlay.{ups}
 use Rattle.dna_play.proofs.Played.Steps.{PlayHalf, MakesAll, Nothing, First}
-use Rattle.dna_links.proofs.Cut.Ended.{Splits, splits}
-use Rattle.dna_links.proofs.Runs.Sides.{set_same}
+use Rattle.dna_links.proofs.Runs.Sides.{set_same, at_set}
+use Rattle.dna_play.proofs.Links.Pays.{found_at, with_found}
+use Rattle.dna_station.specs.declared.link_refusal.LinkRefusal.TheVariants.{NoLink}
+use Rattle.dna_links.specs.declared.port.LinkTest.TheVariants.{HasAddress}
 use Rattle.dna_play.proofs.Links.Made.{event_makes}
-use Rattle.dna_play.proofs.Ends.UpsFollow.{delivering, one_delivered, AllLined, none_next}
+use Rattle.dna_play.proofs.Ends.UpsFollow.{delivering, delivers_next, AllLined, none_whole}
 use Rattle.dna_play.proofs.Ends.Stage.{with_left}
 use Rattle.dna_play.proofs.Links.Lists.{set_back}
 use Rattle.dna_play.proofs.Ends.TrueEnd.{links_of}
-
--- ---- how many pieces are delivered
-
-split_none : (pieces : List (Option Piece)) (o : Option Whole) → Splits pieces o → o ≡ None → in_whole_messages pieces ≡ 0
-split_none pieces None none is = none
-split_none pieces (Some w) split is = absurd cc
-
-split_some : (pieces : List (Option Piece)) (o : Option Whole) (w : Whole) → Splits pieces o → o ≡ Some w →
-    in_whole_messages pieces ≡ w.pieces + in_whole_messages (drop w.pieces pieces)
-split_some pieces None w none is = absurd cc
-split_some pieces (Some v) w split is = split.1 ∙ ap (λ (x : Whole). x.pieces + in_whole_messages (drop x.pieces pieces)) (same v w is)
-  where
-    same : (v w : Whole) → ◌≡◌ {A = Option Whole} (Some v) (Some w) → v ≡ w
-    same v w e = cc
 
 -- ---- the segments
 
@@ -47,16 +35,15 @@ segments_at f delivered passed = record f { delivered = delivered; passed = pass
 
 none_got : (f : TrueSegments) → complete [] (drop f.passed f.received) ≡ [] → segments_got f [] ≡ f
 none_got f none =
-    let pieces = drop f.passed f.received in
-    let zero = split_none pieces (next_message pieces) (splits pieces) (none_next pieces none) in
-    let passed : f.passed + in_whole_messages pieces ≡ f.passed = omega arith in
+    let zero = none_whole (drop f.passed f.received) none in
+    let passed : f.passed + in_whole_messages (drop f.passed f.received) ≡ f.passed = omega arith in
     ap₂ (segments_at f) (append-nil f.delivered) passed
 
-more_got : (f : TrueSegments) (message : List ℕ) (later : List (List ℕ)) (w : Whole) → next_message (drop f.passed f.received) ≡ Some w →
+more_got : (f : TrueSegments) (message : List ℕ) (later : List (List ℕ)) (w : Whole) →
+    in_whole_messages (drop f.passed f.received) ≡ w.pieces + in_whole_messages (drop w.pieces (drop f.passed f.received)) →
     segments_got (delivering message w f) later ≡ segments_got f (message ∷ later)
-more_got f message later w is =
+more_got f message later w counted =
     let pieces = drop f.passed f.received in
-    let whole = split_some pieces (next_message pieces) w (splits pieces) is in
     let behind = ap in_whole_messages (drop-drop w.pieces f.passed f.received) in
     let passed : f.passed + w.pieces + in_whole_messages (drop (f.passed + w.pieces) f.received) ≡ f.passed + in_whole_messages pieces =
     omega arith in
@@ -71,18 +58,24 @@ pub gets_made : (other : PlayHalf) (address number : ℕ) (messages : List (List
     MakesAll other half (ups address messages)
     (with_left half (changed number (with_segments (segments_got l.segments messages) l) (links_of half)))
 gets_made other address number [] half l lined there owns only whole =
-    let s = links_of half in
-    let back : s ≡ changed number (with_segments (segments_got l.segments []) l) s =
-    sym (ap (λ (f : TrueSegments). changed number (with_segments f l) s) (none_got l.segments whole)
-    ∙ ap (λ (all : List (LinkOf TrueSegments)). record s { links = all }) (set_back s.links number l there)) in
-    subst (λ (x : Links). MakesAll other half [] (with_left half x)) back Nothing
+    rw (none_got l.segments whole, set_back (links_of half).links number l there) Nothing
 gets_made other address number (message ∷ later) half l lined there owns only whole =
     let s = links_of half in
-    let d = one_delivered s address number message later (record { link = l; there = there; owns = owns; only = only; whole = whole }) in
-    let k = with_segments (delivering message d.next.w l.segments) l in
+    let d = delivers_next l.segments message later whole in
+    let k = with_segments (delivering message d.w l.segments) l in
     let left : Links = changed number k s in
-    First (event_makes half other (events.Up address message) (of_links.Up address message) left refl lined.0 d.does)
+    let does : links_user s (of_links.Up address message) ≡ Ok left =
+    with_found s (HasAddress address) number l (Err NoLink)
+    (λ number link. of_links.delivered true_segments number link s (true_segments.delivers message link.segments))
+    (found_at s (HasAddress address) number l there owns only) ∙ ap (of_links.delivered true_segments number l s) d.does in
+    First (event_makes half other (events.Up address message) (of_links.Up address message) left refl lined.0 does)
     (subst (λ (x : Links). MakesAll other (with_left half left) (ups address later) (with_left half x))
-    (ap (λ (all : List (LinkOf TrueSegments)). record s { links = all }) (set-set s.links number k (with_segments (segments_got k.segments later) k))
-    ∙ ap (λ (f : TrueSegments). changed number (with_segments f l) s) (more_got l.segments message later d.next.w d.next.is))
-    (gets_made other address number later (with_left half left) k lined.1 (set_same s.links number l k there) owns d.others.only d.next.left))
+    (rw (set-set s.links number k (with_segments (segments_got k.segments later) k), more_got l.segments message later d.w d.counted) refl)
+    (gets_made other address number later (with_left half left) k lined.1 (set_same s.links number l k there) owns
+    (λ j m at e. still_only (links_of half) j m e (at_set s.links number j k m at) only) d.left))
+  where
+    still_only : {k : LinkOf TrueSegments} (s : Links) (j : ℕ) (m : LinkOf TrueSegments) → is_at m.port.own address ≡ true →
+        ((j ≡ number) × (k ≡ m)) ⊎ ((j ≡ number → ⊥) × (slice_get s.links j ≡ Some m)) →
+        ((j : ℕ) (m : LinkOf TrueSegments) → slice_get s.links j ≡ Some m → is_at m.port.own address ≡ true → j ≡ number) → j ≡ number
+    still_only s j m e (inl is) only = is.0
+    still_only s j m e (inr is) only = only j m is.1 e

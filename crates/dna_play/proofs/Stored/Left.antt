@@ -1,5 +1,5 @@
 -- What a step at one end leaves on both lines.
-use Rattle.std.proofs.Common.{◌≡◌, ℕ, ◌+◌, ◌≤◌, Bool, true, false, cond, List, ◌++◌, length, drop, sym, ap, ◌∙◌, arith, length-append}
+use Rattle.std.proofs.Common.{add-zero, ◌≡◌, ℕ, ◌+◌, ◌≤◌, Bool, true, false, cond, List, ◌++◌, length, drop, sym, ap, ◌∙◌, arith, length-append}
 use Rattle.std.proofs.lemmas.List.{map-append, drop-drop, drop-append-le, drop_at, length-map, length-drop}
 use Rattle.dna_node.specs.Layers.{LayersUnit}
 use Rattle.dna_play.specs.Script.{StepValue}
@@ -14,10 +14,7 @@ line_left step passed units = go (is_of_line step)
   where
     go : (b : Bool) → drop (passed + cond b 1 0) units ≡ cond b (drop 1 (drop passed units)) (drop passed units)
     go true = sym (drop-drop 1 passed units)
-    go false = ap (λ (n : ℕ). drop n units) (same passed)
-      where
-        same : (n : ℕ) → n + 0 ≡ n
-        same n = omega arith
+    go false = ap (λ (n : ℕ). drop n units) (add-zero passed)
 
 -- what a step sends comes behind what is on the line
 pub line_grows : (passed : ℕ) (before after : List LayersUnit) → passed ≤ length before → Grows before after →

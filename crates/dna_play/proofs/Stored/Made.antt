@@ -1,39 +1,34 @@
 -- What the user of an end of the player does: a start, a halt, and what is done with its links, by what becomes of these.
-use Rattle.std.proofs.Common.{◌≡◌, ℕ, ◌≤◌, Bool, true, false, ◌&&◌, not, Option, Some, refl, sym, ap, ◌∙◌, Ok}
-use Rattle.two_nodes.specs.Nodes.{answered, stepped}
+use Rattle.std.proofs.Common.{◌≡◌, ℕ, ◌≤◌, Bool, true, false, ◌&&◌, not, Some, refl, sym, ap, ◌∙◌, Ok}
 use Rattle.capture.specs.declared.event.Event.{Event}
 use Rattle.capture.specs.declared.event.Event.TheVariants as events
 use Rattle.capture.specs.declared.limit.TheConstants.{MAX_LINK}
 use Rattle.capture.specs.declared.record.Record.TheVariants.{User}
 use Rattle.dna_station.specs.declared.state.State.{State}
-use Rattle.dna_station.specs.declared.state.State.TheVariants.{Halted, Istrt, Astrt}
-use Rattle.dna_station.specs.declared.state.State.TheVariants as states
+use Rattle.dna_station.specs.declared.state.State.TheVariants.{Halted}
 use Rattle.dna_station.specs.declared.state.StationEvent.{StationEvent}
 use Rattle.dna_station.specs.declared.state.StationEvent.TheVariants as station_events
-use Rattle.dna_station.specs.Machine.{does, unless_refused}
-use Rattle.dna_station.specs.Station as of_station
+use Rattle.dna_station.specs.Machine.{does}
 use Rattle.dna_station.specs.Table.{user_refusal}
 use Rattle.dna_station.specs.WireStation.{StationVariables}
 use Rattle.dna_links.specs.TrueLinks.{Links, links_user}
 use Rattle.dna_links.specs.User.{LinkEventValue}
 use Rattle.dna_node.specs.Content.{link_event}
-use Rattle.dna_node.specs.Layers.{with_station}
 use Rattle.dna_play.specs.HasLine.{has_line}
-use Rattle.dna_play.specs.Owed.{OwesStrt, Owed, same_state, unless_left, all_acknowledged, still_owed}
-use Rattle.dna_play.specs.Played.{end_step, made_half}
+use Rattle.dna_play.specs.Owed.{OwesStrt, Owed, same_state, all_acknowledged, still_owed}
+use Rattle.dna_play.specs.Played.{end_step}
 use Rattle.dna_play.specs.Script.{Start, Halt, StepValue}
 use Rattle.dna_play.specs.StoredEnd.{StoredLinks, StoredEnd, StoredStation}
 use Rattle.dna_play.specs.StoredPlay.{with_links}
 use Rattle.dna_play.specs.StoredPlay as keeping
 use Rattle.dna_play.specs.StoredStation as stored_station
-use Rattle.dna_play.proofs.Played.Steps.{PlayHalf, Nothing, First}
-use Rattle.dna_play.proofs.Ends.Stage.{Known, with_left, links_stage, start_event_stage, halt_event_stage, strt_stage}
+use Rattle.dna_play.proofs.Played.Steps.{Nothing, First}
+use Rattle.dna_play.proofs.Ends.Stage.{Known, with_left, with_event, links_stage, start_event_stage, halt_event_stage, strt_stage}
 use Rattle.dna_play.proofs.Links.Made.{event_makes}
 use Rattle.dna_play.proofs.Links.Stage.{LinkHolds}
 use Rattle.dna_play.proofs.Ends.TrueEnd.{stored, End, station_of, links_of, after_record, variables_of, owing_more}
 use Rattle.dna_play.proofs.Stored.Now.{StoredNow, facts_of}
-use Rattle.dna_play.proofs.Stored.Right.{IsAsked, HasNoRoom, IsRight, never_full}
-use Rattle.dna_play.proofs.Stored.Timers.{none_behind}
+use Rattle.dna_play.proofs.Stored.Right.{IsAsked, HasNoRoom, IsRight, kept_right, never_full}
 
 -- ---- the station, where nothing becomes of it
 
@@ -44,23 +39,11 @@ state_stays state = refl
 -- it owes what it owed, where no REP is owed once all is acknowledged
 pub owed_same : {L : Type 0} (k : StationVariables L) (owed : Owed) → (owed.rep ≡ true → all_acknowledged k ≡ false) → still_owed k k owed ≡ owed
 owed_same k owed pays =
-    ap (λ (stays : Bool). let left = unless_left stays owed in record left { rep = left.rep && not (all_acknowledged k) }) (state_stays k.state)
-    ∙ ap (λ (rep : Bool). record owed { rep = rep }) (go owed.rep pays)
+    rw (state_stays k.state) (ap (λ (rep : Bool). record owed { rep = rep }) (go owed.rep pays))
   where
     go : (rep : Bool) → (rep ≡ true → all_acknowledged k ≡ false) → (rep && not (all_acknowledged k)) ≡ rep
     go true pays = ap not (pays refl)
     go false pays = refl
-
--- ---- an event that is made
-
-module _ (own : PlayHalf) where
-  abbrev after_user : StationEvent → PlayHalf
-  after_user event = stepped own (record own.state { station = record own.state.station { station = of_station.after_event (station_of own) event } })
-
-  abbrev started : State → PlayHalf → Option PlayHalf
-  started state other = made_half (answered own other (does own.state
-      (with_station own.state.station
-      (unless_refused (user_refusal state station_events.Start) (of_station.after_event (station_of own) station_events.Start)))))
 
 module _ (own other : End) (now : StoredNow own other) where
   abbrev pub s : Links
@@ -72,7 +55,7 @@ module _ (own other : End) (now : StoredNow own other) where
   -- ---- of the station
 
   abbrev after_event : StationEvent → End
-  after_event event = after_record own (after_user own.half event) own.links
+  after_event event = after_record own (with_event own.half event) own.links
 
   pub start_right : IsRight own other Start (keeping.starts (stored own))
   unfolding end_step
@@ -83,30 +66,15 @@ module _ (own other : End) (now : StoredNow own other) where
 
       go : (state : State) → (station_of own.half).state ≡ state → IsRight own other Start
           (keeping.unless_refused (user_refusal state station_events.Start) (keeping.made events.Start (keeping.with_station kept (stored own))))
-      go Halted is = record {
-        after = owing_more (Some OwesStrt) (after_event station_events.Start);
-        makes = First (ap (λ (state : State). started own.half state other.half) is) Nothing;
-        same = refl;
-        sent = none_behind own.half.sent;
-        stage = strt_stage _ (start_event_stage own now.stage is);
-        asks = is;
-        room = never_full own other Start refl;
-      }
-      go Istrt is = λ halted. let e = sym is ∙ halted in cc
-      go Astrt is = λ halted. let e = sym is ∙ halted in cc
-      go states.Running is = λ halted. let e = sym is ∙ halted in cc
+      go Halted is = kept_right own other Start (owing_more (Some OwesStrt) (after_event station_events.Start))
+          (First (rw is refl) Nothing) refl refl
+          (strt_stage _ (start_event_stage own now.stage is)) is (never_full own other Start refl)
+      go state is = λ halted. let e = sym is ∙ halted in cc
 
   pub halt_right : IsRight own other Halt (keeping.halts (stored own))
   unfolding end_step
-  halt_right = record {
-    after = after_event station_events.Halt;
-    makes = First refl Nothing;
-    same = refl;
-    sent = none_behind own.half.sent;
-    stage = halt_event_stage own now.stage;
-    asks = tt;
-    room = never_full own other Halt refl;
-  }
+  halt_right = kept_right own other Halt (after_event station_events.Halt) (First refl Nothing) refl refl (halt_event_stage own now.stage) tt
+      (never_full own other Halt refl)
 
   -- ---- of the links
 
@@ -119,13 +87,7 @@ module _ (own other : End) (now : StoredNow own other) where
       (left : Links) (kept : StoredLinks) → has_line (User event) ≡ true → links_user s value ≡ Ok left → top ≤ MAX_LINK →
       LinkHolds left.links top kept → IsAsked own other step → ¬ (HasNoRoom own other step) →
       IsRight own other step (keeping.made event (StoredBy top kept))
-  event_right step event value top is left kept lined does few holds asks room = record {
-    after = record (after_record own (with_left own.half left) kept) { addresses = top };
-    makes = First (event_makes own.half other.half event value left is lined does) Nothing;
-    same = ap (λ (owed : Owed). record (StoredBy top kept) { station = record { variables = variables_of own.half; owed = owed } })
-        (owed_same (variables_of own.half) own.owed now.stage.pays.rep);
-    sent = none_behind own.half.sent;
-    stage = links_stage own now.stage left kept top few holds;
-    asks = asks;
-    room = room;
-  }
+  event_right step event value top is left kept lined does few holds asks room =
+      kept_right own other step (record (after_record own (with_left own.half left) kept) { addresses = top })
+      (First (event_makes own.half other.half event value left is lined does) Nothing)
+      (rw (owed_same (variables_of own.half) own.owed now.stage.pays.rep) refl) refl (links_stage own now.stage left kept top few holds) asks room

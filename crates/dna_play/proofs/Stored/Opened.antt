@@ -31,12 +31,12 @@ use Rattle.dna_play.specs.StoredPlay as keeping
 use Rattle.dna_links.proofs.Runs.Reads.{at_is}
 use Rattle.dna_links.proofs.Tables.Outcomes.{IsFound}
 use Rattle.dna_node.proofs.Once.Addresses.{LinkList}
-use Rattle.dna_play.proofs.Links.Fits.{empty_fits}
 use Rattle.dna_play.proofs.Links.Goes.{answered_goes}
 use Rattle.dna_play.proofs.Links.Keeps.{At, is_kept, link_there, kept_there, kept_of, called_by_lives, look}
-use Rattle.dna_play.proofs.Links.Made.{open_line, accept_line, reject_line, is_there, open_goes, accept_goes, reject_goes}
+use Rattle.dna_play.proofs.Played.PlayLines.{bare_line}
+use Rattle.dna_play.proofs.Links.Made.{open_goes, answer_goes}
 use Rattle.dna_play.proofs.Links.Owing.{duty_fits, nothing_fits, left_fits}
-use Rattle.dna_play.proofs.Links.Pays.{end_of, some_found, fits_in, phase_of}
+use Rattle.dna_play.proofs.Links.Pays.{end_of, is_there, some_found, fits_in, phase_of}
 use Rattle.dna_play.proofs.Links.Phases.{called_is}
 use Rattle.dna_play.proofs.Links.Stage.{push_holds, set_holds}
 use Rattle.dna_play.proofs.Ends.TrueEnd.{stored, End, links_of}
@@ -62,16 +62,14 @@ module _ (own other : End) (now : StoredNow own other) where
   not_full step less full = let used = full.used in omega arith
 
   pub open_right : IsRight own other Open (keeping.opens (stored own))
-  open_right = giving_right own other now Open
-      (λ end address. keeping.made (events.Open address) (with_links (stored_link.begun (stored_link.opened address) own.links) end)) refl tt
-      (λ less.
+  open_right = giving_right own other now Open _ refl tt (λ less.
       let left = of_links.opened true_segments next in
       event_right own other now Open (events.Open next) (of_links.Open next) next refl (begun left links)
-      (stored_link.begun (stored_link.opened next) own.links) (open_line next (next_address less))
+      (stored_link.begun (stored_link.opened next) own.links) (bare_line (events.Open next) (next_address less) refl)
       (open_goes links others own.addresses (known own other now).addressed next (omega arith)) (omega arith)
       (push_holds links own.addresses own.links now.stage.links left (with_duty InitiateDuty true nothing) next (omega arith) (record {
         lives = refl;
-        fits = record { shape = refl; segments = empty_fits };
+        fits = record { shape = refl; segments = record { unsent = tt; given = tt } };
         owes = duty_fits left nothing InitiateDuty refl (nothing_fits left);
       }) (λ confirm given e. let is = same_Some next confirm.src e in absurd (omega arith))) tt (not_full Open less))
 
@@ -108,14 +106,11 @@ module _ (own other : End) (now : StoredNow own other) where
       (lined : IsLink next → has_line (User (event next)) ≡ true)
       (goes : (number : ℕ) (link : LinkOf TrueSegments) → IsFound (CalledBy partner) links number link → own.addresses < next →
       links_user links (value next) ≡ Ok (changed number (of_links.answered true_segments phase next link) links)) where
-    one_answered : (n place : ℕ) (l : LinkOf TrueSegments) (o : LinkOwed) → IsFound (CalledBy partner) links n l →
-        At l o n place links.links own.links.links →
-        IsRight own other step (keeping.giving (stored own) (λ end address. keeping.made (event address)
-        (with_links (stored_link.changed place (stored_link.answered phase duty address (end_of l o)) own.links) end)))
-    one_answered n place l o found at = giving_right own other now step
-        (λ end address. keeping.made (event address)
-        (with_links (stored_link.changed place (stored_link.answered phase duty address (end_of l o)) own.links) end))
-        gives (may (called_from partner n place l o found at)) (λ less.
+    answer_right : IsRight own other step (keeping.answers (stored own) partner (stored_link.answered phase duty) event)
+    answer_right = look (CalledBy partner) (called_by_lives partner) (IsRight own other step) links own.links now.stage.links.keeps (Err BadStep) _
+        (λ none asks. nobody_calls partner none (asked asks)) (λ n place l o found at.
+        let asks = may (called_from partner n place l o found at) in
+        giving_right own other now step _ gives asks (λ less.
         let left = of_links.answered true_segments phase next l in
         let owed = unless_left (same_phase l.port.phase phase) o in
         event_right own other now step (event next) (value next) next (is next) (changed n left links)
@@ -126,20 +121,14 @@ module _ (own other : End) (now : StoredNow own other) where
         (omega arith))
         lives (duty_fits left owed duty of
         (left_fits l left o ((known own other now).numbers n l found.there).0 refl (is_kept at).owes)))
-        (may (called_from partner n place l o found at)) (not_full step less))
-
-    answer_right : IsRight own other step (keeping.answers (stored own) partner (stored_link.answered phase duty) event)
-    answer_right = look (CalledBy partner) (called_by_lives partner) (IsRight own other step) links own.links now.stage.links.keeps (Err BadStep)
-        (λ place link. keeping.giving (stored own) (λ end address. keeping.made (event address)
-        (with_links (stored_link.changed place (stored_link.answered phase duty address link) own.links) end)))
-        (λ none asks. nobody_calls partner none (asked asks)) one_answered
+        asks (not_full step less)))
 
   pub accept_right : (partner : ℕ) → IsLink partner → IsRight own other (Accept partner) (keeping.accepts (stored own) partner)
   accept_right partner far = answer_right partner (Accept partner) (events.Accept partner) (of_links.Accept partner) Confirming ConfirmDuty refl
-      (λ asks. asks) (λ asks. asks) (λ address. refl) refl refl (λ l. refl) (λ near. accept_line partner next far near)
-      (λ number link found less. accept_goes links others own.addresses (known own other now).addressed partner next number link found less)
+      (λ asks. asks) (λ asks. asks) (λ address. refl) refl refl (λ l. refl) (λ near. bare_line (events.Accept partner next) (far, near) refl)
+      (answer_goes links others own.addresses (known own other now).addressed Confirming partner next)
 
   pub reject_right : (partner : ℕ) → IsLink partner → IsRight own other (Reject partner) (keeping.rejects (stored own) partner)
   reject_right partner far = answer_right partner (Reject partner) (events.Reject partner) (of_links.Reject partner) Disconnecting DisconnectDuty refl
-      (λ asks. asks) (λ asks. asks) (λ address. refl) refl refl (λ l. refl) (λ near. reject_line partner next far near)
-      (λ number link found less. reject_goes links others own.addresses (known own other now).addressed partner next number link found less)
+      (λ asks. asks) (λ asks. asks) (λ address. refl) refl refl (λ l. refl) (λ near. bare_line (events.Reject partner next) (far, near) refl)
+      (answer_goes links others own.addresses (known own other now).addressed Disconnecting partner next)

@@ -1,19 +1,26 @@
 -- What is right of what a step of a script makes of an end, or of why it can't be made: it goes by the rule of the step, and the node of the end
 -- makes its records and keeps what the end keeps then. Each kind of step is looked at once for all of it.
-use Rattle.std.proofs.Common.{◌≡◌, ℕ, ◌+◌, ◌<◌, zero, suc, Bool, true, false, cond, nat_lt, ltb-true, ltb-false, Option, Some, None, List, [], ◌∷◌}
-use Rattle.std.proofs.Common.{Result, Ok, Err, drop, length, refl, sym, subst, ap, ◌∙◌}
+use Rattle.std.proofs.Common.{◌≡◌, ℕ, ◌<◌, Bool, true, false, cond, nat_lt, ltb-true, ltb-false, Option, Some, None, List, [], ◌∷◌, Result, Ok, Err}
+use Rattle.std.proofs.Common.{drop, length, refl, sym, subst, ap, ◌∙◌, add-zero}
 use Rattle.std.specs.Prelude.{slice_get, option_map}
+use Rattle.std.proofs.lemmas.Option.{same_Some, slice_get-map}
+use Rattle.two_nodes.proofs.NumberedSteps.{slice_get-drop}
 use Rattle.capture.specs.declared.limit.TheConstants.{MAX_LINK}
+use Rattle.capture.specs.declared.record.Record.{Record}
 use Rattle.dna_node.specs.Layers.{LayersUnit}
 use Rattle.dna_play.specs.Script.{StepValue}
 use Rattle.dna_play.specs.StoredEnd.{StoredEnd}
-use Rattle.dna_play.specs.StoredPlay.{StoredStepped, giving, with_next}
-use Rattle.dna_play.specs.StepRule.{IsNext, HasNext, Asks, gives_address, IsFull, GoesByRule}
+use Rattle.dna_play.specs.StoredPlay.{StoredStepped, if_so, with_next}
+use Rattle.dna_play.specs.StepRule.{IsNext, HasNext, Asks, gives_address, IsFull}
 use Rattle.dna_play.specs.Stop.{BadStep, Stop, Full}
 use Rattle.dna_play.proofs.Played.Steps.{MakesAll}
 use Rattle.dna_play.proofs.Ends.Stage.{Stage}
 use Rattle.dna_play.proofs.Ends.TrueEnd.{End, stored, bytes_of, coming}
 use Rattle.dna_play.proofs.Stored.Now.{StoredNow}
+
+none_behind : (units : List LayersUnit) → drop (length units) (bytes_of units) ≡ []
+none_behind [] = refl
+none_behind (unit ∷ units) = none_behind units
 
 module _ (own other : End) (step : StepValue) where
   abbrev pub IsAsked : Type 0
@@ -37,10 +44,23 @@ module _ (own other : End) (step : StepValue) where
   IsRight (Err BadStep) = ¬ IsAsked
   IsRight (Err Full) = IsAsked × HasNoRoom
 
-  pub right_ruled : (result : Result StoredStepped Stop) → IsRight result → GoesByRule (stored own) (coming own other.half) step result
-  right_ruled (Ok made) right = (right.asks, right.room)
-  right_ruled (Err BadStep) right = right
-  right_ruled (Err Full) right = right
+  -- what sends nothing is made
+  pub kept_right : {end : StoredEnd} {records : List Record} (after : End) → MakesAll other.half own.half records after.half → stored after ≡ end →
+      after.half.sent ≡ own.half.sent → Stage after → IsAsked → ¬ HasNoRoom → IsMade (record { end = end; sent = []; records = records })
+  kept_right after makes same sent stage asks room = record {
+    after = after;
+    makes = makes;
+    same = same;
+    sent = rw sent (none_behind own.half.sent);
+    stage = stage;
+    asks = asks;
+    room = room;
+  }
+
+  -- it is made by a test, which passes where the step may be made
+  pub so_right : (b : Bool) (next : Result StoredStepped Stop) → (IsAsked → b ≡ true) → (b ≡ true → IsRight next) → IsRight (if_so b next)
+  so_right true next passes made = made refl
+  so_right false next passes made = λ asks. let e = passes asks in cc
 
   -- a step that gives no address is never full
   pub never_full : gives_address step ≡ false → ¬ HasNoRoom
@@ -48,25 +68,9 @@ module _ (own other : End) (step : StepValue) where
 
 -- ---- the line
 
--- the unit that is next, if there is one
-abbrev next_unit : {M : Type 0} → Option LayersUnit → (List ℕ → Result M Stop) → Result M Stop
-next_unit None next = Err BadStep
-next_unit (Some unit) next = next unit.bytes
-
--- it is the first of what is on the line
-next_on_line : (passed : ℕ) (units : List LayersUnit) (next : List ℕ → Result StoredStepped Stop) →
-    with_next (drop passed (bytes_of units)) next ≡ next_unit (slice_get units passed) next
-next_on_line zero [] next = refl
-next_on_line (suc passed) [] next = refl
-next_on_line zero (unit ∷ units) next = refl
-next_on_line (suc passed) (unit ∷ units) next = next_on_line passed units next
-
-pub next_there : (passed : ℕ) (units : List LayersUnit) →
+next_there : (passed : ℕ) (units : List LayersUnit) →
     slice_get (drop passed (bytes_of units)) 0 ≡ option_map (λ (unit : LayersUnit). unit.bytes) (slice_get units passed)
-next_there zero [] = refl
-next_there (suc passed) [] = refl
-next_there zero (unit ∷ units) = refl
-next_there (suc passed) (unit ∷ units) = next_there passed units
+next_there passed units = rw (slice_get-drop passed 0 (bytes_of units), add-zero) (slice_get-map (λ (unit : LayersUnit). unit.bytes) units passed)
 
 pub next_is : (own other : End) (unit : LayersUnit) → slice_get other.half.sent own.passed ≡ Some unit → IsNext (coming own other.half) unit.bytes
 next_is own other unit there = next_there own.passed other.half.sent ∙ ap (option_map (λ (unit : LayersUnit). unit.bytes)) there
@@ -75,13 +79,11 @@ next_is own other unit there = next_there own.passed other.half.sent ∙ ap (opt
 
 module _ (own other : End) (now : StoredNow own other) (step : StepValue) where
   -- an address is left, or none
-  pub giving_right : (next : StoredEnd → ℕ → Result StoredStepped Stop) → gives_address step ≡ true → IsAsked own other step →
-      (own.addresses < MAX_LINK → IsRight own other step (next (record (stored own) { addresses = own.addresses + 1 }) (own.addresses + 1))) →
-      IsRight own other step (giving (stored own) next)
-  giving_right next gives asks left = go (nat_lt own.addresses MAX_LINK) refl
+  pub giving_right : (made : Result StoredStepped Stop) → gives_address step ≡ true → IsAsked own other step →
+      (own.addresses < MAX_LINK → IsRight own other step made) → IsRight own other step (cond (nat_lt own.addresses MAX_LINK) made (Err Full))
+  giving_right made gives asks left = go (nat_lt own.addresses MAX_LINK) refl
     where
-      go : (b : Bool) → nat_lt own.addresses MAX_LINK ≡ b →
-          IsRight own other step (cond b (next (record (stored own) { addresses = own.addresses + 1 }) (own.addresses + 1)) (Err Full))
+      go : (b : Bool) → nat_lt own.addresses MAX_LINK ≡ b → IsRight own other step (cond b made (Err Full))
       go true e = left (ltb-true own.addresses MAX_LINK e)
       go false e = (asks, record { gives = gives; used = ltb-false own.addresses MAX_LINK e })
 
@@ -89,10 +91,13 @@ module _ (own other : End) (now : StoredNow own other) (step : StepValue) where
   pub unit_right : (next : List ℕ → Result StoredStepped Stop) → (IsAsked own other step → HasNext (coming own other.half)) →
       ((unit : LayersUnit) → slice_get other.half.sent own.passed ≡ Some unit → IsRight own other step (next unit.bytes)) →
       IsRight own other step (with_next (coming own other.half) next)
-  unit_right next asked some =
-      subst (IsRight own other step) (sym (next_on_line own.passed other.half.sent next)) (go (slice_get other.half.sent own.passed) refl)
+  unit_right next asked some = go (coming own other.half) (next_there own.passed other.half.sent) asked (slice_get other.half.sent own.passed) refl
     where
-      go : (o : Option LayersUnit) → slice_get other.half.sent own.passed ≡ o → IsRight own other step (next_unit o next)
-      go None none = λ asks.
-          let e = sym (asked asks).1 ∙ next_there own.passed other.half.sent ∙ ap (option_map (λ (unit : LayersUnit). unit.bytes)) none in cc
-      go (Some unit) there = some unit there
+      go : (line : List (List ℕ)) → slice_get line 0 ≡ option_map (λ (unit : LayersUnit). unit.bytes) (slice_get other.half.sent own.passed) →
+          (IsAsked own other step → HasNext line) → (o : Option LayersUnit) → slice_get other.half.sent own.passed ≡ o →
+          IsRight own other step (with_next line next)
+      go [] first asked o is = λ asks. let e = (asked asks).1 in cc
+      go (bytes ∷ later) first asked None none = let e = first ∙ ap (option_map (λ (unit : LayersUnit). unit.bytes)) none in absurd cc
+      go (bytes ∷ later) first asked (Some unit) there =
+          let e = first ∙ ap (option_map (λ (unit : LayersUnit). unit.bytes)) there in
+          subst (λ (x : List ℕ). IsRight own other step (next x)) (sym (same_Some bytes unit.bytes e)) (some unit there)

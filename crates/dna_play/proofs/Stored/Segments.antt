@@ -1,12 +1,11 @@
 -- What a message that came makes of the links of an end of the player, and what its user gets then, is what it makes of those that are kept.
-use Rattle.std.proofs.Common.{◌≡◌, ℕ, ◌+◌, Bool, true, ◌&&◌, Option, Some, List, [], ◌∷◌, Result, Ok, refl, sym, ap, ap₂, ◌∙◌, subst, arith}
-use Rattle.std.specs.Prelude.{slice_get, nat_le, length}
+use Rattle.std.proofs.Common.{◌≡◌, ℕ, ◌+◌, true, Option, Some, List, [], ◌∷◌, Result, Ok, refl, sym, ap, ◌∙◌, subst, arith, le-leb}
+use Rattle.std.specs.Prelude.{slice_get, length}
 use Rattle.std.proofs.lemmas.Bool.{and_parts}
 use Rattle.std.proofs.lemmas.List.{drop-drop, set-set}
 use Rattle.dna_packet.specs.Nsp.{NspValue, SegmentValue, DataSegment}
 use Rattle.capture.specs.declared.event.Event.TheVariants as events
 use Rattle.capture.specs.declared.record.Record.TheVariants.{User}
-use Rattle.capture.specs.Range.{record_bytes, most_bytes}
 use Rattle.dna_station.specs.declared.link_refusal.LinkRefusal.{LinkRefusal}
 use Rattle.dna_station.specs.declared.link_refusal.LinkRefusal.TheVariants.{CrossedLink}
 use Rattle.dna_station.specs.Station.{Station}
@@ -14,7 +13,7 @@ use Rattle.dna_links.specs.declared.port.Phase.TheVariants.{Running}
 use Rattle.dna_links.specs.declared.port.LinkTest.{LinkTest}
 use Rattle.dna_links.specs.declared.port.LinkTest.TheVariants.{ActedOn}
 use Rattle.dna_links.specs.LookUps.{is_connected, is_at, has_both}
-use Rattle.dna_links.specs.Segmentation.{Piece, in_whole_messages}
+use Rattle.dna_links.specs.Segmentation.{in_whole_messages}
 use Rattle.dna_links.specs.Links.{LinkOf, LinkTruth, check, changed, in_phase, with_segments}
 use Rattle.dna_links.specs.Arriving.{of_partner, is_of_pair, running, message_arrived}
 use Rattle.dna_links.specs.TrueSegments.{TrueSegments, Numbers, takes_segment, true_segments}
@@ -22,12 +21,11 @@ use Rattle.dna_links.specs.TrueLinks.{Links}
 use Rattle.dna_links.specs.WireSegments.{WireSegments, acknowledged_by_all, segment_taken}
 use Rattle.dna_links.specs.CutSegments.{cut, IsOrdered}
 use Rattle.dna_links.specs.CutLinks.{ArrivesNear}
-use Rattle.dna_play.specs.HasLine.{numbers_fit, are_bytes}
 use Rattle.dna_play.specs.LinkOwed.{LinkOwed, DataAckDuty, with_duty}
 use Rattle.dna_play.specs.NextSent.{LinkEnd}
 use Rattle.dna_play.specs.Receipt.{complete}
 use Rattle.dna_play.specs.StoredEnd.{StoredLinks}
-use Rattle.dna_play.specs.StoredLinks.{Delivering, delivering_none, delivering_at, took_segment, arrives, message_came}
+use Rattle.dna_play.specs.StoredLinks.{Delivering, delivering_none, delivering_at, took_segment, message_came}
 use Rattle.dna_play.specs.StoredLinks as keeping
 use Rattle.dna_play.specs.StoredPlay.{arrived, up_address, ups, all_short}
 use Rattle.dna_links.proofs.Cut.SegmentsArriving.{takes_segment_same}
@@ -43,18 +41,19 @@ use Rattle.dna_play.proofs.Links.Goes as goes
 use Rattle.dna_play.proofs.Links.Keeps.{At, is_kept, acted_on_lives, look}
 use Rattle.dna_play.proofs.Links.Stage.{LinkHolds, set_holds}
 use Rattle.dna_play.proofs.Links.Comes.{EndsHold, message_holds, acted_end}
+use Rattle.dna_play.proofs.Ends.Stage.{ordered_of}
+use Rattle.dna_play.proofs.Stored.Now.{StoredNow, facts_of}
 use Rattle.dna_play.proofs.Ends.TrueEnd.{End, links_of}
 use Rattle.dna_play.proofs.Ends.UpsFollow.{AllLined, AreDistinct, IsLined}
+use Rattle.dna_play.proofs.Played.PlayLines.{line_told}
+use Rattle.capture.specs.declared.limit.TheConstants.{MAX_MESSAGE}
 use Rattle.dna_play.proofs.Stored.Deliveries.{segments_got, gets_made}
 
 -- each message that is whole has a line
 lined_short : (address : ℕ) (messages : List (List ℕ)) → AllLined address messages → all_short messages ≡ true
 lined_short address [] lined = refl
-lined_short address (message ∷ later) lined =
-    let r = User (events.Up address message) in
-    let p = and_parts (numbers_fit r) (are_bytes (record_bytes r) && nat_le (length (record_bytes r)) (most_bytes r)) lined.0 in
-    let q = and_parts (are_bytes (record_bytes r)) (nat_le (length (record_bytes r)) (most_bytes r)) p.1 in
-    ap₂ (λ (b c : Bool). b && c) q.1 (lined_short address later lined.1)
+lined_short address (message ∷ later) lined = rw (le-leb (length message) MAX_MESSAGE (line_told (User (events.Up address message)) lined.0).short)
+    (lined_short address later lined.1)
 
 -- the half that a receipt leaves, with this station and these links
 abbrev pub left_half : End → Station → Links → PlayHalf
@@ -70,15 +69,20 @@ got_goes f g messages goes = record {
   moves = λ o. let m = goes.moves o in record { given = m.given; least = m.least; most = m.most };
 }
 
-module _ (own : End) (other : PlayHalf) (h : LinkHolds (links_of own.half).links own.addresses own.links)
-    (ordered : (i : ℕ) (l : LinkOf TrueSegments) → slice_get (links_of own.half).links i ≡ Some l → IsOrdered l.segments) (station : Station) where
+module _ (own other : End) (now : StoredNow own other) (station : Station) where
   abbrev s : Links
   s = links_of own.half
+
+  h : LinkHolds s.links own.addresses own.links
+  h = now.stage.links
+
+  ordered : (i : ℕ) (l : LinkOf TrueSegments) → slice_get s.links i ≡ Some l → IsOrdered l.segments
+  ordered = ordered_of s.links (facts_of now).known.numbers
 
   -- of these links that were left: what the user gets is delivered, and what is kept then is kept of those that are left then
   pub record GotBy (links : Links) (address : ℕ) (d : Delivering) : Type 0 where
     pub final : Links
-    pub gets : MakesAll other (left_half own station links) (ups address d.messages) (left_half own station final)
+    pub gets : MakesAll other.half (left_half own station links) (ups address d.messages) (left_half own station final)
     pub holds : LinkHolds final.links own.addresses d.links
     pub short : all_short d.messages ≡ true
 
@@ -130,10 +134,10 @@ module _ (own : End) (other : PlayHalf) (h : LinkHolds (links_of own.half).links
         messages = complete [] (variables_of k).pieces
 
         abbrev got : LinkOf TrueSegments
-        got = with_segments (segments_got k.segments (complete [] (variables_of k).pieces)) k
+        got = with_segments (segments_got k.segments messages) k
 
         got_goes_on : Goes own.addresses l got
-        got_goes_on = runs_on own.addresses l (segments_got k.segments (complete [] (variables_of k).pieces))
+        got_goes_on = runs_on own.addresses l (segments_got k.segments messages)
             (and_parts (is_connected l.port.phase) (has_both l.port segment.dstaddr segment.srcaddr) found.passed).0
             (got_goes l.segments k.segments messages (goes.took_segment l.segments segment truth.known))
 
@@ -145,12 +149,8 @@ module _ (own : End) (other : PlayHalf) (h : LinkHolds (links_of own.half).links
             record { duties = f.duties; ahead = f.ahead }
 
         got_holds : LinkHolds (changed n got x).links own.addresses (delivering_at place (end_of k left_owes) own.links).links
-        got_holds = subst (λ (all : List (LinkOf TrueSegments)). LinkHolds all own.addresses
-            (delivering_at place (end_of k left_owes) own.links).links) (sym (set-set s.links n k got))
-            (subst (λ (pieces : List (Option Piece)). LinkHolds (changed n got s).links own.addresses
-            (keeping.changed place (record (end_of k left_owes) { variables = record (variables_of k) { pieces = pieces } }) own.links))
-            (sym (drop-drop (in_whole_messages (variables_of k).pieces) k.segments.passed k.segments.received))
-            (set_holds s own.addresses own.links h at_it got left_owes own.addresses (omega arith) got_goes_on refl got_owes))
+        got_holds = rw (set-set s.links n k got, drop-drop (in_whole_messages (variables_of k).pieces) k.segments.passed k.segments.received)
+            (set_holds s own.addresses own.links h at_it got left_owes own.addresses (omega arith) got_goes_on refl got_owes)
 
         module _ (distinct : AreDistinct x.links) (lined : IsLined x (DataSegment segment)) where
           only : (j : ℕ) (m : LinkOf TrueSegments) → slice_get x.links j ≡ Some m → is_at m.port.own segment.dstaddr ≡ true → j ≡ n
@@ -165,10 +165,9 @@ module _ (own : End) (other : PlayHalf) (h : LinkHolds (links_of own.half).links
           segment_found : GotBy x segment.dstaddr (take_kept place (end_of l o))
           segment_found = subst (λ (link : LinkEnd). GotBy x segment.dstaddr (delivering_at place link own.links)) took (record {
             final = changed n got x;
-            gets = gets_made other segment.dstaddr n (complete [] (variables_of k).pieces) (left_half own station x) k (lined n k still_found) there
-                at_own only refl;
+            gets = gets_made other.half segment.dstaddr n messages (left_half own station x) k (lined n k still_found) there at_own only refl;
             holds = got_holds;
-            short = lined_short segment.dstaddr (complete [] (variables_of k).pieces) (lined n k still_found);
+            short = lined_short segment.dstaddr messages (lined n k still_found);
           })
 
   -- ---- a message

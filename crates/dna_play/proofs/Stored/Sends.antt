@@ -1,31 +1,54 @@
 -- A unit that an end of the player sends: what it chooses its node makes.
-use Rattle.std.proofs.Common.{◌≡◌, Option, Some, None, List, [], ◌∷◌, ◌++◌, length, drop, refl, sym, ap, ◌∙◌, subst}
-use Rattle.ddcmp_msg.specs.Message.{MessageValue}
+use Rattle.std.proofs.Common.{◌≡◌, Option, Some, None, List, [], ◌∷◌, ◌++◌, length, drop, refl, sym, ap, ◌∙◌, ℕ, ◌+◌, ◌<◌, ◌^◌, Bool, true, false, Ok}
+use Rattle.std.proofs.Common.{arith, length-drop, eq-eqb}
+use Rattle.ddcmp_msg.specs.Message.{MessageValue, Ack, Nak, Rep, Strt, Stack}
 use Rattle.ddcmp_msg.specs.Spelling.{spelling}
 use Rattle.capture.specs.declared.record.Record.TheVariants.{Sent}
 use Rattle.dna_station.specs.StationBook as station_book
-use Rattle.dna_station.specs.WireStation.{StationVariables}
-use Rattle.dna_links.specs.TrueLinks.{Links}
+use Rattle.dna_station.specs.WireStation.{StationVariables, HeldPacket}
+use Rattle.dna_links.specs.TrueLinks.{Links, links_sent}
 use Rattle.dna_links.specs.Runs.{SentMessage}
 use Rattle.dna_node.specs.Layers.{LayersUnit, LayersTruth}
 use Rattle.dna_play.specs.Script.{Send}
-use Rattle.dna_play.specs.NextSent.{LinkChoice, link_choice, Choice, SendNew, choice}
-use Rattle.dna_play.specs.Compose.{message_of}
+use Rattle.dna_play.specs.NextSent.{LinkChoice, link_choice, Choice, SendNew, choice, LinkEnd, SendStrt, SendStack, SendNak, SendRep, SendAgain}
+use Rattle.dna_play.specs.NextSent.{SendAck}
+use Rattle.dna_play.specs.Compose.{message_of, no_flags, start_flags, address, packet_again, new_data, packet_with, data_with}
 use Rattle.dna_play.specs.Played.{makes}
-use Rattle.dna_play.specs.StoredEnd.{StoredStation, StoredLinks}
+use Rattle.dna_play.specs.StoredEnd.{StoredLinks}
 use Rattle.dna_play.specs.StoredLinks.{after_sent}
 use Rattle.dna_play.specs.StoredPlay as keeping
-use Rattle.dna_play.specs.StoredStation as of_station
 use Rattle.dna_play.proofs.Played.Steps.{PlayHalf, Nothing, First}
-use Rattle.dna_play.proofs.Played.Facts.{Facts}
-use Rattle.dna_play.proofs.Ends.TrueEnd.{End, variables_of, station_of, stored, bytes_of}
-use Rattle.dna_play.proofs.Ends.SendMakes.{sent_left, again_after, first_after}
-use Rattle.dna_play.proofs.Ends.Sends.{Goes, GoesOld, GoesNew, goes}
-use Rattle.dna_play.proofs.Ends.Stage.{Stage}
 use Rattle.dna_play.proofs.Ends.SendStage.{after_sending, stage_again, stage_first}
-use Rattle.dna_play.proofs.Stored.Now.{StoredNow, facts_of}
 use Rattle.dna_play.proofs.Stored.Right.{IsRight, never_full}
 use Rattle.dna_play.proofs.Stored.Stations.{station_sent}
+use Rattle.std.specs.Prelude.{slice_get}
+use Rattle.std.proofs.lemmas.Bool.{eqb-false}
+use Rattle.dna_packet.specs.Nsp.{NspValue, IsNsp}
+use Rattle.dna_station.specs.declared.head.Head.{Head}
+use Rattle.dna_station.specs.declared.state.State.{State}
+use Rattle.dna_station.specs.Station.{Station, wire}
+use Rattle.dna_station.specs.StationBook.{sending_refusal, gives_number}
+use Rattle.dna_station.specs.Cut.{AreLabelled, cut}
+use Rattle.dna_station.specs.WireBook.{wire_is_new}
+use Rattle.dna_station.specs.WireNode.{unlabelled}
+use Rattle.dna_links.specs.Links.{LinkOf, Carried}
+use Rattle.dna_links.specs.TrueSegments.{TrueSegments}
+use Rattle.dna_play.specs.LinkOwed.{SegmentDuty}
+use Rattle.dna_station.proofs.Cut.Sending.{all_length, sending_refusal_same, first_same}
+use Rattle.dna_station.proofs.Cut.Node.{unlabelled_bodies}
+use Rattle.dna_play.proofs.Ends.StationPays.{IsChosen, ByStrt, ByStack, ByNak, ByRep, ByAgain, ByNew, ByAck, chosen, chosen_may}
+use Rattle.dna_links.proofs.Runs.Owners.{there_is}
+use Rattle.dna_play.proofs.Links.Choices.{IsAsked, OfDuty, OfConfirm, asked_of}
+use Rattle.dna_play.proofs.Links.Keeps.{is_kept, link_there}
+use Rattle.dna_play.proofs.Links.Fits.{duty_plain}
+use Rattle.dna_play.proofs.Links.Pays.{end_of}
+use Rattle.dna_play.proofs.Links.Sent.{asked_goes}
+use Rattle.dna_play.proofs.Ends.UnitLines.{NspFits, confirm_fits, duty_fits, duty_is_nsp, packet_fits, composed_content}
+use Rattle.dna_play.proofs.Ends.SendMakes.{sent_left, is_made, again_after, sends_old, first_after, sends_new, put_of_bytes, data_of_bytes}
+use Rattle.dna_play.proofs.Ends.SendMakes.{packets_held}
+use Rattle.dna_play.proofs.Ends.Stage.{Stage, Known}
+use Rattle.dna_play.proofs.Stored.Now.{StoredNow, facts_of}
+use Rattle.dna_play.proofs.Ends.TrueEnd.{End, variables_of, station_of, links_of, stored, bytes_of}
 
 -- ---- the bytes of the unit
 
@@ -36,61 +59,138 @@ one_behind (first ∷ units) unit = one_behind units unit
 -- ---- the step
 
 module _ (own other : End) (now : StoredNow own other) where
-  facts : Facts own other
-  facts = facts_of now
+  known : Known own other
+  known = (facts_of now).known
+
+  abbrev station : Station
+  station = station_of own.half
+
+  abbrev s : Links
+  s = links_of own.half
 
   abbrev k : StationVariables (Unit {0})
   k = variables_of own.half
 
+  abbrev ends : List LinkEnd
+  ends = own.links.links
+
+  abbrev head : Head
+  head = own.half.state.head
+
   abbrev asked : Option LinkChoice
   asked = link_choice own.links.confirms own.links.links
 
+  labelled : AreLabelled (unlabelled {L = Unit {0}} station.packets) station
+  labelled = unlabelled_bodies (Unit {0}) station.packets
+
+  -- ---- a message of the links
+
+  -- the addresses that a link knows are words
+  address_small : (o : Option ℕ) → ((a : ℕ) → o ≡ Some a → a < 2 ^ 16) → address o < 2 ^ 16
+  address_small None small = omega arith
+  address_small (Some a) small = small a refl
+
+  own_small : (i : ℕ) (l : LinkOf TrueSegments) → slice_get s.links i ≡ Some l → address l.port.own < 2 ^ 16
+  own_small i l at = address_small l.port.own (λ a e.
+      let less = known.addressed.highest i a (record { link = l; there = at; owns = e }) in let few = now.stage.few in omega arith)
+
+  far_small : (i : ℕ) (l : LinkOf TrueSegments) → slice_get s.links i ≡ Some l → address l.port.far < 2 ^ 16
+  far_small i l at = address_small l.port.far (λ a e.
+      let o = known.addressed.far i l at a e in let less = known.others.highest o.number a o.owns in let few = now.theirs.few in omega arith)
+
+  message_fits : (c : LinkChoice) (message : NspValue) → IsAsked s.links own.links c message → NspFits message × IsNsp message
+  message_fits c message (OfDuty number place duty l o at due) =
+      let there = link_there at in (
+        duty_fits (end_of l o) (duty_plain l o SegmentDuty (is_kept at).fits.segments) duty,
+        duty_is_nsp (end_of l o) (own_small number l there) (far_small number l there) (omega arith) duty,
+      )
+  message_fits c message (OfConfirm confirm first) =
+      let small = (now.stage.links.confirms 0 confirm first).small in
+      (confirm_fits confirm.dst confirm.src confirm.reason, (tt, ((small.dst, small.src), small.reason)))
+
+  -- ---- what is chosen is there
+
+  again_there : wire_is_new k ≡ false → (packet : HeldPacket (Unit {0})) × (slice_get k.held k.ahead ≡ Some packet)
+  again_there old =
+      let differs = eqb-false k.ahead (length k.held) old in
+      let counted = length-drop station.acknowledged (unlabelled {L = Unit {0}} station.packets) in
+      let all = all_length (unlabelled {L = Unit {0}} station.packets) station labelled in
+      let below = known.bounded.ordered.below in let above = known.bounded.ordered.above in
+      there_is k.held k.ahead (omega arith)
+
   -- this message is put together by a choice, and its unit is made; these links are left
-  module _ (c : Choice) (m : MessageValue) (is : choice k own.owed asked ≡ Some c)
-      (put : message_of c own.half.state.head k own.links.links ≡ Some m) (links : Links) (messages : List (Option SentMessage))
-      (known : LayersTruth) where
+  module _ (c : Choice) (m : MessageValue) (is : choice k own.owed asked ≡ Some c) (put : message_of c head k ends ≡ Some m) (links : Links)
+      (messages : List (Option SentMessage)) (truth : LayersTruth) where
     abbrev half : PlayHalf
-    half = sent_left own.half other.half m
-        (record own.half.state.station { station = station_book.after_sending (station_of own.half) m; links = links; messages = messages }, known)
+    half = sent_left own.half m
+        (record own.half.state.station { station = station_book.after_sending station m; links = links; messages = messages }, truth)
 
     sent_right : makes own.half other.half (Sent (spelling m)) ≡ Some half → (kept : StoredLinks) → keeping.links_sent c own.links ≡ kept →
         Stage (after_sending c own half kept) → IsRight own other Send (keeping.sends (stored own))
-    sent_right makes_it kept same stage =
-        subst (IsRight own other Send)
-        (sym (ap (keeping.sends_choice (stored own)) is ∙ ap (keeping.sends_message (stored own) c) put)) (record {
-          after = after_sending c own half kept;
-          makes = First makes_it Nothing;
-          same = ap (λ (station : StoredStation). record (stored own) { station = station; links = kept })
-              (station_sent (station_of own.half) own.owed facts.known.bounded.ordered c m)
-              ∙ ap (λ (links : StoredLinks). record (stored own) {
-                station = of_station.after_sent c m (stored own).station;
-                links = links;
-              }) (sym same);
-          sent = one_behind own.half.sent (record { bytes = spelling m; message = m; known = known });
-          stage = stage;
-          asks = (c, is);
-          room = never_full own other Send refl;
-        })
+    sent_right makes_it kept same stage = rw (is, put) (record {
+      after = after_sending c own half kept;
+      makes = First makes_it Nothing;
+      same = rw (same, station_sent station own.owed known.bounded.ordered c m) refl;
+      sent = one_behind own.half.sent (record { bytes = spelling m; message = m; known = truth });
+      stage = stage;
+      asks = (c, is);
+      room = never_full own other Send refl;
+    })
+
+  allowed : (c : Choice) (m : MessageValue) → choice k own.owed asked ≡ Some c → message_of c head k ends ≡ Some m → sending_refusal station m ≡ None
+  allowed c m is put =
+      sending_refusal_same (unlabelled station.packets) station labelled known.bounded.ordered m
+      ∙ chosen_may (cut (unlabelled station.packets) station) own.owed asked now.stage.pays head ends c m is put
 
   -- without a message of the links
   old_same : (c : Choice) → ((one : LinkChoice) → c ≡ SendNew one → ⊥) → keeping.links_sent c own.links ≡ own.links
   old_same (SendNew one) old = absurd (old one refl)
   old_same c old = refl
 
-  by_goes : (c : Choice) → choice k own.owed asked ≡ Some c → Goes own other now.stage now.theirs facts.known c →
+  old_right : (c : Choice) (m : MessageValue) → ((one : LinkChoice) → c ≡ SendNew one → ⊥) → choice k own.owed asked ≡ Some c →
+      message_of c head k ends ≡ Some m → gives_number station m ≡ false → IsRight own other Send (keeping.sends (stored own))
+  old_right c m old is put given =
+      let b = put_of_bytes k (omega arith) (packets_held station now.stage.packets) c head ends m (λ one e. absurd (old one e)) put in
+      let after = again_after own.half m in
+      sent_right c m is put after.0.links after.0.messages after.1
+      (is_made own.half other.half m b after (sends_old own.half m (allowed c m is put) given)) own.links (old_same c old)
+      (stage_again own other now.stage known c m put b)
+
+  -- of a number that was given, and of one that was not
+  gives_as : (body : List ℕ) (b : Bool) → wire_is_new k ≡ b → gives_number station (data_with k body) ≡ b
+  gives_as body b is = sym (first_same (unlabelled {L = Unit {0}} station.packets) station labelled known.bounded.ordered (data_with k body)) ∙ is
+
+  -- what is chosen is put together, and the node makes its unit: without a new packet, or with one in which a message of the links goes
+  chosen_right : (state : State) (c : Choice) → choice k own.owed asked ≡ Some c → IsChosen k own.owed asked state c →
       IsRight own other Send (keeping.sends (stored own))
-  by_goes c is (GoesOld _ m put b old makes_it) = let after = again_after own.half other.half m in
-      sent_right c m is put after.0.links after.0.messages after.1 makes_it own.links (old_same c old)
-      (stage_again own other now.stage facts.known c m put b)
-  by_goes c is (GoesNew one message asked m put b packet sent of_it does_it makes_it) = let after = first_after own.half other.half m packet sent in
-      sent_right (SendNew one) m is put after.0.links after.0.messages after.1 makes_it (after_sent one own.links) refl
-      (stage_first own other now.stage facts.known one message asked packet sent of_it does_it m put b)
+  chosen_right state c is (ByStrt owed) = old_right SendStrt (Strt start_flags) (λ one e. cc) is refl refl
+  chosen_right state c is (ByStack owed) = old_right SendStack (Stack start_flags) (λ one e. cc) is refl refl
+  chosen_right state c is (ByNak reason owed) = old_right (SendNak reason) (Nak no_flags reason k.received) (λ one e. cc) is refl refl
+  chosen_right state c is (ByRep owed) = old_right SendRep (Rep no_flags (wire (k.acknowledged + length k.held))) (λ one e. cc) is refl refl
+  chosen_right state c is (ByAck owed) = old_right SendAck (Ack no_flags k.received) (λ one e. cc) is refl refl
+  chosen_right state c is (ByAgain old) =
+      let there = again_there old in
+      old_right SendAgain (data_with k (there.0).body) (λ one e. cc) is (ap (packet_again k) there.1) (gives_as (there.0).body false old)
+  chosen_right state c is (ByNew one new room one_is) =
+      let x = asked_of s own.addresses own.links now.stage.links one one_is in
+      let may = (asked_goes s own.addresses own.links now.stage.links (links_of other.half).links known.addressed known.numbers one x.message
+      x.is).0 in
+      let f = message_fits one x.message x.is in
+      let m = data_with k (packet_with head x.message) in
+      let put : message_of (SendNew one) head k ends ≡ Some m = ap (new_data k head) x.put in
+      let b = data_of_bytes k (omega arith) (packet_with head x.message) (packet_fits head x.message f.0) in
+      let packet : Carried = record { dst = head.peer; src = head.own; message = x.message } in
+      let goes : links_sent s packet ≡ Ok may.0 = rw (eq-eqb _ _ (sym known.node), eq-eqb _ _ (sym known.peer)) may.1 in
+      let after = first_after own.half m packet may.0 in
+      sent_right (SendNew one) m is put after.0.links after.0.messages after.1 (is_made own.half other.half m b after
+      (sends_new own.half m packet may.0 (allowed (SendNew one) m is put) (gives_as (packet_with head x.message) true new)
+      (composed_content head x.message known.head_own known.head_peer f.1) goes)) (after_sent one own.links) refl
+      (stage_first own other now.stage known one packet x.is may.0 goes m put b)
 
   -- what is chosen is sent; else there is nothing to send
-  choice_right : (o : Option Choice) → choice k own.owed asked ≡ o → IsRight own other Send (keeping.sends (stored own))
-  choice_right None none =
-      subst (IsRight own other Send) (sym (ap (keeping.sends_choice (stored own)) none)) (λ asks. let e = sym none ∙ asks.1 in cc)
-  choice_right (Some c) is = by_goes c is (goes own other now.stage now.theirs facts.known c is)
-
   pub send_right : IsRight own other Send (keeping.sends (stored own))
-  send_right = choice_right (choice k own.owed asked) refl
+  send_right = go (choice k own.owed asked) refl
+    where
+      go : (o : Option Choice) → choice k own.owed asked ≡ o → IsRight own other Send (keeping.sends (stored own))
+      go None none = rw none (λ asks. let e = sym none ∙ asks.1 in cc)
+      go (Some c) is = chosen_right k.state c is (chosen k own.owed asked c k.state is)

@@ -1,27 +1,24 @@
 -- What sending and arrival make of a station, as its node keeps it: what the tables make of its station variables, and what it owes then.
-use Rattle.std.proofs.Common.{◌≡◌, Bool, true, false, cond, Option, List, [], ◌∷◌, fold, refl, ap, ◌∙◌}
+use Rattle.std.proofs.Common.{◌≡◌, Bool, true, false, cond, List, [], ◌∷◌, fold, refl, ap, ◌∙◌}
 use Rattle.ddcmp_msg.specs.Message.{MessageValue}
 use Rattle.ddcmp_msg.specs.Reading.{ReadingValue}
-use Rattle.ddcmp_msg.specs.Reading as read_as
 use Rattle.ddcmp_msg.specs.declared.nak_reason.NakReason.TheVariants.{HeaderCheck, DataCheck}
 use Rattle.dna_station.specs.declared.tag.Tag.{Tag}
 use Rattle.dna_station.specs.NakCauses.{Causes, with_cause}
 use Rattle.dna_station.specs.Table.{Change, Nothing, change_of, Effect, row, counts_damage}
-use Rattle.dna_station.specs.Bounds.{IsOrdered, IsWithin}
-use Rattle.dna_station.specs.Book.{Sound, HeaderBad, DataBad, body_of}
+use Rattle.dna_station.specs.Bounds.{IsOrdered}
+use Rattle.dna_station.specs.Book.{ArrivalValue, body_of}
 use Rattle.dna_station.specs.Station.{Station}
 use Rattle.dna_station.specs.Truth.{Truth}
 use Rattle.dna_station.specs.StationBook.{after_sending, after_arrival}
 use Rattle.dna_station.specs.WireStation.{StationVariables, WireStation}
 use Rattle.dna_station.specs.WireBook.{wire_sends, variables_after, wire_does}
-use Rattle.dna_play.specs.Owed.{Owed, Debt, with_debt, arrival_debt, still_owed}
+use Rattle.dna_play.specs.Owed.{Owed, with_debt, arrival_debt, still_owed}
 use Rattle.dna_play.specs.NextSent.{Choice, after_choice}
-use Rattle.dna_play.proofs.Ends.TrueEnd as receiving
 use Rattle.dna_play.specs.StoredEnd.{StoredStation}
 use Rattle.dna_play.specs.StoredStation as keeping
-use Rattle.dna_play.proofs.Ends.DamagedUnits.{ShownDamage, OfHeader, OfData, read_of, arrival_of}
-use Rattle.dna_play.proofs.Ends.StationStage.{cut_of, left_owed, sent_kept, came_kept}
-use Rattle.dna_play.proofs.Ends.TrueEnd.{End, stored}
+use Rattle.dna_play.proofs.Ends.DamagedUnits.{OfHeader, OfData}
+use Rattle.dna_play.proofs.Ends.StationStage.{cut_of, left_owed, sent_kept, came_kept, Comes, ComesSound, ComesHurt}
 
 -- the station variables, and what is owed
 abbrev pub station_with : StationVariables (Unit {0}) → Owed → StoredStation
@@ -51,39 +48,22 @@ met_variables : (m : MessageValue) (tag : Tag) (kept : Bool) (effects : List Eff
 met_variables m tag kept [] w = refl
 met_variables m tag kept (effect ∷ later) w = met_variables m tag kept later (wire_does m tag kept w effect)
 
-module _ (s : Station) (owed : Owed) where
-  -- these are the variables after it
-  abbrev came_to : Station → StationVariables (Unit {0}) → Option Debt → Type 0
-  came_to t k debt = station_with (cut_of t).variables (with_debt debt (left_owed s t owed)) ≡ keeping.owing debt
-      (keeping.becoming k (stored_station s owed))
-
-  left_as : (t : Station) (k : StationVariables (Unit {0})) (debt : Option Debt) → (cut_of t).variables ≡ k → came_to t k debt
-  left_as t k debt same = ap (λ (x : StationVariables (Unit {0})). station_with x (with_debt debt (still_owed (cut_of s).variables x owed))) same
-
-  pub sound_came : IsOrdered s → (m : MessageValue) (u : Truth) (kept : Bool) → IsWithin s m u →
-      station_with (cut_of (after_arrival s (Sound m u) kept)).variables
-      (with_debt (arrival_debt (cut_of s).variables (read_as.Sound m) kept) (left_owed s (after_arrival s (Sound m u) kept) owed))
-      ≡ keeping.after_arrival (read_as.Sound m) kept (stored_station s owed)
-  sound_came ordered m u kept within =
-      left_as (after_arrival s (Sound m u) kept) (keeping.message_came m kept (cut_of s).variables)
-      (arrival_debt (cut_of s).variables (read_as.Sound m) kept)
-      (ap (λ (w : WireStation (Unit {0})). w.variables) (came_kept s ordered m u kept within)
-      ∙ met_variables m u.tag kept (row s.state m).effects (cut_of s))
-
+module _ (s : Station) (ordered : IsOrdered s) where
   -- one more cause for a NAK, or none
   counted : (b : Bool) (causes : Causes) → (cut_of (cond b (record s { causes = causes }) s)).variables ≡ (cut_of s).variables
   counted true causes = refl
   counted false causes = refl
 
-  pub damage_came : (d : ShownDamage) → station_with (cut_of (after_arrival s (arrival_of d) false)).variables
-      (with_debt (arrival_debt (cut_of s).variables (read_of d) false) (left_owed s (after_arrival s (arrival_of d) false) owed))
-      ≡ keeping.after_arrival (read_of d) false (stored_station s owed)
-  damage_came OfHeader = left_as (after_arrival s HeaderBad false) (cut_of s).variables (arrival_debt (cut_of s).variables read_as.HeaderBad false)
-      (counted (counts_damage s.state) (with_cause HeaderCheck s.causes))
-  damage_came OfData = left_as (after_arrival s DataBad false) (cut_of s).variables (arrival_debt (cut_of s).variables read_as.DataBad false)
-      (counted (counts_damage s.state) (with_cause DataCheck s.causes))
+  variables_came : {arrival : ArrivalValue Truth} {read : ReadingValue} → Comes s arrival read → (kept : Bool) →
+      (cut_of (after_arrival s arrival kept)).variables ≡ keeping.came read kept (cut_of s).variables
+  variables_came (ComesSound m u within) kept = ap (λ (w : WireStation (Unit {0})). w.variables) (came_kept s ordered (ComesSound m u within) kept)
+      ∙ met_variables m u.tag kept (row s.state m).effects (cut_of s)
+  variables_came (ComesHurt OfHeader) kept = counted (counts_damage s.state) (with_cause HeaderCheck s.causes)
+  variables_came (ComesHurt OfData) kept = counted (counts_damage s.state) (with_cause DataCheck s.causes)
 
--- whether the packet of what came can be taken
-pub can_keep_same : (own : End) (read : ReadingValue) → receiving.can_keep own read ≡ keeping.can_keep read (stored own).station
-can_keep_same own (read_as.Sound m) = refl
-can_keep_same own read = refl
+  pub station_came : (owed : Owed) {arrival : ArrivalValue Truth} {read : ReadingValue} → Comes s arrival read → (kept : Bool) →
+      station_with (cut_of (after_arrival s arrival kept)).variables
+      (with_debt (arrival_debt (cut_of s).variables read kept) (left_owed s (after_arrival s arrival kept) owed))
+      ≡ keeping.after_arrival read kept (stored_station s owed)
+  station_came owed {arrival} {read} comes kept = ap (λ (k : StationVariables (Unit {0})).
+      station_with k (with_debt (arrival_debt (cut_of s).variables read kept) (still_owed (cut_of s).variables k owed))) (variables_came comes kept)

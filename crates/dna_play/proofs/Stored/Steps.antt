@@ -1,9 +1,5 @@
 -- Each kind of step of a script is right: it goes by its rule, keeps what holds of its end, and is the same of what the nodes of the ends keep.
-use Rattle.capture.specs.declared.event.Event.TheVariants as events
-use Rattle.capture.specs.declared.record.Record.TheVariants as recorded
 use Rattle.std.proofs.Common.{length, ◌<◌, ℕ, ◌≤◌}
-use Rattle.capture.specs.declared.record.Record.TheVariants.{User}
-use Rattle.dna_play.proofs.Played.PlayLines.{line_tested, bytes_tested}
 use Rattle.dna_play.proofs.Stored.Made.{start_right, halt_right}
 use Rattle.dna_play.proofs.Stored.Now.{StoredNow}
 use Rattle.dna_play.specs.StoredPlay.{stored_plays}
@@ -33,17 +29,13 @@ module _ (own other : End) (now : StoredNow own other) where
   value_right Refuse numbers bytes short = refuse_right own other now
   value_right Lose numbers bytes short = lose_right own other now
   value_right (Damage place value) numbers bytes short = damage_right own other now place value
-  value_right (Noise noise) numbers bytes short = noise_right own other now noise (line_tested (recorded.Noise noise) (record {
-    spelling = record { numbers = numbers; bytes = bytes };
-    short = short;
-  }))
+  value_right (Noise noise) numbers bytes short =
+      noise_right own other now noise (record { spelling = record { numbers = numbers; bytes = bytes }; short = short })
   value_right Open numbers bytes short = open_right own other now
   value_right (Accept partner) numbers bytes short = accept_right own other now partner numbers
   value_right (Reject partner) numbers bytes short = reject_right own other now partner numbers
-  value_right (In link message) numbers bytes short = in_right own other now link message (line_tested (User (events.In link message)) (record {
-    spelling = record { numbers = numbers; bytes = bytes };
-    short = short;
-  })) short (bytes_tested message bytes)
+  value_right (In link message) numbers bytes short =
+      in_right own other now link message (record { spelling = record { numbers = numbers; bytes = bytes }; short = short })
   value_right (Close link) numbers bytes short = close_right own other now link numbers
   value_right (Retry link) numbers bytes short = retry_right own other now link
 

@@ -20,7 +20,8 @@ use Rattle.dna_play.specs.NextSent.{LinkEnd, duty_of, OfLink, choice, SendAgain,
 use Rattle.dna_play.specs.Compose.{duty_message, message_of, no_flags}
 use Rattle.dna_play.specs.StoredEnd.{StoredEnd, new_stored_end}
 use Rattle.dna_play.specs.StoredPlay.{StoredStepped, stored_plays}
-use Rattle.dna_play.specs.StoredPlayed.{StoredPlayed, StoredStopped, stored_play}
+use Rattle.dna_play.specs.StoredPlayed.{StoredPlayed, stored_play}
+use Rattle.dna_play.specs.Stop.{Stopped}
 use Rattle.dna_play.specs.Stop.{Stop, BadStep, Full}
 use Rattle.dna_rows.proofs.Courses.{head_1}
 use Rattle.dna_rows.proofs.Units.{hex}
@@ -62,9 +63,9 @@ unsent begun length = record { begun = begun; messages = replicate length 7 ∷ 
 abbrev with_given : ℕ → StoredEnd → StoredEnd
 with_given count end = record end { addresses = count }
 
-abbrev end_b : Result StoredPlayed StoredStopped → StoredEnd
-end_b (Ok played) = played.pair.b
-end_b (Err stopped) = stopped.so_far.pair.b
+abbrev end_b : Result StoredPlayed (Stopped StoredPlayed) → StoredEnd
+end_b (Ok played) = played.pair.b.end
+end_b (Err stopped) = stopped.so_far.pair.b.end
 
 abbrev records_of : Result StoredStepped Stop → Result (List Record) Stop
 records_of (Ok made) = Ok made.records

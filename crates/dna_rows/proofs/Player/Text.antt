@@ -7,7 +7,8 @@ use Rattle.capture.specs.Reading.{number_at, positive_at, address_at}
 use Rattle.capture.proofs.NumberLaws.{number_takes}
 use Rattle.capture.proofs.AddressLaws.{address_takes}
 use Rattle.dna_play.specs.Script.{Start, Halt, Timer, Send, Deliver, Refuse, Lose, Damage, Noise, Open, Accept, Reject, In, Close, Retry}
-use Rattle.dna_play.specs.ScriptText.{line_text, script_head}
+use Rattle.capture.specs.Listed.{list_head}
+use Rattle.dna_play.specs.ScriptText.{line_text, script_form}
 use Rattle.dna_rows.proofs.Scripts.{a, b}
 
 -- a number as it is spelled
@@ -36,7 +37,7 @@ record Rows : Type 0 where
   -- BYTES stand as in a capture
   in_line : (message : List ℕ) → line_text (a (In 3 message)) ≡ codes "a in 3 " ++ bytes_text message
   in_line_of_nothing : line_text (a (In 3 [])) ≡ codes "a in 3 -"
-  head_line : script_head 0x0401 0xfbff ≡ codes "ddplay 1 1.1 62.1023"
+  head_line : list_head script_form.first_words 0x0401 0xfbff ≡ codes "ddplay 1 1.1 62.1023"
 
 computed : Rows
 unfolding address_at positive_at number_at

@@ -5,7 +5,8 @@ use Rattle.wire_base.specs.declared.side.Side.TheVariants.{A, B}
 use Rattle.capture.specs.declared.hint.HintForm.TheVariants.{Number}
 use Rattle.capture.specs.Text.{record_lines}
 use Rattle.dna_play.specs.Script.{ScriptStep}
-use Rattle.dna_play.specs.StoredPlayed.{StoredPair, StoredMade, stored_plays_step}
+use Rattle.dna_play.specs.StoredPlay.{StoredStepped}
+use Rattle.dna_play.specs.StoredPlayed.{StoredPair, pair_after, stored_plays_step}
 use Rattle.player_end.specs.declared.fault.StepFault.{StepFault}
 use Rattle.player_end.specs.Stepping.{StopMeans}
 
@@ -25,9 +26,9 @@ PutsLines B old new lines = (new.0 ≡ old.0) × (new.1 ≡ old.1 ++ lines)
 
 -- the step is made, and the lines of its records wait
 pub record Steps (step : ScriptStep) (old new : Standing) : Type 0 where
-  pub made : StoredMade
+  pub made : StoredStepped
   pub makes : stored_plays_step old.pair step ≡ Ok made
-  pub pair : new.pair ≡ made.pair
+  pub pair : new.pair ≡ pair_after step.side step.step made old.pair
   pub puts : PutsLines step.side (old.a, old.b) (new.a, new.b) (record_lines Number made.records)
 
 -- it isn't made, for this reason, and no line is put

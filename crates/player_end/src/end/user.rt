@@ -91,7 +91,7 @@ impl<W: Window<HeldPacket, 256> + Drop, V: Window<GivenPiece, 4096> + Drop> End<
 
     /// The user accepts the call from this address: the link gets the next address, and owes CC. `BadStep`: no link in Called has this far address.
     /// `Full`: no address is left.
-    #[tactic(auto, using(crate::proofs::Searching::found_ends, crate::proofs::Answered::answered))]
+    #[tactic(auto, using(crate::proofs::Searching::found_ends, crate::proofs::Steps::answered))]
     pub fn accept(&mut self, partner: u16, text: &mut Vec<u8>) -> Result<(), StepFault>
         ensures ok { OnOk result (with_lines text.old.items (stored.accepts self.old partner) ≡ Ok (self.new, [], text.new.items)) }
         ensures stop { IfErr result (λ fault. StopMeans (stored.accepts self.old partner) fault) }
@@ -116,7 +116,7 @@ impl<W: Window<HeldPacket, 256> + Drop, V: Window<GivenPiece, 4096> + Drop> End<
 
     /// The user rejects the call from this address: the link gets the next address, and owes DI. `BadStep`: no link in Called has this far address.
     /// `Full`: no address is left.
-    #[tactic(auto, using(crate::proofs::Searching::found_ends, crate::proofs::Answered::answered))]
+    #[tactic(auto, using(crate::proofs::Searching::found_ends, crate::proofs::Steps::answered))]
     pub fn reject(&mut self, partner: u16, text: &mut Vec<u8>) -> Result<(), StepFault>
         ensures ok { OnOk result (with_lines text.old.items (stored.rejects self.old partner) ≡ Ok (self.new, [], text.new.items)) }
         ensures stop { IfErr result (λ fault. StopMeans (stored.rejects self.old partner) fault) }

@@ -6,8 +6,8 @@ use Rattle.pair_player.specs.inner.Making.{standing}
 use Rattle.pair_player.specs.Playing.{held}
 use Rattle.pair_player.specs.Step.{line_with}
 use Rattle.capture.specs.inner.Outlets.{outlet}
-use Rattle.pair_player.proofs.PlayLaws.{at_end, at_fault, ended, fails, lines_at_fault, lines_on, lines_stopped, moved_on, step_on}
-use Rattle.pair_player.proofs.PlayLaws.{stopped, under_way}
+use Rattle.pair_player.proofs.CutLaws.{lines_at_fault, lines_on, lines_stopped}
+use Rattle.pair_player.proofs.PlayLaws.{at_end, at_fault, ended, fails, moved_on, step_on, stopped, under_way}
 use Rattle.pair_player.proofs.playing.play_steps.Goals as goal
 
 pub returns-in-Err-clause-plays : goal.returns-in-Err-clause-plays

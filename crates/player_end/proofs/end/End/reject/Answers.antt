@@ -9,5 +9,5 @@ use Rattle.player_end.proofs.end.End.reject.Goals as goal
 pub returns-clause-ok : goal.returns-clause-ok
 returns-clause-ok g c =
     answers_lines c.self.inside.links c.self.view_is c.args.partner (answered Disconnecting DisconnectDuty) (events.Reject c.args.partner)
-    (sym c.in-Some.ensures.number) c.in-Some.ensures.link c.in-Some-next_address.ensures.next c.in-Some-next_address.ensures.room
-    c.answer_at.new.self c.args.text.now.items (c.in-Ok.ensures _ c.in-Some.ensures.link) c.in_ok-put.ensures.ok
+    c.in-Some-next_address.ensures.next c.in-Some-next_address.ensures.room _ _ (sym c.in-Some.ensures.number) c.in-Some.ensures.link tt
+    c.answer_at.new.self c.args.text.now.items _ (c.in-Ok.ensures _ c.in-Some.ensures.link) c.in_ok-put.ensures.ok

@@ -8,7 +8,7 @@ use Rattle.player_end.specs.inner.Composing.{is_new}
 use Rattle.player_end.specs.inner.Owing.{choice_view, link_choice_view}
 use Rattle.player_end.specs.inner.Sending.{end_with, sends_new}
 use Rattle.player_end.specs.Stepping.{HasUnit}
-use Rattle.player_end.proofs.Choosing.{chosen_message}
+use Rattle.player_end.proofs.Choosing.{chosen}
 use Rattle.player_end.proofs.Sends.{has_unit, sends_of_links, sends_others}
 use Rattle.player_end.proofs.end.End.send.Goals as goal
 
@@ -17,8 +17,8 @@ send_new-requires-clause-next g c =
     let i = c.self.inside in
     subst (λ (t : StoredLinks). link_choice t.confirms t.links ≡ Some (link_choice_view c.in-New.message)) (sym c.choice-next.ensures.same)
     (sym c.choice-next.ensures.choice
-    ∙ chosen_message (link_choice_view c.in-New.message) i.station.variables i.station.owed (option_map link_choice_view c.choice-next.result)
-    (sym c.in-Some.ensures ∙ ap (λ (x : Choice). Some (choice_view x)) c.in-New.is))
+    ∙ (chosen (link_choice_view c.in-New.message) i.station.variables i.station.owed (option_map link_choice_view c.choice-next.result)
+    (sym c.in-Some.ensures ∙ ap (λ (x : Choice). Some (choice_view x)) c.in-New.is)).0)
 
 pub returns-in-New : goal.returns-in-New
 returns-in-New g c =

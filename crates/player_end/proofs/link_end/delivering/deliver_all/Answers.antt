@@ -42,11 +42,11 @@ returns-in_default-clause-left c = sym (c.loop.invariant.left ∙ none_left c.ar
 pub returns-clause-ok : goal.returns-clause-ok
 returns-clause-ok c =
     let pieces = c.loop.pieces in
-    let none = empty_counts c.args.own c.loop.text.items pieces (omega (arith, c.loop.invariant.few)) in
+    let none = empty_counts pieces (omega (arith, c.loop.invariant.few)) in
     c.loop.invariant.lines ∙ no_more_lines c.args.own c.loop.text.items pieces none
 
 pub returns-clause-left : goal.returns-clause-left
 returns-clause-left c =
     let pieces = c.loop.pieces in
-    let none = empty_counts c.args.own c.loop.text.items pieces (omega (arith, c.loop.invariant.few)) in
+    let none = empty_counts pieces (omega (arith, c.loop.invariant.few)) in
     sym (c.loop.invariant.left ∙ none_left c.args.own c.loop.text.items pieces none)

@@ -1,5 +1,5 @@
 use Rattle.std.proofs.Common.{rules}
-use Rattle.player_end.proofs.Change.{in_place, kept_by, changes}
+use Rattle.player_end.proofs.Change.{kept_by, changes}
 use Rattle.player_end.proofs.Keeping.{keeps_called}
 use Rattle.player_end.proofs.link_ends.LinkEnds.call_again_at.Goals as goal
 
@@ -7,4 +7,4 @@ pub invariant_of-self : goal.invariant_of-self
 invariant_of-self g c = search (rules, changes)
 
 pub returns : goal.returns
-returns g c = kept_by (in_place c.self.view_is c.requires.within c.index_mut.ensures.value c.requires.lives) keeps_called c.call_again.ensures
+returns g c = kept_by c.self.view_is c.requires.within c.index_mut.ensures.value c.requires.lives keeps_called c.call_again.ensures

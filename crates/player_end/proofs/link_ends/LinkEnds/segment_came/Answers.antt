@@ -1,14 +1,12 @@
-use Rattle.std.proofs.Common.{ℕ, List, Some, refl, sym, subst, ap, ◌∙◌, IfErr}
+use Rattle.std.proofs.Common.{ℕ, List, Some, refl, sym, ap, ◌∙◌}
 use Rattle.std.proofs.lemmas.List.{append-nil}
 use Rattle.dna_packet.specs.Nsp.{DataSegment, segment_view}
 use Rattle.dna_links.specs.declared.port.LinkTest.TheVariants.{ActedOn}
 use Rattle.dna_play.specs.NextSent.{LinkEnd}
-use Rattle.dna_play.specs.StoredLinks.{Delivering, delivering_at, delivering_none, took_segment}
+use Rattle.dna_play.specs.StoredLinks.{delivering_at, delivering_none, took_segment}
 use Rattle.player_end.specs.inner.Delivering.{delivers}
 use Rattle.player_end.specs.inner.Index.{live_of}
-use Rattle.player_end.specs.Stepping.{Stopped}
-use Rattle.player_end.proofs.Change.{map_ok}
-use Rattle.player_end.proofs.Searching.{with_passed, with_none}
+use Rattle.player_end.proofs.Searching.{segment_at, with_none}
 use Rattle.player_end.proofs.link_ends.LinkEnds.segment_came.Goals as goal
 
 pub returns-in_default-clause-ok : goal.returns-in_default-clause-ok
@@ -21,18 +19,10 @@ returns-in_default-clause-ok g c =
 
 pub returns-clause-ok : goal.returns-clause-ok
 returns-clause-ok g c =
-    let s = c.args.self.now in
-    let seg = segment_view c.args.segment.now in
-    map_ok c.take_segment_at.result (λ e. ap (delivers (DataSegment seg) c.args.text.now.items)
-    (with_passed (ActedOn seg.dstaddr seg.srcaddr) s (delivering_none (live_of s))
-    (λ place (l : LinkEnd). delivering_at place (took_segment seg l) (live_of s)) _ _ refl (sym c.in-Some.ensures.number) c.in-Some.ensures.link) ∙ e)
+    rw (segment_at c.args.self.now (segment_view c.args.segment.now) (sym c.in-Some.ensures.number) c.in-Some.ensures.link)
     (c.take_segment_at.ensures.ok _ c.in-Some.ensures.link)
 
 pub returns-clause-stop : goal.returns-clause-stop
 returns-clause-stop g c =
-    let s = c.args.self.now in
-    let seg = segment_view c.args.segment.now in
-    subst (λ (d : Delivering). IfErr c.take_segment_at.result (λ fault. Stopped (delivers (DataSegment seg) c.args.text.now.items d) fault))
-    (sym (with_passed (ActedOn seg.dstaddr seg.srcaddr) s (delivering_none (live_of s))
-    (λ place (l : LinkEnd). delivering_at place (took_segment seg l) (live_of s)) _ _ refl (sym c.in-Some.ensures.number) c.in-Some.ensures.link))
+    rw (segment_at c.args.self.now (segment_view c.args.segment.now) (sym c.in-Some.ensures.number) c.in-Some.ensures.link)
     (c.take_segment_at.ensures.stop _ c.in-Some.ensures.link)

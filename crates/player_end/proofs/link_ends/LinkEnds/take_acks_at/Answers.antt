@@ -1,5 +1,5 @@
 use Rattle.std.proofs.Common.{rules}
-use Rattle.player_end.proofs.Change.{in_place, kept_by, changes}
+use Rattle.player_end.proofs.Change.{kept_by, changes}
 use Rattle.player_end.proofs.Keeping.{keeps_acks}
 use Rattle.player_end.proofs.link_ends.LinkEnds.take_acks_at.Goals as goal
 
@@ -8,4 +8,4 @@ invariant_of-self g c = search (rules, changes)
 
 pub returns : goal.returns
 returns g c =
-    kept_by (in_place c.self.view_is c.requires.within c.index_mut.ensures.value c.requires.lives) (keeps_acks c.args.words.now) c.take_acks.ensures
+    kept_by c.self.view_is c.requires.within c.index_mut.ensures.value c.requires.lives (keeps_acks c.args.words.now) c.take_acks.ensures

@@ -1,9 +1,6 @@
-use Rattle.std.proofs.Common.{◌≡◌, ℕ, ◌+◌, List, length, sym, subst, ap, ◌∙◌, arith}
+use Rattle.std.proofs.Common.{◌≡◌, ℕ, List, length, length-set, sym, ap, ◌∙◌, arith}
 use Rattle.std.specs.Prelude.{slice_get, slice_set}
-use Rattle.player_end.specs.inner.Index.{AreMarked}
-use Rattle.player_end.specs.inner.Marks.{IsUnmarkedBelow}
 use Rattle.player_end.specs.inner.Owing.{duty_view}
-use Rattle.player_end.proofs.Places.{set_length}
 use Rattle.player_end.proofs.Duties.{duty_first, no_duty, still_marked, unmarked_through}
 use Rattle.player_end.proofs.link_ends.composing.first_duty.Goals as goal
 
@@ -24,16 +21,14 @@ returns-in-Some-duty_at-clause-marked g c = λ number link duty at is.
 
 pub loop-from-preserved : goal.loop-from-preserved
 loop-from-preserved g c =
-    let links = c.args.links.now.items in
     let marks = c.loop-from.marks.marks.items in
     let number = c.in-Some.number in
     let now : c.unmark.new.self.marks.items ≡ slice_set marks number 0 =
-    c.unmark.ensures ∙ ap (λ (ms : List ℕ). slice_set ms number 0) c.in-Some.ensures.same in (
-      subst (λ (ms : List ℕ). AreMarked links ms) (sym now)
-          (still_marked links marks c.loop-from.invariant.0 number (sym c.in_default-duty_at.ensures)),
-      ap length now ∙ set_length marks number 0 ∙ c.loop-from.invariant.1,
-      subst (λ (ms : List ℕ). IsUnmarkedBelow (number + 1) ms) (sym now)
-          (unmarked_through links marks c.loop-from.invariant.0 number c.in-Some.ensures.within c.in-Some.ensures.first),
+    c.unmark.ensures ∙ ap (λ (ms : List ℕ). slice_set ms number 0) c.in-Some.ensures.same in
+    rw now (
+      still_marked c.args.links.now.items marks c.loop-from.invariant.0 number (sym c.in_default-duty_at.ensures),
+      length-set marks number 0 ∙ c.loop-from.invariant.1,
+      unmarked_through marks number c.in-Some.ensures.first,
     )
 
 pub returns-clause-duty : goal.returns-clause-duty
