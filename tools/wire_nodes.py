@@ -178,7 +178,8 @@ async def session(seed, packets):
 
     listener = await asyncio.start_server(accepted, '127.0.0.1', 0)
     port, port_b = free_port(), listener.sockets[0].getsockname()[1]
-    relay = await asyncio.create_subprocess_exec(RELAY, str(port), '127.0.0.1:%d' % port_b, '1.1', '1.2', stdout=asyncio.subprocess.PIPE)
+    relay = await asyncio.create_subprocess_exec(RELAY, '--once', str(port), '127.0.0.1:%d' % port_b, '1.1', '1.2',
+                                                 stdout=asyncio.subprocess.PIPE, stderr=asyncio.subprocess.DEVNULL)
     wire = asyncio.create_task(relay.communicate())
     a = await connected(port)
     b = await arrived.get()
