@@ -1,0 +1,48 @@
+# Completion for bash of ddcap, ddcap-wire-relay and ddcap-wire-of. The words of ddcap and their options are those of `ddcap help` and its pages.
+
+_ddcap_words() { command ddcap help 2> /dev/null | sed -n 's/^  ddcap \([a-z]*\).*/\1/p'; }
+
+_ddcap_options() { command ddcap help "$1" 2> /dev/null | grep -oE '(^|[[:space:]([])--[a-z]+' | grep -oE -- '--[a-z]+' | sort -u; }
+
+# The numbers of the reasons.
+_ddcap_reasons() { command ddcap help explain 2> /dev/null | sed -n 's/.*\<1 to \([0-9]*\).*/\1/p' | head -n 1 | xargs -r seq; }
+
+# Proposes the words of this list that begin as the word at the cursor does; nothing else is proposed.
+_ddcap_propose() {
+  compopt +o default 2> /dev/null
+  mapfile -t COMPREPLY < <(compgen -W "$1" -- "${COMP_WORDS[COMP_CWORD]}")
+}
+
+# Where it proposes nothing, the names of files are proposed.
+_ddcap() {
+  local now=${COMP_WORDS[COMP_CWORD]} before=${COMP_WORDS[COMP_CWORD - 1]} word=${COMP_WORDS[1]}
+  COMPREPLY=()
+  if [ "$COMP_CWORD" = 1 ]; then
+    _ddcap_propose "$(_ddcap_words)"
+  elif [ "$COMP_CWORD" = 2 ] && [ "$word" = help ]; then
+    _ddcap_propose "$(_ddcap_words)"
+  elif [ "$COMP_CWORD" = 2 ] && [ "$word" = explain ]; then
+    _ddcap_propose "$(_ddcap_reasons)"
+  elif [ "$COMP_CWORD" = 2 ] && [ "$word" = convert ]; then
+    _ddcap_propose '1 2'
+  elif [ "$before" = --rows ] || [ "$before" = --from ]; then
+    _ddcap_propose ''
+  elif [[ $now == -* ]]; then
+    _ddcap_propose "$(_ddcap_options "$word")"
+  fi
+}
+
+_ddcap_wire_relay() { COMPREPLY=() && _ddcap_propose '--once --udp --help'; }
+
+_ddcap_wire_of() {
+  COMPREPLY=()
+  if [[ ${COMP_WORDS[COMP_CWORD]} == -* ]]; then
+    _ddcap_propose '--help'
+  elif [ "$COMP_CWORD" = 3 ]; then
+    _ddcap_propose 'whole bytes one noisy'
+  fi
+}
+
+complete -o default -F _ddcap ddcap
+complete -o default -F _ddcap_wire_relay ddcap-wire-relay
+complete -o default -F _ddcap_wire_of ddcap-wire-of
