@@ -15,11 +15,13 @@ SECTION = re.compile(r'^module ')
 FUNCTION = re.compile(r'^( *)(pub(?:\([^)]*\))? )?(?:const )?fn (\w+)', re.MULTILINE)
 TYPE = re.compile(r'^(?:pub(?:\([^)]*\))? )?(struct|enum|trait) (\w+)', re.MULTILINE)
 MEMBER = re.compile(r'^ +ghost (\w+)[^=;{]*[=:] (\{.*?\});$', re.MULTILINE | re.DOTALL)
-CLAUSE = re.compile(r'(requires|ensures)\*?(?: [\w]+)?\s*$')
-STRINGS = re.compile(r'"(?:[^"\\]|\\.)*"')
+CLAUSE = re.compile(r'\b(?P<kind>requires|ensures)\*?(?: (?P<name>\w+))?\s*$')
+STRINGS = re.compile(r'"(?:[^"\\]|\\[\s\S])*"')
+SILENT = re.compile(r'//.*|b?"(?:[^"\\]|\\[\s\S])*"|b?\'(?:[^\'\\\n]|\\.)\'')  # of a file of code: comments, texts and letters
 
 Item = namedtuple('Item', 'module name kind start end text words')
-Function = namedtuple('Function', 'crate module owner name is_pub is_law clauses words')
+Clause = namedtuple('Clause', 'kind name said text')
+Function = namedtuple('Function', 'crate module line owner name is_pub is_law said clauses words')
 Type = namedtuple('Type', 'crate name text words')
 
 
@@ -124,8 +126,8 @@ def named_in(text):
     return found
 
 
-def signature_end(text, at):
-    """Where the head of a function with its clauses ends, and the clauses."""
+def signature_end(whole, text, at):
+    """Where the head of a function with its clauses ends, and the clauses, of a text of which `text` is what is not silent."""
     clauses, depth, begun = [], 0, at
     while at < len(text):
         letter = text[at]
@@ -136,14 +138,33 @@ def signature_end(text, at):
         elif letter == ';' and not depth:
             return at, clauses
         elif letter == '{' and not depth:
-            if not CLAUSE.search(text[begun:at]):
+            heading = CLAUSE.search(text[begun:at])
+            if not heading:
                 return at, clauses
             end = closed(text, at)
-            clauses.append(text[at:end])
+            said = said_before(whole, begun + heading.start(), '// ')
+            clauses.append(Clause(heading['kind'], heading['name'] or '', said, whole[at:end]))
             at = begun = end
             continue
         at += 1
     return at, clauses
+
+
+def said_before(text, at, mark):
+    """The comment that stands before a place, a list of lines; attributes may stand between."""
+    said = []
+    for line in reversed(text[:at].rpartition('\n')[0].splitlines()):
+        line = line.strip()
+        if line.startswith(mark):
+            said.insert(0, line[len(mark):].strip())
+        elif said or not line or line.endswith(('{', '}', ';')):
+            break
+    return said
+
+
+def silenced(match):
+    """As many blanks; a text keeps its quotes."""
+    return '"%s"' % (' ' * (len(match[0]) - 2)) if '"' in match[0][:2] else ' ' * len(match[0])
 
 
 def closed(text, at):
@@ -165,9 +186,9 @@ class Code:
         self.crate, self.module = parts[1], '.'.join(parts[3:])[:-len('.rt')]
         self.is_test = self.crate in TESTS or 'tests' in self.module.split('.')
         with open(path) as opened:
-            text = opened.read()
-        self.imports = imports(text)
-        text = re.sub(r'//.*', '', STRINGS.sub('""', text))
+            self.whole = opened.read()
+        self.imports = imports(self.whole)
+        text = SILENT.sub(silenced, self.whole)
         self.rust_uses = re.findall(r'^(pub )?use ([^;]*);', text, re.MULTILINE)
         self.public_modules = re.findall(r'^pub mod (\w+);', text, re.MULTILINE)
         self.types, self.functions, self.ghosts = [], [], []
@@ -185,10 +206,10 @@ class Code:
         for match in TYPE.finditer(text):
             self.types.append(self.type_at(text, match))
         for match in FUNCTION.finditer(text):
-            end, clauses = signature_end(text, match.start())
+            end, clauses = signature_end(self.whole, text, match.start())
             if clauses:
                 place = max(each for each in owners if each[0] <= match.start())
-                self.functions.append(self.function_at(text[match.end():end], match, clauses, place))
+                self.functions.append(self.function_at(text[match.start():end], match, clauses, place))
 
     def type_at(self, text, match):
         line_end = (text + '\n').index('\n', match.end())
@@ -199,10 +220,18 @@ class Code:
 
     def function_at(self, head, match, clauses, place):
         _, owner, in_trait = place
-        signature = re.split(r'\b(?:requires|ensures)\b', head)[0]
+        signature = re.split(r'\b(?:requires|ensures)\b', head[match.end() - match.start():])[0]
         is_law = '->' not in signature and '&mut' not in signature and not owner
-        words = set(WORD.findall(' '.join(clauses))) | set(re.findall(r'\w+', signature))
-        return Function(self.crate, self.module, owner, match[3], match[2] == 'pub ' or in_trait, is_law, clauses, words)
+        words = set(WORD.findall(' '.join(words_of(clause) for clause in clauses))) | set(re.findall(r'\w+', signature))
+        line = self.whole.count('\n', 0, match.start()) + 1
+        is_pub = match[2] == 'pub ' or in_trait
+        said = said_before(self.whole, match.start(), '///')
+        return Function(self.crate, self.module, line, owner, match[3], is_pub, is_law, said, clauses, words)
+
+
+def words_of(clause):
+    """What stands in a clause, without comments and texts."""
+    return SILENT.sub(silenced, clause.text)
 
 
 def implemented(head):
