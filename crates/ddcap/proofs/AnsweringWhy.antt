@@ -8,8 +8,8 @@ use Rattle.pair_judge.specs.declared.fault.JudgeFault.TheVariants.{OutOfMemory}
 use Rattle.pair_judge.specs.declared.summary.Summary.{Summary}
 use Rattle.pair_judge.specs.declared.verdict.Verdict.{Verdict}
 use Rattle.pair_judge.specs.declared.verdict.Verdict.TheVariants.{Accepted, Refused as IsRefused}
-use Rattle.ddcap.specs.Printed.{Moved, TellsFault, Writes}
-use Rattle.ddcap.specs.PrintedWhy.{Explains, PrintsAcceptance, PrintsVerdict, TellsRefusal}
+use Rattle.ddcap.specs.Printed.{Moved, TellsFault}
+use Rattle.ddcap.specs.PrintedWhy.{Explains, PrintsAcceptance, PrintsVerdict, TellsRefusal, WritesRefusal}
 use Rattle.ddcap.specs.declared.telling.Form.{Form}
 use Rattle.ddcap.specs.declared.telling.Refused.{Refused}
 use Rattle.ddcap.proofs.Answering.{without_memory}
@@ -47,8 +47,7 @@ module _ (form : Form) (text_a text_b : Option (List ℕ)) (out err : Moved) (st
     explains_acceptance summary is (inr told) = explains_nothing told.0 told.1
 
     pub explains_refusal : (refused : Refused) → ends.verdict ≡ IsRefused refused.side refused.place refused.reason → (text : List ℕ) →
-        TellsRefusal form ends refused text → Writes out.old out.new text 1 status → err.new ≡ err.old →
-        Explains form text_a text_b (out, err) status
-    explains_refusal refused is text tells written same =
+        TellsRefusal form ends refused text → WritesRefusal out err text status → Explains form text_a text_b (out, err) status
+    explains_refusal refused is text tells written =
         told_ends (subst (λ (verdict : Verdict). PrintsVerdict form out err ends verdict status) (sym is)
-        (record { text = text; tells = tells; written = written; same = same }))
+        (record { text = text; tells = tells; written = written }))

@@ -1,5 +1,6 @@
 -- What `why` prints of an answer of the judge, byte by byte, and with which status it ends.
 use Rattle.std.specs.Prelude.{◌≡◌, ℕ, ◌⊎◌, List, ◌++◌, Option, Some, Result, Ok, Err, IfOk, codes}
+use Rattle.std.specs.Io.KnownBytes.{Appends}
 use Rattle.wire_base.specs.declared.side.Side.{Side}
 use Rattle.capture.specs.Entries.{record_with}
 use Rattle.dna_node.specs.Kind.{both_layers}
@@ -8,7 +9,8 @@ use Rattle.pair_judge.specs.FailedCheck.{IsFailedIn}
 use Rattle.pair_judge.specs.Finding.{of_side}
 use Rattle.pair_judge.specs.Judged.{IsAnswer}
 use Rattle.pair_judge.specs.declared.fault.JudgeFault.{JudgeFault}
-use Rattle.pair_judge.specs.declared.fault.JudgeFault.TheVariants.{OutOfMemory}
+use Rattle.pair_judge.specs.declared.fault.JudgeFault.TheVariants.{Capture, OutOfMemory}
+use Rattle.pair_judge.specs.declared.fault.TextFault.TheVariants.{Read}
 use Rattle.pair_judge.specs.declared.summary.Summary.{Summary}
 use Rattle.pair_judge.specs.declared.verdict.Verdict.{Verdict}
 use Rattle.pair_judge.specs.declared.verdict.Verdict.TheVariants.{Accepted, Refused as IsRefused}
@@ -18,7 +20,7 @@ use Rattle.why.specs.declared.why_text.Shown.{Shown}
 use Rattle.why.specs.Ends.{is_of_user}
 use Rattle.why.specs.Refused.{accuses}
 use Rattle.why.specs.Whole.{why_lines, why_rows}
-use Rattle.ddcap.specs.Printed.{Moved, TellsFault, Writes, verdict_text}
+use Rattle.ddcap.specs.Printed.{Moved, TellsFault, Writes, fault_text, verdict_text}
 use Rattle.ddcap.specs.declared.telling.Form.{Form}
 use Rattle.ddcap.specs.declared.telling.Form.TheVariants.{Rows, Json}
 use Rattle.ddcap.specs.declared.telling.Refused.{Refused}
@@ -61,13 +63,20 @@ abbrev pub accepted_text : Form → Summary → List ℕ
 accepted_text Rows summary = verdict_text (Accepted summary)
 accepted_text Json summary = codes "{\"what\": \"accepted\"}\n"
 
+-- What is said of a refusal is written, with status 1, and the other stream stays as it is; or it is written whole, and behind it that a read failed
+-- while the captures were read again for small edits, with status 3
+abbrev pub WritesRefusal : (out err : Moved) → (text : List ℕ) → (status : ℕ) → Type 0
+WritesRefusal out err text status =
+    (Writes out.old out.new text 1 status × (err.new ≡ err.old))
+    ⊎ ((side : Side) × Appends out.old.bytes out.new.bytes text × (out.new.faults ≡ out.old.faults)
+    × Writes err.old err.new (fault_text (Capture side Read)) 3 status)
+
 -- a verdict is written to standard output and a fault to standard error; the other stream stays as it is
 module _ (form : Form) (out err : Moved) where
   pub record PrintsRefusal (ends : ShownEnds) (refused : Refused) (status : ℕ) : Type 0 where
     pub text : List ℕ
     pub tells : TellsRefusal form ends refused text
-    pub written : Writes out.old out.new text 1 status
-    pub same : err.new ≡ err.old
+    pub written : WritesRefusal out err text status
 
   abbrev pub PrintsVerdict : ShownEnds → Verdict → ℕ → Type 0
   PrintsVerdict ends (Accepted summary) status = Writes out.old out.new (accepted_text form summary) 0 status × (err.new ≡ err.old)

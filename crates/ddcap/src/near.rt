@@ -33,29 +33,28 @@ pub struct Near {
 }
 
 /// Reads a capture to its end, or to a line that departs, and keeps the record with this number, counted from 0, the last ones in front of it, the
-/// first ones behind it, the receipts behind it where they are few, and the unit with the number that is asked for. `None` where the head departs or
-/// a read failed; `AllocError` where there is no memory for what is near.
+/// first ones behind it, the receipts behind it where they are few, and the unit with the number that is asked for. `Err`: the head departs, a read
+/// failed, or there is no memory for what is near.
 pub fn records_near<R: Read>(
     alloc: Global,
     place: u64,
     unit: Option<u64>,
     reader: &mut Tally<R>,
-) -> Result<Option<Near>, AllocError> {
-    let mut capture = match CaptureReader::open(alloc, reader) {
-        Ok(capture) => capture,
-        Err(CaptureFault::OutOfMemory) => return Err(AllocError),
-        Err(_) => return Ok(None),
-    };
+) -> Result<Near, CaptureFault> {
+    let mut capture = CaptureReader::open(alloc, reader)?;
     let mut keeper = Keeper::new(alloc, place, unit, first_form(capture.format()));
     for number in 0..MAX_RECORDS + 1 {
         match capture.advance(reader) {
-            Ok(Some(entry)) => keeper.take(number, entry, capture.bytes())?,
-            Err(CaptureFault::Read) => return Ok(None),
-            Ok(None) => return Ok(Some(keeper.finish(number, true))),
-            Err(_) => return Ok(Some(keeper.finish(number, false))),
+            Ok(Some(entry)) => match keeper.take(number, entry, capture.bytes()) {
+                Ok(()) => {}
+                Err(_) => return Err(CaptureFault::OutOfMemory),
+            },
+            Err(CaptureFault::Read) => return Err(CaptureFault::Read),
+            Ok(None) => return Ok(keeper.finish(number, true)),
+            Err(_) => return Ok(keeper.finish(number, false)),
         }
     }
-    Ok(None)
+    Err(CaptureFault::Failed)
 }
 
 // What was kept so far, and what tells of the next record: in which form its hint is, and how many units were sent.

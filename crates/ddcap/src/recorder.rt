@@ -6,7 +6,7 @@ ghost use Rattle.ddcap.specs.inner.Edits.{with_edit};
 
 use crate::due::{damage_of, due_near};
 use crate::near::{Near, records_near};
-use capture::Entry;
+use capture::{CaptureFault, Entry};
 use edited::{Change, Edit, EditedReader, MistakeOf, Refused, candidates};
 use ladder::said_by;
 use pair_judge::{JudgeFault, JudgedEnds, TextFault, Verdict, judge};
@@ -40,9 +40,19 @@ pub struct Tried {
     pub rows: String,
     pub later: ComesLater,
     pub unit_name: String,
+    /// The side whose capture could not be read further.
+    pub failed: Option<Side>,
 }
 
 impl Tried {
+    // A capture can't be read again, or a read of this side's failed.
+    fn unread(alloc: Global, failed: Option<Side>) -> Tried {
+        let (later, name) = (nothing_later(alloc), String::new(alloc));
+        let mut tried = Tried::nothing(alloc, None, later, name);
+        tried.failed = failed;
+        tried
+    }
+
     fn nothing(
         alloc: Global,
         records_behind: Option<u64>,
@@ -59,6 +69,7 @@ impl Tried {
             rows: String::new(alloc),
             later,
             unit_name,
+            failed: None,
         }
     }
 
@@ -83,8 +94,8 @@ impl Tried {
 }
 
 /// Judges the pair again under small edits of a recorder's mistakes near the refused record of this side, the likeliest first: at most
-/// 64, and none is begun once 500,000,000 bytes were read. Nothing is tried where a file can't be read again from its beginning, or a
-/// read of it fails, nor where fewer than [`FEW_RECORDS`] records stand behind the refused one. `AllocError` where there is no memory for an edit.
+/// 64, and none is begun once 500,000,000 bytes were read. Nothing is tried where a file can't be read again from its beginning, nor where fewer than
+/// [`FEW_RECORDS`] records stand behind the refused one; and nothing more once a read failed. `AllocError` where there is no memory for an edit.
 pub fn try_edits<A: Read + Seek, B: Read + Seek>(
     alloc: Global,
     a: &mut A,
@@ -92,22 +103,16 @@ pub fn try_edits<A: Read + Seek, B: Read + Seek>(
     ends: &JudgedEnds,
     side: Side,
 ) -> Result<Tried, AllocError> {
-    let (Some(near_a), Some(near_b)) = (
-        near_of(
-            alloc,
-            a,
-            ends.records(Side::A),
-            unit_asked(ends, side, Side::A),
-        )?,
-        near_of(
-            alloc,
-            b,
-            ends.records(Side::B),
-            unit_asked(ends, side, Side::B),
-        )?,
-    ) else {
-        let (later, name) = (nothing_later(alloc), String::new(alloc));
-        return Ok(Tried::nothing(alloc, None, later, name));
+    let near_a = match near_of(alloc, a, ends, side, Side::A) {
+        Ok(near) => near,
+        Err(fault) => return unread(alloc, Side::A, fault),
+    };
+    let near_b = match near_of(alloc, b, ends, side, Side::B) {
+        Ok(near) => near,
+        Err(fault) => return unread(alloc, Side::B, fault),
+    };
+    let (Some(near_a), Some(near_b)) = (near_a, near_b) else {
+        return Ok(Tried::unread(alloc, None));
     };
     let records = records_behind(ends, &near_a, &near_b);
     let edits = edits_near(alloc, ends, side, &near_a, &near_b)?;
@@ -133,8 +138,14 @@ fn try_each<A: Read + Seek, B: Read + Seek>(
             return Ok(tried);
         }
         let Edit { of, changes } = edit;
-        let Some(is_run) = is_run_again(alloc, a, b, of.side, changes)? else {
-            return Ok(tried);
+        let is_run = match is_run_again(alloc, a, b, of.side, changes) {
+            Ok(Some(is_run)) => is_run,
+            Ok(None) => return Ok(tried),
+            Err(JudgeFault::OutOfMemory) => return Err(AllocError),
+            Err(JudgeFault::Capture { side, .. }) => {
+                tried.failed = Some(side);
+                return Ok(tried);
+            }
         };
         tried.counts.tried = tried.counts.tried.saturating_add(1);
         if is_run {
@@ -145,6 +156,15 @@ fn try_each<A: Read + Seek, B: Read + Seek>(
             .saturating_add(bytes_read(b));
     }
     Ok(tried)
+}
+
+// Why a capture of this side has nothing near.
+fn unread(alloc: Global, side: Side, fault: CaptureFault) -> Result<Tried, AllocError> {
+    match fault {
+        CaptureFault::Departs { .. } | CaptureFault::Failed => Ok(Tried::unread(alloc, None)),
+        CaptureFault::Read => Ok(Tried::unread(alloc, Some(side))),
+        CaptureFault::OutOfMemory => Err(AllocError),
+    }
 }
 
 fn nothing_later(alloc: Global) -> ComesLater {
@@ -187,17 +207,20 @@ fn unit_name(alloc: Global, near_a: &Near, near_b: &Near) -> Result<String, Allo
     Ok(String::new(alloc))
 }
 
-// What a capture has near the record with this number, and the unit that is asked for; `None` where the file can't be read again.
+// What the capture of this side has near the record that it comes to, and the unit that is asked for; `None` where the file can't be read again.
 fn near_of<R: Read + Seek>(
     alloc: Global,
     file: &mut R,
-    place: u64,
-    unit: Option<u64>,
-) -> Result<Option<Near>, AllocError> {
-    match file.rewind() {
-        Ok(()) => records_near(alloc, place, unit, &mut Tally::new(&mut *file)),
-        Err(_) => Ok(None),
+    ends: &JudgedEnds,
+    refused: Side,
+    side: Side,
+) -> Result<Option<Near>, CaptureFault> {
+    if file.rewind().is_err() {
+        return Ok(None);
     }
+    let (place, unit) = (ends.records(side), unit_asked(ends, refused, side));
+    let near = records_near(alloc, place, unit, &mut Tally::new(&mut *file))?;
+    Ok(Some(near))
 }
 
 // How many records of both captures stand behind the refused one.
@@ -234,33 +257,27 @@ fn edits_near(
     Ok(edits.into_vec())
 }
 
-// Whether the pair is a run under an edit of this side; `None` where a file can't be read again.
+// Whether the pair is a run under an edit of this side; `None` where a file can't be read again. `Err`: want of memory, or a read that failed.
 fn is_run_again<A: Read + Seek, B: Read + Seek>(
     alloc: Global,
     a: &mut A,
     b: &mut B,
     side: Side,
     changes: Vec<Change>,
-) -> Result<Option<bool>, AllocError> {
+) -> Result<Option<bool>, JudgeFault> {
     if a.rewind().is_err() || b.rewind().is_err() {
         return Ok(None);
     }
     match judge_edited(alloc, &mut *a, &mut *b, side, changes) {
         Ok(Verdict::Accepted(_)) => Ok(Some(true)),
         Ok(Verdict::Refused { .. }) => Ok(Some(false)),
-        Err(JudgeFault::OutOfMemory) => Err(AllocError),
         Err(
             JudgeFault::Capture {
                 fault: TextFault::Departs { .. },
                 ..
             },
         ) => Ok(Some(false)),
-        Err(
-            JudgeFault::Capture {
-                fault: TextFault::Read,
-                ..
-            },
-        ) => Ok(None),
+        Err(fault) => Err(fault),
     }
 }
 

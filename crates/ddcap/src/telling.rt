@@ -2,20 +2,20 @@
 
 ghost use Rattle.std.specs.Prelude.{IfOk, IfSome, string_bytes};
 ghost use Rattle.ddcap.specs.Printed.{moved};
-ghost use Rattle.ddcap.specs.PrintedWhy.{AreObjects, AreRows, Explains, IsTold, PrintsAcceptance, TellsRefusal};
+ghost use Rattle.ddcap.specs.PrintedWhy.{AreObjects, AreRows, Explains, IsTold, PrintsAcceptance, TellsRefusal, WritesRefusal};
 
-use crate::check::{print, print_fault, print_out_of_memory};
+use crate::check::{print, print_failed_read, print_fault, print_out_of_memory};
 use crate::last_rows::{LastRows, ROWS_BEFORE};
 use crate::layers::Layers;
 use crate::recorder::{ComesLater, Tried, try_edits};
-use crate::text::verdict_text;
+use crate::text::{FAILED, verdict_text};
 use capture::Entry;
 use ladder::{Drawn, Ladder, Sending, What};
 use pair_judge::{JudgedEnds, Reason, Summary, Verdict, Watched, judge_watched};
 use std::alloc::{AllocError, Global};
 use std::io::{Read, Seek, Write};
 use why::{Accusation, Refusal, Shown, is_of_user, why_json, why_rows};
-use wire_base::{Side, Tally};
+use wire_base::{Side, Tally, write_whole};
 
 /// The status of a refusal.
 pub const REFUSED: u8 = 1;
@@ -48,8 +48,8 @@ pub struct Printout<'n> {
 /// Judges the captures that two files give from where they stand, prints what is answered and why, and answers the status.
 ///
 /// An accepted pair and a fault are printed as `check` does (of JSON objects `{"what": "accepted"}` alone). Behind a refusal comes what is said of
-/// it; small edits of both captures are judged as far as the files can be read again from their beginning. The whole text is put together before the
-/// first write; where there is no memory for it, the answer is `out of memory`.
+/// it; small edits of both captures are judged as far as the files can be read again from their beginning. Where a read fails meanwhile, that is told
+/// last, with status 3. The whole text is put together before the first write; where there is no memory for it, the answer is `out of memory`.
 pub fn why_to<A: Read + Seek, B: Read + Seek, O: Write, E: Write>(
     alloc: Global,
     printout: Printout<'_>,
@@ -86,8 +86,9 @@ pub fn why_to<A: Read + Seek, B: Read + Seek, O: Write, E: Write>(
                 Ok(tried) => tried,
                 Err(_) => return print_out_of_memory(err),
             };
+            let failed = tried.failed;
             match refused_text(alloc, printout, refused, watched, tried) {
-                Ok(text) => print(out, text.as_bytes(), REFUSED),
+                Ok(text) => print_refusal(text.as_bytes(), failed, out, err),
                 Err(_) => print_out_of_memory(err),
             }
         }
@@ -110,6 +111,24 @@ fn print_accepted<O: Write, E: Write>(
             Ok(text) => print(out, text.as_bytes(), 0),
             Err(_) => print_out_of_memory(err),
         },
+    }
+}
+
+// Prints what is said of a refusal, and of which side a read failed meanwhile, and answers the status.
+fn print_refusal<O: Write, E: Write>(
+    text: &[u8],
+    failed: Option<Side>,
+    out: &mut Tally<O>,
+    err: &mut Tally<E>,
+) -> u8
+    ensures { WritesRefusal (moved O.contents out.old out.new) (moved E.contents err.old err.new) text.now result }
+{
+    let Some(side) = failed else {
+        return print(out, text, REFUSED);
+    };
+    match write_whole(out, text) {
+        Ok(()) => print_failed_read(err, side),
+        Err(_) => FAILED,
     }
 }
 

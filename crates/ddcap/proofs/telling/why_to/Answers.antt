@@ -1,7 +1,8 @@
 -- Where there is no memory for the rows, an edit or the text, the answer is `out of memory`. What the judge says of the lent files is said of the
 -- files.
 use Rattle.std.proofs.Common.{refl, sym, ◌∙◌, subst, List, ℕ}
-use Rattle.ddcap.specs.Printed.{Writes, moved, stream_of}
+use Rattle.ddcap.specs.Printed.{moved}
+use Rattle.ddcap.specs.PrintedWhy.{WritesRefusal}
 use Rattle.ddcap.proofs.AnsweringWhy.{explains_acceptance, explains_nothing, explains_refusal, judged_there}
 use Rattle.ddcap.proofs.telling.why_to.Goals as goal
 
@@ -28,10 +29,10 @@ returns-in-Ok-refused_text g c =
     let told = c.in-Ok-judge_watched in
     let of_a = c.new-tally_a.ensures.lent in
     let of_b = c.new-tally_b.ensures.lent in
-    explains_refusal c.args.printout.form _ _ _ (moved g.E.Write.contents c.args.err.now c.args.err.now) _ told.watched.ends
+    explains_refusal c.args.printout.form _ _ _ _ _ told.watched.ends
     (judged_there of_a of_b (λ lent. g.A.Read.remaining lent.now) (λ lent. g.B.Read.remaining lent.now) _ told.ensures.answer)
     (rw (of_a, of_b) at told.ensures.stands)
     (record { side = c.in-Refused.side; place = c.in-Refused.place; reason = c.in-Refused.reason })
     (sym c.verdict.ensures ∙ c.in-Refused.is) _ c.in-Ok-refused_text.ensures
-    (subst (λ (bytes : List ℕ). Writes (stream_of g.O.Write.contents c.args.out.now) (stream_of g.O.Write.contents c.print.new.stream) bytes 1
-    c.print.result) c.as_bytes.ensures.value c.print.ensures) refl
+    (subst (λ (bytes : List ℕ). WritesRefusal (moved g.O.Write.contents c.args.out.now c.print_refusal.new.out)
+    (moved g.E.Write.contents c.args.err.now c.print_refusal.new.err) bytes c.print_refusal.result) c.as_bytes.ensures.value c.print_refusal.ensures)
