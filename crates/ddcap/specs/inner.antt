@@ -2,4 +2,5 @@
 pub mod Edits
 pub mod LastRows
 pub mod Layers
+pub mod NotOpened
 pub mod TapParts

@@ -2,10 +2,12 @@
 
 ghost use Rattle.std.specs.Prelude.{◌≡◌, IfOk, OnOk, [], string_bytes};
 ghost use Rattle.ddcap.specs.Covering as spec;
-ghost use Rattle.ddcap.specs.Printed.{moved};
+ghost use Rattle.ddcap.specs.inner.NotOpened as names;
+ghost use Rattle.ddcap.specs.Printed.{moved, stream_of};
 
 use crate::check::{print, print_fault, print_out_of_memory};
-use crate::text::{verdict_line, verdict_status};
+use crate::path_text::put_path;
+use crate::text::{FAILED, verdict_line, verdict_status};
 use coverage::{Counts, Cover, judge_covered, table};
 use pair_judge::Verdict;
 use std::alloc::{AllocError, Global};
@@ -105,4 +107,33 @@ fn covered_text(alloc: Global, covered: &Covered) -> Result<String, AllocError>
     let table = table(alloc, &covered.a, &covered.b)?;
     let lines = &covered.lines;
     format!(in alloc; "{lines}{table}")
+}
+
+/// Prints which of several pairs it was of which a fault was told: `pair 2: A B`. Where there is no memory for that, nothing more is told.
+pub fn print_pair<E: Write>(
+    alloc: Global,
+    err: &mut Tally<E>,
+    number: u64,
+    path_a: &str,
+    path_b: &str,
+)
+    ensures { names.PrintsPair (moved E.contents err.old err.new) (names.pair_text number path_a.now path_b.now) }
+{
+    if let Ok(text) = pair_text(alloc, number, path_a, path_b) {
+        print(err, text.as_slice(), FAILED);
+    }
+}
+
+// The line of a pair. Fails for want of memory alone.
+fn pair_text(alloc: Global, number: u64, path_a: &str, path_b: &str) -> Result<Vec<u8>, AllocError>
+    ensures { IfOk result (λ text. text.items ≡ names.pair_text number path_a.now path_b.now) }
+{
+    let head = format!(in alloc; "pair {number}: ")?;
+    let mut text = Vec::new(alloc);
+    text.extend_from_slice(head.as_bytes())?;
+    put_path(&mut text, path_a)?;
+    text.push(b' ')?;
+    put_path(&mut text, path_b)?;
+    text.push(b'\n')?;
+    Ok(text)
 }

@@ -5,9 +5,10 @@ ghost use Rattle.drawing.specs.declared.range.TheConstants.{MAX_ROWS};
 
 use crate::check::{print, print_fault, print_out_of_memory};
 use crate::draw::draw_rows_to;
-use crate::files::{Named, created, opened_plain};
+use crate::files::{Named, Wanted, opened_plain};
 use crate::picture::picture_of;
 use crate::text::verdict_status;
+use crate::written::written_beside_pair;
 use drawing::Range;
 use std::io::Write;
 use std::rt::Files;
@@ -32,8 +33,8 @@ pub fn draw_files<R: Files + AllocGlobal, O: Write, E: Write>(
     out: &mut Tally<O>,
     err: &mut Tally<E>,
 ) -> Result<u8, u8> {
-    let mut a = opened_plain(rt, asked.a, Named::A, err)?;
-    let mut b = opened_plain(rt, asked.b, Named::B, err)?;
+    let mut a = opened_plain(rt, Wanted::by_path(Named::A, asked.a), err)?;
+    let mut b = opened_plain(rt, Wanted::by_path(Named::B, asked.b), err)?;
     let Some(path) = asked.svg else {
         return Ok(draw_rows_to(rt.alloc(), asked.range, &mut a, &mut b, out, err));
     };
@@ -42,7 +43,7 @@ pub fn draw_files<R: Files + AllocGlobal, O: Write, E: Write>(
     };
     match picture_of(rt.alloc(), &mut a, &mut b, asked.range, title.as_str()) {
         Ok(picture) => {
-            let mut svg = created(rt, path, Named::Svg, err)?;
+            let mut svg = written_beside_pair(rt, &a, &b, Wanted::by_path(Named::Svg, path), err)?;
             Ok(print(
                 &mut svg,
                 picture.svg.as_slice(),

@@ -1,11 +1,17 @@
 //! The files that the words name: how they are opened, and what is told where one can't be.
 
+ghost use Rattle.std.specs.Prelude.{◌≡◌, ◌⊎◌, IfOk};
 ghost use Rattle.std.specs.IoError.{error_kind};
-ghost use Rattle.ddcap.specs.Printed.{Writes, not_opened_says, not_opened_text, stream_of};
+ghost use Rattle.pair_judge.specs.declared.fault.JudgeFault.TheVariants.{OutOfMemory};
+ghost use Rattle.ddcap.specs.inner.NotOpened.{IsPathNotOpened, path_not_opened_text};
+ghost use Rattle.ddcap.specs.Printed.{Writes, fault_text, moved, not_opened_says, not_opened_text, stream_of};
 
 use crate::check::{print, print_out_of_memory};
+use crate::path_text::put_path;
 use crate::text::FAILED;
-use std::fs;
+use std::alloc::{AllocError, Global};
+use std::fmt;
+use std::fs::{OpenFile, OpenOptions};
 use std::io::{self, ErrorKind, Write};
 use std::rt::Files;
 use wire_base::Tally;
@@ -21,40 +27,115 @@ pub enum Named {
     Svg,
 }
 
+impl fmt::Display for Named {
+    ghost use Rattle.std.specs.Prelude.{Some};
+    ghost use Rattle.ddcap.specs.inner.NotOpened.{name_of};
+
+    ghost output = { λ named. Some (name_of named) };
+
+    fn fmt<W: fmt::Write>(&self, f: &mut fmt::Formatter<W>) -> fmt::Result {
+        match self {
+            Named::Script => f.write_str("script"),
+            Named::Wire => f.write_str("wire"),
+            Named::A => f.write_str("a"),
+            Named::B => f.write_str("b"),
+            Named::Svg => f.write_str("svg"),
+        }
+    }
+}
+
+/// What is told of a file that can't be opened.
+#[derive(Clone, Copy, Debug, PartialEq, Eq)]
+pub enum Told {
+    /// `a: cannot open`
+    Name,
+    /// `a: cannot open: PATH`
+    Path,
+}
+
+/// A file that a word names.
+#[derive(Clone, Copy, Debug, PartialEq, Eq)]
+pub struct Wanted<'p> {
+    pub named: Named,
+    pub path: &'p str,
+    pub told: Told,
+}
+
+impl<'p> Wanted<'p> {
+    /// A file of which its name is told.
+    pub fn by_name(named: Named, path: &'p str) -> Wanted<'p> {
+        Wanted {
+            named,
+            path,
+            told: Told::Name,
+        }
+    }
+
+    /// A file of which its path is told too.
+    pub fn by_path(named: Named, path: &'p str) -> Wanted<'p> {
+        Wanted {
+            named,
+            path,
+            told: Told::Path,
+        }
+    }
+}
+
 /// Opens a file to be read. `Err`: it can't be opened, which was told, with this status.
-pub fn opened<R: Files, E: Write>(
+pub fn opened<R: Files + AllocGlobal, E: Write>(
     rt: &R,
-    path: &str,
-    named: Named,
+    wanted: Wanted<'_>,
     err: &mut Tally<E>,
 ) -> Result<Tally<R::File>, u8> {
-    let file = opened_plain(rt, path, named, err)?;
+    let file = opened_plain(rt, wanted, err)?;
     Ok(Tally::new(file))
 }
 
 /// Opens a file to be read, whose calls nobody counts yet. `Err` as for `opened`.
-pub fn opened_plain<R: Files, E: Write>(
+pub fn opened_plain<R: Files + AllocGlobal, E: Write>(
     rt: &R,
-    path: &str,
-    named: Named,
+    wanted: Wanted<'_>,
     err: &mut Tally<E>,
 ) -> Result<R::File, u8> {
-    match fs::open(rt, path) {
+    let mut how = OpenOptions::new();
+    how.read(true);
+    match open_above_streams(rt, &how, wanted.path) {
         Ok(file) => Ok(file),
-        Err(error) => Err(print_not_opened(err, named, &error)),
+        Err(error) => Err(print_fault_of(rt.alloc(), err, wanted, &error)),
     }
 }
 
-/// Creates or empties a file to be written. `Err` as for `opened`.
-pub fn created<R: Files, E: Write>(
+/// Opens a file to be written, which is created where there is none, and keeps what it has. `Err` as for `opened`.
+pub fn opened_to_write<R: Files + AllocGlobal, E: Write>(
     rt: &R,
-    path: &str,
-    named: Named,
+    wanted: Wanted<'_>,
     err: &mut Tally<E>,
-) -> Result<Tally<R::File>, u8> {
-    match fs::create(rt, path) {
-        Ok(file) => Ok(Tally::new(file)),
-        Err(error) => Err(print_not_opened(err, named, &error)),
+) -> Result<R::File, u8> {
+    let mut how = OpenOptions::new();
+    how.write(true).create(true);
+    match open_above_streams(rt, &how, wanted.path) {
+        Ok(file) => Ok(file),
+        Err(error) => Err(print_fault_of(rt.alloc(), err, wanted, &error)),
+    }
+}
+
+// The system gives a new file the lowest free number. Where the program was started with a standard stream closed, that may be the number of the
+// stream, and what is printed would be written into the file. A copy's number is never one of theirs.
+fn open_above_streams<R: Files>(rt: &R, how: &OpenOptions, path: &str) -> io::Result<R::File> {
+    let file = how.open(rt, path)?;
+    file.try_clone()
+}
+
+/// Prints that a file can't be opened, or that memory was wanting for it, and answers the status.
+pub fn print_fault_of<W: Write>(
+    alloc: Global,
+    err: &mut Tally<W>,
+    wanted: Wanted<'_>,
+    error: &io::Error,
+) -> u8 {
+    match wanted.told {
+        Told::Name => print_not_opened(err, wanted.named, error),
+        Told::Path => print_path_not_opened(alloc, err, wanted.named, wanted.path, error),
     }
 }
 
@@ -80,4 +161,35 @@ fn print_cannot_open<W: Write>(err: &mut Tally<W>, named: Named) -> u8
         Named::B => print(err, b"b: cannot open\n", FAILED),
         Named::Svg => print(err, b"svg: cannot open\n", FAILED),
     }
+}
+
+// Prints that the file of this path can't be opened, or that memory was wanting for it or for the line, and answers the status.
+fn print_path_not_opened<W: Write>(
+    alloc: Global,
+    err: &mut Tally<W>,
+    named: Named,
+    path: &str,
+    error: &io::Error,
+) -> u8
+    ensures { IsPathNotOpened (moved W.contents err.old err.new) named path.now (error_kind error.now) result }
+{
+    if error.kind() == ErrorKind::OutOfMemory {
+        return print_out_of_memory(err);
+    }
+    match path_not_opened(alloc, named, path) {
+        Ok(text) => print(err, text.as_slice(), FAILED),
+        Err(_) => print_out_of_memory(err),
+    }
+}
+
+// `a: cannot open: PATH`. Fails for want of memory alone.
+fn path_not_opened(alloc: Global, named: Named, path: &str) -> Result<Vec<u8>, AllocError>
+    ensures { IfOk result (λ text. text.items ≡ path_not_opened_text named path.now) }
+{
+    let head = format!(in alloc; "{named}: cannot open: ")?;
+    let mut text = Vec::new(alloc);
+    text.extend_from_slice(head.as_bytes())?;
+    put_path(&mut text, path)?;
+    text.push(b'\n')?;
+    Ok(text)
 }

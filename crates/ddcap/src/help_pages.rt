@@ -61,7 +61,8 @@ ddcap play SCRIPT A B
 
 Writes the captures of both ends of a session. The script says, step by step,
 what the two users do, what is sent, and what is lost or damaged on the line.
-The files A and B are created, or emptied first: name three different files.
+The files A and B are created, or emptied first: name three different files,
+or it changes nothing.
 
 Example, in the top folder of the sources:
 
@@ -78,8 +79,9 @@ Status:
   2  a faulty line, as script: line 13: syntax (or too long, too many), or a
      step that can't be made: bad step, or full where a side has no address
      left for a link; A and B have the steps before it
-  3  script: cannot open (or a: or b:), script: read failed, a: write failed
-     (or b:), out of memory, or a failed write to standard output or error
+  3  script: cannot open (or a: or b:), b: same file as a, script: read
+     failed, a: write failed (or b:), out of memory, or a failed write to
+     standard output or error
 ";
 
 pub const CONVERT: &str = "\
@@ -88,7 +90,7 @@ ddcap convert N IN OUT
 Writes the capture in the file IN into the file OUT, in format N: 1 or 2. They
 differ in the hints: in format 1 a hint is the number of a unit, in format 2
 its distance to the one that is due. IN may be in either format. The file OUT
-is created, or emptied first: name two different files.
+is created, or emptied first; where it is IN too, nothing is changed.
 
 Example, in the top folder of the sources:
 
@@ -101,8 +103,8 @@ It ends with status 0 and prints:
 Status:
   0  all records were written
   2  a faulty line of IN, as a: line 3: syntax; OUT has the records before it
-  3  a: cannot open (b: for OUT), a: read failed, b: write failed,
-     out of memory, or a failed write to standard output or error
+  3  a: cannot open (b: for OUT), b: same file as a, a: read failed, b: write
+     failed, out of memory, or a failed write to standard output or error
 ";
 
 pub const HELP: &str = "\
@@ -184,6 +186,7 @@ Status:
   1  unexplained
   2  a faulty line, as wire: line 3: syntax (or too long, too many), or a unit
      with too wide a choice before it
-  3  wire: cannot open (or a: or b:), wire: read failed, a: write failed (or
-     b:), out of memory, or a failed write to standard output or error
+  3  wire: cannot open: PATH (or a: or b:), b: same file as a, wire: read
+     failed, a: write failed (or b:), out of memory, or a failed write to
+     standard output or error
 ";

@@ -57,7 +57,7 @@ Status:
   0  passed
   1  refused
   2  a faulty line, as a: line 3: syntax (or too long, too many)
-  3  a: cannot open, a: read failed, out of memory, or a failed write
+  3  a: cannot open: PATH, a: read failed, out of memory, or a failed write
 ";
 
 pub const WHY: &str = "\
@@ -88,7 +88,7 @@ Status:
   0  accepted, passed
   1  refused
   2  a faulty line, as a: line 3: syntax (or too long, too many)
-  3  a: cannot open, a: read failed, out of memory, or a failed write
+  3  a: cannot open: PATH, a: read failed, out of memory, or a failed write
 ";
 
 pub const COVER: &str = "\
@@ -118,13 +118,14 @@ It ends with status 0 and prints:
 Each record that was made counts once for its station, by the state before it,
 and again for the links, where it is theirs. A dot is a count of 0; rows that
 neither side met are left out. More pairs may follow, as A B A B: then there is
-a first line for each, and counts add up.
+a first line for each, and counts add up; a fault is followed by a line that
+tells which pair it was.
 
 Status:
   0  accepted
   1  refused: what was made before the refused record is counted
   2  a faulty line, as a: line 3: syntax (or too long, too many)
-  3  a: cannot open, a: read failed, out of memory, or a failed write
+  3  a: cannot open: PATH, a: read failed, out of memory, or a failed write
 ";
 
 /// The page of `draw`.
@@ -162,6 +163,6 @@ Status:
   0  accepted, and drawn
   1  refused, and drawn
   2  a faulty line, as a: line 3: syntax (or too long, too many)
-  3  a: cannot open (b: or svg:), a: read failed, out of memory, or a failed
-     write
+  3  a: cannot open: PATH (b: or svg:), svg: same file as a, a: read failed,
+     out of memory, or a failed write
 ";

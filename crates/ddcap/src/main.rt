@@ -29,6 +29,7 @@ mod last_rows;
 mod laws;
 mod layers;
 mod near;
+mod path_text;
 mod picture;
 mod play;
 mod recorder;
@@ -40,6 +41,7 @@ mod tap_files;
 mod telling;
 mod text;
 mod words;
+mod written;
 
 fn main(rt: HostRuntime) -> ExitCode {
     let mut out = Tally::new(rt.stdout());

@@ -5,18 +5,19 @@ ghost use Rattle.ddcap.specs.Printed.{Writes, stream_of, words_fault_status, wor
 use crate::alone::{alone_line_to, alone_to};
 use crate::check::{check_line_to, check_to, print, print_out_of_memory};
 use crate::convert::convert_to;
-use crate::cover::{Covered, cover_pair, print_covered};
+use crate::cover::{Covered, cover_pair, print_covered, print_pair};
 use crate::draw_files::draw_files;
 use crate::end_telling::{EndPrintout, why_end_to};
 use crate::explain::explain_to;
 use crate::explanations::explanation_of;
-use crate::files::{Named, created, opened, opened_plain};
+use crate::files::{Named, Wanted, opened, opened_plain};
 use crate::help::help_to;
 use crate::play::play_to;
 use crate::show::show_to;
 use crate::tap_files::tap_files;
 use crate::telling::{Form, Printout, why_to};
 use crate::words::{Task, WordsFault, task_of};
+use crate::written::{Beside, written, written_pair};
 use capture::Format;
 use pair_judge::Reason;
 use std::env;
@@ -63,11 +64,11 @@ impl<R: Files + AllocGlobal, O: Write, E: Write> Program<'_, '_, '_, R, O, E> {
             Task::Check { a, b } => self.check(a, b),
             Task::CheckLine { a, b } => self.check_line(a, b),
             Task::Alone { a } => {
-                let mut a = self.open(a, Named::A)?;
+                let mut a = self.open(Wanted::by_path(Named::A, a))?;
                 Ok(alone_to(self.rt.alloc(), &mut a, self.out, self.err))
             }
             Task::AloneLine { a } => {
-                let mut a = self.open(a, Named::A)?;
+                let mut a = self.open(Wanted::by_path(Named::A, a))?;
                 Ok(alone_line_to(self.rt.alloc(), &mut a, self.out, self.err))
             }
             Task::Why { form, a, b } => self.why(form, a, b),
@@ -84,30 +85,25 @@ impl<R: Files + AllocGlobal, O: Write, E: Write> Program<'_, '_, '_, R, O, E> {
     }
 
     // A file to be read.
-    fn open(&mut self, path: &str, named: Named) -> Result<Tally<R::File>, u8> {
-        opened(self.rt, path, named, self.err)
-    }
-
-    // A file to be written, created or emptied.
-    fn create(&mut self, path: &str, named: Named) -> Result<Tally<R::File>, u8> {
-        created(self.rt, path, named, self.err)
+    fn open(&mut self, wanted: Wanted<'_>) -> Result<Tally<R::File>, u8> {
+        opened(self.rt, wanted, self.err)
     }
 
     fn check(&mut self, path_a: &str, path_b: &str) -> Result<u8, u8> {
-        let mut a = self.open(path_a, Named::A)?;
-        let mut b = self.open(path_b, Named::B)?;
+        let mut a = self.open(Wanted::by_name(Named::A, path_a))?;
+        let mut b = self.open(Wanted::by_name(Named::B, path_b))?;
         Ok(check_to(self.rt.alloc(), &mut a, &mut b, self.out, self.err))
     }
 
     fn check_line(&mut self, path_a: &str, path_b: &str) -> Result<u8, u8> {
-        let mut a = self.open(path_a, Named::A)?;
-        let mut b = self.open(path_b, Named::B)?;
+        let mut a = self.open(Wanted::by_name(Named::A, path_a))?;
+        let mut b = self.open(Wanted::by_name(Named::B, path_b))?;
         Ok(check_line_to(self.rt.alloc(), &mut a, &mut b, self.out, self.err))
     }
 
     fn why(&mut self, form: Form, path_a: &str, path_b: &str) -> Result<u8, u8> {
-        let mut a = opened_plain(self.rt, path_a, Named::A, self.err)?;
-        let mut b = opened_plain(self.rt, path_b, Named::B, self.err)?;
+        let mut a = opened_plain(self.rt, Wanted::by_path(Named::A, path_a), self.err)?;
+        let mut b = opened_plain(self.rt, Wanted::by_path(Named::B, path_b), self.err)?;
         let printout = Printout {
             form,
             name_a: path_a,
@@ -124,7 +120,7 @@ impl<R: Files + AllocGlobal, O: Write, E: Write> Program<'_, '_, '_, R, O, E> {
     }
 
     fn why_alone(&mut self, form: Form, path: &str) -> Result<u8, u8> {
-        let mut a = self.open(path, Named::A)?;
+        let mut a = self.open(Wanted::by_path(Named::A, path))?;
         let printout = EndPrintout { form, name: path };
         Ok(why_end_to(self.rt.alloc(), printout, &mut a, self.out, self.err))
     }
@@ -132,41 +128,66 @@ impl<R: Files + AllocGlobal, O: Write, E: Write> Program<'_, '_, '_, R, O, E> {
     // The files of each pair, a's first, pair by pair.
     fn cover(&mut self, files: &[&str]) -> Result<u8, u8> {
         let mut covered = Covered::new(self.rt.alloc());
+        let mut number = 0u64;
         for pair in files.chunks_exact(2) {
-            let mut a = self.open(pair[0], Named::A)?;
-            let mut b = self.open(pair[1], Named::B)?;
-            cover_pair(self.rt.alloc(), &mut a, &mut b, &mut covered, self.err)?;
+            number = number.saturating_add(1);
+            let Err(status) = self.cover_files(pair[0], pair[1], &mut covered) else {
+                continue;
+            };
+            if files.len() > 2 {
+                print_pair(self.rt.alloc(), self.err, number, pair[0], pair[1]);
+            }
+            return Err(status);
         }
         Ok(print_covered(self.rt.alloc(), &covered, self.out, self.err))
     }
 
+    // One pair more.
+    fn cover_files(&mut self, path_a: &str, path_b: &str, covered: &mut Covered) -> Result<(), u8> {
+        let mut a = self.open(Wanted::by_path(Named::A, path_a))?;
+        let mut b = self.open(Wanted::by_path(Named::B, path_b))?;
+        cover_pair(self.rt.alloc(), &mut a, &mut b, covered, self.err)
+    }
+
     fn show(&mut self, path: &str) -> Result<u8, u8> {
-        let mut a = self.open(path, Named::A)?;
+        let mut a = self.open(Wanted::by_name(Named::A, path))?;
         Ok(show_to(self.rt.alloc(), &mut a, self.out, self.err))
     }
 
     // Writes into the second file what the first one holds, in this format.
     fn convert(&mut self, to: Format, path_a: &str, path_b: &str) -> Result<u8, u8> {
-        let mut src = self.open(path_a, Named::A)?;
-        let mut dest = self.create(path_b, Named::B)?;
+        let src = opened_plain(self.rt, Wanted::by_name(Named::A, path_a), self.err)?;
+        let beside = Beside {
+            named: Named::A,
+            file: &src,
+        };
+        let wanted = Wanted::by_name(Named::B, path_b);
+        let mut dest = written(self.rt, &beside, wanted, self.err)?;
         Ok(convert_to(
             self.rt.alloc(),
             to.number(),
-            &mut src,
+            &mut Tally::new(src),
             &mut dest,
             self.out,
             self.err,
         ))
     }
 
-    // Opens the script, creates both captures, a's first, and plays the script into them.
+    // Plays the script into both captures.
     fn play(&mut self, path: &str, path_a: &str, path_b: &str) -> Result<u8, u8> {
-        let mut script = self.open(path, Named::Script)?;
-        let mut a = self.create(path_a, Named::A)?;
-        let mut b = self.create(path_b, Named::B)?;
+        let script = opened_plain(self.rt, Wanted::by_name(Named::Script, path), self.err)?;
+        let beside = Beside {
+            named: Named::Script,
+            file: &script,
+        };
+        let (wanted_a, wanted_b) = (
+            Wanted::by_name(Named::A, path_a),
+            Wanted::by_name(Named::B, path_b),
+        );
+        let (mut a, mut b) = written_pair(self.rt, &beside, wanted_a, wanted_b, self.err)?;
         Ok(play_to(
             self.rt.alloc(),
-            &mut script,
+            &mut Tally::new(script),
             &mut a,
             &mut b,
             self.out,

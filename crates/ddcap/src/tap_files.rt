@@ -3,8 +3,9 @@
 ghost use Rattle.std.specs.Prelude.{◌≡◌, true, is_ok, IfOk};
 
 use crate::check::{print_failed_read, print_out_of_memory};
-use crate::files::{Named, created, opened};
+use crate::files::{Named, Wanted, opened, opened_plain};
 use crate::tap::{RefusedAt, print_tap_fault, tap_line_to, tap_to};
+use crate::written::{Beside, written_pair};
 use capture::CaptureFault;
 use std::io::Write;
 use std::rt::Files;
@@ -51,12 +52,19 @@ fn write_captures<R: Files + AllocGlobal, E: Write>(
     last: Option<(Side, u64)>,
     err: &mut Tally<E>,
 ) -> Result<Tapped, u8> {
-    let mut wire = opened(rt, paths.wire, Named::Wire, err)?;
-    let mut a = created(rt, paths.a, Named::A, err)?;
-    let mut b = created(rt, paths.b, Named::B, err)?;
+    let wire = opened_plain(rt, Wanted::by_path(Named::Wire, paths.wire), err)?;
+    let beside = Beside {
+        named: Named::Wire,
+        file: &wire,
+    };
+    let (wanted_a, wanted_b) = (
+        Wanted::by_path(Named::A, paths.a),
+        Wanted::by_path(Named::B, paths.b),
+    );
+    let (mut a, mut b) = written_pair(rt, &beside, wanted_a, wanted_b, err)?;
     match tap(
         rt.alloc(),
-        &mut wire,
+        &mut Tally::new(wire),
         &mut a,
         &mut b,
         paths.line_alone,
@@ -78,8 +86,8 @@ fn judge_captures<R: Files + AllocGlobal, O: Write, E: Write>(
 ) -> Result<Result<u8, RefusedAt>, u8>
     ensures { IfOk result (λ told. is_cut ≡ true → is_ok told ≡ true) }
 {
-    let mut a = opened(rt, paths.a, Named::A, err)?;
-    let mut b = opened(rt, paths.b, Named::B, err)?;
+    let mut a = opened(rt, Wanted::by_path(Named::A, paths.a), err)?;
+    let mut b = opened(rt, Wanted::by_path(Named::B, paths.b), err)?;
     if paths.line_alone {
         return Ok(tap_line_to(rt.alloc(), &mut a, &mut b, tapped, is_cut, out, err));
     }
@@ -97,7 +105,7 @@ fn refused_unit<R: Files + AllocGlobal, E: Write>(
         Side::A => (paths.a, Named::A),
         Side::B => (paths.b, Named::B),
     };
-    let mut capture = opened(rt, path, named, err)?;
+    let mut capture = opened(rt, Wanted::by_path(named, path), err)?;
     match units_before(rt.alloc(), &mut capture, refused.place) {
         Ok(unit) => Ok(unit),
         Err(CaptureFault::OutOfMemory) => Err(print_out_of_memory(err)),

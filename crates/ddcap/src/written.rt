@@ -1,0 +1,149 @@
+//! The files that are written: none is emptied before each is known to be another file than those beside it.
+
+ghost use Rattle.std.specs.Prelude.{◌⊎◌};
+ghost use Rattle.pair_judge.specs.declared.fault.JudgeFault.TheVariants.{OutOfMemory};
+ghost use Rattle.ddcap.specs.inner.NotOpened.{same_file_text};
+ghost use Rattle.ddcap.specs.Printed.{Writes, fault_text, stream_of};
+
+use crate::check::{print, print_out_of_memory};
+use crate::files::{Named, Wanted, opened_to_write, print_fault_of};
+use crate::text::FAILED;
+use std::alloc::Global;
+use std::fs::OpenFile;
+use std::io::{self, Write};
+use std::os::unix::fs::MetadataExt;
+use std::rt::Files;
+use wire_base::Tally;
+
+/// An open file, and the name that it has in what is printed.
+#[derive(Drop)]
+pub struct Beside<'f, F> {
+    pub named: Named,
+    pub file: &'f F,
+}
+
+/// Which file on a disk it is, by whatever name it was opened.
+#[derive(Clone, Copy, Debug, PartialEq, Eq)]
+struct Node {
+    device: u64,
+    number: u64,
+}
+
+/// Opens a file to be written, beside one that is read, and empties it. `Err`: it can't be opened, or is the other one, and keeps what it has. That
+/// was told, with this status.
+pub fn written<R: Files + AllocGlobal, E: Write>(
+    rt: &R,
+    read: &Beside<'_, R::File>,
+    wanted: Wanted<'_>,
+    err: &mut Tally<E>,
+) -> Result<Tally<R::File>, u8> {
+    let file = opened_to_write(rt, wanted, err)?;
+    keep_apart(rt, read, wanted, &file, err)?;
+    emptied(rt, wanted, file, err)
+}
+
+/// Opens two files to be written, beside one that is read, the first one first, and empties them. `Err`: one of them can't be opened, or is another
+/// one of the three, and both keep what they have. That was told, with this status.
+pub fn written_pair<R: Files + AllocGlobal, E: Write>(
+    rt: &R,
+    read: &Beside<'_, R::File>,
+    wanted_a: Wanted<'_>,
+    wanted_b: Wanted<'_>,
+    err: &mut Tally<E>,
+) -> Result<(Tally<R::File>, Tally<R::File>), u8> {
+    let a = opened_to_write(rt, wanted_a, err)?;
+    keep_apart(rt, read, wanted_a, &a, err)?;
+    let b = opened_to_write(rt, wanted_b, err)?;
+    keep_apart(rt, read, wanted_b, &b, err)?;
+    let beside_a = Beside {
+        named: wanted_a.named,
+        file: &a,
+    };
+    keep_apart(rt, &beside_a, wanted_b, &b, err)?;
+    let a = emptied(rt, wanted_a, a, err)?;
+    let b = emptied(rt, wanted_b, b, err)?;
+    Ok((a, b))
+}
+
+/// Opens a file to be written, beside two that are read, and empties it. `Err` as for `written`.
+pub fn written_beside_pair<R: Files + AllocGlobal, E: Write>(
+    rt: &R,
+    a: &R::File,
+    b: &R::File,
+    wanted: Wanted<'_>,
+    err: &mut Tally<E>,
+) -> Result<Tally<R::File>, u8> {
+    let file = opened_to_write(rt, wanted, err)?;
+    for (named, other) in [(Named::A, a), (Named::B, b)] {
+        let other = Beside { named, file: other };
+        keep_apart(rt, &other, wanted, &file, err)?;
+    }
+    emptied(rt, wanted, file, err)
+}
+
+// `Err`: the file is the other one, or the system doesn't tell. That was told, with this status.
+fn keep_apart<R: Files + AllocGlobal, E: Write>(
+    rt: &R,
+    other: &Beside<'_, R::File>,
+    wanted: Wanted<'_>,
+    file: &R::File,
+    err: &mut Tally<E>,
+) -> Result<(), u8> {
+    match is_same(other.file, file) {
+        Ok(false) => Ok(()),
+        Ok(true) => Err(print_same_file(rt.alloc(), err, wanted.named, other.named)),
+        Err(error) => Err(print_fault_of(rt.alloc(), err, wanted, &error)),
+    }
+}
+
+// Both are asked once both are open: where a file that is opened to be written becomes a new one of a layer above, as in a container, both are that
+// one by then.
+fn is_same<F: OpenFile>(file: &F, other: &F) -> io::Result<bool> {
+    let Some(node) = node_of(file)? else {
+        return Ok(false);
+    };
+    Ok(node_of(other)? == Some(node))
+}
+
+// `None` of a pipe, a terminal or another device, which holds nothing that could be lost.
+fn node_of<F: OpenFile>(file: &F) -> io::Result<Option<Node>> {
+    let metadata = file.metadata()?;
+    if !metadata.is_file() {
+        return Ok(None);
+    }
+    Ok(Some(Node {
+        device: metadata.dev(),
+        number: metadata.ino(),
+    }))
+}
+
+// A file on a disk loses what it has; a device has nothing.
+fn emptied<R: Files + AllocGlobal, E: Write>(
+    rt: &R,
+    wanted: Wanted<'_>,
+    file: R::File,
+    err: &mut Tally<E>,
+) -> Result<Tally<R::File>, u8> {
+    match empty(&file) {
+        Ok(()) => Ok(Tally::new(file)),
+        Err(error) => Err(print_fault_of(rt.alloc(), err, wanted, &error)),
+    }
+}
+
+fn empty<F: OpenFile>(file: &F) -> io::Result<()> {
+    if node_of(file)?.is_none() {
+        return Ok(());
+    }
+    file.set_len(0)
+}
+
+// Prints that a file to be written is another one of the program's files, and answers the status.
+fn print_same_file<W: Write>(alloc: Global, err: &mut Tally<W>, named: Named, other: Named) -> u8
+    ensures { Writes (stream_of W.contents err.old) (stream_of W.contents err.new) (same_file_text named other) 3 result
+        ⊎ Writes (stream_of W.contents err.old) (stream_of W.contents err.new) (fault_text OutOfMemory) 3 result }
+{
+    match format!(in alloc; "{named}: same file as {other}\n") {
+        Ok(text) => print(err, text.as_bytes(), FAILED),
+        Err(_) => print_out_of_memory(err),
+    }
+}
