@@ -26,6 +26,10 @@ use Rattle.ddcap.specs.Playing.{failed_write_text}
 abbrev pub wire_line_text : Departure → ℕ → List ℕ
 wire_line_text kind line = codes "wire: " ++ (line_fault_words kind line ++ codes "\n")
 
+-- no unit passed
+abbrev pub no_unit_text : List ℕ
+no_unit_text = codes "wire: no unit\n"
+
 abbrev pub tap_fault_text : TapFault → List ℕ
 tap_fault_text (faults.Departs kind line) = wire_line_text kind line
 tap_fault_text faults.Read = codes "wire: read failed\n"

@@ -38,6 +38,7 @@ mod show;
 mod shown_line;
 mod tap;
 mod tap_files;
+mod tap_naming;
 mod telling;
 mod text;
 mod words;

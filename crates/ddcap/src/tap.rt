@@ -1,12 +1,15 @@
 //! `tap`: what is printed of the captures that were written of what passed.
 
-ghost use Rattle.std.specs.Prelude.{◌≡◌, ◌⊎◌, true, is_ok, ℕ, List, IfSome, IfOk, None, string_bytes};
+ghost use Rattle.std.specs.Prelude.{◌≡◌, ◌≢◌, ◌⊎◌, true, is_ok, ℕ, List, IfSome, IfOk, None, string_bytes};
 ghost use Rattle.tap_answer.specs.Telling.{telling};
 ghost use Rattle.pair_judge.specs.declared.fault.JudgeFault.TheVariants.{OutOfMemory};
+ghost use Rattle.pair_judge.specs.declared.reason.Reason.{Reason};
+ghost use Rattle.pair_judge.specs.declared.verdict.Verdict.TheVariants.{Refused};
+ghost use Rattle.wire_base.specs.declared.side.Side.{Side};
 ghost use Rattle.dna_node.specs.Kind.{both_layers, stations_alone};
 ghost use Rattle.ddcap.specs.Printed.{Writes, fault_text, moved, stream_of};
 ghost use Rattle.ddcap.specs.Printed.{line_verdict_text as line_verdict_text_of, verdict_text as verdict_text_of};
-ghost use Rattle.ddcap.specs.PrintedTap.{ChecksTap, IsRefusedAt, TellsTapFault, streams, wire_line_text};
+ghost use Rattle.ddcap.specs.PrintedTap.{ChecksTap, IsRefusedAt, TellsTapFault, no_unit_text, streams, wire_line_text};
 ghost use Rattle.ddcap.specs.inner.TapParts.{TellsTold, WritesBehind, both_streams};
 ghost use Rattle.ddcap.specs.inner.Layers.{nodes_of, verdict_text_over};
 
@@ -22,7 +25,7 @@ use tap_answer::{
     Told, premise_text, said_of, too_wide_text, unexplained_end_text, unexplained_text,
 };
 use wire_base::{Side, Tally};
-use wire_tap::{TapFault, Tapped};
+use wire_tap::{Ending, TapFault, Tapped};
 
 /// The status where the captures are accepted.
 const ACCEPTED: u8 = 0;
@@ -92,7 +95,7 @@ fn tap_over<A: Read, B: Read, O: Write, E: Write>(
 {
     match judge_over(alloc, layers, a, b) {
         Ok(verdict) => {
-            if let Some(refused) = to_be_cut(verdict, is_cut) {
+            if let Some(refused) = to_be_cut(tapped.ending, verdict, is_cut) {
                 return Err(refused);
             }
             let text = verdict_text(alloc, layers, verdict);
@@ -102,18 +105,36 @@ fn tap_over<A: Read, B: Read, O: Write, E: Write>(
     }
 }
 
-// The refused record, where the captures are still to be cut there.
-fn to_be_cut(verdict: Verdict, is_cut: bool) -> Option<RefusedAt>
+// The refused record, where the captures are still to be cut there. Where there were too many states to try, what is refused says nothing.
+fn to_be_cut(ending: Ending, verdict: Verdict, is_cut: bool) -> Option<RefusedAt>
     ensures refused { IfSome result (IsRefusedAt verdict) }
     ensures cut { is_cut ≡ true → result ≡ None }
 {
     if is_cut {
         return None;
     }
+    if let Ending::TooWide(_) = ending {
+        return None;
+    }
+    refused_at(verdict)
+}
+
+/// The refused record, if one is refused.
+pub fn refused_at(verdict: Verdict) -> Option<RefusedAt>
+    ensures refused { IfSome result (IsRefusedAt verdict) }
+    ensures none { result ≡ None → (side : Side) (place : ℕ) (reason : Reason) → verdict ≢ Refused side place reason }
+{
     match verdict {
         Verdict::Accepted(_) => None,
         Verdict::Refused { side, place, .. } => Some(RefusedAt { side, place }),
     }
+}
+
+/// Prints that no unit passed, and answers the status, 2.
+pub fn print_no_unit<E: Write>(err: &mut Tally<E>) -> u8
+    ensures { Writes (stream_of E.contents err.old) (stream_of E.contents err.new) no_unit_text 2 result }
+{
+    print(err, b"wire: no unit\n", FAULTY)
 }
 
 // Prints what is said of the verdict, whose own text is given, and answers the status.

@@ -2,14 +2,12 @@
 
 ghost use Rattle.std.specs.Prelude.{◌≡◌, true, is_ok, IfOk};
 
-use crate::check::{print_failed_read, print_out_of_memory};
 use crate::files::{Named, Wanted, opened, opened_plain};
-use crate::tap::{RefusedAt, print_tap_fault, tap_line_to, tap_to};
+use crate::tap::{RefusedAt, print_no_unit, print_tap_fault, tap_line_to, tap_to};
+use crate::tap_naming::named_unit;
 use crate::written::{Beside, written_pair};
-use capture::CaptureFault;
 use std::io::Write;
 use std::rt::Files;
-use tap_answer::units_before;
 use wire_base::{Side, Tally};
 use wire_tap::{Tapped, tap};
 
@@ -23,8 +21,8 @@ pub struct TapPaths<'a> {
 }
 
 /// Writes the captures of what passed, judges them as they were written, prints the answer, and answers the status. Where they are refused, they are
-/// written once more, as far as the refused unit, and judged again. `Err`: the status of a file which can't be opened, or of another fault, which was
-/// told.
+/// written once more, as far as the unit that is named, and judged again. `Err`: the status of a file which can't be opened, or of another fault,
+/// which was told.
 pub fn tap_files<R: Files + AllocGlobal, O: Write, E: Write>(
     rt: &R,
     paths: TapPaths<'_>,
@@ -32,11 +30,14 @@ pub fn tap_files<R: Files + AllocGlobal, O: Write, E: Write>(
     err: &mut Tally<E>,
 ) -> Result<u8, u8> {
     let tapped = write_captures(rt, paths, None, err)?;
+    if tapped.is_silent() {
+        return Ok(print_no_unit(err));
+    }
     match judge_captures(rt, paths, tapped, false, out, err)? {
         Ok(status) => Ok(status),
         Err(refused) => {
-            let unit = refused_unit(rt, paths, refused, err)?;
-            let tapped = write_captures(rt, paths, Some((refused.side, unit)), err)?;
+            let unit = named_unit(rt, paths, tapped, refused, err)?;
+            let tapped = write_captures(rt, paths, Some(unit), err)?;
             match judge_captures(rt, paths, tapped, true, out, err)? {
                 Ok(status) => Ok(status),
                 Err(_) => unreachable!(),
@@ -45,8 +46,8 @@ pub fn tap_files<R: Files + AllocGlobal, O: Write, E: Write>(
     }
 }
 
-// Writes the captures of what passed, to the end, or to this unit of that side.
-fn write_captures<R: Files + AllocGlobal, E: Write>(
+/// Writes the captures of what passed, to the end, or to this unit of that side.
+pub(crate) fn write_captures<R: Files + AllocGlobal, E: Write>(
     rt: &R,
     paths: TapPaths<'_>,
     last: Option<(Side, u64)>,
@@ -92,23 +93,4 @@ fn judge_captures<R: Files + AllocGlobal, O: Write, E: Write>(
         return Ok(tap_line_to(rt.alloc(), &mut a, &mut b, tapped, is_cut, out, err));
     }
     Ok(tap_to(rt.alloc(), &mut a, &mut b, tapped, is_cut, out, err))
-}
-
-// The unit of a refused record, or, where it is no unit's, the next one.
-fn refused_unit<R: Files + AllocGlobal, E: Write>(
-    rt: &R,
-    paths: TapPaths<'_>,
-    refused: RefusedAt,
-    err: &mut Tally<E>,
-) -> Result<u64, u8> {
-    let (path, named) = match refused.side {
-        Side::A => (paths.a, Named::A),
-        Side::B => (paths.b, Named::B),
-    };
-    let mut capture = opened(rt, Wanted::by_path(named, path), err)?;
-    match units_before(rt.alloc(), &mut capture, refused.place) {
-        Ok(unit) => Ok(unit),
-        Err(CaptureFault::OutOfMemory) => Err(print_out_of_memory(err)),
-        Err(_) => Err(print_failed_read(err, refused.side)),
-    }
 }

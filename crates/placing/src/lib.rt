@@ -8,6 +8,7 @@
 mod laws;
 mod limit;
 mod movement;
+mod open_messages;
 mod passed_unit;
 mod placing;
 mod said;

@@ -114,7 +114,10 @@ fn put_settled(search: &mut Search, waiting: &mut Waiting, at_end: bool) -> Resu
     ensures { OnOk result (Puts waiting.old waiting.new) }
 {
     for _ in 0..search.steps_made() {
-        let Some(made) = search.settle(at_end) else {
+        if !at_end && !search.may_settle(waiting.is_held()) {
+            return Ok(());
+        }
+        let Some(made) = search.settle() else {
             return Ok(());
         };
         waiting.put(made)?;

@@ -3,7 +3,7 @@
 mod choosing;
 mod way;
 
-use crate::limit::{RECALLED, WAITING};
+use crate::limit::{MOST_WAITING, RECALLED, WAITING};
 use crate::movement::{Move, Standing, Step};
 use crate::said::Said;
 use crate::station::Station;
@@ -48,7 +48,7 @@ pub(crate) struct Search {
     steps: VecDeque<Step>,
     standing: Standing,
     tried: Tried,
-    // a copy of the steps, where a unit has none at first
+    // a copy of the steps that may be taken back, where a unit has no way at first
     spare: Vec<Step>,
 }
 
@@ -105,13 +105,16 @@ impl Search {
         self.steps.len()
     }
 
-    /// The first step, which is taken back no more, where more than enough wait; or any, at the end.
-    pub(crate) fn settle(&mut self, at_end: bool) -> Option<Move> {
-        if !at_end {
-            if self.steps.len() <= WAITING {
-                return None;
-            }
+    /// Whether more steps wait than have to.
+    pub(crate) fn may_settle(&self, is_held: bool) -> bool {
+        if is_held {
+            return self.steps.len() > MOST_WAITING;
         }
+        self.steps.len() > WAITING
+    }
+
+    /// The first step, which is taken back no more.
+    pub(crate) fn settle(&mut self) -> Option<Move> {
         let step = self.steps.pop_front()?;
         match step.made {
             Move::Send { .. } => {
@@ -140,7 +143,7 @@ impl Search {
         self.other_gone = self.other_gone.saturating_add(1);
     }
 
-    // Whether data were sent from where the NAK with this number set back to.
+    // Whether data were sent from where the NAK with this number set back to. The next data tell.
     fn was_set_back(&self, number: u64) -> bool {
         for at in 0..self.steps.len() {
             let Some(step) = self.steps.get(at) else {
@@ -154,8 +157,19 @@ impl Search {
                 if set_back == Some(number) {
                     return true;
                 }
+                if self.is_of_data(step.before.sent) {
+                    return false;
+                }
             }
         }
         false
+    }
+
+    // Whether the side's unit with this number is data.
+    fn is_of_data(&self, number: u64) -> bool {
+        match self.own_at(number) {
+            Some(own) => own.said.is_data(),
+            None => false,
+        }
     }
 }

@@ -21,8 +21,8 @@ pub(crate) struct Station {
     outstanding: u8,
     ahead: u8,
     // how many NAKs of an answer to REP, and of no buffer, may be sent. Those for damage need none: noise may come at any time.
-    answers: u8,
-    refused: u8,
+    answers: u32,
+    refused: u32,
 }
 
 impl Station {
@@ -52,6 +52,11 @@ impl Station {
     /// The last number that it received in order.
     pub(crate) fn received(self) -> u8 {
         self.received
+    }
+
+    /// Whether a packet is not acknowledged.
+    pub(crate) fn is_waiting(self) -> bool {
+        self.outstanding > 0
     }
 
     /// The user starts it.
@@ -89,12 +94,13 @@ impl Station {
             self.acknowledged,
             self.outstanding,
             self.ahead,
-            self.answers,
-            self.refused,
+            0,
+            0,
             0,
             0,
         ]);
-        mix(mix(mix(mix(0, state), self.period), partner), bytes)
+        let numbers = mix(mix(mix(mix(0, state), self.period), partner), bytes);
+        mix(mix(numbers, self.answers as u64), self.refused as u64)
     }
 }
 

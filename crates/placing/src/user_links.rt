@@ -115,7 +115,11 @@ impl UserLinks {
 
     // ---- what is sent
 
+    // No link has the own address 0, so what names one is nobody's act.
     fn calls(&mut self, own: u16) -> Result<Option<UserAct>, AllocError> {
+        if own == 0 {
+            return Ok(None);
+        }
         if self.link(own).is_some() {
             return Ok(None);
         }
@@ -125,6 +129,9 @@ impl UserLinks {
 
     // The link that a CI from this far address began is answered.
     fn answers(&mut self, own: u16, far: u16, phase: Phase) -> Result<Option<UserAct>, AllocError> {
+        if own == 0 {
+            return Ok(None);
+        }
         if !self.called.remove(&far) {
             return Ok(None);
         }
@@ -178,6 +185,9 @@ impl UserLinks {
     // ---- what came
 
     fn is_called(&mut self, far: u16) -> Result<(), AllocError> {
+        if far == 0 {
+            return Ok(());
+        }
         if self.reached.get(&far).is_some() {
             return Ok(());
         }
@@ -207,12 +217,9 @@ impl UserLinks {
         }
     }
 
-    // The link with both addresses is over, or the one with the own address that calls, or the one that is called and has no own address yet.
+    // The link with both addresses is over, or the one with the own address that calls. One that is called and not answered has no own address, so
+    // what came names none (NSP 4.0, disconnection).
     fn end(&mut self, own: u16, far: u16) {
-        if own == 0 {
-            self.called.remove(&far);
-            return;
-        }
         let Some(link) = self.link(own) else {
             return;
         };

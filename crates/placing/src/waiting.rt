@@ -12,6 +12,7 @@ mod other_units;
 mod own_units;
 
 use crate::movement::Move;
+use crate::open_messages::OpenMessages;
 use crate::passed_unit::PassedUnit;
 use crate::user_links::UserLinks;
 use capture::{Entry, MAX_HINT, put_line};
@@ -28,8 +29,9 @@ pub(crate) struct Waiting {
     // how many units of the other side can't come any more
     gone: u64,
     text: Vec<u8>,
-    // the links that its packets tell of, unless nobody asks for them
+    // the links that its packets tell of, and the messages on them that are under way, unless nobody asks for them
     links: Option<UserLinks>,
+    messages: Option<OpenMessages>,
     alloc: Global,
 }
 
@@ -50,10 +52,10 @@ impl Waiting {
     pub(crate) fn new(alloc: Global, line_alone: bool) -> Waiting
         ensures { result ≡ nothing }
     {
-        let links = if line_alone {
-            None
+        let (links, messages) = if line_alone {
+            (None, None)
         } else {
-            Some(UserLinks::new(alloc))
+            (Some(UserLinks::new(alloc)), Some(OpenMessages::new(alloc)))
         };
         Waiting {
             own: VecDeque::new(alloc),
@@ -61,6 +63,7 @@ impl Waiting {
             gone: 0,
             text: Vec::new(alloc),
             links,
+            messages,
             alloc,
         }
     }
@@ -87,8 +90,21 @@ impl Waiting {
     {
         let copy = PassedUnit::of(self.alloc, unit)?;
         self.own.reserve(1)?;
+        if let Some(messages) = &mut self.messages {
+            messages.sent(unit)?;
+        }
         self.own.push_back_reserved(copy);
         Ok(())
+    }
+
+    /// Whether the next unit of the side begins a user's message whose last segment has not passed yet.
+    pub(crate) fn is_held(&self) -> bool {
+        match &self.messages {
+            Some(messages) => {
+                !self.own.is_empty() && messages.begins_one(self.own.len() as u64 - 1)
+            }
+            None => false,
+        }
     }
 
     /// The other side sent this unit. `AllocError` as there, and where it would be the one behind number 999,999,999,999,999,999.
@@ -103,6 +119,9 @@ impl Waiting {
         let copy = PassedUnit::of(self.alloc, unit)?;
         self.other.reserve(1)?;
         self.other.push_back_reserved(copy);
+        if let Some(messages) = &mut self.messages {
+            messages.passed(unit);
+        }
         Ok(())
     }
 

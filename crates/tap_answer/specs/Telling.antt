@@ -1,5 +1,4 @@
 -- What is said of captures that a tap wrote, by how they end and by the verdict on them.
-use Rattle.std.specs.Prelude.{Some, None}
 use Rattle.pair_judge.specs.declared.verdict.Verdict.{Verdict}
 use Rattle.pair_judge.specs.declared.verdict.Verdict.TheVariants.{Accepted, Refused}
 use Rattle.wire_tap.specs.declared.tapped.Ending.{Ending}
@@ -8,10 +7,10 @@ use Rattle.wire_tap.specs.declared.tapped.Passed.{Passed}
 use Rattle.tap_answer.specs.declared.told.Told.{Told}
 use Rattle.tap_answer.specs.declared.told.Told.TheVariants as says
 
--- they end with this unit
+-- They end with this unit. Where they are accepted all the same, the way that was found does not go on from it.
 abbrev pub unexplained : Passed → Verdict → Told
-unexplained passed (Accepted summary) = says.Unexplained passed None
-unexplained passed (Refused side place reason) = says.Unexplained passed (Some reason)
+unexplained passed (Accepted summary) = says.TooWide passed
+unexplained passed (Refused side place reason) = says.Unexplained passed reason
 
 abbrev pub telling : Ending → Verdict → Told
 telling ends.Whole (Accepted summary) = says.Accepted

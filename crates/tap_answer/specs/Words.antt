@@ -1,5 +1,5 @@
 -- The words of what is said of captures that a tap wrote.
-use Rattle.std.specs.Prelude.{ℕ, List, ◌++◌, codes, Option, Some, None}
+use Rattle.std.specs.Prelude.{ℕ, ◌+◌, ◌-◌, ◌==◌, if◌then◌else◌, List, [], ◌++◌, codes}
 use Rattle.std.specs.Fmt.{decimal}
 use Rattle.wire_base.specs.declared.side.Side.{Side}
 use Rattle.wire_base.specs.declared.side.Side.TheVariants.{A, B}
@@ -15,19 +15,19 @@ abbrev pub unit_words : Passed → List ℕ
 unit_words passed =
     side_letter passed.side ++ (codes " unit " ++ (decimal passed.unit ++ (codes " line " ++ decimal passed.line)))
 
--- `7 WrongNumber` and, on a line of its own, that no placing was found; or that alone
-abbrev pub reason_words : Option Reason → List ℕ
-reason_words (Some reason) =
-    decimal (reason_number reason) ++ (codes " " ++ (reason_name reason ++ codes "\nno placing was found, which accuses nobody"))
-reason_words None = codes "no placing was found"
+-- `7 WrongNumber` and, each on a line of its own, that no placing was found, and what the answer of `why` rests on
+abbrev pub reason_words : Reason → List ℕ
+reason_words reason =
+    decimal (reason_number reason) ++ (codes " " ++ (reason_name reason
+    ++ codes "\nno placing was found, which accuses nobody\nddcap why shows the unit; what it says, and whom it accuses, rests on the placing"))
 
 -- `unexplained a unit 7 line 16: 7 WrongNumber`
-abbrev pub unexplained_words : Passed → Option Reason → List ℕ
+abbrev pub unexplained_words : Passed → Reason → List ℕ
 unexplained_words passed reason = codes "unexplained " ++ (unit_words passed ++ (codes ": " ++ (reason_words reason ++ codes "\n")))
 
 -- `unexplained behind the last unit: 14 WrongUserEvent`
 abbrev pub unexplained_end_words : Reason → List ℕ
-unexplained_end_words reason = codes "unexplained behind the last unit: " ++ (reason_words (Some reason) ++ codes "\n")
+unexplained_end_words reason = codes "unexplained behind the last unit: " ++ (reason_words reason ++ codes "\n")
 
 -- `a unit 7 line 16: too wide a choice`
 abbrev pub too_wide_words : Passed → List ℕ
@@ -39,8 +39,16 @@ skipped_words side skipped =
     side_letter side ++ (codes " skipped maintenance messages " ++ (decimal skipped.maintenance
     ++ (codes " bytes between units " ++ decimal skipped.bytes)))
 
+-- a line where so many more bytes were skipped than the units have
+abbrev pub mostly_words : ℕ → List ℕ
+mostly_words more =
+    if more == 0 then [] else codes "more bytes were skipped than read: these may be no two directions of a DDCMP line\n"
+
+abbrev pub skipped_more : Tapped → ℕ
+skipped_more tapped = (tapped.skipped_a.bytes + tapped.skipped_b.bytes) - (tapped.units_a.bytes + tapped.units_b.bytes)
+
 -- what an answer rests on, and what was skipped
 abbrev pub premise_words : Tapped → List ℕ
 premise_words tapped =
-    codes "each unit that was sent has to have passed here, from before the first start\n"
-    ++ (skipped_words A tapped.skipped_a ++ (codes "\n" ++ (skipped_words B tapped.skipped_b ++ codes "\n")))
+    mostly_words (skipped_more tapped) ++ (codes "each unit that was sent has to have passed here, from before the first start\n"
+    ++ (skipped_words A tapped.skipped_a ++ (codes "\n" ++ (skipped_words B tapped.skipped_b ++ codes "\n"))))

@@ -11,16 +11,16 @@ use wire_tap::{Ending, Passed};
 pub enum Told {
     /// They hold all that passed, and are accepted.
     Accepted,
-    /// They end with this unit, and are refused for this reason; with none they are accepted, and no placing was found for the unit.
+    /// They end with this unit, and are refused for this reason.
     Unexplained {
         passed: Passed,
-        reason: Option<Reason>,
+        reason: Reason,
     },
     /// They hold all that passed, and are refused behind the last unit of a side, for this reason.
     UnexplainedEnd {
         reason: Reason,
     },
-    /// They end with this unit, before which there were too many states to try.
+    /// They end with this unit, before which there were too many states to try; or are accepted, though the search did not go on from there.
     TooWide(Passed),
 }
 
@@ -50,13 +50,7 @@ fn unexplained(passed: Passed, verdict: Verdict) -> Told
     ensures { result ≡ unexplained passed verdict }
 {
     match verdict {
-        Verdict::Accepted(_) => Told::Unexplained {
-            passed,
-            reason: None,
-        },
-        Verdict::Refused { reason, .. } => Told::Unexplained {
-            passed,
-            reason: Some(reason),
-        },
+        Verdict::Accepted(_) => Told::TooWide(passed),
+        Verdict::Refused { reason, .. } => Told::Unexplained { passed, reason },
     }
 }

@@ -27,10 +27,10 @@ impl fmt::Display for UnitWords {
     }
 }
 
-// A reason with its number and, behind it, that no placing was found; or that alone.
+// A reason with its number and, after it, that no placing was found.
 #[derive(Clone, Copy)]
 struct ReasonWords {
-    reason: Option<Reason>,
+    reason: Reason,
 }
 
 impl fmt::Display for ReasonWords {
@@ -40,16 +40,30 @@ impl fmt::Display for ReasonWords {
     ghost output = { λ words. Some (reason_words words.reason) };
 
     fn fmt<W: fmt::Write>(&self, f: &mut fmt::Formatter<W>) -> fmt::Result {
-        match self.reason {
-            Some(reason) => {
-                let number = reason.number();
-                write!(
-                    f,
-                    "{number} {reason}\nno placing was found, which accuses nobody"
-                )
-            }
-            None => f.write_str("no placing was found"),
+        let reason = self.reason;
+        let number = reason.number();
+        write!(f, "{number} {reason}\nno placing was found, which accuses nobody\n")?;
+        f.write_str("ddcap why shows the unit; what it says, and whom it accuses, rests on the placing")
+    }
+}
+
+// So many more bytes were skipped than read.
+#[derive(Clone, Copy)]
+struct MostlyWords {
+    more: u128,
+}
+
+impl fmt::Display for MostlyWords {
+    ghost use Rattle.std.specs.Prelude.{Some};
+    ghost use Rattle.tap_answer.specs.Words.{mostly_words};
+
+    ghost output = { λ words. Some (mostly_words words.more) };
+
+    fn fmt<W: fmt::Write>(&self, f: &mut fmt::Formatter<W>) -> fmt::Result {
+        if self.more == 0 {
+            return Ok(());
         }
+        f.write_str("more bytes were skipped than read: these may be no two directions of a DDCMP line\n")
     }
 }
 
@@ -76,12 +90,12 @@ impl fmt::Display for SkippedWords {
     }
 }
 
-/// `unexplained a unit 7 line 16: 7 WrongNumber`, and a line that no placing was found, each with its LF: the unit with which the captures end, and
-/// why they are refused; without a reason they are accepted. Fails for want of memory alone.
+/// `unexplained a unit 7 line 16: 7 WrongNumber`, a line that no placing was found, and one on what the answer of `why` rests, each with its LF: the
+/// unit with which the captures end, and why they are refused. Fails for want of memory alone.
 pub fn unexplained_text(
     alloc: Global,
     passed: Passed,
-    reason: Option<Reason>,
+    reason: Reason,
 ) -> Result<String, AllocError>
     ensures { IfOk result (λ text. string_bytes text ≡ unexplained_words passed reason) }
 {
@@ -90,14 +104,12 @@ pub fn unexplained_text(
     format!(in alloc; "unexplained {unit}: {why}\n")
 }
 
-/// `unexplained behind the last unit: 14 WrongUserEvent`, and a line that no placing was found, each with its LF: captures of all that passed are
-/// refused there. Fails for want of memory alone.
+/// `unexplained behind the last unit: 14 WrongUserEvent`, and the same lines after it: captures of all that passed are refused there. Fails for want
+/// of memory alone.
 pub fn unexplained_end_text(alloc: Global, reason: Reason) -> Result<String, AllocError>
     ensures { IfOk result (λ text. string_bytes text ≡ unexplained_end_words reason) }
 {
-    let why = ReasonWords {
-        reason: Some(reason),
-    };
+    let why = ReasonWords { reason };
     format!(in alloc; "unexplained behind the last unit: {why}\n")
 }
 
@@ -109,7 +121,7 @@ pub fn too_wide_text(alloc: Global, passed: Passed) -> Result<String, AllocError
     format!(in alloc; "{unit}: too wide a choice\n")
 }
 
-/// What an answer rests on, and of each side what was skipped, a line each. Fails for want of memory alone.
+/// Whether more was skipped than read, what an answer rests on, and of each side what was skipped, a line each. Fails for want of memory alone.
 pub fn premise_text(alloc: Global, tapped: Tapped) -> Result<String, AllocError>
     ensures { IfOk result (λ text. string_bytes text ≡ premise_words tapped) }
 {
@@ -121,7 +133,12 @@ pub fn premise_text(alloc: Global, tapped: Tapped) -> Result<String, AllocError>
         side: Side::B,
         skipped: tapped.skipped_b,
     };
+    let read = tapped.units_a.bytes as u128 + tapped.units_b.bytes as u128;
+    let skipped = tapped.skipped_a.bytes as u128 + tapped.skipped_b.bytes as u128;
+    let mostly = MostlyWords {
+        more: skipped.saturating_sub(read),
+    };
     format!(in alloc;
-        "each unit that was sent has to have passed here, from before the first start\n{line_a}\n{line_b}\n"
+        "{mostly}each unit that was sent has to have passed here, from before the first start\n{line_a}\n{line_b}\n"
     )
 }

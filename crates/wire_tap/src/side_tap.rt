@@ -4,7 +4,7 @@ ghost use Rattle.std.specs.Prelude.{◌≡◌, ◌≤◌, ◌+◌, [], ◌∷◌
 ghost use Rattle.wire_tap.specs.Units.{message_of};
 ghost use Rattle.wire_tap.specs.inner.Side.{IsNew, MayEndAt, MovesOn, PassUnits, PassesBytes, TakesTurn, aim, side_state, units_state};
 
-use crate::tapped::{Ending, Passed, Skipped};
+use crate::tapped::{Ending, Passed, Skipped, Units};
 use capture::MAX_UNIT;
 use framer::{Found, Framer, Kind};
 use placing::{Outcome, Placing};
@@ -25,6 +25,7 @@ pub(crate) struct SideTap {
 pub(crate) struct SideUnits {
     pub(crate) placing: Placing,
     pub(crate) count: u64,
+    pub(crate) bytes: u64,
     pub(crate) skipped: Skipped,
 }
 
@@ -57,6 +58,7 @@ impl SideTap {
             units: SideUnits {
                 placing: Placing::new(alloc, line_alone)?,
                 count: 0,
+                bytes: 0,
                 skipped: Skipped {
                     maintenance: 0,
                     bytes: 0,
@@ -147,6 +149,16 @@ impl SideUnits {
         self.skipped.bytes = self.skipped.bytes.saturating_add(strays as u64);
     }
 
+    /// How many there were, and their bytes.
+    pub(crate) fn counted(&self) -> Units
+        ensures { result.count ≡ self.now.count }
+    {
+        Units {
+            count: self.count,
+            bytes: self.bytes,
+        }
+    }
+
     // Places one unit of this kind, or skips a maintenance message: the ending, where the captures end with it.
     fn pass(
         &mut self,
@@ -189,6 +201,7 @@ impl SideUnits {
             line: at.line,
         };
         self.count = self.count.saturating_add(1);
+        self.bytes = self.bytes.saturating_add(unit.len() as u64);
         match self.placing.sent(unit)? {
             Outcome::Placed(tag) => other.sent_by_other(unit, tag)?,
             Outcome::Unplaced => return Ok(Some(Ending::Unplaced(passed))),

@@ -30,10 +30,44 @@ pub struct Skipped {
     pub bytes: u64,
 }
 
+/// What is in a capture: the units of its side, and how many bytes they have, each up to 2^64 - 1.
+#[derive(Clone, Copy, Debug, PartialEq, Eq)]
+pub struct Units {
+    pub count: u64,
+    pub bytes: u64,
+}
+
 /// What a tap found, and what was skipped of each side.
 #[derive(Clone, Copy, Debug, PartialEq, Eq)]
 pub struct Tapped {
     pub ending: Ending,
+    pub units_a: Units,
+    pub units_b: Units,
     pub skipped_a: Skipped,
     pub skipped_b: Skipped,
+}
+
+impl Tapped {
+    ghost use Rattle.std.specs.Prelude.{◌≡◌, ◌↔◌, ◌×◌, IsTrue};
+    ghost use Rattle.wire_tap.specs.declared.tapped.Ending.TheVariants.{Whole};
+
+    /// Whether the captures hold all that passed, and that is no unit.
+    ///
+    /// ```text
+    /// a text of a head alone      true
+    /// a STRT of side a            false
+    /// ```
+    pub fn is_silent(self) -> bool
+        ensures { IsTrue result ↔ ((self.ending ≡ Whole) × (self.units_a.count ≡ 0) × (self.units_b.count ≡ 0)) }
+    {
+        match self.ending {
+            Ending::Whole => {
+                if self.units_a.count != 0 {
+                    return false;
+                }
+                self.units_b.count == 0
+            }
+            Ending::Unplaced(_) | Ending::TooWide(_) | Ending::Asked(_) => false,
+        }
+    }
 }

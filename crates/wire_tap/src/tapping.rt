@@ -114,6 +114,8 @@ impl Sides {
         }
         Tapped {
             ending,
+            units_a: self.a.units.counted(),
+            units_b: self.b.units.counted(),
             skipped_a: self.a.units.skipped,
             skipped_b: self.b.units.skipped,
         }

@@ -7,7 +7,7 @@ use crate::station::Station;
 use dna_station::State;
 
 // How many moves there may be at a time.
-const CHOICES: usize = 5;
+const CHOICES: usize = 6;
 
 type Choices = [Option<Move>; CHOICES];
 
@@ -53,12 +53,12 @@ impl Search {
         };
         let station = self.standing.station;
         let [first, second, third] = self.receipts(own);
-        let send = self.sending(own.said);
+        let [back, on] = self.sendings(own.said);
         let user = users(station.state, own.said);
         match self.order(own) {
-            Order::SendFirst => [send, first, second, third, user],
-            Order::ReceiveFirst => [first, second, third, send, user],
-            Order::UserFirst => [user, first, second, third, send],
+            Order::SendFirst => [back, on, first, second, third, user],
+            Order::ReceiveFirst => [first, second, third, back, on, user],
+            Order::UserFirst => [user, first, second, third, back, on],
         }
     }
 
@@ -117,34 +117,41 @@ impl Search {
         false
     }
 
-    // Sends the unit, if it may be sent; data too from where a NAK set back to that may have come since the last data.
-    fn sending(&self, said: Said) -> Option<Move> {
+    // Sends the unit, if it may be sent: data from where a NAK set back to that may have come since the last data, and as if none came.
+    fn sendings(&self, said: Said) -> [Option<Move>; 2] {
         let station = self.standing.station;
-        if said.is_data() {
-            if let Some(number) = self.nak_since_data(said) {
-                let back = self.sending_station(station, Some(number));
-                return Some(Move::Send {
-                    is_new: back.is_new(said),
-                    set_back: Some(number),
-                });
-            }
-        }
-        if station.may_send(said) {
-            return Some(Move::Send {
+        let on = if station.may_send(said) {
+            Some(Move::Send {
                 is_new: station.is_new(said),
                 set_back: None,
-            });
+            })
+        } else {
+            None
+        };
+        if !said.is_data() {
+            return [None, on];
         }
-        None
+        match self.nak_since_data(said) {
+            Some(number) => {
+                let back = self.sending_station(station, Some(number));
+                let set_back = Move::Send {
+                    is_new: back.is_new(said),
+                    set_back: Some(number),
+                };
+                [Some(set_back), on]
+            }
+            None => [None, on],
+        }
     }
 
-    // The last NAK since the last data, behind which these may be sent.
+    // The last NAK since the last data, after which these may be sent, and each REP that was sent since then might.
     fn nak_since_data(&self, said: Said) -> Option<u64> {
+        let mut asking = None;
         for back in 0..self.steps.len() {
             let step = self.steps.get(self.steps.len() - 1 - back)?;
             match step.made {
                 Move::Leave => {
-                    if self.sets_back(step.before.come, said) {
+                    if self.sets_back(step.before.come, said, asking) {
                         return Some(step.before.come);
                     }
                 }
@@ -152,6 +159,10 @@ impl Search {
                     if let Some(own) = self.own_at(step.before.sent) {
                         if own.said.is_data() {
                             return None;
+                        }
+                        // Of several REPs the last one was sent with the fewest packets outstanding.
+                        if own.said.is_rep() && asking.is_none() {
+                            asking = Some(step.before.station);
                         }
                     }
                 }
@@ -162,17 +173,20 @@ impl Search {
         None
     }
 
-    // Whether these data may be sent behind the NAK with this number.
-    fn sets_back(&self, number: u64, said: Said) -> bool {
-        match self.other_at(number) {
-            Some(other) => match other.said {
-                Said::Nak { reason: _, resp } => {
-                    self.standing.station.may_send_set_back(said, resp)
-                }
-                _ => false,
-            },
-            None => false,
+    // Whether these data may be sent after the NAK with this number came, and a REP from this station.
+    fn sets_back(&self, number: u64, said: Said, asking: Option<Station>) -> bool {
+        let Some(other) = self.other_at(number) else {
+            return false;
+        };
+        let Said::Nak { reason: _, resp } = other.said else {
+            return false;
+        };
+        if let Some(station) = asking {
+            if !station.set_back(resp).is_waiting() {
+                return false;
+            }
         }
+        self.standing.station.may_send_set_back(said, resp)
     }
 
     // What may become of the next unit of the other side, if one passed before this unit.

@@ -8,14 +8,41 @@ use crate::station::Station;
 use dna_station::State;
 use std::alloc::AllocError;
 
+// Where the side stood before the search for a unit, and how many steps its way had.
+#[derive(Clone, Copy)]
+struct Beginning {
+    standing: Standing,
+    steps: usize,
+}
+
 impl Search {
-    /// Goes on to behind all units of the side.
+    /// Goes on to behind all units of the side: with few steps taken back, and where no way is found so, with any. That there are too many of these
+    /// is no way either.
     pub(super) fn go_on(&mut self) -> Result<Found, AllocError> {
+        let start = Beginning {
+            standing: self.standing,
+            steps: self.steps.len(),
+        };
+        let mut least = start.steps.saturating_sub(RECALLED);
+        let found = self.go_on_from(start, least)?;
+        if found == Found::Way {
+            return Ok(Found::Way);
+        }
+        if found == Found::NoWay && least > 0 {
+            self.tried.clear();
+            least = 0;
+            if self.go_on_from(start, least)? == Found::Way {
+                return Ok(Found::Way);
+            }
+        }
+        self.give_up(start, least)?;
+        Ok(found)
+    }
+
+    // The same, where so many steps stand. Where no way is found, it is as it was before.
+    fn go_on_from(&mut self, start: Beginning, least: usize) -> Result<Found, AllocError> {
         let last = self.own_gone.saturating_add(self.own.len() as u64);
-        let start = self.standing;
-        let start_len = self.steps.len();
-        let least = start_len.saturating_sub(RECALLED);
-        let mut kept = false;
+        self.spare.clear();
         let mut from = 0;
         for _ in 0..MOST_STEPS {
             if self.standing.sent >= last {
@@ -26,22 +53,20 @@ impl Search {
                 from = 0;
                 continue;
             }
-            if !kept {
-                self.keep_steps()?;
-                kept = true;
+            if self.spare.is_empty() {
+                self.keep_steps(least)?;
             }
             if self.tried.is_full() {
-                self.restore(start, start_len)?;
-                return Ok(Found::TooMany);
+                break;
             }
             self.tried.add(&self.standing);
             let Some(next) = self.take_back(least) else {
-                self.restore(start, start_len)?;
+                self.restore(start, least)?;
                 return Ok(Found::NoWay);
             };
             from = next;
         }
-        self.restore(start, start_len)?;
+        self.restore(start, least)?;
         Ok(Found::TooMany)
     }
 
@@ -55,10 +80,9 @@ impl Search {
         Some(step.choice.saturating_add(1))
     }
 
-    // Makes a copy of the steps.
-    fn keep_steps(&mut self) -> Result<(), AllocError> {
-        self.spare.clear();
-        for at in 0..self.steps.len() {
+    // Makes a copy of the steps from this one on: no other may be taken back.
+    fn keep_steps(&mut self, least: usize) -> Result<(), AllocError> {
+        for at in least..self.steps.len() {
             if let Some(step) = self.steps.get(at) {
                 self.spare.push(*step)?;
             }
@@ -66,51 +90,71 @@ impl Search {
         Ok(())
     }
 
-    // The way as it was before the last unit, or, where the station did not run then and the unit wants that it does, as far as it came at first.
-    fn restore(&mut self, start: Standing, start_len: usize) -> Result<(), AllocError> {
-        let said = match self.own.back() {
-            Some(own) => own.said,
-            None => Said::Nothing,
-        };
-        let mut len = start_len;
-        if start.station.state != State::Running {
-            if !said.is_of_start() {
-                len = self.spare.len();
-            }
+    // The way as it was before the last unit.
+    fn restore(&mut self, start: Beginning, least: usize) -> Result<(), AllocError> {
+        self.standing = start.standing;
+        if self.spare.is_empty() {
+            self.cut_steps(start.steps);
+            return Ok(());
         }
-        let came = self.nak_before(said, start.station, len);
-        self.steps.clear();
-        self.standing = start;
-        for at in 0..self.spare.len() {
-            let Some(step) = self.spare.get(at) else {
-                return Ok(());
-            };
-            if at >= len {
-                return Ok(());
+        self.cut_steps(least);
+        self.put_spare(0, start.steps.saturating_sub(least))
+    }
+
+    // The steps of the copy from this one to that one are made again.
+    fn put_spare(&mut self, from: usize, to: usize) -> Result<(), AllocError> {
+        for at in from..to {
+            if let Some(step) = self.spare.get(at) {
+                self.steps.reserve(1)?;
+                self.steps.push_back_reserved(*step);
             }
-            let mut step = *step;
-            if step.made == Move::Leave && came == Some(step.before.come) {
-                step.made = Move::Receive;
-            }
-            self.steps.reserve(1)?;
-            self.steps.push_back_reserved(step);
         }
         Ok(())
     }
 
-    // Where these data have a number that a NAK of the last of these steps sets back to: the number of that NAK. It came then, whatever else is
-    // wrong with the data.
-    fn nak_before(&self, said: Said, station: Station, len: usize) -> Option<u64> {
+    // Only so many steps are left.
+    fn cut_steps(&mut self, len: usize) {
+        for _ in len..self.steps.len() {
+            let _ = self.steps.pop_back();
+        }
+    }
+
+    // No way was found for the last unit. Where the station does not run and the unit wants that it does, it goes on as far as it came at first.
+    fn give_up(&mut self, start: Beginning, least: usize) -> Result<(), AllocError> {
+        let said = match self.own.back() {
+            Some(own) => own.said,
+            None => Said::Nothing,
+        };
+        if start.standing.station.state != State::Running && !said.is_of_start() {
+            let len = self.spare.len();
+            self.put_spare(start.steps.saturating_sub(least), len)?;
+        }
+        self.let_come(said, start.standing.station);
+        Ok(())
+    }
+
+    // Where these data have a number that a NAK of the last steps sets back to, it came, whatever else is wrong with the data.
+    fn let_come(&mut self, said: Said, station: Station) {
+        if let Some(at) = self.nak_before(said, station) {
+            if let Some(step) = self.steps.get_mut(at) {
+                step.made = Move::Receive;
+            }
+        }
+    }
+
+    // The step of the NAK that these data were sent after, by their number, unless they have the next one anyway.
+    fn nak_before(&self, said: Said, station: Station) -> Option<usize> {
         if station.is_next(said) {
             return None;
         }
-        for back in 0..len {
-            let step = self.spare.get(len - 1 - back)?;
+        for back in 0..self.steps.len() {
+            let at = self.steps.len() - 1 - back;
+            let step = self.steps.get(at)?;
             match step.made {
                 Move::Leave => {
                     let number = step.before.come;
                     if self.sending_station(station, Some(number)).is_next(said) {
-                        return Some(number);
+                        return Some(at);
                     }
                 }
                 Move::Send { .. } => {

@@ -36,7 +36,7 @@ impl Station {
                 }
             }
             Said::Rep { num } => {
-                if self.outstanding == 0 {
+                if !self.is_waiting() {
                     return false;
                 }
                 num == self.acknowledged.wrapping_add(self.outstanding)

@@ -1,20 +1,21 @@
 //! The units of a side, and what its user did before them.
 
-ghost use Rattle.std.specs.Prelude.{◌≡◌, ◌≤◌, ◌-◌, length, OnOk};
+ghost use Rattle.std.specs.Prelude.{◌≡◌, ◌≤◌, ◌-◌, length, IfOk, OnOk};
 ghost use Rattle.placing.specs.Placed.{Puts};
 
 use super::Waiting;
 use crate::said::Said;
 use crate::user_links::{UserAct, message_of, next_number};
 use capture::{Entry, MAX_MESSAGE};
-use ddcmp_msg::NakReason;
+use ddcmp_msg::{Flags, Message, NakReason, write_unit};
 use dna_packet::Nsp;
-use std::alloc::AllocError;
+use std::alloc::{AllocError, Global};
 
-// Bytes that a station reads as a damaged header, and as a good one of damaged data.
+// A byte that a station reads as a damaged header.
 const BAD_HEADER: [u8; 1] = [0];
 
-const BAD_DATA: [u8; 8] = [0x81, 0x01, 0x00, 0x00, 0x00, 0x01, 0xe3, 0x81];
+// How many bytes of a data message its header has, with the check.
+const HEADER_LEN: usize = 8;
 
 impl Waiting {
     /// Puts the line of the next unit of the side, behind what comes before it. `AllocError` where there is no memory for them.
@@ -48,7 +49,10 @@ impl Waiting {
         }
         match self.next_damage() {
             Some(NakReason::HeaderCheck) => self.put_aside(Entry::Noise, &BAD_HEADER),
-            Some(NakReason::DataCheck) => self.put_aside(Entry::Noise, &BAD_DATA),
+            Some(NakReason::DataCheck) => {
+                let noise = damaged_data(self.alloc)?;
+                self.put_aside(Entry::Noise, noise.as_slice())
+            }
             _ => self.put_nothing(),
         }
     }
@@ -125,4 +129,22 @@ impl Waiting {
         message.push(0)?;
         Ok(message)
     }
+}
+
+// Bytes that a station reads as a good header and damaged data: a data message that ends behind its header. `AllocError` where there is no memory.
+fn damaged_data(alloc: Global) -> Result<Vec<u8>, AllocError>
+    ensures { IfOk result (λ noise. length noise.items ≤ 8) }
+{
+    let message = Message::Data {
+        flags: Flags {
+            quick_sync: false,
+            select: false,
+        },
+        resp: 0,
+        num: 1,
+        body: &[0],
+    };
+    let mut noise = write_unit(alloc, &message)?;
+    noise.truncate(HEADER_LEN);
+    Ok(noise)
 }

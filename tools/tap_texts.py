@@ -1,0 +1,188 @@
+"""Texts of what passed for `tools/test_tap`: those of tools/tap with the first line that `ddcap tap` answers; texts that are made here; and what
+passed in the pairs that scripts of examples/ and the rows of tools/rows.txt play."""
+import glob
+import os
+import subprocess
+
+from captures import ack_of, changed, nak_of, with_check
+from program import TOP
+from rows import HEAD, rows_of
+
+STRT, STACK, MAINTENANCE = '0506c00000017595', '0507c00000014855', '9002c00000019950080007c0'
+UP = [('a', STRT), ('b', STACK), ('a', ack_of(0))]
+
+# The first line of the answer to tools/tap/NAME.wire, or its beginning.
+ANSWERS = (
+    ('lossless', 'accepted\na records 175 sent 87 received 87 damaged 0 kept 40'),
+    ('skipped_number', 'unexplained a unit 7 line 16: 7 WrongNumber\nno placing was found, which accuses nobody\n'),
+    # a NAK of damaged data, of a data message and of an ACK
+    ('nak2', 'accepted\n'),
+    ('nak_of_data', 'accepted\n'),
+    # no link has the address 0: the unit that names it is unexplained
+    ('ci0', 'unexplained a unit 2 line 5: 18 NoLink\n'),
+    ('ci_from_0_answered', 'unexplained a unit 2 line 5: 18 NoLink\n'),
+    ('cc0', 'unexplained b unit 1 line 6: 18 NoLink\n'),
+    ('di0', 'unexplained b unit 1 line 6: 18 NoLink\n'),
+    # a DC to the address 0 ends no call
+    ('dc_to_0', 'accepted\n'),
+    # a NAK that names all packets was lost, since a REP follows
+    ('lost_nak', 'accepted\n'),
+    # the units before the named one have a placing
+    ('other_unit_named', 'unexplained b unit 3 line 9: '),
+)
+
+NO_UNIT = 'wire: no unit\n'
+MOSTLY = 'more bytes were skipped than read: these may be no two directions of a DDCMP line\n'
+
+
+def data_of(num, resp, packet='05'):
+    """A data message with this packet."""
+    body = bytes.fromhex(packet)
+    header = bytes([0x81, len(body) % 256, len(body) // 256, resp % 256, num % 256, 1])
+    return (with_check(header) + with_check(body)).hex()
+
+
+def rep_of(num):
+    return with_check(bytes([5, 3, 0, 0, num % 256, 1])).hex()
+
+
+def text_of(units):
+    """The text in which these units passed, a piece each."""
+    return 'ddwire 1 1.1 1.2\n' + ''.join('%s %s\n' % unit for unit in units)
+
+
+def packet_of(side, message):
+    """The packet in which a side sends this message of a link."""
+    return ('0202040104' if side == 'a' else '0201040204') + '00' + message
+
+
+# ---- texts with a rule each
+
+def window_of_255():
+    """255 packets are outstanding, and all are acknowledged at once; then one more."""
+    sent = [('a', data_of(number, 0)) for number in range(1, 256)]
+    return UP + sent + [('b', ack_of(255)), ('a', data_of(0, 0))]
+
+
+def repeated_call():
+    """A CI comes again after its answer: that is no other call, so the link is closed by its user."""
+    call = packet_of('a', '18000001000102f401')
+    again = packet_of('a', '68000001000102f401')
+    confirm = packet_of('b', '28010002000102f40100')
+    disconnect = packet_of('b', '3801000200000000')
+    return UP + [('a', data_of(1, 0, call)), ('b', data_of(1, 1, confirm)), ('a', data_of(2, 0, again)), ('b', data_of(2, 2, disconnect))]
+
+
+def nak_of_wrong_data():
+    """A NAK came, and what it asks for is sent again with another packet: the number tells that the NAK came, and the packet is wrong."""
+    return UP + [('a', data_of(1, 0)), ('a', data_of(2, 0)), ('b', nak_of(1, 0)), ('a', data_of(1, 0, '07'))]
+
+
+def many_reps(count):
+    """So many REPs are answered, by a NAK each."""
+    sent = [('b', data_of(1, 0)), ('b', data_of(2, 0)), ('a', ack_of(0))] + [('b', rep_of(2))] * count
+    return UP + sent + [('a', nak_of(3, 0)), ('b', data_of(1, 0)), ('b', data_of(2, 0))] + [('a', nak_of(3, 2))] * (count - 1)
+
+
+def many_rounds(count):
+    """An ACK is lost, and so is each packet of b; that is seen long after."""
+    rounds = [('b', data_of(1, 1)), ('b', rep_of(1)), ('a', nak_of(3, 0))] * count
+    return UP + [('a', data_of(1, 0)), ('b', ack_of(1))] + rounds + [('a', rep_of(1))]
+
+
+def long_message(size, piece):
+    """A user's message of so many bytes, in pieces of so many, each acknowledged."""
+    units, given = list(UP), {'a': 0, 'b': 0}
+
+    def send(side, message):
+        given[side] += 1
+        units.append((side, data_of(given[side], given['b' if side == 'a' else 'a'], packet_of(side, message))))
+
+    send('a', '18000001000102' + piece.to_bytes(2, 'little').hex())
+    send('b', '28010002000102' + piece.to_bytes(2, 'little').hex() + '00')
+    send('a', '04020001000080')
+    count = (size + piece - 1) // piece
+    for number in range(count):
+        flag = (0x20 if number == 0 else 0) | (0x40 if number == count - 1 else 0)
+        text = bytes((number * 7 + at) % 251 for at in range(min(piece, size - number * piece)))
+        send('a', '%02x02000100' % flag + ((number + 1) % 4096).to_bytes(2, 'little').hex() + text.hex())
+        send('b', '0401000200' + (0x8000 + (number + 1) % 4096).to_bytes(2, 'little').hex())
+    return units
+
+
+MADE = (
+    ('a window of 255', window_of_255(), 'accepted\n'),
+    ('a call that is repeated', repeated_call(), 'accepted\n'),
+    ('a NAK of data that are wrong', nak_of_wrong_data(), 'unexplained a unit 4 line 8: 10 '),
+    ('300 REPs', many_reps(300), 'accepted\n'),
+    ('60 rounds after a lost ACK', many_rounds(60), 'accepted\n'),
+    ('a message of 65,535 bytes in 4,096 pieces', long_message(65_535, 16), 'accepted\n'),
+    ('an STRT in which a line begins', [('a', STRT), ('b', STACK), ('a', ack_of(0)), ('a', data_of(2, 0)[:10]), ('a', data_of(2, 0)[10:])],
+     'unexplained a unit 2 line 5: 7 WrongNumber\n'),
+)
+
+
+def faults_of_answers(tap):
+    """For each text how it is answered otherwise, or None."""
+    for name, right in ANSWERS:
+        with open(os.path.join(TOP, 'tools', 'tap', name + '.wire'), encoding='ascii') as wire:
+            printed = tap.tap(wire.read())
+        yield None if printed[0].startswith(right) else '%s: printed %r' % (name, printed)
+        yield None if tap.check()[2] in (0, 1) else '%s: its captures are no texts' % name
+    for name, units, right in MADE:
+        printed = tap.tap(text_of(units))
+        yield None if printed[0].startswith(right) else '%s: printed %r' % (name, printed)
+
+
+def faults_of_silence(tap):
+    """For texts in which nothing passed, or little, how they are answered otherwise, or None."""
+    page = b'HTTP/1.1 200 OK\r\nContent-Type: text/html\r\n\r\n<p>no line</p>\r\n' * 200
+    for text in (text_of([]), text_of([('a', page.hex())]), text_of([('a', MAINTENANCE), ('b', '9696ff')])):
+        printed = tap.tap(text)
+        yield None if printed == ('', NO_UNIT, 2) else 'no unit: printed %r' % (printed,)
+    for strays, is_told in ((24, False), (25, True)):
+        printed = tap.tap(text_of(UP + [('a', '07' * strays)]))
+        right = 'accepted\n' in printed[0] and (MOSTLY in printed[0]) == is_told and printed[2] == 0
+        yield None if right else '%d stray bytes: printed %r' % (strays, printed)
+
+
+def fault_of_too_many(tap, count):
+    """How more units of one side than a search looks at are not told to be too wide a choice, or None."""
+    wire = 'ddwire 1 1.1 1.2\na %s\nb %s\na %s\n' % (STRT, STACK, ack_of(0)) + ('b %s\n' % ack_of(0)) * count
+    printed = tap.tap(wire + 'b %s\na %s\n' % (data_of(1, 0), ack_of(1)))
+    right = ('', 'a unit 2 line %d: too wide a choice\n' % (count + 6), 2)
+    return None if printed == right else 'many units of one side: printed %r' % (printed,)
+
+
+# ---- pairs that are played
+
+def scripts():
+    """The scripts of examples/ and of the rows, each with its name."""
+    for path in sorted(glob.glob(os.path.join(TOP, 'examples', '*.script'))):
+        with open(path, encoding='ascii') as script:
+            yield os.path.basename(path), script.read()
+    set_ups, rows = rows_of()
+    for row in (*set_ups.values(), *rows):
+        steps = row.steps()[:-1] if row.stopped else row.steps()
+        yield row.name, HEAD + ''.join(step + '\n' for step in steps)
+
+
+def is_without_restart(script):
+    """Whether each side is started at most once."""
+    return all(script.count('\n%s start\n' % side) <= 1 for side in 'ab')
+
+
+def faults_of_scripts(tap):
+    """For each script without a restart that plays a run, how what passed in it is not accepted, or None."""
+    for name, script in scripts():
+        if not is_without_restart(script):
+            continue
+        with open(tap.wire, 'w', encoding='ascii') as text:
+            text.write(script)
+        tap.run('play', tap.wire, tap.a, tap.b)
+        if tap.check()[2]:
+            continue
+        made = subprocess.run([os.path.join(TOP, 'tools', 'wire_of'), tap.a, tap.b], capture_output=True, text=True)
+        printed = tap.tap(made.stdout)
+        is_right = printed[0].startswith('accepted\n') or printed == ('', NO_UNIT, 2)
+        yield None if is_right else 'what %s plays: printed %r' % (name, printed)
