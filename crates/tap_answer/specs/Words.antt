@@ -15,19 +15,23 @@ abbrev pub unit_words : Passed → List ℕ
 unit_words passed =
     side_letter passed.side ++ (codes " unit " ++ (decimal passed.unit ++ (codes " line " ++ decimal passed.line)))
 
--- `7 WrongNumber` and, each on a line of its own, that no placing was found, and what the answer of `why` rests on
+-- `7 WrongNumber` and, on a line of its own, that no placing was found
 abbrev pub reason_words : Reason → List ℕ
 reason_words reason =
-    decimal (reason_number reason) ++ (codes " " ++ (reason_name reason
-    ++ codes "\nno placing was found, which accuses nobody\nddcap why shows the unit; what it says, and whom it accuses, rests on the placing"))
+    decimal (reason_number reason) ++ (codes " " ++ (reason_name reason ++ codes "\nno placing was found, which accuses nobody"))
+
+-- what the answer of `why` rests on
+abbrev pub rests_words : List ℕ
+rests_words = codes "ddcap why shows the unit; what it says, and whom it accuses, rests on the placing"
 
 -- `unexplained a unit 7 line 16: 7 WrongNumber`
 abbrev pub unexplained_words : Passed → Reason → List ℕ
-unexplained_words passed reason = codes "unexplained " ++ (unit_words passed ++ (codes ": " ++ (reason_words reason ++ codes "\n")))
+unexplained_words passed reason =
+    codes "unexplained " ++ (unit_words passed ++ (codes ": " ++ (reason_words reason ++ (codes "\n" ++ (rests_words ++ codes "\n")))))
 
 -- `unexplained behind the last unit: 14 WrongUserEvent`
 abbrev pub unexplained_end_words : Reason → List ℕ
-unexplained_end_words reason = codes "unexplained behind the last unit: " ++ (reason_words reason ++ codes "\n")
+unexplained_end_words reason = codes "unexplained behind the last unit: " ++ (reason_words reason ++ (codes "\n" ++ (rests_words ++ codes "\n")))
 
 -- `a unit 7 line 16: too wide a choice`
 abbrev pub too_wide_words : Passed → List ℕ

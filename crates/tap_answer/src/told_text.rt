@@ -42,8 +42,27 @@ impl fmt::Display for ReasonWords {
     fn fmt<W: fmt::Write>(&self, f: &mut fmt::Formatter<W>) -> fmt::Result {
         let reason = self.reason;
         let number = reason.number();
-        write!(f, "{number} {reason}\nno placing was found, which accuses nobody\n")?;
-        f.write_str("ddcap why shows the unit; what it says, and whom it accuses, rests on the placing")
+        write!(
+            f,
+            "{number} {reason}\nno placing was found, which accuses nobody"
+        )
+    }
+}
+
+// What the answer of `why` rests on.
+#[derive(Clone, Copy)]
+struct RestsWords {}
+
+impl fmt::Display for RestsWords {
+    ghost use Rattle.std.specs.Prelude.{Some};
+    ghost use Rattle.tap_answer.specs.Words.{rests_words};
+
+    ghost output = { λ _. Some rests_words };
+
+    fn fmt<W: fmt::Write>(&self, f: &mut fmt::Formatter<W>) -> fmt::Result {
+        f.write_str(
+            "ddcap why shows the unit; what it says, and whom it accuses, rests on the placing",
+        )
     }
 }
 
@@ -63,7 +82,9 @@ impl fmt::Display for MostlyWords {
         if self.more == 0 {
             return Ok(());
         }
-        f.write_str("more bytes were skipped than read: these may be no two directions of a DDCMP line\n")
+        f.write_str(
+            "more bytes were skipped than read: these may be no two directions of a DDCMP line\n",
+        )
     }
 }
 
@@ -92,16 +113,13 @@ impl fmt::Display for SkippedWords {
 
 /// `unexplained a unit 7 line 16: 7 WrongNumber`, a line that no placing was found, and one on what the answer of `why` rests, each with its LF: the
 /// unit with which the captures end, and why they are refused. Fails for want of memory alone.
-pub fn unexplained_text(
-    alloc: Global,
-    passed: Passed,
-    reason: Reason,
-) -> Result<String, AllocError>
+pub fn unexplained_text(alloc: Global, passed: Passed, reason: Reason) -> Result<String, AllocError>
     ensures { IfOk result (λ text. string_bytes text ≡ unexplained_words passed reason) }
 {
     let unit = UnitWords { passed };
     let why = ReasonWords { reason };
-    format!(in alloc; "unexplained {unit}: {why}\n")
+    let rests = RestsWords {};
+    format!(in alloc; "unexplained {unit}: {why}\n{rests}\n")
 }
 
 /// `unexplained behind the last unit: 14 WrongUserEvent`, and the same lines after it: captures of all that passed are refused there. Fails for want
@@ -110,7 +128,8 @@ pub fn unexplained_end_text(alloc: Global, reason: Reason) -> Result<String, All
     ensures { IfOk result (λ text. string_bytes text ≡ unexplained_end_words reason) }
 {
     let why = ReasonWords { reason };
-    format!(in alloc; "unexplained behind the last unit: {why}\n")
+    let rests = RestsWords {};
+    format!(in alloc; "unexplained behind the last unit: {why}\n{rests}\n")
 }
 
 /// `a unit 7 line 16: too wide a choice`, with its LF. Fails for want of memory alone.

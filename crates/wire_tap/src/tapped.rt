@@ -48,7 +48,7 @@ pub struct Tapped {
 }
 
 impl Tapped {
-    ghost use Rattle.std.specs.Prelude.{◌≡◌, ◌↔◌, ◌×◌, IsTrue};
+    ghost use Rattle.std.specs.Prelude.{◌≡◌, ◌↔◌, IsTrue};
     ghost use Rattle.wire_tap.specs.declared.tapped.Ending.TheVariants.{Whole};
 
     /// Whether the captures hold all that passed, and that is no unit.
