@@ -1,14 +1,19 @@
-"""What `ddcap why` says of the check at the reasons 10, 20 and 24, where bytes are compared, by the second reading: of a packet that is sent again
-the first byte that differs, of a segment or of a message the first bytes. A part of tools/reading_why.py."""
+"""What `ddcap why` says of the check at the reasons 5, 10, 20 and 24, where bytes are compared, by the second reading: of a packet that is sent
+again, and of a unit that came otherwise and reads alike, the first byte that differs, of a segment or of a message the first bytes. A part of
+tools/reading_why.py."""
 from reading import RULES
+from reading_ladder import said
 from reading_flow import BEGINS, ENDS, distance, wire
 from reading_packets import read_nsp, read_packet, read_unit
 
 TOLD = 16  # at most so many bytes are told
 
 
-def check_of(number, side, words):
-    """The name of the check that the record of these words does not pass, what is seen and what is allowed; None where no bytes are compared."""
+def check_of(number, side, other, letter, words):
+    """The name of the check that the record of these words does not pass, what is seen and what is allowed; None where no bytes are compared. The
+    letter is that of the other side."""
+    if number == 5:
+        return undetected(letter, int(words[1]), words[2], other.units[int(words[1])][0])
     if number == 10:
         unit = read_unit(words[1])
         return as_first_sent(unit.num, unit.packet, side.station.packets[side.station.next])
@@ -17,12 +22,33 @@ def check_of(number, side, words):
     return delivery_check(side.links, int(words[2]), bytes.fromhex(words[3].replace('-', ''))) if number == 24 else None
 
 
+def counted(number, thing='byte'):
+    return '%d %s%s' % (number, thing, 's' * (number != 1))
+
+
+# ---- a unit that came otherwise
+
+def undetected(letter, number, came, sent):
+    """Where both read alike, the byte in which they differ is told."""
+    seen, allowed = [said(digits, True).replace('bad header', 'header bad').replace('bad data', 'data bad') for digits in (came, sent)]
+    tells = ['', '']
+    if seen == allowed:
+        both = bytes.fromhex(came), bytes.fromhex(sent)
+        place = first_difference(*both)
+        tells = [', of which byte %d is %s, and it has %s' % (place, byte_at(data, place), counted(len(data))) for data in both]
+    return 'the line', seen + tells[0], '%s, the bytes of unit %d of %s%s; or damaged bytes' % (allowed, number, letter, tells[1])
+
+
 # ---- a packet that is sent again
 
+def first_difference(data, other):
+    return next((place for place, both in enumerate(zip(data, other)) if both[0] != both[1]), min(len(data), len(other)))
+
+
 def as_first_sent(num, packet, first):
-    place = next((place for place, both in enumerate(zip(packet, first)) if both[0] != both[1]), min(len(packet), len(first)))
-    seen = 'byte %d of the data is %s, and it has %d bytes' % (place, byte_at(packet, place), len(packet))
-    return 'AsFirstGiven', seen, 'byte %d is %s, and %d bytes, as number %d was first sent' % (place, byte_at(first, place), len(first), num)
+    place = first_difference(packet, first)
+    seen = 'byte %d of the data is %s, and it has %s' % (place, byte_at(packet, place), counted(len(packet)))
+    return 'AsFirstGiven', seen, 'byte %d is %s, and %s, as number %d was first sent' % (place, byte_at(first, place), counted(len(first)), num)
 
 
 def byte_at(packet, place):
@@ -36,7 +62,7 @@ def segment_check(links, message):
     row = RULES['sends segment']
     seen = piece_words(message.flag, message.body)
     if message.segnum == wire(row, flow.given + 1):
-        return 'next piece', seen, next_words(flow)
+        return 'next piece', seen, next_words(flow, len(message.body))
     number = flow.given - distance(row, message.segnum, wire(row, flow.given))
     if not flow.one_of_the_last(row, number):
         return None
@@ -44,17 +70,19 @@ def segment_check(links, message):
     return 'as first given', again + 'otherwise: ' + seen, again + 'as at first: ' + piece_words(*flow.pieces[number])
 
 
-def next_words(flow):
-    """What the next new segment has to carry."""
+def next_words(flow, length):
+    """What the next new segment of so many bytes has to carry."""
     if not flow.handed:
         return 'no new segment: nothing is left of what was handed in'
     rest = flow.handed[0]
-    return 'the next of %d bytes of the message%s, %s' % (len(rest), front(': ', rest), 'goes on with it' if flow.is_begun else 'begins it')
+    parts = {(True, False): 'begins it', (True, True): 'begins and ends it', (False, False): 'goes on with it'}
+    part = parts.get((not flow.is_begun, length >= len(rest)), 'goes on with it and ends it')
+    return 'the next of %s of the message%s, %s' % (counted(len(rest)), front(': ', rest), part)
 
 
 def piece_words(flag, data):
     words = {BEGINS | ENDS: 'begins and ends', BEGINS: 'begins', ENDS: 'ends', 0: 'neither begins nor ends'}[flag & (BEGINS | ENDS)]
-    return '%d bytes%s, %s' % (len(data), front(' ', data), words)
+    return '%s%s, %s' % (counted(len(data)), front(' ', data), words)
 
 
 # ---- a message that is delivered
@@ -62,13 +90,13 @@ def piece_words(flag, data):
 def delivery_check(links, own, message):
     """The look-up is that of the link that has the address, or had it when it ended."""
     flow = links.find(RULES['user up'], RULES['user up']['look_up'], own).flow
-    seen = 'a message of %d bytes%s' % (len(message), front(': ', message))
+    seen = 'a message of %s%s' % (counted(len(message)), front(': ', message))
     whole = flow.whole()
     if not whole:
         return 'delivery', seen, 'the next whole message, of which there is none yet'
     due = whole[0][1]
     first = flow.held[min(number for number in flow.held if number > flow.delivered)][1]
-    return 'delivery', seen, 'the next whole message, which has %d bytes%s' % (len(due), front(': ', first, len(due)))
+    return 'delivery', seen, 'the next whole message, which has %s%s' % (counted(len(due)), front(': ', first, len(due)))
 
 
 def front(before, data, length=None):

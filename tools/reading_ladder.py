@@ -152,7 +152,8 @@ def note_of(record):
     if record.letter == 'u':
         words = list(record.words)
         if words[0] in ('in', 'up'):
-            words[2:] = [str(len(words[2].replace('-', '')) // 2), 'bytes']
+            count = len(words[2].replace('-', '')) // 2
+            words[2:] = [str(count), 'byte' if count == 1 else 'bytes']
         return ' '.join(words)
     if record.letter == 'k':
         return 'kept'
@@ -190,13 +191,15 @@ def came_words(sides, record, made):
     """The words of a receipt alone."""
     sender = 'ab'[1 - record.side]
     sending = next((other for other in sides[1 - record.side] if other.unit == record.hint), None)
+    # bytes that show no damage and are not those of the unit: that is refused, and may read alike
+    is_changed = sending is not None and record.digits != sending.digits and read_unit(record.digits) not in (HEADER_BAD, DATA_BAD)
     if sending not in made or any(other.hint is not None and other.hint >= record.hint for other in sides[record.side][:record.line - 2]):
-        return '%s of %s unit %d' % (said(record.digits), sender, record.hint)
-    damage = '' if said(record.digits) == said(sending.digits) else ' ~' + said(record.digits)
+        return '%s%s of %s unit %d' % ('~' * is_changed, said(record.digits), sender, record.hint)
+    damage = '' if said(record.digits) == said(sending.digits) and not is_changed else ' ~' + said(record.digits)
     words = '%s of %s line %d' % (said(sending.digits), sender, sending.line) + damage
     if len(words) <= 30:
         return words
-    damage = '' if said(record.digits, True) == said(sending.digits, True) else ' ~' + said(record.digits, True)
+    damage = '' if said(record.digits, True) == said(sending.digits, True) and not is_changed else ' ~' + said(record.digits, True)
     return '%s of %s line %d' % (said(sending.digits, True), sender, sending.line) + damage
 
 

@@ -4,7 +4,8 @@ stand `behind` it; and the `check` where bytes are compared (tools/reading_bytes
 from collections import namedtuple
 
 from reading import NAMES, RULES, Side, passes_over
-from reading_bytes import check_of
+from reading_bytes import check_of, counted
+from reading_packets import read_nsp, read_packet, read_unit
 from reading_rows import Refused
 
 Said = namedtuple('Said', 'lines rows behind check')
@@ -65,11 +66,11 @@ CAUSES = {1: 'header check', 2: 'data check', 3: 'REP response', 8: 'no buffer'}
 LINKS_SHOWN = 8
 
 
-def side_rows(letter, side):
-    """The rows of a side, as it was before the refused record."""
-    yield '%s before it (%d records, to line %d)' % ('ab'[letter], side.next, side.next + 1)
+def side_rows(letter, side, named):
+    """The rows of a side, as it was before the refused record, which names a link by these addresses there."""
+    yield '%s before it (%s, to line %d)' % ('ab'[letter], counted(side.next, 'record'), side.next + 1)
     yield from station_rows('ba'[letter], side.station)
-    yield from link_rows([link for link in side.links.links if link.phase != 'Ended'])
+    yield from link_rows([link for link in side.links.links if link.phase != 'Ended'], named)
 
 
 def station_rows(other, station):
@@ -82,14 +83,19 @@ def station_rows(other, station):
     yield '  numbers  R %d received   A %d acknowledged   N %d given   T %d next to send' % tuple(numbers)
     first, last = (station.acknowledged + 1) % 256, station.given % 256
     if station.given > station.acknowledged:
-        yield '           outstanding %s' % (last if first == last else '%d-%d' % (first, last))
+        spans = [(first, last)] if first <= last else [(first, 255), (0, last)]
+        yield '           outstanding %s' % ' and '.join('%d-%d' % span if span[0] < span[1] else str(span[0]) for span in spans)
     causes = ['%d x reason %d (%s)' % (station.causes[reason], reason, name) for reason, name in CAUSES.items() if station.causes[reason]]
     yield '           NAKs owed or open: ' + (', '.join(causes) or 'none')
 
 
-def link_rows(live):
-    """The rows of the live links: of all, or of more than a few of those of which something is open, and how many more there are."""
-    shown = live if len(live) <= LINKS_SHOWN else [link for link in live if is_open(link)][:LINKS_SHOWN]
+def link_rows(live, named):
+    """The rows of the live links, the one that is named first: of all, or of more than a few of those others of which something is open, and how
+    many more there are."""
+    own, far = named
+    first = [link for link in live if own is not None and link.own == own] or [link for link in live if far is not None and link.far == far]
+    others = [link for link in live if link not in first]
+    shown = first + others if len(live) <= LINKS_SHOWN else (first + [link for link in others if is_open(link)])[:LINKS_SHOWN]
     for link in shown:
         own, far = ['?' if address is None else address for address in (link.own, link.far)]
         numbers = [number % 4096 for number in (link.flow.given, link.flow.acknowledged, link.flow.received, link.flow.last)]
@@ -97,12 +103,26 @@ def link_rows(live):
         segsize = '' if link.phase == 'Calling' else ', SEGSIZE %d' % link.segsize
         yield '  link     %s-%s %s: %s%s' % (own, far, link.phase, words, segsize)
     if len(live) > len(shown):
-        yield '           and %d more live links' % (len(live) - len(shown))
+        yield '           and %s' % counted(len(live) - len(shown), 'more live link')
 
 
 def is_open(link):
     """Whether an answer is awaited or owed on a link."""
     return link.phase != 'RUN' or link.flow.given > link.flow.acknowledged or link.flow.received != link.flow.last
+
+
+def named_by(words):
+    """The own and the far address of the link that a record names, as its side has them."""
+    if words[0] == 'u':
+        numbers = [int(word) for word in words[2:4]]
+        return (None, None) if not numbers else (numbers[1], numbers[0]) if words[1] in ('accept', 'reject') else (numbers[0], None)
+    unit = read_unit(words[-1]) if words[0] != 'n' else None
+    packet = read_packet(unit.packet) if unit and unit.kind == 'data' else None
+    message = read_nsp(packet.nsp) if packet and packet.nsp is not None and not packet.returned else None
+    if message is None or message.kind == 'no operation':
+        return None, None
+    named = message.source, message.destination if message.kind != 'CI' else None
+    return named if words[0] == 's' else named[::-1]
 
 
 # ---- together
@@ -132,6 +152,6 @@ def said(a, b):
     for other in (letter, 1 - letter):
         lines.append(state_of(other, sides[other]))
         lines += [link_of(other, link) for link in sides[other].links.links if link.phase != 'Ended']
-        rows += side_rows(other, sides[other])
+        rows += side_rows(other, sides[other], named_by(words)[::1 if other == letter else -1])
     behind = sum(len(each.records) - each.next for each in sides) - 1
-    return Said(lines, rows, behind, check_of(number, side, words))
+    return Said(lines, rows, behind, check_of(number, side, sides[1 - letter], 'ba'[letter], words))

@@ -17,7 +17,6 @@ use Rattle.pair_judge.specs.declared.verdict.Verdict.TheVariants.{Accepted, Refu
 use Rattle.why.specs.declared.edits.EditsTried.{EditsTried}
 use Rattle.why.specs.declared.why_text.Refusal.{Refusal}
 use Rattle.why.specs.declared.why_text.Shown.{Shown}
-use Rattle.why.specs.Ends.{is_of_user}
 use Rattle.why.specs.Refused.{accuses}
 use Rattle.why.specs.Whole.{why_lines, why_rows}
 use Rattle.ddcap.specs.Printed.{Moved, TellsFault, Writes, fault_text, verdict_text}
@@ -30,7 +29,7 @@ pub record IsTold (ends : ShownEnds) (refused : Refused) (told : Refusal) : Type
   pub side : told.side ≡ refused.side
   pub place : told.place ≡ refused.place
   pub reason : told.reason ≡ refused.reason
-  pub accused : told.accusation ≡ accuses refused.reason (is_of_user told.says)
+  pub accused : told.accusation ≡ accuses refused.reason told.says
   pub ahead : (of_side refused.side ends.a ends.b).ahead ≡ Some (record_with told.says told.bytes.now)
   pub failing : Side
   pub failed : IsFailedIn failing told.failed ends.verdict

@@ -16,7 +16,6 @@ use Rattle.pair_judge.specs.declared.end_verdict.EndVerdict.{EndVerdict}
 use Rattle.pair_judge.specs.declared.end_verdict.EndVerdict.TheVariants.{Passed, Refused}
 use Rattle.pair_judge.specs.declared.summary.SideSummary.{SideSummary}
 use Rattle.why.specs.declared.end_text.EndRefusal.{EndRefusal}
-use Rattle.why.specs.Ends.{is_of_user}
 use Rattle.why.specs.Refused.{end_accuses}
 use Rattle.why.specs.WholeEnd.{end_lines, end_rows}
 use Rattle.ddcap.specs.Printed.{Moved, Writes}
@@ -36,7 +35,7 @@ stop verdict end = record { verdict = verdict; end = end }
 pub record IsToldOf (told : EndRefusal) (s : Stop) : Type 0 where
   pub accused : Accused
   pub is_refused : s.verdict ≡ Refused told.place accused told.reason
-  pub accusation : told.accusation ≡ end_accuses accused told.reason (is_of_user told.says)
+  pub accusation : told.accusation ≡ end_accuses accused told.reason told.says
   pub ahead : s.end.ahead ≡ Some (record_with told.says told.bytes.now)
   pub failed : IfSome told.failed (λ check. reason_of_failed check ≡ told.reason)
 

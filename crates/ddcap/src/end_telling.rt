@@ -14,7 +14,7 @@ use ladder::Ladder;
 use pair_judge::{EndVerdict, SideEnd, SideSummary, WatchedEnd, judge_end_watched};
 use std::alloc::{AllocError, Global};
 use std::io::{Read, Write};
-use why::{Accusation, EndRefusal, is_of_user, why_end_json, why_end_rows};
+use why::{Accusation, EndRefusal, why_end_json, why_end_rows};
 use wire_base::{Side, Tally};
 
 /// How the answer is printed, and the name of the capture in it.
@@ -92,7 +92,7 @@ fn refused_text(
     match printout.form {
         Form::Json => why_end_json(alloc, refusal, &end),
         Form::Rows => {
-            ladder.refused(Side::A, refusal.says, refusal.bytes);
+            ladder.refused(Side::A, refusal.says, refusal.bytes, false);
             rows_text(alloc, printout.name, verdict, refusal, &end, &ladder)
         }
     }
@@ -116,7 +116,7 @@ fn refusal_of(verdict: EndVerdict, end: &SideEnd) -> Option<EndRefusal<'_>>
     Some(EndRefusal {
         place,
         reason,
-        accusation: Accusation::of_end(accused, reason, is_of_user(entry)),
+        accusation: Accusation::of_end(accused, reason, entry),
         failed: end.failed_alone(reason),
         says: entry,
         bytes,

@@ -2,9 +2,10 @@
 
 use capture::{CaptureFault, CaptureReader, Entry, Format, HintForm, MAX_RECORDS};
 use edited::{Row, Stretch};
+use pair_judge::JudgedEnds;
 use std::alloc::{AllocError, Global};
-use std::io::Read;
-use wire_base::Tally;
+use std::io::{Read, Seek};
+use wire_base::{Side, Tally};
 
 /// How many records in front of one are near it.
 const BEFORE: u64 = 20;
@@ -30,19 +31,78 @@ pub struct Near {
     pub has_all_hints: bool,
     /// The bytes of the unit that was asked for; `None` where none was, or it was never sent.
     pub unit: Option<Vec<u8>>,
+    /// The receipt that was asked for; `None` where none was, or it never came.
+    pub receipt: Option<Row>,
+}
+
+impl Near {
+    /// The record that the side comes to next.
+    pub fn row_ahead(&self) -> Option<&Row> {
+        for row in &self.stretch.rows {
+            if row.line == self.stretch.line {
+                return Some(row);
+            }
+        }
+        None
+    }
+}
+
+/// What is asked for of a capture beside what is near: the unit with this number that was sent, and the receipt of the other side's unit with this
+/// number, from the record on that its side comes to next.
+#[derive(Clone, Copy)]
+pub struct Asked {
+    pub unit: Option<u64>,
+    pub receipt: Option<u64>,
+}
+
+/// What is asked for of this side's capture: where the other side's record is refused, the unit that it received, or the receipt of what it sent.
+pub fn asked(ends: &JudgedEnds, refused: Side, side: Side) -> Asked {
+    let nothing = Asked {
+        unit: None,
+        receipt: None,
+    };
+    if refused == side {
+        return nothing;
+    }
+    match ends.ahead(refused) {
+        Some((Entry::Received { hint, .. }, _)) => Asked {
+            unit: Some(hint),
+            receipt: None,
+        },
+        Some((Entry::Sent, _)) => Asked {
+            unit: None,
+            receipt: Some(ends.sent(refused)),
+        },
+        _ => nothing,
+    }
+}
+
+/// What a capture has near the record with this number, and what is asked for; `None` where the file can't be read again. `Err`: the head departs, a
+/// read failed, or there is no memory for it.
+pub fn near_of<R: Read + Seek>(
+    alloc: Global,
+    file: &mut R,
+    place: u64,
+    asked: Asked,
+) -> Result<Option<Near>, CaptureFault> {
+    if file.rewind().is_err() {
+        return Ok(None);
+    }
+    let near = records_near(alloc, place, asked, &mut Tally::new(&mut *file))?;
+    Ok(Some(near))
 }
 
 /// Reads a capture to its end, or to a line that departs, and keeps the record with this number, counted from 0, the last ones in front of it, the
-/// first ones behind it, the receipts behind it where they are few, and the unit with the number that is asked for. `Err`: the head departs, a read
-/// failed, or there is no memory for what is near.
+/// first ones behind it, the receipts behind it where they are few, and what is asked for. `Err`: the head departs, a read failed, or there is no
+/// memory for what is near.
 pub fn records_near<R: Read>(
     alloc: Global,
     place: u64,
-    unit: Option<u64>,
+    asked: Asked,
     reader: &mut Tally<R>,
 ) -> Result<Near, CaptureFault> {
     let mut capture = CaptureReader::open(alloc, reader)?;
-    let mut keeper = Keeper::new(alloc, place, unit, first_form(capture.format()));
+    let mut keeper = Keeper::new(alloc, place, asked, first_form(capture.format()));
     for number in 0..MAX_RECORDS + 1 {
         match capture.advance(reader) {
             Ok(Some(entry)) => match keeper.take(number, entry, capture.bytes()) {
@@ -62,8 +122,9 @@ pub fn records_near<R: Read>(
 struct Keeper {
     alloc: Global,
     place: u64,
-    asked: Option<u64>,
+    asked: Asked,
     unit: Option<Vec<u8>>,
+    receipt: Option<Row>,
     form: HintForm,
     units: u64,
     rows: Vec<Row>,
@@ -75,12 +136,13 @@ struct Keeper {
 }
 
 impl Keeper {
-    fn new(alloc: Global, place: u64, asked: Option<u64>, form: HintForm) -> Keeper {
+    fn new(alloc: Global, place: u64, asked: Asked, form: HintForm) -> Keeper {
         Keeper {
             alloc,
             place,
             asked,
             unit: None,
+            receipt: None,
             form,
             units: 0,
             rows: Vec::new(alloc),
@@ -103,6 +165,9 @@ impl Keeper {
             if number >= place {
                 self.take_hint(hint)?;
             }
+            if number >= place && self.asked.receipt == Some(hint) {
+                self.receipt = Some(self.row(number, entry, bytes)?);
+            }
             if number > place {
                 self.take_receipt(number, entry, bytes)?;
             }
@@ -115,7 +180,7 @@ impl Keeper {
     }
 
     fn take_unit(&mut self, bytes: &[u8]) -> Result<(), AllocError> {
-        if self.asked == Some(self.units) {
+        if self.asked.unit == Some(self.units) {
             self.unit = Some(bytes.to_vec(self.alloc)?);
         }
         self.units = self.units.saturating_add(1);
@@ -173,6 +238,7 @@ impl Keeper {
             hints: self.hints,
             has_all_hints: self.has_all_hints && has_ended,
             unit: self.unit,
+            receipt: self.receipt,
         }
     }
 }

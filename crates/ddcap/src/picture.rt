@@ -7,13 +7,15 @@ ghost use Rattle.drawing.specs.Drawing.{kind_by};
 ghost use Rattle.drawing.specs.declared.range.TheConstants.{MAX_ROWS};
 ghost use Rattle.ddcap.specs.PrintedDrawing.{verdict_answered};
 
+use crate::near::{asked, near_of};
 use ddcmp_msg::read_unit;
 use drawing::{DrawnPair, MAX_ROWS, Range, drawing_of};
-use ladder::{Caption, Drawn, Sending, What};
+use ladder::Caption;
 use pair_judge::{JudgeFault, JudgedEnds, Verdict};
 use std::alloc::{AllocError, Global};
 use std::io::{Read, Seek};
 use why::{Check, CheckTold, Form, FrontTexts};
+use wire_base::Side;
 
 /// A picture, with the verdict on what it shows.
 #[derive(Drop)]
@@ -42,7 +44,7 @@ pub fn picture_of<A: Read + Seek, B: Read + Seek>(
         Ok(pair) => pair,
         Err(fault) => return Err(fault),
     };
-    match svg_of(alloc, &pair, title) {
+    match svg_of(alloc, &pair, a, b, title) {
         Ok(svg) => Ok(Picture {
             verdict: pair.ends.verdict(),
             svg,
@@ -51,12 +53,18 @@ pub fn picture_of<A: Read + Seek, B: Read + Seek>(
     }
 }
 
-fn svg_of(alloc: Global, pair: &DrawnPair, title: &str) -> Result<Vec<u8>, AllocError>
+fn svg_of<A: Read + Seek, B: Read + Seek>(
+    alloc: Global,
+    pair: &DrawnPair,
+    a: &mut A,
+    b: &mut B,
+    title: &str,
+) -> Result<Vec<u8>, AllocError>
     ensures { IfOk result (λ text. IsDocument text.items) }
 {
     let verdict = verdict_words(alloc, pair.ends.verdict())?;
-    let unit_name = unit_name(alloc, &pair.drawn)?;
-    let check = check_words(alloc, &pair.ends, unit_name.as_str())?;
+    let unit = unit_named(alloc, a, b, &pair.ends)?;
+    let check = check_words(alloc, &pair.ends, &unit)?;
     let (seen, allowed) = seen_and_allowed(check.as_str());
     let caption = Caption {
         title,
@@ -84,14 +92,22 @@ fn verdict_words(alloc: Global, verdict: Verdict) -> Result<String, AllocError> 
 }
 
 // What is said of the check that the refused record does not pass, in rows; nothing where none is refused.
-fn check_words(alloc: Global, ends: &JudgedEnds, unit_name: &str) -> Result<String, AllocError> {
+fn check_words(
+    alloc: Global,
+    ends: &JudgedEnds,
+    unit: &Option<Vec<u8>>,
+) -> Result<String, AllocError> {
     let Verdict::Refused { side, reason, .. } = ends.verdict() else {
         return Ok(String::new(alloc));
     };
     let (Some((_, failed)), Some((entry, bytes))) = (ends.failed(), ends.ahead(side)) else {
         return Ok(String::new(alloc));
     };
-    let fronts = FrontTexts::of(alloc, ends.end(side), entry, bytes, unit_name)?;
+    let unit = match unit {
+        Some(unit) => Some(unit.as_slice()),
+        None => None,
+    };
+    let fronts = FrontTexts::of(alloc, ends.end(side), entry, bytes, unit)?;
     let check = Check {
         side,
         reason,
@@ -103,20 +119,24 @@ fn check_words(alloc: Global, ends: &JudgedEnds, unit_name: &str) -> Result<Stri
     format!(in alloc; "{}", CheckTold { form, check })
 }
 
-// The short name of the unit that the last row's record names by its hint, as what was sent is told; nothing where it names none.
-fn unit_name(alloc: Global, drawn: &Drawn) -> Result<String, AllocError> {
-    let Some(row) = drawn.row(drawn.len().saturating_sub(1)) else {
-        return Ok(String::new(alloc));
+// The unit that the refused record names, read again from the other side's capture; `None` where it names none that was sent, or the capture can't be
+// read again.
+fn unit_named<A: Read + Seek, B: Read + Seek>(
+    alloc: Global,
+    a: &mut A,
+    b: &mut B,
+    ends: &JudgedEnds,
+) -> Result<Option<Vec<u8>>, AllocError> {
+    let Verdict::Refused { side, .. } = ends.verdict() else {
+        return Ok(None);
     };
-    match row.told.what {
-        What::Came {
-            sent: Some(Sending { said, .. }),
-            ..
-        } => {
-            let words = said.brief();
-            format!(in alloc; "{words}, ")
-        }
-        _ => Ok(String::new(alloc)),
+    let near = match side {
+        Side::A => near_of(alloc, b, ends.records(Side::B), asked(ends, side, Side::B))?,
+        Side::B => near_of(alloc, a, ends.records(Side::A), asked(ends, side, Side::A))?,
+    };
+    match near {
+        Some(near) => Ok(near.unit),
+        None => Ok(None),
     }
 }
 

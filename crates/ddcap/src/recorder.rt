@@ -1,15 +1,13 @@
-//! What small edits near a refused record tell: whether rather the recording is wrong than a node.
-
-ghost use Rattle.dna_node.specs.Kind.{both_layers};
-ghost use Rattle.pair_judge.specs.Judged.{IsAnswer};
-ghost use Rattle.ddcap.specs.inner.Edits.{with_edit};
+//! What small edits near a refused record tell: whether rather the recording is wrong than a node. That is told only where no single fault of the
+//! node explains the record as well.
 
 use crate::due::{damage_of, due_near};
-use crate::near::{Near, records_near};
+use crate::judged_again::{PairChanges, is_run_again};
+use crate::near::{Near, asked, near_of};
+use crate::unit_changes::{is_sent_at_another_time, unit_changes};
 use capture::{CaptureFault, Entry};
-use edited::{Change, Edit, EditedReader, MistakeOf, Refused, candidates};
-use ladder::said_by;
-use pair_judge::{JudgeFault, JudgedEnds, TextFault, Verdict, judge};
+use edited::{Edit, MistakeOf, Refused, candidates};
+use pair_judge::{JudgeFault, JudgedEnds, Verdict};
 use std::alloc::{AllocError, Global};
 use std::fmt::Write as _;
 use std::io::{Read, Seek};
@@ -31,15 +29,18 @@ pub struct ComesLater {
     pub is_all: bool,
 }
 
-/// What small edits tell: how many were judged, and those that make the pair a run, as JSON objects and as rows. Beside it what else is read
-/// again: what comes later, and the short name of the unit that the hint of the refused record names, with a comma and a blank behind it.
+/// What small edits tell: how many were judged, and those that make the pair a run, as JSON objects and as rows; and whether a node that is wrong in
+/// the refused unit alone explains the record as well: with one field of that unit changed at both ends the pair is a run, or the edit moves a
+/// line where a station sent in the wrong state, which is a node that sent too early or too late. Beside it what else is read again: what comes
+/// later, and the unit that the hint of the refused record names.
 #[derive(Drop)]
 pub struct Tried {
     pub counts: EditsTried,
+    pub unit_as_well: bool,
     pub lines: String,
     pub rows: String,
     pub later: ComesLater,
-    pub unit_name: String,
+    pub unit: Option<Vec<u8>>,
     /// The side whose capture could not be read further.
     pub failed: Option<Side>,
 }
@@ -47,8 +48,7 @@ pub struct Tried {
 impl Tried {
     // A capture can't be read again, or a read of this side's failed.
     fn unread(alloc: Global, failed: Option<Side>) -> Tried {
-        let (later, name) = (nothing_later(alloc), String::new(alloc));
-        let mut tried = Tried::nothing(alloc, None, later, name);
+        let mut tried = Tried::nothing(alloc, None, nothing_later(alloc), None);
         tried.failed = failed;
         tried
     }
@@ -57,7 +57,7 @@ impl Tried {
         alloc: Global,
         records_behind: Option<u64>,
         later: ComesLater,
-        unit_name: String,
+        unit: Option<Vec<u8>>,
     ) -> Tried {
         Tried {
             counts: EditsTried {
@@ -65,10 +65,11 @@ impl Tried {
                 accepted: 0,
                 records_behind,
             },
+            unit_as_well: false,
             lines: String::new(alloc),
             rows: String::new(alloc),
             later,
-            unit_name,
+            unit,
             failed: None,
         }
     }
@@ -94,8 +95,9 @@ impl Tried {
 }
 
 /// Judges the pair again under small edits of a recorder's mistakes near the refused record of this side, the likeliest first: at most
-/// 64, and none is begun once 500,000,000 bytes were read. Nothing is tried where a file can't be read again from its beginning, nor where fewer than
-/// [`FEW_RECORDS`] records stand behind the refused one; and nothing more once a read failed. `AllocError` where there is no memory for an edit.
+/// 64, and none is begun once 500,000,000 bytes were read. Where one makes it a run, it is judged with one field of the refused unit changed too.
+/// Nothing is tried where a file can't be read again from its beginning, nor where fewer than [`FEW_RECORDS`] records stand behind the refused one;
+/// and nothing more once a read failed. `AllocError` where there is no memory for an edit.
 pub fn try_edits<A: Read + Seek, B: Read + Seek>(
     alloc: Global,
     a: &mut A,
@@ -103,11 +105,11 @@ pub fn try_edits<A: Read + Seek, B: Read + Seek>(
     ends: &JudgedEnds,
     side: Side,
 ) -> Result<Tried, AllocError> {
-    let near_a = match near_of(alloc, a, ends, side, Side::A) {
+    let near_a = match near_of(alloc, a, ends.records(Side::A), asked(ends, side, Side::A)) {
         Ok(near) => near,
         Err(fault) => return unread(alloc, Side::A, fault),
     };
-    let near_b = match near_of(alloc, b, ends, side, Side::B) {
+    let near_b = match near_of(alloc, b, ends.records(Side::B), asked(ends, side, Side::B)) {
         Ok(near) => near,
         Err(fault) => return unread(alloc, Side::B, fault),
     };
@@ -116,12 +118,52 @@ pub fn try_edits<A: Read + Seek, B: Read + Seek>(
     };
     let records = records_behind(ends, &near_a, &near_b);
     let edits = edits_near(alloc, ends, side, &near_a, &near_b)?;
-    let name = unit_name(alloc, &near_a, &near_b)?;
-    let tried = Tried::nothing(alloc, Some(records), comes_later(near_a, near_b), name);
+    let units = unit_changes(alloc, ends, side, &near_a, &near_b)?;
+    let (unit, later) = what_is_left(near_a, near_b);
+    let tried = Tried::nothing(alloc, Some(records), later, unit);
     if records < FEW_RECORDS {
         return Ok(tried);
     }
-    try_each(alloc, a, b, edits, tried)
+    let tried = try_each(alloc, a, b, ends, edits, tried)?;
+    if tried.failed.is_none() && tried.counts.accepted > 0 && !tried.unit_as_well {
+        return try_units(alloc, a, b, units, tried);
+    }
+    Ok(tried)
+}
+
+// Whether the pair is a run under one of these changes of a unit. Where a file can't be read again, nobody knows, and it may be.
+fn try_units<A: Read + Seek, B: Read + Seek>(
+    alloc: Global,
+    a: &mut A,
+    b: &mut B,
+    units: Vec<PairChanges>,
+    mut tried: Tried,
+) -> Result<Tried, AllocError> {
+    for changes in units {
+        match is_run_again(alloc, a, b, changes) {
+            Ok(Some(false)) => {}
+            Ok(Some(true)) | Ok(None) => {
+                tried.unit_as_well = true;
+                return Ok(tried);
+            }
+            Err(fault) => {
+                tried.unit_as_well = true;
+                return stopped(tried, fault);
+            }
+        }
+    }
+    Ok(tried)
+}
+
+// No more is tried, since a read failed; or there is no memory.
+fn stopped(mut tried: Tried, fault: JudgeFault) -> Result<Tried, AllocError> {
+    match fault {
+        JudgeFault::OutOfMemory => Err(AllocError),
+        JudgeFault::Capture { side, .. } => {
+            tried.failed = Some(side);
+            Ok(tried)
+        }
+    }
 }
 
 // Judges the pair under one edit after another.
@@ -129,6 +171,7 @@ fn try_each<A: Read + Seek, B: Read + Seek>(
     alloc: Global,
     a: &mut A,
     b: &mut B,
+    ends: &JudgedEnds,
     edits: Vec<Edit>,
     mut tried: Tried,
 ) -> Result<Tried, AllocError> {
@@ -138,17 +181,15 @@ fn try_each<A: Read + Seek, B: Read + Seek>(
             return Ok(tried);
         }
         let Edit { of, changes } = edit;
-        let is_run = match is_run_again(alloc, a, b, of.side, changes) {
+        let changes = PairChanges::of(of.side, changes, Vec::new(alloc));
+        let is_run = match is_run_again(alloc, a, b, changes) {
             Ok(Some(is_run)) => is_run,
             Ok(None) => return Ok(tried),
-            Err(JudgeFault::OutOfMemory) => return Err(AllocError),
-            Err(JudgeFault::Capture { side, .. }) => {
-                tried.failed = Some(side);
-                return Ok(tried);
-            }
+            Err(fault) => return stopped(tried, fault),
         };
         tried.counts.tried = tried.counts.tried.saturating_add(1);
         if is_run {
+            tried.unit_as_well = tried.unit_as_well || is_sent_at_another_time(ends, of.mistake);
             tried.add(alloc, of)?;
         }
         read = read
@@ -175,52 +216,17 @@ fn nothing_later(alloc: Global) -> ComesLater {
     }
 }
 
-fn comes_later(near_a: Near, near_b: Near) -> ComesLater {
-    ComesLater {
+// The unit that the refused record names, and what comes later.
+fn what_is_left(near_a: Near, near_b: Near) -> (Option<Vec<u8>>, ComesLater) {
+    let later = ComesLater {
         is_all: near_a.has_all_hints && near_b.has_all_hints,
         hints_a: near_a.hints,
         hints_b: near_b.hints,
+    };
+    match near_a.unit {
+        Some(unit) => (Some(unit), later),
+        None => (near_b.unit, later),
     }
-}
-
-// The number of the unit of this side that the hint of the refused record names.
-fn unit_asked(ends: &JudgedEnds, refused: Side, side: Side) -> Option<u64> {
-    if refused == side {
-        return None;
-    }
-    match ends.ahead(refused) {
-        Some((Entry::Received { hint, .. }, _)) => Some(hint),
-        _ => None,
-    }
-}
-
-// What the unit is that was asked for, with a comma and a blank behind it; nothing where none was, or it was never sent.
-fn unit_name(alloc: Global, near_a: &Near, near_b: &Near) -> Result<String, AllocError> {
-    if let Some(bytes) = &near_a.unit {
-        let words = said_by(bytes).brief();
-        return format!(in alloc; "{words}, ");
-    }
-    if let Some(bytes) = &near_b.unit {
-        let words = said_by(bytes).brief();
-        return format!(in alloc; "{words}, ");
-    }
-    Ok(String::new(alloc))
-}
-
-// What the capture of this side has near the record that it comes to, and the unit that is asked for; `None` where the file can't be read again.
-fn near_of<R: Read + Seek>(
-    alloc: Global,
-    file: &mut R,
-    ends: &JudgedEnds,
-    refused: Side,
-    side: Side,
-) -> Result<Option<Near>, CaptureFault> {
-    if file.rewind().is_err() {
-        return Ok(None);
-    }
-    let (place, unit) = (ends.records(side), unit_asked(ends, refused, side));
-    let near = records_near(alloc, place, unit, &mut Tally::new(&mut *file))?;
-    Ok(Some(near))
 }
 
 // How many records of both captures stand behind the refused one.
@@ -255,53 +261,6 @@ fn edits_near(
     };
     let edits = candidates(alloc, side, &refused, own, other)?;
     Ok(edits.into_vec())
-}
-
-// Whether the pair is a run under an edit of this side; `None` where a file can't be read again. `Err`: want of memory, or a read that failed.
-fn is_run_again<A: Read + Seek, B: Read + Seek>(
-    alloc: Global,
-    a: &mut A,
-    b: &mut B,
-    side: Side,
-    changes: Vec<Change>,
-) -> Result<Option<bool>, JudgeFault> {
-    if a.rewind().is_err() || b.rewind().is_err() {
-        return Ok(None);
-    }
-    match judge_edited(alloc, &mut *a, &mut *b, side, changes) {
-        Ok(Verdict::Accepted(_)) => Ok(Some(true)),
-        Ok(Verdict::Refused { .. }) => Ok(Some(false)),
-        Err(
-            JudgeFault::Capture {
-                fault: TextFault::Departs { .. },
-                ..
-            },
-        ) => Ok(Some(false)),
-        Err(fault) => Err(fault),
-    }
-}
-
-/// Judges the captures that two readers give, that of this side with these changes of its lines, as `judge` judges the edited texts.
-pub fn judge_edited<A: Read, B: Read>(
-    alloc: Global,
-    a: &mut A,
-    b: &mut B,
-    side: Side,
-    changes: Vec<Change>,
-) -> Result<Verdict, JudgeFault>
-    ensures { IsAnswer both_layers (with_edit Side.A side changes.items (A.remaining a.old))
-        (with_edit Side.B side changes.items (B.remaining b.old)) result }
-{
-    match side {
-        Side::A => match EditedReader::new(alloc, changes, &mut *a) {
-            Ok(edited) => judge(alloc, &mut Tally::new(edited), &mut Tally::new(&mut *b)),
-            Err(_) => Err(JudgeFault::OutOfMemory),
-        },
-        Side::B => match EditedReader::new(alloc, changes, &mut *b) {
-            Ok(edited) => judge(alloc, &mut Tally::new(&mut *a), &mut Tally::new(edited)),
-            Err(_) => Err(JudgeFault::OutOfMemory),
-        },
-    }
 }
 
 // How far a file was read.

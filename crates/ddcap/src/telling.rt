@@ -14,7 +14,7 @@ use ladder::{Drawn, Ladder, Sending, What};
 use pair_judge::{JudgedEnds, Reason, Summary, Verdict, Watched, judge_watched};
 use std::alloc::{AllocError, Global};
 use std::io::{Read, Seek, Write};
-use why::{Accusation, Refusal, Shown, is_of_user, why_json, why_rows};
+use why::{Accusation, Refusal, Shown, why_json, why_rows};
 use wire_base::{Side, Tally, write_whole};
 
 /// The status of a refusal.
@@ -152,7 +152,8 @@ fn refused_text(
     match printout.form {
         Form::Json => objects_text(alloc, refusal, &ends, &tried),
         Form::Rows => {
-            ladder.refused(refused.side, refusal.says, refusal.bytes);
+            let is_changed = matches!(refused.reason, Reason::Undetected);
+            ladder.refused(refused.side, refusal.says, refusal.bytes, is_changed);
             tell_later(&mut ladder, &tried.later);
             rows_text(alloc, printout, refusal, &ends, &ladder, &tried)
         }
@@ -173,12 +174,20 @@ fn refusal_of<'t>(refused: Refused, ends: &'t JudgedEnds, tried: &'t Tried) -> O
         side: refused.side,
         place: refused.place,
         reason: refused.reason,
-        accusation: Accusation::of(refused.reason, is_of_user(entry)),
+        accusation: Accusation::of(refused.reason, entry),
         failed,
         says: entry,
         bytes,
-        unit_name: tried.unit_name.as_str(),
+        unit: unit_of(tried),
     })
+}
+
+// The unit that the refused record names.
+fn unit_of(tried: &Tried) -> Option<&[u8]> {
+    match &tried.unit {
+        Some(unit) => Some(unit.as_slice()),
+        None => None,
+    }
 }
 
 // The ladder is told what comes later.
@@ -229,6 +238,7 @@ fn rows_text(
         ladder: rungs.as_str(),
         tried: tried.counts,
         edits: tried.rows.as_str(),
+        unit_as_well: tried.unit_as_well,
     };
     let first = verdict_text(alloc, Layers::Both, ends.verdict())?;
     let rows = why_rows(alloc, refusal, ends, shown)?;

@@ -16,6 +16,7 @@ use Rattle.pair_judge.specs.Watched.{WasTold}
 use Rattle.pair_judge.specs.declared.fault.JudgeFault.{JudgeFault}
 use Rattle.pair_judge.specs.declared.fault.JudgeFault.TheVariants.{Capture, OutOfMemory}
 use Rattle.pair_judge.specs.declared.fault.TextFault.TheVariants.{Departs, Read}
+use Rattle.pair_judge.specs.declared.reason.Reason.{Reason}
 use Rattle.pair_judge.specs.declared.verdict.Verdict.{Verdict}
 use Rattle.pair_judge.specs.declared.verdict.Verdict.TheVariants.{Accepted, Refused}
 use Rattle.pair_judge.proofs.Orders.{told_so}
@@ -26,7 +27,7 @@ use Rattle.drawing.specs.declared.range.Range.{Range}
 use Rattle.drawing.specs.declared.range.Start.{Start}
 use Rattle.drawing.specs.declared.telling.BothEnds.{BothEnds}
 use Rattle.drawing.specs.declared.telling.Onward.{Onward}
-use Rattle.drawing.specs.Drawing.{IsDrawing, IsLadder, IsLadderBy, IsPicture, TellsAhead, kind_by}
+use Rattle.drawing.specs.Drawing.{IsDrawing, IsLadder, IsLadderBy, IsPicture, TellsAhead, is_changed, kind_by}
 use Rattle.drawing.specs.Telling.{WereTold, keep_by, keep_for, keep_of}
 use Rattle.drawing.specs.inner.Ending.{EndsDrawing, IsBegun}
 use Rattle.drawing.specs.inner.Kept.{IsEnds, IsOnward, Rest}
@@ -149,11 +150,11 @@ onward_so range text_a text_b ends telling start begun result some judged told b
 
 -- ---- the refused record
 
-pub told_ahead : (side : Side) (ends : ShownEnds) (before after : LadderView) (entry : Entry) (bytes : List ℕ)
-    → (of_side side ends.a ends.b).ahead ≡ Some (record_with entry bytes) → after ≡ refused before side entry bytes
-    → TellsAhead side ends before after
-told_ahead side ends before after entry bytes ahead is = inl (entry, bytes, ahead, is)
+pub told_ahead : (side : Side) (reason : Reason) (ends : ShownEnds) (before after : LadderView) (entry : Entry) (bytes : List ℕ)
+    → (of_side side ends.a ends.b).ahead ≡ Some (record_with entry bytes) → after ≡ refused before side entry bytes (is_changed reason)
+    → TellsAhead side reason ends before after
+told_ahead side reason ends before after entry bytes ahead is = inl (entry, bytes, ahead, is)
 
-pub none_ahead : (side : Side) (ends : ShownEnds) (before after : LadderView) → (of_side side ends.a ends.b).ahead ≡ None → after ≡ before
-    → TellsAhead side ends before after
-none_ahead side ends before after none is = inr (none, is)
+pub none_ahead : (side : Side) (reason : Reason) (ends : ShownEnds) (before after : LadderView) → (of_side side ends.a ends.b).ahead ≡ None
+    → after ≡ before → TellsAhead side reason ends before after
+none_ahead side reason ends before after none is = inr (none, is)

@@ -1,5 +1,5 @@
 -- What is drawn of two captures, and what is written of it.
-use Rattle.std.specs.Prelude.{◌≡◌, ◌⊎◌, ℕ, Bool, true, List, [], ◌∷◌, ◌++◌, Option, Some, None, Result, Ok, Err, codes}
+use Rattle.std.specs.Prelude.{◌≡◌, ◌⊎◌, ℕ, Bool, true, false, List, [], ◌∷◌, ◌++◌, Option, Some, None, Result, Ok, Err, codes}
 use Rattle.std.specs.List.{flat_map}
 use Rattle.std.specs.Io.KnownBytes.{Appends}
 use Rattle.wire_base.specs.Tally.{AppendsBeginning, CountedFault}
@@ -16,6 +16,8 @@ use Rattle.pair_judge.specs.Finding.{of_side}
 use Rattle.pair_judge.specs.Judged.{IsAnswer}
 use Rattle.pair_judge.specs.Order.{MadeRecord}
 use Rattle.pair_judge.specs.Watched.{WasTold}
+use Rattle.pair_judge.specs.declared.reason.Reason.{Reason}
+use Rattle.pair_judge.specs.declared.reason.Reason.TheVariants.{Undetected}
 use Rattle.pair_judge.specs.declared.verdict.Verdict.{Verdict}
 use Rattle.pair_judge.specs.declared.verdict.Verdict.TheVariants.{Accepted, Refused}
 use Rattle.pair_judge.specs.declared.fault.JudgeFault.{JudgeFault}
@@ -35,24 +37,29 @@ kind_by judging.Line = stations_alone
 
 -- ---- the ladder
 
--- the record ahead of this side is told as refused; where none is shown, none is
-abbrev pub TellsAhead : Side → ShownEnds → LadderView → LadderView → Type 0
-TellsAhead side ends before after =
+-- the record is refused since its bytes are not those of its unit and show no damage
+abbrev pub is_changed : Reason → Bool
+is_changed Undetected = true
+is_changed reason = false
+
+-- the record ahead of this side is told as refused for this reason; where none is shown, none is
+abbrev pub TellsAhead : Side → Reason → ShownEnds → LadderView → LadderView → Type 0
+TellsAhead side reason ends before after =
     ((entry : Entry) × (bytes : List ℕ) × ((of_side side ends.a ends.b).ahead ≡ Some (record_with entry bytes))
-    × (after ≡ refused before side entry bytes))
+    × (after ≡ refused before side entry bytes (is_changed reason)))
     ⊎ (((of_side side ends.a ends.b).ahead ≡ None) × (after ≡ before))
 
 -- records behind the refused one, and perhaps that none is left
 abbrev pub Followed : LadderView → LadderView → Type 0
 Followed before after = (behind : LadderView) × WereFollowed before behind × ((after ≡ behind) ⊎ (after ≡ record behind { ended = true }))
 
-abbrev pub IsRefusedThere : Side → ShownEnds → (made after : LadderView) → Type 0
-IsRefusedThere side ends made after = (here : LadderView) × TellsAhead side ends made here × Followed here after
+abbrev pub IsRefusedThere : Side → Reason → ShownEnds → (made after : LadderView) → Type 0
+IsRefusedThere side reason ends made after = (here : LadderView) × TellsAhead side reason ends made here × Followed here after
 
 -- behind the records that were made none is left, or one is refused, and perhaps records of both captures stand behind it
 abbrev pub IsLadder : Verdict → ShownEnds → (made after : LadderView) → Type 0
 IsLadder (Accepted summary) ends made after = after ≡ record made { ended = true }
-IsLadder (Refused side place reason) ends made after = IsRefusedThere side ends made after
+IsLadder (Refused side place reason) ends made after = IsRefusedThere side reason ends made after
 
 -- where the ladder was not told of the rest, it was told of nothing behind that
 abbrev pub IsLadderBy : (rest : List MadeRecord) → Verdict → ShownEnds → (made after : LadderView) → Type 0

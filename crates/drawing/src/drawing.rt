@@ -19,7 +19,9 @@ use crate::fault::DrawFault;
 use crate::range::{Judging, MAX_ROWS, Range, Start};
 use crate::telling::{BothEnds, Onward};
 use ladder::{Drawn, Ladder, Row};
-use pair_judge::{JudgeFault, JudgedEnds, Observer, Verdict, Watched, judge_line_told, judge_told};
+use pair_judge::{
+    JudgeFault, JudgedEnds, Observer, Reason, Verdict, Watched, judge_line_told, judge_told,
+};
 use std::alloc::{AllocError, Global};
 use std::io::{Read, Seek, Write};
 use wire_base::{Side, Tally, write_whole};
@@ -250,8 +252,8 @@ fn tell_all_ended<A: Read + Seek, B: Read + Seek>(
             ladder.end();
             Ok(())
         }
-        Verdict::Refused { side, .. } => {
-            tell_ahead(ladder, ends, side);
+        Verdict::Refused { side, reason, .. } => {
+            tell_ahead(ladder, ends, side, reason);
             tell_behind(alloc, ladder, ends, a, b)
         }
     }
@@ -259,11 +261,21 @@ fn tell_all_ended<A: Read + Seek, B: Read + Seek>(
 
 // Tells of the refused record.
 #[tactic(auto, using(crate::proofs::Ladders::told_ahead, crate::proofs::Ladders::none_ahead))]
-fn tell_ahead(ladder: &mut Ladder, ends: &JudgedEnds, side: Side)
-    ensures { spec.TellsAhead side ends.now ladder.old ladder.new }
+fn tell_ahead(ladder: &mut Ladder, ends: &JudgedEnds, side: Side, reason: Reason)
+    ensures { spec.TellsAhead side reason ends.now ladder.old ladder.new }
 {
     if let Some((entry, bytes)) = ends.ahead(side) {
-        ladder.refused(side, entry, bytes);
+        ladder.refused(side, entry, bytes, is_changed(reason));
+    }
+}
+
+// Whether a record is refused since its bytes are not those of its unit and show no damage.
+fn is_changed(reason: Reason) -> bool
+    ensures { result ≡ spec.is_changed reason }
+{
+    match reason {
+        Reason::Undetected => true,
+        _ => false,
     }
 }
 

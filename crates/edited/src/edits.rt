@@ -40,18 +40,31 @@ impl Edits {
         self.list
     }
 
-    // One more, if there is room.
+    // One more, if there is room and it is not there yet in other words.
     pub(crate) fn add(
         &mut self,
         side: Side,
         mistake: Mistake,
         changes: Vec<Change>,
     ) -> Result<(), AllocError> {
-        if self.list.len() >= MAX_EDITS {
+        if self.list.len() >= MAX_EDITS || self.has_exchange(side, mistake) {
             return Ok(());
         }
         let of = MistakeOf { side, mistake };
         self.list.push(Edit { of, changes })?;
         Ok(())
+    }
+
+    // Whether an edit exchanges the same two lines, which stand one behind the other: the later one goes up, or the earlier one down.
+    fn has_exchange(&self, side: Side, mistake: Mistake) -> bool {
+        let Some(first) = mistake.exchanged() else {
+            return false;
+        };
+        for edit in &self.list {
+            if edit.of.side == side && edit.of.mistake.exchanged() == Some(first) {
+                return true;
+            }
+        }
+        false
     }
 }

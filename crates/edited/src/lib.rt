@@ -21,3 +21,4 @@ pub use mistake::{Mistake, MistakeOf};
 pub use near::candidates;
 pub use reader::EditedReader;
 pub use row::{Damage, Due, Refused, Row, Stretch};
+pub use spelling::with_bytes;

@@ -62,6 +62,21 @@ pub enum Mistake {
     },
 }
 
+impl Mistake {
+    // The first one of two lines that stand one behind the other and change places; `None` of another mistake.
+    pub(crate) fn exchanged(&self) -> Option<u64> {
+        let (first, second) = match *self {
+            Mistake::TooLate { line, before } => (before, line),
+            Mistake::TooEarly { line, behind } => (line, behind),
+            _ => return None,
+        };
+        if second.checked_sub(first) != Some(1) {
+            return None;
+        }
+        Some(first)
+    }
+}
+
 /// A mistake with the side whose capture has it, to be printed.
 ///
 /// `line 36 of b is `k`, not `r``.

@@ -1,5 +1,7 @@
 //! The lines that edits put in.
 
+use crate::change::Change;
+use crate::line_changes::line_replaced;
 use crate::row::Row;
 use capture::{Entry, HintForm, MAX_MESSAGE, put_line};
 use std::alloc::{AllocError, Global};
@@ -40,5 +42,22 @@ pub(crate) fn line_as_it_is(alloc: Global, row: &Row) -> Result<Option<Vec<u8>>,
     match row.entry {
         Entry::Received { kept, hint } => receipt_line(alloc, row.form, (kept, hint), &row.bytes),
         entry => line_of(alloc, entry, &row.bytes),
+    }
+}
+
+/// The changes by which the line of a row has these bytes, and is the same else; `None` where that can't be spelled: with more bytes than a line may
+/// have, or a negative distance. `AllocError` where there is no memory for them.
+pub fn with_bytes(
+    alloc: Global,
+    row: &Row,
+    bytes: &[u8],
+) -> Result<Option<Vec<Change>>, AllocError> {
+    let put = match row.entry {
+        Entry::Received { kept, hint } => receipt_line(alloc, row.form, (kept, hint), bytes)?,
+        entry => line_of(alloc, entry, bytes)?,
+    };
+    match put {
+        Some(put) => Ok(Some(line_replaced(alloc, row.line, put)?)),
+        None => Ok(None),
     }
 }

@@ -85,8 +85,8 @@ received kept side _ = kept
 abbrev pub made_rows : Kept → Told → Entry → Kept
 made_rows kept told entry = received (with_made kept told) told.side entry
 
-abbrev pub refused_rows : Kept → Told → Entry → Kept
-refused_rows kept told entry = received (with_refused kept told) told.side entry
+abbrev pub refused_rows : Kept → Told → Entry → (changed : Bool) → Kept
+refused_rows kept told entry changed = received (with_refused kept told changed) told.side entry
 
 -- ---- the ladder
 
@@ -114,9 +114,9 @@ abbrev pub line_of : LadderView → Side → ℕ
 line_of ladder A = ladder.a.line
 line_of ladder B = ladder.b.line
 
--- a record was refused: it changes the rows alone
-abbrev pub refused : LadderView → Side → Entry → List ℕ → LadderView
-refused ladder side entry bytes = record ladder { kept = refused_rows ladder.kept (told_in ladder side entry bytes) entry }
+-- a record was refused, perhaps for bytes that are not those of its unit and show no damage: it changes the rows alone
+abbrev pub refused : LadderView → Side → Entry → List ℕ → (changed : Bool) → LadderView
+refused ladder side entry bytes changed = record ladder { kept = refused_rows ladder.kept (told_in ladder side entry bytes) entry changed }
 
 -- a record stands behind the refused one: it tells which units come still
 abbrev pub follows : LadderView → Side → Entry → LadderView

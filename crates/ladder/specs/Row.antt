@@ -14,7 +14,11 @@ use Rattle.ladder.specs.declared.row.Receipt.{Receipt}
 
 -- a row of one record
 abbrev pub alone : Told → Bool → Row
-alone told refused = record { told = told; fate = fate.Open; refused = refused }
+alone told refused = record { told = told; fate = fate.Open; refused = refused; changed = false }
+
+-- a row of a record that was refused, perhaps for bytes that are not those of its unit and show no damage
+abbrev pub of_refused : Told → (changed : Bool) → Row
+of_refused told changed = record { told = told; fate = fate.Open; refused = true; changed = changed }
 
 -- the one side sends to the other
 abbrev pub faces : Side → Side → Bool

@@ -1,5 +1,5 @@
 -- Which records a ladder keeps, each in a row of its own.
-use Rattle.std.specs.Prelude.{ℕ, ◌*◌, ◌==◌, ◌&&◌, true, false, nat_le, if◌then◌else◌, List, [], ◌∷◌, ◌++◌, length, map}
+use Rattle.std.specs.Prelude.{ℕ, ◌*◌, ◌==◌, ◌&&◌, Bool, true, false, nat_le, if◌then◌else◌, List, [], ◌∷◌, ◌++◌, length, map}
 use Rattle.circular_buffer.specs.Buffer.{keep_last}
 use Rattle.wire_base.specs.declared.side.Side.{Side}
 use Rattle.ladder.specs.declared.told.Told.{Told}
@@ -9,7 +9,7 @@ use Rattle.ladder.specs.declared.rows.Keep.TheVariants.{Last, First, From}
 use Rattle.ladder.specs.declared.rows.Phase.{Phase}
 use Rattle.ladder.specs.declared.rows.Phase.TheVariants.{Before, Open, Closed}
 use Rattle.ladder.specs.declared.rows.TheConstants.{RECORDS}
-use Rattle.ladder.specs.Row.{alone, is_side, passed}
+use Rattle.ladder.specs.Row.{alone, is_side, of_refused, passed}
 
 -- the rows of the records that are kept, and how many rows are drawn at most
 pub record Kept : Type 0 where
@@ -80,8 +80,8 @@ going_on kept next told = going_on_by kept.phase kept next told
 abbrev pub with_made : Kept → Told → Kept
 with_made kept told = going_on kept (kept.rows ++ alone told false ∷ []) told
 
-abbrev pub with_refused : Kept → Told → Kept
-with_refused kept told = going_on kept (kept.rows ++ alone told true ∷ []) told
+abbrev pub with_refused : Kept → Told → (changed : Bool) → Kept
+with_refused kept told changed = going_on kept (kept.rows ++ of_refused told changed ∷ []) told
 
 -- this side received the unit with the hint's number
 abbrev pub passed_in : Kept → Side → ℕ → Kept

@@ -119,23 +119,34 @@ sent_words said again fate.Open = front again ++ said_words said
 sent_words said again fate.Came = front again ++ said_words said
 sent_words said again fate.Lost = front again ++ said_words said
 
+-- what came is what was sent, as far as the words tell; bytes that were changed are not, although they may read alike
+abbrev pub is_as_sent : (came : Said) → (changed : Bool) → (sent : Said) → Bool
+is_as_sent came true sent = false
+is_as_sent came false sent = is_same came sent
+
 -- a unit that came, with the line of its sending, and what came
-abbrev pub of_line : Side → Sending → Said → List ℕ
-of_line sender sending came =
-    if is_same came sending.said
+abbrev pub of_line : Side → Sending → Said → (changed : Bool) → List ℕ
+of_line sender sending came changed =
+    if is_as_sent came changed sending.said
     then said_words sending.said ++ (codes " of " ++ (side_letter sender ++ (codes " line " ++ decimal sending.line)))
     else said_words sending.said ++ (codes " of " ++ (side_letter sender
     ++ (codes " line " ++ (decimal sending.line ++ (codes " ~" ++ said_words came)))))
 
 -- words that would be cut go without the packet's
-abbrev pub brief_line : Side → Sending → Said → List ℕ
-brief_line sender sending came =
-    if nat_le (length (of_line sender sending came)) 30 then of_line sender sending came
-    else of_line sender (record { line = sending.line; said = brief sending.said }) (brief came)
+abbrev pub brief_line : Side → Sending → Said → (changed : Bool) → List ℕ
+brief_line sender sending came changed =
+    if nat_le (length (of_line sender sending came changed)) 30 then of_line sender sending came changed
+    else of_line sender (record { line = sending.line; said = brief sending.said }) (brief came) changed
 
-abbrev pub came_words : Side → ℕ → Said → Option Sending → List ℕ
-came_words sender hint came None = said_words came ++ (codes " of " ++ (side_letter sender ++ (codes " unit " ++ decimal hint)))
-came_words sender hint came (Some sending) = brief_line sender sending came
+-- what stands before bytes that are not those that were sent
+abbrev pub change_mark : (changed : Bool) → List ℕ
+change_mark true = codes "~"
+change_mark false = []
+
+abbrev pub came_words : Side → ℕ → Said → (changed : Bool) → Option Sending → List ℕ
+came_words sender hint came changed None =
+    change_mark changed ++ (said_words came ++ (codes " of " ++ (side_letter sender ++ (codes " unit " ++ decimal hint))))
+came_words sender hint came changed (Some sending) = brief_line sender sending came changed
 
 -- no record is left to come behind this one, which was made
 abbrev pub is_last : Bool → Bool → Bool
@@ -144,14 +155,14 @@ is_last true true = false
 is_last false refused = false
 
 -- the 34 columns, where no record is left or some may be
-abbrev pub middle_of : Side → What → Fate → Bool → List ℕ
-middle_of side (what.Sent unit said again) f ended = sending side (sent_words said again f) (mark side f ended)
-middle_of side (what.Came hint kept said sent) f ended = receipt side (came_words (other_side side) hint said sent)
-middle_of side (what.Noise said) f ended = receipt side (codes "noise ~" ++ said_words said)
-middle_of side (what.User entry bytes) f ended = codes "                                  "
+abbrev pub middle_of : Side → What → Fate → (ended changed : Bool) → List ℕ
+middle_of side (what.Sent unit said again) f ended changed = sending side (sent_words said again f) (mark side f ended)
+middle_of side (what.Came hint kept said sent) f ended changed = receipt side (came_words (other_side side) hint said changed sent)
+middle_of side (what.Noise said) f ended changed = receipt side (codes "noise ~" ++ said_words said)
+middle_of side (what.User entry bytes) f ended changed = codes "                                  "
 
 abbrev pub middle : Row → Bool → List ℕ
-middle row ended = middle_of row.told.side row.told.what row.fate (is_last ended row.refused)
+middle row ended = middle_of row.told.side row.told.what row.fate (is_last ended row.refused) row.changed
 
 -- ---- the row
 

@@ -117,12 +117,13 @@ impl Ladder {
         }
     }
 
-    /// This side's next record was refused. It is drawn in the last row. Takes no memory.
-    pub fn refused(&mut self, side: Side, entry: Entry, bytes: &[u8])
-        ensures { self.new ≡ spec.refused self.old side entry bytes.now }
+    /// This side's next record was refused. It is drawn in the last row, and with `changed` as damaged: as a receipt of bytes that are not those of
+    /// its unit and show no damage. Takes no memory.
+    pub fn refused(&mut self, side: Side, entry: Entry, bytes: &[u8], changed: bool)
+        ensures { self.new ≡ spec.refused self.old side entry bytes.now changed }
     {
         let told = self.told(side, entry, bytes);
-        self.kept.refused(&told);
+        self.kept.refused(&told, changed);
         self.receive(side, entry);
     }
 

@@ -1,6 +1,7 @@
 //! What stands beside a line number of a row.
 
-ghost use Rattle.ladder.specs.Note.{note_words};
+ghost use Rattle.std.specs.Prelude.{◌≡◌};
+ghost use Rattle.ladder.specs.Note.{byte_word, note_words};
 
 use crate::said::Said;
 use capture::Entry;
@@ -20,7 +21,6 @@ pub enum Note {
 }
 
 impl Note {
-    ghost use Rattle.std.specs.Prelude.{◌≡◌};
     ghost use Rattle.ladder.specs.Note.{receipt_note};
 
     /// The note of a receipt.
@@ -51,11 +51,21 @@ impl fmt::Display for Note {
                 Entry::Open { link } => write!(f, "open {link}"),
                 Entry::Accept { partner, link } => write!(f, "accept {partner} {link}"),
                 Entry::Reject { partner, link } => write!(f, "reject {partner} {link}"),
-                Entry::In { link } => write!(f, "in {link} {bytes} bytes"),
-                Entry::Up { link } => write!(f, "up {link} {bytes} bytes"),
+                Entry::In { link } => write!(f, "in {link} {bytes} {}", byte_word(bytes)),
+                Entry::Up { link } => write!(f, "up {link} {bytes} {}", byte_word(bytes)),
                 Entry::Close { link } => write!(f, "close {link}"),
                 Entry::Sent | Entry::Received { .. } | Entry::Noise => Ok(()),
             },
         }
     }
+}
+
+// The word for so many bytes.
+fn byte_word(count: usize) -> &'static str
+    ensures { result.now ≡ byte_word count }
+{
+    if count == 1 {
+        return "byte";
+    }
+    "bytes"
 }

@@ -18,6 +18,8 @@ pub struct Row {
     pub fate: Fate,
     /// Whether the record was refused, and not made.
     pub refused: bool,
+    /// Whether it is a receipt of other bytes than those of its unit, which no block check shows: that was refused for them.
+    pub changed: bool,
 }
 
 /// What became of a unit that was sent, by the records told since.
@@ -55,6 +57,19 @@ impl Row {
             told,
             fate: Fate::Open,
             refused,
+            changed: false,
+        }
+    }
+
+    /// A row of this record alone, which was refused, and with `changed` for bytes that are not those of its unit and show no damage.
+    pub fn of_refused(told: Told, changed: bool) -> Row
+        ensures { result ≡ spec.of_refused told changed }
+    {
+        Row {
+            told,
+            fate: Fate::Open,
+            refused: true,
+            changed,
         }
     }
 
@@ -93,6 +108,7 @@ impl Row {
                 state: next.state,
             }),
             refused: self.refused,
+            changed: self.changed,
         })
     }
 

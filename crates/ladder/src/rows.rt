@@ -80,11 +80,11 @@ impl Rows {
         self.go_on(Row::alone(*told, false), told);
     }
 
-    /// The next record was refused. Takes no memory.
-    pub fn refused(&mut self, told: &Told)
-        ensures { self.new ≡ spec.with_refused self.old told.now }
+    /// The next record was refused, with `changed` for bytes that are not those of its unit and show no damage. Takes no memory.
+    pub fn refused(&mut self, told: &Told, changed: bool)
+        ensures { self.new ≡ spec.with_refused self.old told.now changed }
     {
-        self.go_on(Row::alone(*told, true), told);
+        self.go_on(Row::of_refused(*told, changed), told);
     }
 
     // This row is next, which has this record.

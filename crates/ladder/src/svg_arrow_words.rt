@@ -5,7 +5,7 @@ use crate::said::Said;
 use crate::told::{Sending, What};
 use std::alloc::{AllocError, Global};
 
-/// The words of a sending: `again DATA 2/1`, with `~` before what came in its place. `AllocError` where there is no
+/// The words of a sending: `again DATA 2/1`, with `~` before what came in its place, where it is another one. `AllocError` where there is no
 /// memory for them, as of each below.
 pub fn sent_words(alloc: Global, row: &Row, came: Option<Said>) -> Result<String, AllocError> {
     let What::Sent { said, again, .. } = row.told.what else {
@@ -13,8 +13,8 @@ pub fn sent_words(alloc: Global, row: &Row, came: Option<Said>) -> Result<String
     };
     let front = if again { "again " } else { "" };
     match came {
-        Some(came) if came != said => format!(in alloc; "{front}{said} ~ {came}"),
-        _ => format!(in alloc; "{front}{said}"),
+        Some(came) => format!(in alloc; "{front}{said} ~ {came}"),
+        None => format!(in alloc; "{front}{said}"),
     }
 }
 
@@ -29,7 +29,7 @@ pub fn outside_title(alloc: Global, row: &Row) -> Result<String, AllocError> {
             said: came,
             ..
         } => {
-            if came == said {
+            if came == said && !row.changed {
                 return format!(in alloc; "{from} line {there} to {side} line {line}\n{said}");
             }
             format!(in alloc; "{from} line {there} to {side} line {line}\n{said} ~ {came}")
@@ -39,7 +39,10 @@ pub fn outside_title(alloc: Global, row: &Row) -> Result<String, AllocError> {
             said,
             sent: None,
             ..
-        } => format!(in alloc; "{from} unit {hint} to {side} line {line}\n{said}"),
+        } => {
+            let mark = change_mark(row);
+            format!(in alloc; "{from} unit {hint} to {side} line {line}\n{mark}{said}")
+        }
         What::Noise { said } => format!(in alloc; "{side} line {line}\nnoise ~ {said}"),
         What::Sent { .. } | What::User { .. } => Ok(String::new(alloc)),
     }
@@ -55,7 +58,7 @@ pub fn outside_words(alloc: Global, row: &Row) -> Result<String, AllocError> {
             ..
         } => {
             let said = said.brief();
-            if came.brief() == said {
+            if came.brief() == said && !row.changed {
                 return format!(in alloc; "{said} of {from} line {line}");
             }
             format!(in alloc; "{said} of {from} line {line} ~ {came}")
@@ -65,8 +68,16 @@ pub fn outside_words(alloc: Global, row: &Row) -> Result<String, AllocError> {
             said,
             sent: None,
             ..
-        } => format!(in alloc; "{said} of {from} unit {hint}"),
+        } => {
+            let mark = change_mark(row);
+            format!(in alloc; "{mark}{said} of {from} unit {hint}")
+        }
         What::Noise { said } => format!(in alloc; "noise ~ {said}"),
         What::Sent { .. } | What::User { .. } => Ok(String::new(alloc)),
     }
+}
+
+// What stands before bytes that are not those that were sent, where the sending is not known.
+fn change_mark(row: &Row) -> &'static str {
+    if row.changed { "~ " } else { "" }
 }

@@ -38,13 +38,15 @@ pub struct Arrow {
     words_at: At,
 }
 
-// Where a unit came: the level of that record, its line, what came, and whether its packet was refused a buffer.
+// Where a unit came: the level of that record, its line, what came, whether its packet was refused a buffer, and whether other bytes came, although
+// they may read alike.
 #[derive(Clone, Copy)]
 struct Arrival {
     level: usize,
     line: u64,
     said: Said,
     kept: bool,
+    changed: bool,
 }
 
 /// The arrow of the row with this number: of a sending, and of a receipt or noise whose sending is not drawn, or may not come any more.
@@ -86,6 +88,7 @@ fn arrival_of(drawn: &Drawn, places: &Places, index: usize) -> Option<Arrival> {
             line: receipt.line,
             said: receipt.said,
             kept: receipt.kept,
+            changed: false,
         }),
         Fate::Open | Fate::Came | Fate::Lost => arrival_below(drawn, places, row.told.side, unit),
     }
@@ -108,6 +111,7 @@ fn arrival_below(drawn: &Drawn, places: &Places, sender: Side, unit: u64) -> Opt
                 line: row.told.line,
                 said,
                 kept,
+                changed: row.changed,
             });
         }
     }
@@ -120,9 +124,9 @@ fn whole(alloc: Global, row: &Row, y: usize, arrival: Arrival) -> Result<Arrow, 
     let to = side.other();
     let line = row.told.line;
     let there = arrival.line;
-    let words = sent_words(alloc, row, Some(arrival.said))?;
+    let is_same = is_as_sent(row, arrival);
+    let words = sent_words(alloc, row, if is_same { None } else { Some(arrival.said) })?;
     let title = format!(in alloc; "{side} line {line} to {to} line {there}\n{words}")?;
-    let is_same = is_as_sent(row, arrival.said);
     Ok(Arrow {
         start: (x_inside(side, GAP), y),
         stop: (x_inside(to, GAP), y_of(arrival.level)),
@@ -178,11 +182,12 @@ fn from_outside(alloc: Global, row: &Row, y: usize) -> Result<Arrow, AllocError>
         line: row.told.line,
         said,
         kept,
+        changed: row.changed,
     };
     Ok(Arrow {
         start: (x_inside(side, CUT), above),
         stop: (x_inside(side, GAP), y),
-        kind: said_kind(said),
+        kind: if row.changed { "bad" } else { said_kind(said) },
         end: if is_kept(arrival) {
             " outside"
         } else {
@@ -198,9 +203,9 @@ fn from_outside(alloc: Global, row: &Row, y: usize) -> Result<Arrow, AllocError>
     })
 }
 
-fn is_as_sent(row: &Row, came: Said) -> bool {
+fn is_as_sent(row: &Row, arrival: Arrival) -> bool {
     match row.told.what {
-        What::Sent { said, .. } => came == said,
+        What::Sent { said, .. } => arrival.said == said && !arrival.changed,
         _ => false,
     }
 }

@@ -72,7 +72,11 @@ impl Row {
                 sent,
                 ..
             } => {
-                let words = came_words(alloc, self.told.side.other(), hint, said, sent)?;
+                let came = Arrival {
+                    said,
+                    changed: self.changed,
+                };
+                let words = came_words(alloc, self.told.side.other(), hint, came, sent)?;
                 receipt(alloc, self.told.side, words.as_str())
             }
             What::Noise { said } => {
@@ -180,18 +184,26 @@ fn front(again: bool) -> &'static str
     }
 }
 
+// What came: how it reads, and whether it is not what was sent although it may read alike.
+#[derive(Clone, Copy)]
+struct Arrival {
+    said: Said,
+    changed: bool,
+}
+
 // The words of a unit whose sending stands in another row. They go without those of its packet where they would be too long.
 fn came_words(
     alloc: Global,
     sender: Side,
     hint: u64,
-    came: Said,
+    came: Arrival,
     sent: Option<Sending>,
 ) -> Result<String, AllocError>
-    ensures { IfOk result (λ text. string_bytes text ≡ spec.came_words sender hint came sent) }
+    ensures { IfOk result (λ text. string_bytes text ≡ spec.came_words sender hint came.said came.changed sent) }
 {
     let Some(sending) = sent else {
-        return format!(in alloc; "{came} of {sender} unit {hint}");
+        let mark = change_mark(came.changed);
+        return format!(in alloc; "{mark}{} of {sender} unit {hint}", came.said);
     };
     let words = of_line(alloc, sender, sending, came)?;
     if words.len() <= WORDS {
@@ -201,18 +213,38 @@ fn came_words(
         line: sending.line,
         said: sending.said.brief(),
     };
-    of_line(alloc, sender, brief, came.brief())
+    let came = Arrival {
+        said: came.said.brief(),
+        changed: came.changed,
+    };
+    of_line(alloc, sender, brief, came)
+}
+
+// What stands before bytes that are not those that were sent.
+fn change_mark(changed: bool) -> &'static str
+    ensures { result.now ≡ spec.change_mark changed }
+{
+    match changed {
+        true => "~",
+        false => "",
+    }
 }
 
 // The words of a unit, the line of its sending, and how it reads where it came as something else.
-fn of_line(alloc: Global, sender: Side, sending: Sending, came: Said) -> Result<String, AllocError>
-    ensures { IfOk result (λ text. string_bytes text ≡ spec.of_line sender sending came) }
+fn of_line(
+    alloc: Global,
+    sender: Side,
+    sending: Sending,
+    came: Arrival,
+) -> Result<String, AllocError>
+    ensures { IfOk result (λ text. string_bytes text ≡ spec.of_line sender sending came.said came.changed) }
 {
     let said = sending.said;
     let line = sending.line;
-    match same_words(alloc, came, said)? {
-        true => format!(in alloc; "{said} of {sender} line {line}"),
-        false => format!(in alloc; "{said} of {sender} line {line} ~{came}"),
+    let same = same_words(alloc, came.said, said)?;
+    match (came.changed, same) {
+        (false, true) => format!(in alloc; "{said} of {sender} line {line}"),
+        _ => format!(in alloc; "{said} of {sender} line {line} ~{}", came.said),
     }
 }
 

@@ -1,13 +1,14 @@
 use capture::Entry;
-use ddcmp_msg::{Reading, read_unit};
-use ddcmp_station::{FailedSending, OpenCauses, State, StationView};
+use ddcmp_msg::{Flags, Message, Reading, read_unit};
+use ddcmp_station::{DataByte, FailedSending, OpenCauses, State, StationView};
 use dna_links::{Phase, Port};
 use nsp_link::{FailedLinkSending, LinkNumbers, LinkView, NextPiece, PieceShape};
 use pair_judge::{FailedCheck, Reason, Verdict, judge_with_ends};
 use std::alloc::{AllocError, Global};
 use why::{
-    Accusation, Check, CheckTold, EditRow, EditsTried, Form, Fronts, RecorderRow, Refusal, Shown,
-    StateLine, is_of_user, record_json, record_text, side_json, side_text, why_json, why_rows,
+    Accusation, Addresses, Check, CheckTold, Differing, EditRow, EditsTried, Form, Fronts,
+    RecorderRow, Refusal, Shown, StateLine, addresses_of, record_json, record_text, side_json,
+    side_text, why_json, why_rows,
 };
 use wire_base::{Side, Tally};
 
@@ -38,7 +39,7 @@ const NOT_SET_BACK_B: &str = "ddcap 1 1.2 1.1\n\
 const JSON: &str = "{\"what\": \"refused\", \"side\": \"a\", \"record\": 8, \"line\": 10, \
      \"number\": 7, \"name\": \"WrongNumber\", \"accuses\": \"sender\"}\n\
      {\"what\": \"record\", \"kind\": \"s\", \"bytes\": \"810100000301e2e105c003\", \
-     \"ddcmp\": \"data  NUM 3  RESP 0  COUNT 1\", \"routing\": \"control packet, 1 bytes, not read further\"}\n\
+     \"ddcmp\": \"data  NUM 3  RESP 0  COUNT 1\", \"routing\": \"control packet, 1 byte, not read further\"}\n\
      {\"what\": \"check\", \"check\": \"NumIsNext\", \"seen\": \"NUM 3\", \
      \"allowed\": \"NUM 2 (again, as first sent)\", \"page\": \"docs/REASONS.md#7-wrongnumber\"}\n\
      {\"what\": \"state\", \"side\": \"a\", \"records\": 8, \"station\": \"RUNNING\", \"start\": 1, \"goes_with\": 1, \
@@ -50,7 +51,7 @@ const JSON: &str = "{\"what\": \"refused\", \"side\": \"a\", \"record\": 8, \"li
 const ROWS: &str = "2-not-set-back.a:10: sent\n  \
      bytes    810100000301e2e105c003\n  \
      DDCMP    data  NUM 3  RESP 0  COUNT 1\n  \
-     routing  control packet, 1 bytes, not read further\n\
+     routing  control packet, 1 byte, not read further\n\
      \n  \
      seen     NUM 3\n  \
      allowed  NUM 2 (again, as first sent)\n  \
@@ -70,7 +71,7 @@ const ROWS: &str = "2-not-set-back.a:10: sent\n  \
      the rows before it\n\
      \n\
      accused  the sender, a\n\
-     recorder only 2 records stand behind it: small edits would tell nothing\n";
+     recorder small edits were not tried: too few records follow (2; at least 20 are needed)\n";
 
 // The bytes of these digits.
 fn bytes_of(alloc: Global, digits: &str) -> Vec<u8> {
@@ -86,7 +87,7 @@ fn records_are_told_layer_by_layer(rt: HostRuntime) -> Result<(), AllocError> {
         told.as_str(),
         "{\"what\": \"record\", \"kind\": \"s\", \"bytes\": \"810e00010201e6b00202040104006002000100010005398d\", \
          \"ddcmp\": \"data  NUM 2  RESP 1  COUNT 14\", \"routing\": \"1.1 to 1.2, short data packet, flags 02, 0 nodes passed\", \
-         \"nsp\": \"segment 1 of link 1 -> 2, a whole message, 1 bytes\"}\n"
+         \"nsp\": \"segment 1 of link 1 -> 2, a whole message, 1 byte\"}\n"
     );
     let told = record_json(alloc, Entry::Up { link: 2 }, &[0x06])?;
     assert_eq!(rt;
@@ -169,7 +170,7 @@ fn sides_are_told_with_few_links(rt: HostRuntime) -> Result<(), AllocError> {
          numbers  R 0 received   A 1 acknowledged   N 3 given   T 2 next to send\n           \
          outstanding 2-3\n           \
          NAKs owed or open: 1 x reason 8 (no buffer)\n";
-    let told = side_text(alloc, running(), &[quiet_link()])?;
+    let told = side_text(alloc, running(), Addresses::none(), &[quiet_link()])?;
     let row =
         "  link     1-2 RUN: given 0, acknowledged 0, received 0, last acknowledged 0, SEGSIZE 512\n";
     let wanted = format!(in alloc; "{station}{row}")?;
@@ -179,9 +180,19 @@ fn sides_are_told_with_few_links(rt: HostRuntime) -> Result<(), AllocError> {
     called.port.far = None;
     let mut links = [quiet_link(); 1000];
     links[700] = called;
-    let told = side_text(alloc, running(), &links)?;
+    let told = side_text(alloc, running(), Addresses::none(), &links)?;
     let row = "  link     1-? Calling: given 0, acknowledged 0, received 0, last acknowledged 0\n";
     let wanted = format!(in alloc; "{station}{row}           and 999 more live links\n")?;
+    assert_eq!(rt; told.as_str(), wanted.as_str());
+    links[900].port.own = Some(7);
+    let named = Addresses {
+        own: Some(7),
+        far: Some(2),
+    };
+    let told = side_text(alloc, running(), named, &links)?;
+    let first =
+        "  link     7-2 RUN: given 0, acknowledged 0, received 0, last acknowledged 0, SEGSIZE 512\n";
+    let wanted = format!(in alloc; "{station}{first}{row}           and 998 more live links\n")?;
     assert_eq!(rt; told.as_str(), wanted.as_str());
     Ok(())
 }
@@ -238,7 +249,7 @@ fn a_refusal_is_told_whole(rt: HostRuntime) -> Result<(), AllocError> {
         side,
         place,
         reason,
-        accusation: Accusation::of(reason, is_of_user(entry)),
+        accusation: Accusation::of(reason, entry),
         failed: FailedCheck::StationSending(FailedSending::NumIsNext {
             seen: 3,
             allowed: 2,
@@ -246,7 +257,7 @@ fn a_refusal_is_told_whole(rt: HostRuntime) -> Result<(), AllocError> {
         }),
         says: entry,
         bytes,
-        unit_name: "",
+        unit: None,
     };
     let tried = EditsTried {
         tried: 0,
@@ -261,6 +272,7 @@ fn a_refusal_is_told_whole(rt: HostRuntime) -> Result<(), AllocError> {
         ladder: "  the rows before it\n",
         tried,
         edits: "",
+        unit_as_well: false,
     };
     let told = why_rows(alloc, refusal, &ends, shown)?;
     assert_eq!(rt; told.as_str(), ROWS);
@@ -287,14 +299,79 @@ fn compared_bytes_are_told(rt: HostRuntime) -> Result<(), AllocError> {
             seen: "05",
             due: "0506",
             unit_name: "",
+            differs: None,
         },
     };
     let form = Form::Object;
     let told = format!(in rt.alloc(); "{}", CheckTold { form, check })?;
     assert_eq!(rt;
         told.as_str(),
-        "{\"what\": \"check\", \"check\": \"next piece\", \"seen\": \"1 bytes 05, begins and ends\", \"allowed\": \"the next of 20 bytes \
+        "{\"what\": \"check\", \"check\": \"next piece\", \"seen\": \"1 byte 05, begins and ends\", \"allowed\": \"the next of 20 bytes \
          of the message: 0506.., begins it\", \"page\": \"docs/REASONS.md#20-wrongsegment\"}\n"
     );
+    Ok(())
+}
+
+// The third byte of eight.
+fn byte_2(byte: u8) -> DataByte {
+    DataByte {
+        place: 2,
+        byte: Some(byte),
+        length: 8,
+    }
+}
+
+#[test]
+fn bytes_that_read_alike_are_told_by_a_byte(rt: HostRuntime) -> Result<(), AllocError> {
+    let check = Check {
+        side: Side::A,
+        reason: Reason::Undetected,
+        failed: FailedCheck::Undetected { unit: 1 },
+        reading: Reading::Sound(Message::Strt {
+            flags: Flags::from_byte(0x80),
+        }),
+        fronts: Fronts {
+            seen: "",
+            due: "",
+            unit_name: "STRT, ",
+            differs: Some(Differing {
+                came: byte_2(0x80),
+                sent: byte_2(0xc0),
+            }),
+        },
+    };
+    let form = Form::Object;
+    let told = format!(in rt.alloc(); "{}", CheckTold { form, check })?;
+    assert_eq!(rt;
+        told.as_str(),
+        "{\"what\": \"check\", \"check\": \"the line\", \"seen\": \"STRT, of which byte 2 is 80, and it has 8 bytes\", \"allowed\": \
+         \"STRT, the bytes of unit 1 of b, of which byte 2 is c0, and it has 8 bytes; or damaged bytes\", \
+         \"page\": \"docs/REASONS.md#5-undetected\"}\n"
+    );
+    Ok(())
+}
+
+#[test]
+fn a_record_names_a_link(rt: HostRuntime) -> Result<(), AllocError> {
+    let segment = bytes_of(
+        rt.alloc(),
+        "810e00010201e6b00202040104006002000100010005398d",
+    );
+    let sent = addresses_of(Entry::Sent, segment.as_slice());
+    assert_eq!(rt; (sent.own, sent.far), (Some(1), Some(2)));
+    let entry = Entry::Received {
+        kept: true,
+        hint: 1,
+    };
+    let came = addresses_of(entry, segment.as_slice());
+    assert_eq!(rt; (came.own, came.far), (Some(2), Some(1)));
+    let named = addresses_of(
+        Entry::Accept {
+            partner: 3,
+            link: 4,
+        },
+        &[],
+    );
+    assert_eq!(rt; (named.own, named.far), (Some(4), Some(3)));
     Ok(())
 }

@@ -30,7 +30,7 @@ fn told(ladder: &mut Ladder) -> Result<(), AllocError> {
         },
         &STACK,
     )?;
-    ladder.refused(Side::B, Entry::Open { link: 1 }, &[]);
+    ladder.refused(Side::B, Entry::Open { link: 1 }, &[], false);
     Ok(())
 }
 

@@ -21,6 +21,8 @@ use Rattle.why.specs.StationChecks.{sending_check, sending_seen, sending_allowed
 use Rattle.why.specs.LinkChecks.{link_sending_check, link_sending_seen, link_sending_allowed, link_arrival_check, link_arrival_seen}
 use Rattle.why.specs.LinkChecks.{link_arrival_allowed, link_event_check, link_event_seen, link_event_allowed}
 use Rattle.why.specs.Digits.{Fronts, fronts_told}
+use Rattle.why.specs.Undetected.{of_which, came_byte, sent_byte}
+use Rattle.why.specs.Words.{plural}
 use Rattle.why.specs.Pages.{page}
 use Rattle.why.specs.declared.checks.Check.{Check}
 use Rattle.why.specs.declared.form.Form.{Form}
@@ -47,24 +49,24 @@ check_name check.Noise = codes "noise"
 abbrev pub both_wait : Side → (own other : Awaited) → List ℕ
 both_wait side own other =
     codes "hint " ++ (decimal own.hint ++ (codes " while " ++ (side_letter (other_side side) ++ (codes " has sent " ++ (decimal own.sent
-    ++ (codes " units and waits for hint " ++ (decimal other.hint ++ (codes " of " ++ side_letter side))))))))
+    ++ (codes " unit" ++ (plural own.sent ++ (codes " and waits for hint " ++ (decimal other.hint ++ (codes " of " ++ side_letter side))))))))))
 
--- of a record of this side, whose bytes are read so, and of the digits of its first bytes that are compared
-abbrev pub seen : Side → FailedCheck → ReadingValue → (front : List ℕ) → List ℕ
-seen side (check.Message departure) reading front = reading_words reading
-seen side (check.HintOrder x lowest) reading front = codes "hint " ++ decimal x
-seen side (check.NoSuchUnit awaited) reading front = codes "hint " ++ decimal awaited.hint
-seen side (check.NoOrder own other) reading front = both_wait side own other
-seen side (check.Undetected unit) reading front = reading_name reading
-seen side (check.StationSending failed) reading front = sending_seen failed reading
-seen side (check.StationArrival failed) reading front = arrival_seen side failed reading
-seen side (check.StationEvent state) reading front = codes "start in " ++ state_name state
-seen side (check.Packet fault) reading front = packet_fault_words fault
-seen side (check.Nsp fault) reading front = nsp_fault_words fault
-seen side (check.LinkSending failed) reading front = link_sending_seen failed front
-seen side (check.LinkArrival failed) reading front = link_arrival_seen side failed
-seen side (check.LinkEvent failed) reading front = link_event_seen failed front
-seen side check.Noise reading front = reading_name reading ++ codes ", which shows no damage"
+-- of a record of this side, whose bytes are read so, and of what is shown of it
+abbrev pub seen : Side → FailedCheck → ReadingValue → Fronts → List ℕ
+seen side (check.Message departure) reading fronts = reading_words reading
+seen side (check.HintOrder x lowest) reading fronts = codes "hint " ++ decimal x
+seen side (check.NoSuchUnit awaited) reading fronts = codes "hint " ++ decimal awaited.hint
+seen side (check.NoOrder own other) reading fronts = both_wait side own other
+seen side (check.Undetected unit) reading fronts = reading_name reading ++ of_which (came_byte fronts.differs)
+seen side (check.StationSending failed) reading fronts = sending_seen failed reading
+seen side (check.StationArrival failed) reading fronts = arrival_seen side failed reading
+seen side (check.StationEvent state) reading fronts = codes "start in " ++ state_name state
+seen side (check.Packet fault) reading fronts = packet_fault_words fault
+seen side (check.Nsp fault) reading fronts = nsp_fault_words fault
+seen side (check.LinkSending failed) reading fronts = link_sending_seen failed fronts.seen
+seen side (check.LinkArrival failed) reading fronts = link_arrival_seen side failed
+seen side (check.LinkEvent failed) reading fronts = link_event_seen failed fronts.seen
+seen side check.Noise reading fronts = reading_name reading ++ codes ", which shows no damage"
 
 -- units are counted from 0, so a hint lies below their number; where none was sent, no receipt is right
 abbrev pub below_words : Side → (sent : ℕ) → List ℕ
@@ -72,23 +74,26 @@ below_words other sent =
     if sent == 0 then codes "no receipt: " ++ (side_letter other ++ codes " sent no unit")
     else codes "a hint below " ++ (decimal sent ++ (codes ", the number of units that " ++ (side_letter other ++ codes " sent")))
 
--- behind the short name of the unit that the record names, where one is given
-abbrev pub allowed : Side → FailedCheck → ReadingValue → (front : List ℕ) → (unit_name : List ℕ) → List ℕ
-allowed side (check.Message departure) reading front unit_name = codes "a sound message of DDCMP"
-allowed side (check.HintOrder x lowest) reading front unit_name = codes "hint " ++ (decimal lowest ++ codes " or a higher one")
-allowed side (check.NoSuchUnit awaited) reading front unit_name = below_words (other_side side) awaited.sent
-allowed side (check.NoOrder own other) reading front unit_name = below_words (other_side side) own.sent
-allowed side (check.Undetected unit) reading front unit_name =
-    unit_name ++ (codes "the bytes of unit " ++ (decimal unit ++ (codes " of " ++ (side_letter (other_side side) ++ codes "; or damaged bytes"))))
-allowed side (check.StationSending failed) reading front unit_name = sending_allowed failed
-allowed side (check.StationArrival failed) reading front unit_name = arrival_allowed side failed reading
-allowed side (check.StationEvent state) reading front unit_name = codes "start in HALTED"
-allowed side (check.Packet fault) reading front unit_name = codes "a routing control packet, or a short data packet of at least six bytes"
-allowed side (check.Nsp fault) reading front unit_name = codes "a message of NSP with all its fields, and nothing behind its end"
-allowed side (check.LinkSending failed) reading front unit_name = link_sending_allowed failed front
-allowed side (check.LinkArrival failed) reading front unit_name = link_arrival_allowed side failed
-allowed side (check.LinkEvent failed) reading front unit_name = link_event_allowed failed front
-allowed side check.Noise reading front unit_name = codes "bytes that read as header bad or data bad"
+-- the bytes of a unit of that side, behind its name, where that is known, with the byte that tells, where one is told
+abbrev pub unit_bytes : (other : Side) → (unit : ℕ) → Fronts → List ℕ
+unit_bytes other unit fronts =
+    fronts.unit_name ++ (codes "the bytes of unit " ++ (decimal unit ++ (codes " of " ++ (side_letter other ++ of_which (sent_byte fronts.differs)))))
+
+abbrev pub allowed : Side → FailedCheck → ReadingValue → Fronts → List ℕ
+allowed side (check.Message departure) reading fronts = codes "a sound message of DDCMP"
+allowed side (check.HintOrder x lowest) reading fronts = codes "hint " ++ (decimal lowest ++ codes " or a higher one")
+allowed side (check.NoSuchUnit awaited) reading fronts = below_words (other_side side) awaited.sent
+allowed side (check.NoOrder own other) reading fronts = below_words (other_side side) own.sent
+allowed side (check.Undetected unit) reading fronts = unit_bytes (other_side side) unit fronts ++ codes "; or damaged bytes"
+allowed side (check.StationSending failed) reading fronts = sending_allowed failed
+allowed side (check.StationArrival failed) reading fronts = arrival_allowed side failed reading
+allowed side (check.StationEvent state) reading fronts = codes "start in HALTED"
+allowed side (check.Packet fault) reading fronts = codes "a routing control packet, or a short data packet of at least six bytes"
+allowed side (check.Nsp fault) reading fronts = codes "a message of NSP with all its fields, and nothing behind its end"
+allowed side (check.LinkSending failed) reading fronts = link_sending_allowed failed fronts.due
+allowed side (check.LinkArrival failed) reading fronts = link_arrival_allowed side failed
+allowed side (check.LinkEvent failed) reading fronts = link_event_allowed failed fronts.due
+allowed side check.Noise reading fronts = codes "bytes that read as header bad or data bad"
 
 -- ---- the rule of a check of the station
 
@@ -134,10 +139,10 @@ check_value c =
     record { side = c.side; reason = c.reason; failed = c.failed; reading = reading_view c.reading; fronts = fronts_told c.fronts }
 
 abbrev pub seen_in : CheckValue → List ℕ
-seen_in c = seen c.side c.failed c.reading c.fronts.seen
+seen_in c = seen c.side c.failed c.reading c.fronts
 
 abbrev pub allowed_in : CheckValue → List ℕ
-allowed_in c = allowed c.side c.failed c.reading c.fronts.due c.fronts.unit_name
+allowed_in c = allowed c.side c.failed c.reading c.fronts
 
 abbrev pub check_line : CheckValue → List ℕ
 check_line c =

@@ -11,17 +11,21 @@ use Rattle.dna_links.specs.WireLinks.{WireLinks}
 use Rattle.nsp_link.specs.Due.{due_at_links, due_to_user}
 use Rattle.why.specs.declared.digits.Fronts as declared
 use Rattle.why.specs.Layers.{message_in_unit}
+use Rattle.why.specs.Undetected.{differing, name_before}
+use Rattle.why.specs.declared.undetected.Differing.{Differing}
 use Rattle.why.specs.Words.{words_if}
 
--- The digits of both, and the short name of the unit that the record names, with a comma and a blank behind it, or nothing
+-- The digits of both, the short name of the unit that the record names, with a comma and a blank behind it, or nothing, and the first byte in which
+-- the record's bytes differ from it under that name
 pub record Fronts : Type 0 where
   pub seen : List ℕ
   pub due : List ℕ
   pub unit_name : List ℕ
+  pub differs : Option Differing
 
 -- as they are lent
 abbrev pub fronts_told : declared.Fronts → Fronts
-fronts_told f = record { seen = f.seen.now; due = f.due.now; unit_name = f.unit_name.now }
+fronts_told f = record { seen = f.seen.now; due = f.due.now; unit_name = f.unit_name.now; differs = f.differs }
 
 -- at most sixteen bytes are told
 abbrev pub front_digits : List ℕ → List ℕ
@@ -72,9 +76,11 @@ abbrev pub due_bytes : WireLinks → Entry → List ℕ → List ℕ
 due_bytes links (entries.Up own) bytes = or_none (due_to_user own links)
 due_bytes links entry bytes = in_message (due_for links) (message_in_unit bytes)
 
-abbrev pub fronts : WireLinks → Entry → List ℕ → (unit_name : List ℕ) → Fronts
-fronts links entry bytes unit_name = record {
+-- beside the unit that the record names, where it is known
+abbrev pub fronts : WireLinks → Entry → List ℕ → (unit : Option (List ℕ)) → Fronts
+fronts links entry bytes unit = record {
   seen = front_digits (seen_bytes entry bytes);
   due = front_digits (due_bytes links entry bytes);
-  unit_name = unit_name;
+  unit_name = name_before unit;
+  differs = differing bytes unit;
 }

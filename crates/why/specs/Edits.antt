@@ -1,7 +1,7 @@
 -- What small edits of the captures near the refusal tell: each makes the pair a run, or does not.
-use Rattle.std.specs.Prelude.{ℕ, ◌==◌, nat_lt, if◌then◌else◌, List, ◌++◌, Option, Some, None, codes}
+use Rattle.std.specs.Prelude.{ℕ, Bool, ◌==◌, nat_lt, if◌then◌else◌, List, [], ◌++◌, Option, Some, None, codes}
 use Rattle.std.specs.Fmt.{decimal}
-use Rattle.why.specs.Words.{number_or, words_if}
+use Rattle.why.specs.Words.{number_or}
 use Rattle.why.specs.declared.edits.TheConstants.{FEW_RECORDS}
 use Rattle.why.specs.declared.edits.EditsTried.{EditsTried}
 
@@ -36,17 +36,27 @@ tried_words tried accepted records =
     else codes "recorder " ++ (decimal accepted ++ (codes " of " ++ (decimal tried ++ (codes " small edits near by "
     ++ (make_words accepted ++ (codes " the pair a run (" ++ (stand_words records ++ codes " behind it):\n")))))))
 
+-- with fewer records behind it than are needed
+abbrev pub too_few : (records : ℕ) → List ℕ
+too_few records =
+    codes "recorder small edits were not tried: too few records follow (" ++ (decimal records ++ (codes "; at least " ++ (decimal FEW_RECORDS
+    ++ codes " are needed)\n")))
+
 -- where few records stand behind it, any edit may make the pair a run
 abbrev pub recorder_words : (tried accepted : ℕ) → (records : Option ℕ) → List ℕ
 recorder_words tried accepted None = codes "recorder no small edits were tried, since a capture can't be read again\n"
 recorder_words tried accepted (Some records) =
     if nat_lt records FEW_RECORDS
-    then codes "recorder only " ++ (stand_words records ++ codes " behind it: small edits would tell nothing\n")
+    then too_few records
     else tried_words tried accepted records
 
 abbrev pub recorder_row : EditsTried → List ℕ
 recorder_row e = recorder_words e.tried e.accepted e.records_behind
 
--- below the rows of edits that make the pair a run
-abbrev pub so_row : (accepted : ℕ) → List ℕ
-so_row accepted = words_if (nat_lt 0 accepted) (codes "         So rather the recording is wrong than a node.\n")
+-- below the rows of edits that make the pair a run: that rather the recording is wrong than a node, or that one unit which the node sent wrongly
+-- explains the record as well
+abbrev pub so_row : (accepted : ℕ) → (unit_as_well : Bool) → List ℕ
+so_row accepted unit_as_well =
+    if accepted == 0 then []
+    else if unit_as_well then codes "         So either the recording is wrong, or the node in this one unit.\n"
+    else codes "         So rather the recording is wrong than a node.\n"

@@ -10,9 +10,11 @@ pub mod Causes
 pub mod StateLine
 pub mod StateText
 pub mod LinkLine
+pub mod Subject
 pub mod Sides
 pub mod Digits
 pub mod StationChecks
+pub mod Undetected
 pub mod LinkChecks
 pub mod Pages
 pub mod Checks

@@ -1,6 +1,6 @@
 -- The check of the links that a message or an event does not pass: its name, what is seen there, and what is allowed (NSP 4.0, port states,
 -- data segments and acknowledgements).
-use Rattle.std.specs.Prelude.{ℕ, ◌==◌, ◌-◌, Bool, true, false, if◌then◌else◌, Option, Some, None, is_some, List, [], ◌++◌, codes}
+use Rattle.std.specs.Prelude.{ℕ, ◌==◌, ◌-◌, nat_le, Bool, true, false, if◌then◌else◌, Option, Some, None, is_some, List, [], ◌++◌, codes}
 use Rattle.std.specs.Fmt.{decimal}
 use Rattle.wire_base.specs.Side.{other_side, side_letter}
 use Rattle.wire_base.specs.declared.side.Side.{Side}
@@ -20,7 +20,7 @@ use Rattle.nsp_link.specs.declared.failed.NextPiece.{NextPiece}
 use Rattle.why.specs.PacketWords.{nodes_words}
 use Rattle.why.specs.Digits.{front_behind}
 use Rattle.why.specs.LinkLine.{phase_name}
-use Rattle.why.specs.Words.{words_if, range}
+use Rattle.why.specs.Words.{words_if, range, byte_count}
 
 -- ---- what is asked for
 
@@ -65,23 +65,26 @@ ends_words true false = codes "begins"
 ends_words false true = codes "ends"
 ends_words false false = codes "neither begins nor ends"
 
--- `1 bytes 05, begins and ends`, of digits that are put together already
+-- `1 byte 05, begins and ends`, of digits that are put together already
 abbrev pub shape_words : PieceShape → (front : List ℕ) → List ℕ
-shape_words s front = decimal s.length ++ (codes " bytes" ++ (front_behind (codes " ") front s.length ++ (codes ", " ++ ends_words s.begins s.ends)))
+shape_words s front = byte_count s.length ++ (front_behind (codes " ") front s.length ++ (codes ", " ++ ends_words s.begins s.ends))
 
-abbrev pub begins_words : Bool → List ℕ
-begins_words true = codes "begins it"
-begins_words false = codes "goes on with it"
+-- what the next segment does with the message
+abbrev pub part_words : (begins ends : Bool) → List ℕ
+part_words true true = codes "begins and ends it"
+part_words true false = codes "begins it"
+part_words false true = codes "goes on with it and ends it"
+part_words false false = codes "goes on with it"
 
--- `the next of 2 bytes of the message: 0506, begins it`
-abbrev pub piece_words : NextPiece → (front : List ℕ) → List ℕ
-piece_words next front =
-    codes "the next of " ++ (decimal next.left ++ (codes " bytes of the message" ++ (front_behind (codes ": ") front next.left
-    ++ (codes ", " ++ begins_words next.begins))))
+-- `the next of 2 bytes of the message: 0506, begins it`; a segment of as many bytes as are left, or more, ends the message
+abbrev pub piece_words : (length : ℕ) → NextPiece → (front : List ℕ) → List ℕ
+piece_words length next front =
+    codes "the next of " ++ (byte_count next.left ++ (codes " of the message" ++ (front_behind (codes ": ") front next.left
+    ++ (codes ", " ++ part_words next.begins (nat_le next.left length)))))
 
-abbrev pub next_words : Option NextPiece → (front : List ℕ) → List ℕ
-next_words None front = codes "no new segment: nothing is left of what was handed in"
-next_words (Some next) front = piece_words next front
+abbrev pub next_words : (length : ℕ) → Option NextPiece → (front : List ℕ) → List ℕ
+next_words length None front = codes "no new segment: nothing is left of what was handed in"
+next_words length (Some next) front = piece_words length next front
 
 abbrev pub otherwise_words : (number : ℕ) → PieceShape → (front : List ℕ) → List ℕ
 otherwise_words number x front = codes "segment " ++ (decimal number ++ (codes " again, otherwise: " ++ shape_words x front))
@@ -107,7 +110,7 @@ link_sending_seen (sending.Phase link x y) front = codes "a link in " ++ phase_n
 link_sending_seen (sending.Live link) front = codes "a DC between the addresses of a live link"
 link_sending_seen (sending.Acknowledgement x y) front = codes "ACK " ++ decimal x
 link_sending_seen (sending.Room x y) front = codes "a new segment while " ++ (decimal x ++ codes " are outstanding")
-link_sending_seen (sending.Length x y) front = decimal x ++ codes " bytes"
+link_sending_seen (sending.Length x y) front = byte_count x
 link_sending_seen (sending.NextPiece x y) front = shape_words x front
 link_sending_seen (sending.Number x y) front = codes "segment " ++ decimal x
 link_sending_seen (sending.AsFirstGiven number x y) front = otherwise_words number x front
@@ -119,8 +122,8 @@ link_sending_allowed (sending.Phase link x y) front = codes "a link in " ++ phas
 link_sending_allowed (sending.Live link) front = codes "a DC between the addresses of none"
 link_sending_allowed (sending.Acknowledgement x y) front = ack_range y
 link_sending_allowed (sending.Room x y) front = codes "a new segment while at most " ++ (decimal y ++ codes " are outstanding")
-link_sending_allowed (sending.Length x y) front = codes "at most " ++ (decimal y ++ codes " bytes, the SEGSIZE of the other end")
-link_sending_allowed (sending.NextPiece x y) front = next_words y front
+link_sending_allowed (sending.Length x y) front = codes "at most " ++ (byte_count y ++ codes ", the SEGSIZE of the other end")
+link_sending_allowed (sending.NextPiece x y) front = next_words x.length y front
 link_sending_allowed (sending.Number x y) front = codes "segment " ++ number_words y
 link_sending_allowed (sending.AsFirstGiven number x y) front =
     codes "segment " ++ (decimal number ++ (codes " again, as at first: " ++ shape_words y front))
@@ -171,12 +174,12 @@ link_event_seen (event.NoLink missing) front = missing_words missing
 link_event_seen (event.AddressInUse own link) front = codes "own address " ++ (decimal own ++ codes ", which a live link has")
 link_event_seen (event.TakesMessages link phase) front = codes "a message at a link in " ++ phase_name phase
 link_event_seen (event.IsConnected link phase) front = codes "a close of a link in " ++ phase_name phase
-link_event_seen (event.Delivery link x y) front = codes "a message of " ++ (decimal x ++ (codes " bytes" ++ front_behind (codes ": ") front x))
+link_event_seen (event.Delivery link x y) front = codes "a message of " ++ (byte_count x ++ front_behind (codes ": ") front x)
 
 abbrev pub delivery_words : Option ℕ → (front : List ℕ) → List ℕ
 delivery_words None front = codes "the next whole message, of which there is none yet"
 delivery_words (Some length) front =
-    codes "the next whole message, which has " ++ (decimal length ++ (codes " bytes" ++ front_behind (codes ": ") front length))
+    codes "the next whole message, which has " ++ (byte_count length ++ front_behind (codes ": ") front length)
 
 abbrev pub link_event_allowed : FailedLinkEvent → (front : List ℕ) → List ℕ
 link_event_allowed (event.NoLink missing) front = wanted_words missing.wanted

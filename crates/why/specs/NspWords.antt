@@ -8,7 +8,7 @@ use Rattle.dna_packet.specs.declared.fault.NspFault.{NspFault}
 use Rattle.dna_packet.specs.declared.fault.NspFault.TheVariants.{UnknownFlag, MissingField, BadAckWord, BadSegnum, TrailingBytes, NonzeroDstaddr}
 use Rattle.dna_packet.specs.Nsp.{NspValue, DataSegment, LinkService, DataAck, OtherDataAck, ConnectAck, NoOperation, ConnectInitiate, ConnectConfirm}
 use Rattle.dna_packet.specs.Nsp.{DisconnectInitiate, DisconnectConfirm, SegmentValue}
-use Rattle.why.specs.Words.{words_if}
+use Rattle.why.specs.Words.{words_if, byte_count}
 
 -- `CC of link 1 -> 2`: behind the name of a message, SRCADDR and DSTADDR
 abbrev pub of_link : (name : List ℕ) → (src dst : ℕ) → List ℕ
@@ -37,17 +37,17 @@ piece_words false false = codes "inside a message"
 abbrev pub segment_words : SegmentValue → List ℕ
 segment_words s =
     codes "segment " ++ (decimal s.number ++ (of_link [] s.srcaddr s.dstaddr ++ (ack_words s.acks
-    ++ (codes ", " ++ (piece_words s.begins s.ends ++ (codes ", " ++ (decimal (length s.body) ++ codes " bytes")))))))
+    ++ (codes ", " ++ (piece_words s.begins s.ends ++ (codes ", " ++ byte_count (length s.body)))))))
 
 -- what follows the fields that are read
 abbrev pub unread_words : List ℕ → List ℕ
-unread_words rest = codes ", " ++ (decimal (length rest) ++ codes " bytes, not read further")
+unread_words rest = codes ", " ++ (byte_count (length rest) ++ codes ", not read further")
 
 abbrev pub no_operation_words : List ℕ → List ℕ
 no_operation_words rest = codes "no operation" ++ unread_words rest
 
 abbrev pub user_data_words : List ℕ → List ℕ
-user_data_words bytes = codes ", " ++ (decimal (length bytes) ++ codes " bytes of user data")
+user_data_words bytes = codes ", " ++ (byte_count (length bytes) ++ codes " of user data")
 
 -- `, SEGSIZE 512, services 1, info 2`
 abbrev pub connect_words : (services info segsize : ℕ) → List ℕ

@@ -5,7 +5,7 @@ use Rattle.dna_packet.specs.declared.fault.PacketFault.{PacketFault}
 use Rattle.dna_packet.specs.declared.fault.PacketFault.TheVariants.{Padded, LongFormat, Short, UnknownFlags}
 use Rattle.dna_packet.specs.Packet.{PacketValue, Data, Control}
 use Rattle.nsp_link.specs.declared.failed.Nodes.{Nodes}
-use Rattle.why.specs.Words.{words_if}
+use Rattle.why.specs.Words.{words_if, byte_count}
 
 -- a node address: area.node
 abbrev pub address_words : ℕ → List ℕ
@@ -32,7 +32,7 @@ header_words rtflg forward =
 abbrev pub packet_words : PacketValue → List ℕ
 packet_words (Data rtflg dst src forward nsp) =
     nodes_words (record { source = src; destination = dst }) ++ (codes ", short data packet, " ++ header_words rtflg forward)
-packet_words (Control bytes) = codes "control packet, " ++ (decimal (length bytes) ++ codes " bytes, not read further")
+packet_words (Control bytes) = codes "control packet, " ++ (byte_count (length bytes) ++ codes ", not read further")
 
 abbrev pub packet_fault_words : PacketFault → List ℕ
 packet_fault_words Padded = codes "no packet of this circuit: padding stands in front of it"

@@ -3,6 +3,8 @@ use Rattle.std.specs.Prelude.{ℕ, ◌+◌, Bool, true, false, List, ◌++◌, c
 use Rattle.std.specs.Fmt.{decimal}
 use Rattle.wire_base.specs.Side.{other_side, side_letter}
 use Rattle.wire_base.specs.declared.side.Side.{Side}
+use Rattle.capture.specs.declared.entry.Entry.{Entry}
+use Rattle.capture.specs.declared.entry.Entry.TheVariants.{Received}
 use Rattle.pair_judge.specs.Reason.{reason_name, reason_number}
 use Rattle.pair_judge.specs.declared.end_verdict.Accused.{Accused}
 use Rattle.pair_judge.specs.declared.end_verdict.Accused.TheVariants as ends
@@ -12,7 +14,9 @@ use Rattle.pair_judge.specs.declared.reason.Reason.TheVariants.{WrongResponse, W
 use Rattle.pair_judge.specs.declared.reason.Reason.TheVariants.{BadPacket, WrongNode, BadNsp, NoLink, LinkState, WrongSegment, WrongAck}
 use Rattle.pair_judge.specs.declared.reason.Reason.TheVariants.{SegmentTooLong, LinkWindowFull, WrongDelivery, CrossedLink, AddressInUse, NotNoise}
 use Rattle.why.specs.declared.accusation.Accusation.{Accusation}
-use Rattle.why.specs.declared.accusation.Accusation.TheVariants.{Sender, Hints, Line, Claim, Nobody, User, OtherEnd}
+use Rattle.why.specs.declared.accusation.Accusation.TheVariants.{Sender, OtherSender, Hints, Line, Claim, Nobody, User}
+use Rattle.why.specs.declared.accusation.Accusation.TheVariants.{Starter, Chooser, OtherEnd}
+use Rattle.why.specs.Ends.{is_of_user}
 use Rattle.why.specs.declared.refused_line.RefusedLine.{RefusedLine}
 
 -- a link that is not there, or not in the right phase, is the sender's fault, or the user's in a user's record
@@ -20,48 +24,56 @@ abbrev pub sender_or_user : (of_user : Bool) → Accusation
 sender_or_user true = User
 sender_or_user false = Sender
 
+-- what came was sent by the other node, and is read by the heads of both
+abbrev pub accuses_nodes : Entry → Accusation
+accuses_nodes (Received kept hint) = OtherSender
+accuses_nodes entry = Sender
+
 -- A row for each reason
-abbrev pub accuses : Reason → (of_user : Bool) → Accusation
-accuses NotAMessage of_user = Sender
-accuses HintOrder of_user = Hints
-accuses NoSuchUnit of_user = Hints
-accuses NoOrder of_user = Hints
-accuses Undetected of_user = Line
-accuses WrongState of_user = Sender
-accuses WrongNumber of_user = Sender
-accuses WrongResponse of_user = Sender
-accuses WindowFull of_user = Sender
-accuses Changed of_user = Sender
-accuses NoCause of_user = Sender
-accuses WrongKeep of_user = Claim
-accuses CrossedPeriod of_user = Nobody
-accuses WrongUserEvent of_user = User
-accuses BadPacket of_user = Sender
-accuses WrongNode of_user = Sender
-accuses BadNsp of_user = Sender
-accuses NoLink of_user = sender_or_user of_user
-accuses LinkState of_user = sender_or_user of_user
-accuses WrongSegment of_user = Sender
-accuses WrongAck of_user = Sender
-accuses SegmentTooLong of_user = Sender
-accuses LinkWindowFull of_user = Sender
-accuses WrongDelivery of_user = Claim
-accuses CrossedLink of_user = Nobody
-accuses AddressInUse of_user = User
-accuses NotNoise of_user = Claim
+abbrev pub accuses : Reason → Entry → Accusation
+accuses NotAMessage entry = Sender
+accuses HintOrder entry = Hints
+accuses NoSuchUnit entry = Hints
+accuses NoOrder entry = Hints
+accuses Undetected entry = Line
+accuses WrongState entry = Sender
+accuses WrongNumber entry = Sender
+accuses WrongResponse entry = Sender
+accuses WindowFull entry = Sender
+accuses Changed entry = Sender
+accuses NoCause entry = Sender
+accuses WrongKeep entry = Claim
+accuses CrossedPeriod entry = Nobody
+accuses WrongUserEvent entry = Starter
+accuses BadPacket entry = Sender
+accuses WrongNode entry = accuses_nodes entry
+accuses BadNsp entry = Sender
+accuses NoLink entry = sender_or_user (is_of_user entry)
+accuses LinkState entry = sender_or_user (is_of_user entry)
+accuses WrongSegment entry = Sender
+accuses WrongAck entry = Sender
+accuses SegmentTooLong entry = Sender
+accuses LinkWindowFull entry = Sender
+accuses WrongDelivery entry = Claim
+accuses CrossedLink entry = Nobody
+accuses AddressInUse entry = Chooser
+accuses NotNoise entry = Claim
 
 -- of one end alone: the other end, where what came of it is wrong
-abbrev pub end_accuses : Accused → Reason → (of_user : Bool) → Accusation
-end_accuses ends.ThisEnd reason of_user = accuses reason of_user
-end_accuses ends.OtherEnd reason of_user = OtherEnd
+abbrev pub end_accuses : Accused → Reason → Entry → Accusation
+end_accuses ends.ThisEnd reason entry = accuses reason entry
+end_accuses ends.OtherEnd reason entry = OtherEnd
 
 abbrev pub accusation_name : Accusation → List ℕ
 accusation_name Sender = codes "sender"
+accusation_name OtherSender = codes "sender"
 accusation_name Hints = codes "hints"
 accusation_name Line = codes "line"
 accusation_name Claim = codes "claim"
 accusation_name Nobody = codes "nobody"
 accusation_name User = codes "user"
+accusation_name Starter = codes "user"
+accusation_name Chooser = codes "user"
 accusation_name OtherEnd = codes "other end"
 
 -- `{"what": "refused", "side": "a", "record": 21, "line": 23`: record i stands on line i + 2
@@ -83,12 +95,18 @@ refused_line r = place_keys r.side r.record_number ++ reason_keys r.reason r.acc
 
 abbrev pub accused_words : Side → Accusation → List ℕ
 accused_words side Sender = codes "the sender, " ++ (side_letter side ++ codes "\n")
+accused_words side OtherSender =
+    codes "the sender of what came, " ++ (side_letter (other_side side) ++ codes ", or heads that do not pair\n")
 accused_words side Hints = codes "the hints, or captures that do not pair\n"
 accused_words side Line = codes "the line, or captures that do not pair\n"
 accused_words side Claim =
     codes "what " ++ (side_letter side ++ (codes " says of itself; nothing is said against " ++ (side_letter (other_side side) ++ codes "\n")))
 accused_words side Nobody = codes "nobody: the protocol cannot tell the two apart\n"
 accused_words side User = codes "the user of " ++ (side_letter side ++ codes "\n")
+accused_words side Starter =
+    codes "the user of " ++ (side_letter side ++ codes ", or the node, where it started by itself\n")
+accused_words side Chooser =
+    codes "the user of " ++ (side_letter side ++ codes ", or the node, where it chose the address\n")
 accused_words side OtherEnd = codes "the other end\n"
 
 abbrev pub accused_row : Side → Accusation → List ℕ

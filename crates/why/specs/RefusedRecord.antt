@@ -1,5 +1,5 @@
 -- What is said of a refused record beside the end of its side, of a pair or of one end alone, as JSON objects and in rows.
-use Rattle.std.specs.Prelude.{ℕ, ◌+◌, List, [], ◌++◌, Option, Some, None, codes}
+use Rattle.std.specs.Prelude.{ℕ, ◌+◌, List, [], ◌++◌, Option, Some, None, option_map, codes}
 use Rattle.ddcmp_msg.specs.Reading.{reading}
 use Rattle.pair_judge.specs.Ends.{ShownEnd}
 use Rattle.pair_judge.specs.declared.failed_check.FailedCheck.{FailedCheck}
@@ -15,34 +15,35 @@ use Rattle.why.specs.declared.form.Form.{Form}
 use Rattle.why.specs.declared.form.Form.TheVariants.{Object, Rows}
 use Rattle.why.specs.declared.refused_record.RefusedRecord.{RefusedRecord}
 use Rattle.why.specs.declared.state_line.StateLine.{StateLine}
+use Rattle.why.specs.declared.subject.Addresses.{Addresses}
 
 -- where no check is named: no object, and a row of the page
 abbrev pub page_alone : Form → Reason → List ℕ
 page_alone Object reason = []
 page_alone Rows reason = codes "  page     " ++ (page reason ++ codes "\n")
 
--- the check at this end, beside the name of the unit
-unfoldable pub check_told : Form → RefusedRecord → ShownEnd → (unit_name : List ℕ) → Option FailedCheck → List ℕ
-check_told form r end unit_name None = page_alone form r.line.reason
-check_told form r end unit_name (Some failed) = checks.check_told form (record {
+-- the check at this end, beside the unit that the record names
+unfoldable pub check_told : Form → RefusedRecord → ShownEnd → Option FailedCheck → List ℕ
+check_told form r end None = page_alone form r.line.reason
+check_told form r end (Some failed) = checks.check_told form (record {
   side = r.line.side;
   reason = r.line.reason;
   failed = failed;
   reading = reading r.bytes.now;
-  fronts = fronts end.links r.says r.bytes.now unit_name;
+  fronts = fronts end.links r.says r.bytes.now (option_map (λ unit. unit.now) r.unit);
 })
 
 -- the refusal, the record and the check
-unfoldable pub record_objects : RefusedRecord → ShownEnd → (unit_name : List ℕ) → List ℕ
-record_objects r end unit_name = refused_line r.line ++ (record_line r.says r.bytes.now ++ check_told Object r end unit_name r.failed)
+unfoldable pub record_objects : RefusedRecord → ShownEnd → List ℕ
+record_objects r end = refused_line r.line ++ (record_line r.says r.bytes.now ++ check_told Object r end r.failed)
 
 -- the record with the row of the unit that its hint names, and the check; behind each an empty row
-unfoldable pub record_rows : RefusedRecord → ShownEnd → (name unit unit_name : List ℕ) → List ℕ
-record_rows r end name unit unit_name =
+unfoldable pub record_rows : RefusedRecord → ShownEnd → (name unit : List ℕ) → List ℕ
+record_rows r end name unit =
     record_text name (r.line.record_number + 2) r.says r.bytes.now
-    ++ (unit ++ (codes "\n" ++ (check_told Rows r end unit_name r.failed ++ codes "\n")))
+    ++ (unit ++ (codes "\n" ++ (check_told Rows r end r.failed ++ codes "\n")))
 
--- an end in this state, and its live links
-unfoldable pub end_told : Form → StateLine → ShownEnd → List ℕ
-end_told Object state end = side_lines state (live_by end)
-end_told Rows state end = side_text state (live_by end)
+-- an end in this state, and its live links, in rows first the one that has the named addresses
+unfoldable pub end_told : Form → StateLine → Addresses → ShownEnd → List ℕ
+end_told Object state named end = side_lines state (live_by end)
+end_told Rows state named end = side_text state named (live_by end)

@@ -21,7 +21,7 @@ use Rattle.why.specs.PacketWords.{byte_digits}
 use Rattle.why.specs.UnitWords.{reading_name}
 use Rattle.why.specs.StateLine.{state_name}
 use Rattle.why.specs.Causes.{allowed_reasons}
-use Rattle.why.specs.Words.{words_if, known_start}
+use Rattle.why.specs.Words.{words_if, known_start, byte_count}
 
 -- ---- a message that is sent
 
@@ -41,17 +41,16 @@ abbrev pub byte_words : Option ℕ → List ℕ
 byte_words None = codes "none"
 byte_words (Some byte) = byte_digits byte
 
--- `byte 0 of the data is 07, and it has 1 bytes`
+-- `byte 0 of the data is 07, and it has 1 byte`
 abbrev pub seen_byte : DataByte → List ℕ
 seen_byte x =
-    codes "byte " ++ (decimal x.place ++ (codes " of the data is " ++ (byte_words x.byte ++ (codes ", and it has " ++ (decimal x.length
-    ++ codes " bytes")))))
+    codes "byte " ++ (decimal x.place ++ (codes " of the data is " ++ (byte_words x.byte ++ (codes ", and it has " ++ byte_count x.length))))
 
--- `byte 0 is 05, and 1 bytes, as number 1 was first sent`
+-- `byte 0 is 05, and 1 byte, as number 1 was first sent`
 abbrev pub first_byte : (number : ℕ) → DataByte → List ℕ
 first_byte number y =
-    codes "byte " ++ (decimal y.place ++ (codes " is " ++ (byte_words y.byte ++ (codes ", and " ++ (decimal y.length
-    ++ (codes " bytes, as number " ++ (decimal number ++ codes " was first sent")))))))
+    codes "byte " ++ (decimal y.place ++ (codes " is " ++ (byte_words y.byte ++ (codes ", and " ++ (byte_count y.length
+    ++ (codes ", as number " ++ (decimal number ++ codes " was first sent")))))))
 
 abbrev pub sending_seen : FailedSending → ReadingValue → List ℕ
 sending_seen (OfState state) reading = reading_name reading ++ (codes " in " ++ state_name state)

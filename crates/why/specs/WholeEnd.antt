@@ -10,6 +10,8 @@ use Rattle.why.specs.declared.state_line.StateLine.{StateLine}
 use Rattle.why.specs.Refused.{accused_row}
 use Rattle.why.specs.RefusedRecord.{record_objects, record_rows, end_told}
 use Rattle.why.specs.Ends.{state_by}
+use Rattle.why.specs.Subject.{addresses_of}
+use Rattle.why.specs.declared.subject.Addresses.{Addresses}
 
 abbrev pub record_of : EndRefusal → RefusedRecord
 record_of r = record {
@@ -17,6 +19,7 @@ record_of r = record {
   failed = r.failed;
   says = r.says;
   bytes = r.bytes;
+  unit = None;
 }
 
 -- the end as it was before the record; which start of the other side its own goes with is not known
@@ -26,12 +29,16 @@ unpaired station = record station { partner = None }
 abbrev pub state_alone : ShownEnd → StateLine
 state_alone end = record (state_by A end) { station = unpaired end.station }
 
+-- the addresses of the link that the record is about
+abbrev pub named_by : EndRefusal → Addresses
+named_by r = addresses_of r.says r.bytes.now
+
 -- the refusal, the record, the check, if one is named, and the end
 abbrev pub end_lines : EndRefusal → ShownEnd → List ℕ
-end_lines r end = record_objects (record_of r) end [] ++ end_told Object (state_alone end) end
+end_lines r end = record_objects (record_of r) end ++ end_told Object (state_alone end) (named_by r) end
 
 -- the record, the check, or the page of the reason alone, the end, the rows before it between two empty ones, and who is accused
 abbrev pub end_rows : EndRefusal → ShownEnd → (name ladder : List ℕ) → List ℕ
 end_rows r end name ladder =
-    record_rows (record_of r) end name [] []
-    ++ (end_told Rows (state_alone end) end ++ (codes "\n" ++ (ladder ++ (codes "\n" ++ accused_row A r.accusation))))
+    record_rows (record_of r) end name []
+    ++ (end_told Rows (state_alone end) (named_by r) end ++ (codes "\n" ++ (ladder ++ (codes "\n" ++ accused_row A r.accusation))))

@@ -3,15 +3,19 @@
 ghost use Rattle.std.specs.Prelude.{◌≡◌};
 ghost use Rattle.why.specs.Refused as spec;
 
+use crate::ends::is_of_user;
+use capture::Entry;
 use pair_judge::{Accused, Reason};
 use std::fmt;
 use wire_base::Side;
 
-/// By whose fault a record is refused. Printed as one word, or as `other end`.
+/// By whose fault a record is refused. Printed as one word, or as `other end`: of a sender `sender`, and `user` also where it may be the node.
 #[derive(Clone, Copy, Debug, PartialEq, Eq)]
 pub enum Accusation {
     /// The node that sent the unit.
     Sender,
+    /// The other node, which sent what came, or heads that do not pair.
+    OtherSender,
     /// The hints, or captures that do not pair.
     Hints,
     /// The line, or captures that do not pair.
@@ -22,14 +26,18 @@ pub enum Accusation {
     Nobody,
     /// The node's user.
     User,
+    /// The node's user, or the node, where it started by itself.
+    Starter,
+    /// The node's user, or the node, where it chose the address of the link.
+    Chooser,
     /// Of one end alone: the other end, in what came of it.
     OtherEnd,
 }
 
 impl Accusation {
-    /// Who is accused where a record is refused for this reason; `of_user` where it is a user's record (`u`).
-    pub fn of(reason: Reason, of_user: bool) -> Accusation
-        ensures { result ≡ spec.accuses reason of_user }
+    /// Who is accused where a record of this entry is refused for this reason.
+    pub fn of(reason: Reason, entry: Entry) -> Accusation
+        ensures { result ≡ spec.accuses reason entry }
     {
         match reason {
             Reason::NotAMessage
@@ -40,35 +48,46 @@ impl Accusation {
             | Reason::Changed
             | Reason::NoCause
             | Reason::BadPacket
-            | Reason::WrongNode
             | Reason::BadNsp
             | Reason::WrongSegment
             | Reason::WrongAck
             | Reason::SegmentTooLong
             | Reason::LinkWindowFull => Accusation::Sender,
+            Reason::WrongNode => Accusation::of_nodes(entry),
             Reason::HintOrder | Reason::NoSuchUnit | Reason::NoOrder => Accusation::Hints,
             Reason::Undetected => Accusation::Line,
             Reason::WrongKeep | Reason::WrongDelivery | Reason::NotNoise => Accusation::Claim,
             Reason::CrossedPeriod | Reason::CrossedLink => Accusation::Nobody,
-            Reason::WrongUserEvent | Reason::AddressInUse => Accusation::User,
-            Reason::NoLink | Reason::LinkState => Accusation::of_sender_or_user(of_user),
+            Reason::WrongUserEvent => Accusation::Starter,
+            Reason::AddressInUse => Accusation::Chooser,
+            Reason::NoLink | Reason::LinkState => Accusation::of_link(entry),
         }
     }
 
     /// Who is accused where a record of one end alone is refused for this reason, by this end's fault or the other's.
-    pub fn of_end(accused: Accused, reason: Reason, of_user: bool) -> Accusation
-        ensures { result ≡ spec.end_accuses accused reason of_user }
+    pub fn of_end(accused: Accused, reason: Reason, entry: Entry) -> Accusation
+        ensures { result ≡ spec.end_accuses accused reason entry }
     {
         match accused {
-            Accused::ThisEnd => Accusation::of(reason, of_user),
+            Accused::ThisEnd => Accusation::of(reason, entry),
             Accused::OtherEnd => Accusation::OtherEnd,
         }
     }
 
-    fn of_sender_or_user(of_user: bool) -> Accusation
-        ensures { result ≡ spec.sender_or_user of_user }
+    // What came was sent by the other node, and read by the heads of both.
+    fn of_nodes(entry: Entry) -> Accusation
+        ensures { result ≡ spec.accuses_nodes entry }
     {
-        if of_user {
+        match entry {
+            Entry::Received { .. } => Accusation::OtherSender,
+            _ => Accusation::Sender,
+        }
+    }
+
+    fn of_link(entry: Entry) -> Accusation
+        ensures { result ≡ spec.sender_or_user (is_of_user entry) }
+    {
+        if is_of_user(entry) {
             return Accusation::User;
         }
         Accusation::Sender
@@ -82,12 +101,12 @@ impl fmt::Display for Accusation {
 
     fn fmt<W: fmt::Write>(&self, f: &mut fmt::Formatter<W>) -> fmt::Result {
         match self {
-            Accusation::Sender => f.write_str("sender"),
+            Accusation::Sender | Accusation::OtherSender => f.write_str("sender"),
             Accusation::Hints => f.write_str("hints"),
             Accusation::Line => f.write_str("line"),
             Accusation::Claim => f.write_str("claim"),
             Accusation::Nobody => f.write_str("nobody"),
-            Accusation::User => f.write_str("user"),
+            Accusation::User | Accusation::Starter | Accusation::Chooser => f.write_str("user"),
             Accusation::OtherEnd => f.write_str("other end"),
         }
     }
@@ -110,6 +129,10 @@ impl fmt::Display for AccusedRow {
         let other = side.other();
         match self.accusation {
             Accusation::Sender => write!(f, "accused  the sender, {side}\n"),
+            Accusation::OtherSender => write!(
+                f,
+                "accused  the sender of what came, {other}, or heads that do not pair\n"
+            ),
             Accusation::Hints => {
                 f.write_str("accused  the hints, or captures that do not pair\n")
             }
@@ -122,6 +145,14 @@ impl fmt::Display for AccusedRow {
                 f.write_str("accused  nobody: the protocol cannot tell the two apart\n")
             }
             Accusation::User => write!(f, "accused  the user of {side}\n"),
+            Accusation::Starter => write!(
+                f,
+                "accused  the user of {side}, or the node, where it started by itself\n"
+            ),
+            Accusation::Chooser => write!(
+                f,
+                "accused  the user of {side}, or the node, where it chose the address\n"
+            ),
             Accusation::OtherEnd => f.write_str("accused  the other end\n"),
         }
     }

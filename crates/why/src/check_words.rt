@@ -2,9 +2,11 @@
 
 ghost use Rattle.std.specs.Fmt.{WritesOnOk};
 ghost use Rattle.why.specs.Checks as spec;
+ghost use Rattle.why.specs.Digits.{fronts_told};
 
 use crate::arrival_checks::{write_arrival_allowed, write_arrival_seen};
 use crate::checks::Check;
+use crate::digits::Fronts;
 use crate::link_arrival_checks::{write_link_arrival_allowed, write_link_arrival_seen};
 use crate::link_event_checks::{write_link_event_allowed, write_link_event_seen};
 use crate::link_sending_checks::{write_link_sending_allowed, write_link_sending_seen};
@@ -12,7 +14,9 @@ use crate::nsp_words::nsp_fault_words;
 use crate::packet_words::packet_fault_words;
 use crate::state_line::state_name;
 use crate::station_checks::{write_sending_allowed, write_sending_seen};
+use crate::undetected::{came_byte, sent_byte, write_byte};
 use crate::unit_words::{ReadingName, ReadingWords};
+use crate::words::plural;
 use pair_judge::{Awaited, FailedCheck};
 use std::fmt::{self, Formatter, Write};
 use wire_base::Side;
@@ -37,7 +41,10 @@ impl fmt::Display for Seen<'_, '_> {
             FailedCheck::HintOrder { seen, .. } => write!(f, "hint {seen}"),
             FailedCheck::NoSuchUnit(awaited) => write!(f, "hint {}", awaited.hint),
             FailedCheck::NoOrder { own, other } => write_both_wait(f, side, own, other),
-            FailedCheck::Undetected { .. } => write!(f, "{}", ReadingName { reading }),
+            FailedCheck::Undetected { .. } => {
+                write!(f, "{}", ReadingName { reading })?;
+                write_byte(f, came_byte(self.check.fronts.differs))
+            }
             FailedCheck::StationSending(failed) => write_sending_seen(f, failed, reading),
             FailedCheck::StationArrival(failed) => write_arrival_seen(f, side, failed, reading),
             FailedCheck::StationEvent { seen } => write!(f, "start in {}", state_name(seen)),
@@ -66,9 +73,10 @@ fn write_both_wait<W: Write>(
     let sender = side.other();
     let Awaited { hint, sent } = own;
     let waits = other.hint;
+    let s = plural(sent);
     write!(
         f,
-        "hint {hint} while {sender} has sent {sent} units and waits for hint {waits} of {side}"
+        "hint {hint} while {sender} has sent {sent} unit{s} and waits for hint {waits} of {side}"
     )
 }
 
@@ -93,11 +101,8 @@ impl fmt::Display for Allowed<'_, '_> {
             FailedCheck::NoSuchUnit(own) => write_below(f, other, own.sent),
             FailedCheck::NoOrder { own, .. } => write_below(f, other, own.sent),
             FailedCheck::Undetected { unit } => {
-                let name = self.check.fronts.unit_name;
-                write!(
-                    f,
-                    "{name}the bytes of unit {unit} of {other}; or damaged bytes"
-                )
+                write_unit_bytes(f, other, unit, self.check.fronts)?;
+                f.write_str("; or damaged bytes")
             }
             FailedCheck::StationSending(failed) => write_sending_allowed(f, failed),
             FailedCheck::StationArrival(failed) => {
@@ -116,6 +121,20 @@ impl fmt::Display for Allowed<'_, '_> {
             FailedCheck::Noise => f.write_str("bytes that read as header bad or data bad"),
         }
     }
+}
+
+// Writes the bytes of a unit of the other side by its name, where that is known, and where it has one by the byte that tells.
+fn write_unit_bytes<W: Write>(
+    f: &mut Formatter<W>,
+    other: Side,
+    unit: u64,
+    fronts: Fronts<'_>,
+) -> fmt::Result
+    ensures { WritesOnOk W.write_str_gives f.old result (spec.unit_bytes other unit (fronts_told fronts.entry)) f.new }
+{
+    let name = fronts.unit_name;
+    write!(f, "{name}the bytes of unit {unit} of {other}")?;
+    write_byte(f, sent_byte(fronts.differs))
 }
 
 // Writes the hints of units that the other side sent: they are counted from 0. Where it sent none, no receipt is right.

@@ -4,10 +4,11 @@ ghost use Rattle.std.specs.Fmt.{WritesOnOk};
 ghost use Rattle.why.specs.StationChecks as spec;
 
 use crate::packet_words::ByteDigits;
+use crate::words::ByteCount;
 use ddcmp_station::DataByte;
 use std::fmt::{self, Formatter, Write};
 
-/// Writes the byte as it is seen, as `byte 0 of the data is 07, and it has 1 bytes`.
+/// Writes the byte as it is seen, as `byte 0 of the data is 07, and it has 1 byte`.
 pub fn write_seen_byte<W: Write>(f: &mut Formatter<W>, seen: DataByte) -> fmt::Result
     ensures { WritesOnOk W.write_str_gives f.old result (spec.seen_byte seen) f.new }
 {
@@ -17,13 +18,11 @@ pub fn write_seen_byte<W: Write>(f: &mut Formatter<W>, seen: DataByte) -> fmt::R
         length,
     } = seen;
     let byte = ByteWords { byte };
-    write!(
-        f,
-        "byte {place} of the data is {byte}, and it has {length} bytes"
-    )
+    let bytes = ByteCount { count: length };
+    write!(f, "byte {place} of the data is {byte}, and it has {bytes}")
 }
 
-/// Writes the byte as the packet of this number was first sent, as `byte 0 is 05, and 1 bytes, as number 1 was first sent`.
+/// Writes the byte as the packet of this number was first sent, as `byte 0 is 05, and 1 byte, as number 1 was first sent`.
 pub fn write_first_byte<W: Write>(f: &mut Formatter<W>, number: u8, first: DataByte) -> fmt::Result
     ensures { WritesOnOk W.write_str_gives f.old result (spec.first_byte number first) f.new }
 {
@@ -33,16 +32,17 @@ pub fn write_first_byte<W: Write>(f: &mut Formatter<W>, number: u8, first: DataB
         length,
     } = first;
     let byte = ByteWords { byte };
+    let bytes = ByteCount { count: length };
     write!(
         f,
-        "byte {place} is {byte}, and {length} bytes, as number {number} was first sent"
+        "byte {place} is {byte}, and {bytes}, as number {number} was first sent"
     )
 }
 
-// A byte; `none` where the data end before it.
+/// A byte; `none` where the data end before it.
 #[derive(Clone, Copy)]
-struct ByteWords {
-    byte: Option<u8>,
+pub struct ByteWords {
+    pub byte: Option<u8>,
 }
 
 impl fmt::Display for ByteWords {

@@ -6,6 +6,7 @@ ghost use Rattle.dna_packet.specs.ReadingNsp.{nsp_at};
 ghost use Rattle.why.specs.Digits as spec;
 
 use crate::layers::message_in_unit;
+use crate::undetected::Differing;
 use crate::words::words_if;
 use capture::Entry;
 use dna_packet::{Nsp, read_nsp};
@@ -13,13 +14,14 @@ use pair_judge::SideEnd;
 use std::alloc::{AllocError, Global};
 use std::fmt;
 
-/// The digits of both, at most sixteen bytes of each; and the short name of the unit that the record names, with a comma and a blank behind it,
-/// or nothing.
+/// The digits of both, at most sixteen bytes of each; the short name of the unit that the record names, with a comma and a blank behind it, or
+/// nothing; and where the record's bytes have that name too, the first byte in which they differ.
 #[derive(Clone, Copy)]
 pub struct Fronts<'t> {
     pub seen: &'t str,
     pub due: &'t str,
     pub unit_name: &'t str,
+    pub differs: Option<Differing>,
 }
 
 /// The digits of at most the first sixteen of these bytes. Fails for want of memory alone.

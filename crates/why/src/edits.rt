@@ -4,7 +4,7 @@ ghost use Rattle.std.specs.Prelude.{◌≡◌};
 ghost use Rattle.std.specs.Fmt.{WritesOnOk};
 ghost use Rattle.why.specs.Edits as spec;
 
-use crate::words::{NumberOr, words_if};
+use crate::words::NumberOr;
 use std::fmt::{self, Formatter, Write};
 
 /// With fewer records than this behind the refusal, small edits tell nothing: most of them make the pair a run.
@@ -69,14 +69,20 @@ impl fmt::Display for RecorderRow {
             );
         };
         if records < FEW_RECORDS {
-            let stand = StandWords { records };
-            return write!(
-                f,
-                "recorder only {stand} behind it: small edits would tell nothing\n"
-            );
+            return write_too_few(f, records);
         }
         write_tried(f, tried, accepted, records)
     }
+}
+
+// Writes that too few records follow for small edits to tell something.
+fn write_too_few<W: Write>(f: &mut Formatter<W>, records: u64) -> fmt::Result
+    ensures { WritesOnOk W.write_str_gives f.old result (spec.too_few records) f.new }
+{
+    write!(
+        f,
+        "recorder small edits were not tried: too few records follow ({records}; at least {FEW_RECORDS} are needed)\n"
+    )
 }
 
 // Writes how many edits were tried and make the pair a run.
@@ -187,12 +193,16 @@ impl fmt::Display for EditRow<'_> {
     }
 }
 
-/// What edits that make the pair a run tell, below their rows; nothing where there are none.
-pub fn so_row(accepted: u64) -> &'static str
-    ensures { result.now ≡ spec.so_row accepted }
+/// What edits that make the pair a run tell, below their rows; nothing where there are none. That rather the recording is wrong than a node is
+/// said only where the node is not explained as well by one unit that it sent wrongly (`unit_as_well`).
+pub fn so_row(accepted: u64, unit_as_well: bool) -> &'static str
+    ensures { result.now ≡ spec.so_row accepted unit_as_well }
 {
-    words_if(
-        accepted > 0,
-        "         So rather the recording is wrong than a node.\n",
-    )
+    if accepted == 0 {
+        return "";
+    }
+    if unit_as_well {
+        return "         So either the recording is wrong, or the node in this one unit.\n";
+    }
+    "         So rather the recording is wrong than a node.\n"
 }

@@ -9,6 +9,7 @@ use crate::form::Form;
 use crate::refused_line::RefusedLine;
 use crate::refused_record::{RefusedRecord, end_told, record_objects, record_rows};
 use crate::state_line::StateLine;
+use crate::subject::addresses_of;
 use capture::Entry;
 use ddcmp_station::StationView;
 use pair_judge::{FailedCheck, Reason, SideEnd};
@@ -41,8 +42,9 @@ pub fn why_end_json(
 ) -> Result<String, AllocError>
     ensures { IfOk result (λ text. string_bytes text ≡ spec.end_lines refusal.entry end.now) }
 {
-    let record = record_objects(alloc, record_of(refusal), end, "")?;
-    let told = end_told(alloc, Form::Object, state_alone(end), end)?;
+    let record = record_objects(alloc, record_of(refusal), end)?;
+    let named = addresses_of(refusal.says, refusal.bytes);
+    let told = end_told(alloc, Form::Object, state_alone(end), named, end)?;
     format!(in alloc; "{record}{told}")
 }
 
@@ -58,8 +60,9 @@ pub fn why_end_rows(
 ) -> Result<String, AllocError>
     ensures { IfOk result (λ text. string_bytes text ≡ spec.end_rows refusal.entry end.now name.now ladder.now) }
 {
-    let record = record_rows(alloc, record_of(refusal), end, name, "", "")?;
-    let told = end_told(alloc, Form::Rows, state_alone(end), end)?;
+    let record = record_rows(alloc, record_of(refusal), end, name, "")?;
+    let named = addresses_of(refusal.says, refusal.bytes);
+    let told = end_told(alloc, Form::Rows, state_alone(end), named, end)?;
     let accused = AccusedRow {
         side: Side::A,
         accusation: refusal.accusation,
@@ -80,6 +83,7 @@ fn record_of(refusal: EndRefusal<'_>) -> RefusedRecord<'_>
         failed: refusal.failed,
         says: refusal.says,
         bytes: refusal.bytes,
+        unit: None,
     }
 }
 

@@ -1,20 +1,22 @@
 //! What is shown of both sides of a check, as texts.
 
-ghost use Rattle.std.specs.Prelude.{◌≡◌, IfOk};
+ghost use Rattle.std.specs.Prelude.{◌≡◌, IfOk, option_map};
 ghost use Rattle.why.specs.Digits.{fronts, fronts_told};
 
 use crate::digits::{Fronts, due_bytes, front_digits, seen_bytes};
+use crate::undetected::{Differing, differing, name_before};
 use capture::Entry;
 use pair_judge::SideEnd;
 use std::alloc::{AllocError, Global};
 use std::marker::Model;
 
-/// The digits of what a record says and of what its end has there, and the name of the unit that the record names.
+/// The digits of what a record says and of what its end has there, the name of the unit that the record names, and where it differs from that.
 #[derive(Drop)]
 pub struct FrontTexts {
     seen: String,
     due: String,
     unit_name: String,
+    differs: Option<Differing>,
 }
 
 impl Model for FrontTexts {
@@ -27,27 +29,30 @@ impl Model for FrontTexts {
       seen = string_bytes texts.seen;
       due = string_bytes texts.due;
       unit_name = string_bytes texts.unit_name;
+      differs = texts.differs;
     } };
 }
 
 impl FrontTexts {
-    /// Those of this record beside this end. Fails for want of memory alone.
+    /// Those of this record beside this end, and beside the unit that it names, where that is known. Fails for want of memory alone.
     pub fn of(
         alloc: Global,
         end: &SideEnd,
         says: Entry,
         bytes: &[u8],
-        unit_name: &str,
+        unit: Option<&[u8]>,
     ) -> Result<FrontTexts, AllocError>
-        ensures { IfOk result (λ texts. texts ≡ fronts end.now.links says bytes.now unit_name.now) }
+        ensures { IfOk result (λ texts. texts ≡ fronts end.now.links says bytes.now (option_map (λ unit. unit.now) unit)) }
     {
         let seen = front_digits(alloc, seen_bytes(says, bytes))?;
         let due = front_digits(alloc, due_bytes(end, says, bytes))?;
-        let unit_name = String::from_str(alloc, unit_name)?;
+        let unit_name = name_before(alloc, unit)?;
+        let differs = differing(alloc, bytes, unit)?;
         Ok(FrontTexts {
             seen,
             due,
             unit_name,
+            differs,
         })
     }
 
@@ -59,6 +64,7 @@ impl FrontTexts {
             seen: self.seen.as_str(),
             due: self.due.as_str(),
             unit_name: self.unit_name.as_str(),
+            differs: self.differs,
         }
     }
 }

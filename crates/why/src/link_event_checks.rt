@@ -7,6 +7,7 @@ ghost use Rattle.why.specs.LinkChecks as spec;
 use crate::digits::FrontBehind;
 use crate::link_check_fields::{write_missing, write_wanted};
 use crate::link_line::phase_name;
+use crate::words::ByteCount;
 use nsp_link::FailedLinkEvent;
 use std::fmt::{self, Formatter, Write};
 
@@ -48,7 +49,7 @@ pub fn write_link_event_seen<W: Write>(
                 front,
                 count: seen,
             };
-            write!(f, "a message of {seen} bytes{bytes}")
+            write!(f, "a message of {}{bytes}", ByteCount { count: seen })
         }
     }
 }
@@ -87,7 +88,8 @@ fn write_delivery<W: Write>(f: &mut Formatter<W>, length: Option<usize>, front: 
                 front,
                 count: length,
             };
-            write!(f, "the next whole message, which has {length} bytes{bytes}")
+            let count = ByteCount { count: length };
+            write!(f, "the next whole message, which has {count}{bytes}")
         }
         None => f.write_str("the next whole message, of which there is none yet"),
     }

@@ -8,6 +8,7 @@ use crate::link_check_fields::{write_ack_range, write_missing, write_numbers, wr
 use crate::link_line::phase_name;
 use crate::packet_words::NodesWords;
 use crate::piece_fields::{ShapeWords, write_next};
+use crate::words::ByteCount;
 use nsp_link::FailedLinkSending;
 use std::fmt::{self, Formatter, Write};
 
@@ -46,7 +47,7 @@ pub fn write_link_sending_seen<W: Write>(
         FailedLinkSending::Room { seen, .. } => {
             write!(f, "a new segment while {seen} are outstanding")
         }
-        FailedLinkSending::Length { seen, .. } => write!(f, "{seen} bytes"),
+        FailedLinkSending::Length { seen, .. } => write!(f, "{}", ByteCount { count: seen }),
         FailedLinkSending::NextPiece { seen, .. } => {
             write!(f, "{}", ShapeWords { shape: seen, front })
         }
@@ -80,9 +81,14 @@ pub fn write_link_sending_allowed<W: Write>(
             write!(f, "a new segment while at most {allowed} are outstanding")
         }
         FailedLinkSending::Length { allowed, .. } => {
-            write!(f, "at most {allowed} bytes, the SEGSIZE of the other end")
+            let bytes = ByteCount {
+                count: usize::from(allowed),
+            };
+            write!(f, "at most {bytes}, the SEGSIZE of the other end")
         }
-        FailedLinkSending::NextPiece { allowed, .. } => write_next(f, allowed, front),
+        FailedLinkSending::NextPiece { seen, allowed } => {
+            write_next(f, seen.length, allowed, front)
+        }
         FailedLinkSending::Number { allowed, .. } => {
             f.write_str("segment ")?;
             write_numbers(f, allowed)

@@ -8,7 +8,7 @@ ghost use Rattle.dna_packet.specs.declared.nsp.Nsp.TheVariants as messages;
 ghost use Rattle.why.specs.NspWords as spec;
 
 use crate::ack_words::write_acks;
-use crate::words::words_if;
+use crate::words::{ByteCount, words_if};
 use dna_packet::{
     ConnectConfirm, ConnectInitiate, DataAck, DisconnectConfirm, DisconnectInitiate, LinkService,
     Nsp, NspFault, OtherDataAck, Segment, read_nsp,
@@ -34,7 +34,7 @@ impl fmt::Display for MessageWords<'_> {
     }
 }
 
-// Writes a message of NSP with its fields, as `segment 1 of link 1 -> 2, a whole message, 1 bytes`: SRCADDR stands first. Of what it carries
+// Writes a message of NSP with its fields, as `segment 1 of link 1 -> 2, a whole message, 1 byte`: SRCADDR stands first. Of what it carries
 // unread, the number of bytes alone is told.
 fn write_nsp<W: Write>(f: &mut Formatter<W>, message: &Nsp<'_>) -> fmt::Result
     ensures { WritesOnOk W.write_str_gives f.old result (spec.nsp_words (view message.now)) f.new }
@@ -62,7 +62,10 @@ fn write_segment<W: Write>(f: &mut Formatter<W>, segment: &Segment<'_>) -> fmt::
     write_of_link(f, "", segment.srcaddr, segment.dstaddr)?;
     write_acks(f, &segment.acks)?;
     let piece = piece_words(segment.begins, segment.ends);
-    write!(f, ", {piece}, {} bytes", segment.body.len())
+    let bytes = ByteCount {
+        count: segment.body.len(),
+    };
+    write!(f, ", {piece}, {bytes}")
 }
 
 fn write_link_service<W: Write>(f: &mut Formatter<W>, message: &LinkService<'_>) -> fmt::Result
@@ -175,14 +178,16 @@ fn write_of_link<W: Write>(
 fn write_unread<W: Write>(f: &mut Formatter<W>, rest: &[u8]) -> fmt::Result
     ensures { WritesOnOk W.write_str_gives f.old result (spec.unread_words rest.now) f.new }
 {
-    write!(f, ", {} bytes, not read further", rest.len())
+    let bytes = ByteCount { count: rest.len() };
+    write!(f, ", {bytes}, not read further")
 }
 
 // Writes how many bytes of user data a message of connecting or disconnecting carries.
 fn write_user_data<W: Write>(f: &mut Formatter<W>, bytes: &[u8]) -> fmt::Result
     ensures { WritesOnOk W.write_str_gives f.old result (spec.user_data_words bytes.now) f.new }
 {
-    write!(f, ", {} bytes of user data", bytes.len())
+    let count = ByteCount { count: bytes.len() };
+    write!(f, ", {count} of user data")
 }
 
 // Which part of a user's message a segment is.

@@ -6,7 +6,7 @@ ghost use Rattle.dna_packet.specs.Packet.{view};
 ghost use Rattle.dna_packet.specs.ReadingPacket.{packet_at};
 ghost use Rattle.why.specs.PacketWords as spec;
 
-use crate::words::words_if;
+use crate::words::{ByteCount, words_if};
 use dna_packet::{Packet, PacketFault, read_packet};
 use nsp_link::Nodes;
 use std::fmt::{self, Formatter, Write};
@@ -52,7 +52,8 @@ fn write_packet<W: Write>(f: &mut Formatter<W>, packet: Packet<'_>) -> fmt::Resu
             write!(f, "{nodes}, short data packet, {header}")
         }
         Packet::Control(bytes) => {
-            write!(f, "control packet, {} bytes, not read further", bytes.len())
+            let bytes = ByteCount { count: bytes.len() };
+            write!(f, "control packet, {bytes}, not read further")
         }
     }
 }

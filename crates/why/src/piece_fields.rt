@@ -5,10 +5,11 @@ ghost use Rattle.std.specs.Fmt.{WritesOnOk};
 ghost use Rattle.why.specs.LinkChecks as spec;
 
 use crate::digits::FrontBehind;
+use crate::words::ByteCount;
 use nsp_link::{NextPiece, PieceShape};
 use std::fmt::{self, Formatter, Write};
 
-/// What a segment carries, with the digits of its first bytes. Printed as `1 bytes 05, begins and ends`.
+/// What a segment carries, with the digits of its first bytes. Printed as `1 byte 05, begins and ends`.
 #[derive(Clone, Copy)]
 pub struct ShapeWords<'t> {
     pub shape: PieceShape,
@@ -31,7 +32,8 @@ impl fmt::Display for ShapeWords<'_> {
             front: self.front,
             count: length,
         };
-        write!(f, "{length} bytes{bytes}, {}", ends_words(begins, ends))
+        let count = ByteCount { count: length };
+        write!(f, "{count}{bytes}, {}", ends_words(begins, ends))
     }
 }
 
@@ -47,22 +49,29 @@ fn ends_words(begins: bool, ends: bool) -> &'static str
     }
 }
 
-/// Writes what the next new segment has to carry, with the digits of its first bytes, as `the next of 2 bytes of the message: 0506, begins it`.
+/// Writes what the next new segment has to carry where it has so many bytes, with the digits of the first bytes that are left, as
+/// `the next of 2 bytes of the message: 0506, begins it`.
 pub fn write_next<W: Write>(
     f: &mut Formatter<W>,
+    length: usize,
     next: Option<NextPiece>,
     front: &str,
 ) -> fmt::Result
-    ensures { WritesOnOk W.write_str_gives f.old result (spec.next_words next front.now) f.new }
+    ensures { WritesOnOk W.write_str_gives f.old result (spec.next_words length next front.now) f.new }
 {
     match next {
-        Some(next) => write_piece(f, next, front),
+        Some(next) => write_piece(f, length, next, front),
         None => f.write_str("no new segment: nothing is left of what was handed in"),
     }
 }
 
-fn write_piece<W: Write>(f: &mut Formatter<W>, next: NextPiece, front: &str) -> fmt::Result
-    ensures { WritesOnOk W.write_str_gives f.old result (spec.piece_words next front.now) f.new }
+fn write_piece<W: Write>(
+    f: &mut Formatter<W>,
+    length: usize,
+    next: NextPiece,
+    front: &str,
+) -> fmt::Result
+    ensures { WritesOnOk W.write_str_gives f.old result (spec.piece_words length next front.now) f.new }
 {
     let left = next.left;
     let bytes = FrontBehind {
@@ -70,19 +79,19 @@ fn write_piece<W: Write>(f: &mut Formatter<W>, next: NextPiece, front: &str) -> 
         front,
         count: left,
     };
-    let begins = begins_words(next.begins);
-    write!(
-        f,
-        "the next of {left} bytes of the message{bytes}, {begins}"
-    )
+    let count = ByteCount { count: left };
+    let part = part_words(next.begins, left <= length);
+    write!(f, "the next of {count} of the message{bytes}, {part}")
 }
 
-// Whether the next segment begins the message.
-fn begins_words(begins: bool) -> &'static str
-    ensures { result.now ≡ spec.begins_words begins }
+// What the next segment does with the message: it begins it or goes on with it, and ends it where it carries all that is left.
+fn part_words(begins: bool, ends: bool) -> &'static str
+    ensures { result.now ≡ spec.part_words begins ends }
 {
-    if begins {
-        return "begins it";
+    match (begins, ends) {
+        (true, true) => "begins and ends it",
+        (true, false) => "begins it",
+        (false, true) => "goes on with it and ends it",
+        (false, false) => "goes on with it",
     }
-    "goes on with it"
 }

@@ -12,6 +12,7 @@ use crate::record::{record_json, record_text};
 use crate::refused_line::RefusedLine;
 use crate::sides::{side_json, side_text};
 use crate::state_line::StateLine;
+use crate::subject::Addresses;
 use capture::Entry;
 use ddcmp_msg::read_unit;
 use pair_judge::{FailedCheck, Reason, SideEnd};
@@ -28,6 +29,8 @@ pub struct RefusedRecord<'r> {
     pub says: Entry,
     /// Its bytes: none where its line has none.
     pub bytes: &'r [u8],
+    /// The bytes of the unit that its hint names; `None` where it names none that is known.
+    pub unit: Option<&'r [u8]>,
 }
 
 /// The JSON objects of the refusal, of the record and of the check, if one is named. Fails for want of memory alone.
@@ -36,13 +39,12 @@ pub fn record_objects(
     alloc: Global,
     refused: RefusedRecord<'_>,
     end: &SideEnd,
-    unit_name: &str,
 ) -> Result<String, AllocError>
-    ensures { IfOk result (λ text. string_bytes text ≡ spec.record_objects refused.entry end.now unit_name.now) }
+    ensures { IfOk result (λ text. string_bytes text ≡ spec.record_objects refused.entry end.now) }
 {
     let line = refused.line;
     let object = record_json(alloc, refused.says, refused.bytes)?;
-    let check = check_told(alloc, Form::Object, refused, end, unit_name)?;
+    let check = check_told(alloc, Form::Object, refused, end)?;
     format!(in alloc; "{line}{object}{check}")
 }
 
@@ -55,31 +57,29 @@ pub fn record_rows(
     end: &SideEnd,
     name: &str,
     unit: &str,
-    unit_name: &str,
 ) -> Result<String, AllocError>
-    ensures { IfOk result (λ text. string_bytes text ≡ spec.record_rows refused.entry end.now name.now unit.now unit_name.now) }
+    ensures { IfOk result (λ text. string_bytes text ≡ spec.record_rows refused.entry end.now name.now unit.now) }
 {
     let line = u128::from(refused.line.record_number) + 2;
     let rows = record_text(alloc, name, line, refused.says, refused.bytes)?;
-    let check = check_told(alloc, Form::Rows, refused, end, unit_name)?;
+    let check = check_told(alloc, Form::Rows, refused, end)?;
     format!(in alloc; "{rows}{unit}\n{check}\n")
 }
 
-// The check at this end, beside the name of the unit.
+// The check at this end.
 #[tactic(auto, unfolding(crate::specs::RefusedRecord::check_told))]
 fn check_told(
     alloc: Global,
     form: Form,
     refused: RefusedRecord<'_>,
     end: &SideEnd,
-    unit_name: &str,
 ) -> Result<String, AllocError>
-    ensures { IfOk result (λ text. string_bytes text ≡ spec.check_told form refused.entry end.now unit_name.now refused.entry.failed) }
+    ensures { IfOk result (λ text. string_bytes text ≡ spec.check_told form refused.entry end.now refused.entry.failed) }
 {
     let Some(failed) = refused.failed else {
         return page_alone(alloc, form, refused.line.reason);
     };
-    let fronts = FrontTexts::of(alloc, end, refused.says, refused.bytes, unit_name)?;
+    let fronts = FrontTexts::of(alloc, end, refused.says, refused.bytes, refused.unit)?;
     let check = Check {
         side: refused.line.side,
         reason: refused.line.reason,
@@ -106,13 +106,14 @@ pub fn end_told(
     alloc: Global,
     form: Form,
     state: StateLine,
+    named: Addresses,
     end: &SideEnd,
 ) -> Result<String, AllocError>
-    ensures { IfOk result (λ text. string_bytes text ≡ spec.end_told form state end.now) }
+    ensures { IfOk result (λ text. string_bytes text ≡ spec.end_told form state named end.now) }
 {
     let live = live_links(alloc, end)?;
     match form {
         Form::Object => side_json(alloc, state, live.as_slice()),
-        Form::Rows => side_text(alloc, state, live.as_slice()),
+        Form::Rows => side_text(alloc, state, named, live.as_slice()),
     }
 }

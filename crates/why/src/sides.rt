@@ -1,6 +1,6 @@
 //! A side where a record is refused, as it was before it: its station and its live links.
 
-ghost use Rattle.std.specs.Prelude.{◌≡◌, ◌++◌, IfOk, OnOk, string_bytes, take};
+ghost use Rattle.std.specs.Prelude.{◌≡◌, ◌≤◌, ◌++◌, IfOk, OnOk, length, string_bytes, take};
 ghost use Rattle.std.specs.List.{filter, flat_map};
 ghost use Rattle.why.specs.Sides as spec;
 
@@ -8,6 +8,8 @@ use crate::form::Form;
 use crate::link_line::{LinkTold, has_open};
 use crate::state_line::StateLine;
 use crate::state_text::SideRows;
+use crate::subject::{Addresses, others, subjects};
+use crate::words::plural;
 use nsp_link::LinkView;
 use std::alloc::{AllocError, Global};
 use std::fmt::Write;
@@ -26,9 +28,9 @@ pub fn side_json(alloc: Global, state: StateLine, live: &[LinkView]) -> Result<S
     Ok(text)
 }
 
-/// The rows of a side: how many of its records are made, its station's variables and its live links. Where these are more than
-/// [`LINKS_SHOWN`], those are shown of which something is open, as many at most, and then how many more are live. Fails for want of memory
-/// alone.
+/// The rows of a side: how many of its records are made, its station's variables and its live links, first the one that has the named
+/// addresses. Where these are more than [`LINKS_SHOWN`], only those others are shown of which something is open, as many in all at most, and then
+/// how many more are live. Fails for want of memory alone.
 ///
 /// ```text
 /// a before it (7 records, to line 8)
@@ -38,19 +40,28 @@ pub fn side_json(alloc: Global, state: StateLine, live: &[LinkView]) -> Result<S
 ///   link     1-2 RUN: given 0, acknowledged 0, received 0, last acknowledged 0, SEGSIZE 512
 /// ```
 #[tactic(auto, unfolding(crate::specs::Sides::side_text))]
-pub fn side_text(alloc: Global, state: StateLine, live: &[LinkView]) -> Result<String, AllocError>
-    ensures { IfOk result (λ text. string_bytes text ≡ spec.side_text state live.now) }
+pub fn side_text(
+    alloc: Global,
+    state: StateLine,
+    named: Addresses,
+    live: &[LinkView],
+) -> Result<String, AllocError>
+    ensures { IfOk result (λ text. string_bytes text ≡ spec.side_text state named live.now) }
 {
     let rows = SideRows { state };
     let mut text = format!(in alloc; "{rows}")?;
+    let subjects = subjects(alloc, named, live)?;
+    let first = first_links(subjects.as_slice(), LINKS_SHOWN);
+    let others = others(alloc, named, live)?;
+    put_links(&mut text, Form::Rows, state.side, first)?;
     if live.len() <= LINKS_SHOWN {
-        put_links(&mut text, Form::Rows, state.side, live)?;
+        put_links(&mut text, Form::Rows, state.side, others.as_slice())?;
         return Ok(text);
     }
-    let unfinished = open_links(alloc, live)?;
-    let shown = first_links(unfinished.as_slice());
-    put_links(&mut text, Form::Rows, state.side, shown)?;
-    put_more(&mut text, live.len() - shown.len())?;
+    let unfinished = open_links(alloc, others.as_slice())?;
+    let rest = first_links(unfinished.as_slice(), LINKS_SHOWN - first.len());
+    put_links(&mut text, Form::Rows, state.side, rest)?;
+    put_more(&mut text, live.len() - first.len() - rest.len())?;
     Ok(text)
 }
 
@@ -84,7 +95,8 @@ fn put_more(text: &mut String, more: usize) -> Result<(), AllocError>
     if more == 0 {
         return Ok(());
     }
-    write!(text, "           and {more} more live links\n")
+    let s = plural(more as u64);
+    write!(text, "           and {more} more live link{s}\n")
 }
 
 // The links of which something is open.
@@ -100,12 +112,13 @@ fn open_links(alloc: Global, links: &[LinkView]) -> Result<Vec<LinkView>, AllocE
     Ok(found)
 }
 
-// As many links at the front as are shown at most.
-fn first_links(links: &[LinkView]) -> &[LinkView]
-    ensures { result.now ≡ take LINKS_SHOWN links.now }
+// At most so many links at the front.
+fn first_links(links: &[LinkView], most: usize) -> &[LinkView]
+    ensures links { result.now ≡ take most links.now }
+    ensures few { length result.now ≤ most }
 {
-    if links.len() <= LINKS_SHOWN {
+    if links.len() <= most {
         return links;
     }
-    &links[..LINKS_SHOWN]
+    &links[..most]
 }

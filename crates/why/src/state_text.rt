@@ -6,7 +6,7 @@ ghost use Rattle.why.specs.StateText as spec;
 use crate::causes::CausesTold;
 use crate::form::Form;
 use crate::state_line::{NumbersTold, StateLine, state_name};
-use crate::words::write_known_start;
+use crate::words::{plural, write_known_start};
 use ddcmp_station::StationView;
 use std::fmt::{self, Formatter, Write};
 use wire_base::{Seq, Side};
@@ -34,7 +34,11 @@ fn write_made<W: Write>(f: &mut Formatter<W>, side: Side, records: u64) -> fmt::
 {
     // Wide, since the number of records may be any u64.
     let line = u128::from(records) + 1;
-    write!(f, "{side} before it ({records} records, to line {line})\n")
+    let s = plural(records);
+    write!(
+        f,
+        "{side} before it ({records} record{s}, to line {line})\n"
+    )
 }
 
 // Writes the rows of a station; one that was never started has no numbers.
@@ -67,7 +71,7 @@ fn write_start<W: Write>(f: &mut Formatter<W>, side: Side, station: StationView)
     write_known_start(f, "goes with", side.other(), station.partner)
 }
 
-// Writes the outstanding numbers of a station in a row, as a range, where there are any.
+// Writes the outstanding numbers of a station in a row, where there are any: as a range, or as two where 0 follows 255.
 fn write_outstanding<W: Write>(f: &mut Formatter<W>, station: StationView) -> fmt::Result
     ensures { WritesOnOk W.write_str_gives f.old result (spec.outstanding_row station) f.new }
 {
@@ -75,10 +79,33 @@ fn write_outstanding<W: Write>(f: &mut Formatter<W>, station: StationView) -> fm
     if count == 0 {
         return Ok(());
     }
-    let last = station.given;
-    if count == 1 {
-        return write!(f, "           outstanding {last}\n");
-    }
+    let last = u16::from(station.given);
     let first = Seq::<256>::of(u64::from(station.acknowledged) + 1).value();
-    write!(f, "           outstanding {first}-{last}\n")
+    if last < first {
+        let (high, low) = (Span { first, last: 255 }, Span { first: 0, last });
+        return write!(f, "           outstanding {high} and {low}\n");
+    }
+    let span = Span { first, last };
+    write!(f, "           outstanding {span}\n")
+}
+
+// Numbers from a first one through a last one. Printed as `1-2`, or as the one where both are the same.
+#[derive(Clone, Copy)]
+struct Span {
+    first: u16,
+    last: u16,
+}
+
+impl fmt::Display for Span {
+    ghost use Rattle.std.specs.Prelude.{Some};
+
+    ghost output = { λ span. Some (spec.span span.first span.last) };
+
+    fn fmt<W: Write>(&self, f: &mut Formatter<W>) -> fmt::Result {
+        let Span { first, last } = *self;
+        if first == last {
+            return write!(f, "{first}");
+        }
+        write!(f, "{first}-{last}")
+    }
 }

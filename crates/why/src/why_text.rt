@@ -9,6 +9,7 @@ use crate::ends::state_at;
 use crate::form::Form;
 use crate::refused_line::RefusedLine;
 use crate::refused_record::{RefusedRecord, end_told, record_objects, record_rows};
+use crate::subject::{Addresses, addresses_of};
 use capture::Entry;
 use pair_judge::{FailedCheck, JudgedEnds, Reason};
 use std::alloc::{AllocError, Global};
@@ -31,8 +32,8 @@ pub struct Refusal<'r> {
     pub says: Entry,
     /// Its bytes: none where its line has none.
     pub bytes: &'r [u8],
-    /// The short name of the unit that its hint names, with a comma and a blank behind it; nothing where it names none that is known.
-    pub unit_name: &'r str,
+    /// The bytes of the unit that its hint names; `None` where it names none that is known.
+    pub unit: Option<&'r [u8]>,
 }
 
 /// What is shown beside it, put together already: rows with their LF.
@@ -48,6 +49,8 @@ pub struct Shown<'t> {
     pub tried: EditsTried,
     /// The rows of those that make the pair a run (`EditRow`).
     pub edits: &'t str,
+    /// Whether a node that is wrong in this one unit explains the record as well.
+    pub unit_as_well: bool,
 }
 
 /// All JSON objects of a refused record, each with its LF: the refusal, the record, the check, the side of the record and its live links, the
@@ -62,14 +65,16 @@ pub fn why_json(
     ensures { IfOk result (λ text. string_bytes text ≡ spec.why_lines refusal.entry ends.now edits.now tried) }
 {
     let side = refusal.side;
-    let record = record_objects(alloc, record_of(refusal), ends.end(side), refusal.unit_name)?;
-    let own = side_told(alloc, Form::Object, side, ends)?;
-    let other = side_told(alloc, Form::Object, side.other(), ends)?;
+    let record = record_objects(alloc, record_of(refusal), ends.end(side))?;
+    let named = addresses_of(refusal.says, refusal.bytes);
+    let own = side_told(alloc, Form::Object, side, named, ends)?;
+    let other = side_told(alloc, Form::Object, side.other(), named.turned(), ends)?;
     format!(in alloc; "{record}{own}{other}{edits}{tried}")
 }
 
-/// All rows of a refused record behind the line of the verdict: the record and the unit that its hint names; the check; both sides with their
-/// live links, that of the record first; the rows before it; who is accused, and what small edits tell. Fails for want of memory alone.
+/// All rows of a refused record behind the line of the verdict: the record and the unit that its hint names; the check; both sides, that of the
+/// record first, with their live links, the one that the record is about first; the rows before it; who is accused, and what small edits tell.
+/// Fails for want of memory alone.
 pub fn why_rows(
     alloc: Global,
     refusal: Refusal<'_>,
@@ -86,16 +91,10 @@ pub fn why_rows(
         ..
     } = shown;
     let end = ends.end(side);
-    let record = record_rows(
-        alloc,
-        record_of(refusal),
-        end,
-        name,
-        unit,
-        refusal.unit_name,
-    )?;
-    let own = side_told(alloc, Form::Rows, side, ends)?;
-    let other = side_told(alloc, Form::Rows, side.other(), ends)?;
+    let record = record_rows(alloc, record_of(refusal), end, name, unit)?;
+    let named = addresses_of(refusal.says, refusal.bytes);
+    let own = side_told(alloc, Form::Rows, side, named, ends)?;
+    let other = side_told(alloc, Form::Rows, side.other(), named.turned(), ends)?;
     let accused = AccusedRow {
         side,
         accusation: refusal.accusation,
@@ -118,15 +117,22 @@ fn record_of(refusal: Refusal<'_>) -> RefusedRecord<'_>
         failed: Some(refusal.failed),
         says: refusal.says,
         bytes: refusal.bytes,
+        unit: refusal.unit,
     }
 }
 
-// A side and its live links.
-fn side_told(alloc: Global, form: Form, side: Side, ends: &JudgedEnds) -> Result<String, AllocError>
-    ensures { IfOk result (λ text. string_bytes text ≡ spec.side_told form side ends.now) }
+// A side and its live links, in rows first the one that has the named addresses.
+fn side_told(
+    alloc: Global,
+    form: Form,
+    side: Side,
+    named: Addresses,
+    ends: &JudgedEnds,
+) -> Result<String, AllocError>
+    ensures { IfOk result (λ text. string_bytes text ≡ spec.side_told form side named ends.now) }
 {
     let end = ends.end(side);
-    end_told(alloc, form, state_at(side, end), end)
+    end_told(alloc, form, state_at(side, end), named, end)
 }
 
 // The rows of what small edits tell of the recorder.
@@ -134,5 +140,6 @@ fn recorder_rows(alloc: Global, shown: Shown<'_>) -> Result<String, AllocError>
     ensures { IfOk result (λ text. string_bytes text ≡ spec.recorder_rows shown.entry) }
 {
     let row = RecorderRow { edits: shown.tried };
-    format!(in alloc; "{row}{}{}", shown.edits, so_row(shown.tried.accepted))
+    let so = so_row(shown.tried.accepted, shown.unit_as_well);
+    format!(in alloc; "{row}{}{so}", shown.edits)
 }

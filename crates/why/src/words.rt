@@ -83,3 +83,30 @@ impl fmt::Display for Range {
         write!(f, "{first} to {last}")
     }
 }
+
+/// What makes a word of several things: `s`; nothing of one thing.
+pub fn plural(count: u64) -> &'static str
+    ensures { result.now ≡ spec.plural count }
+{
+    words_if(count != 1, "s")
+}
+
+/// How many bytes there are. Printed as `2 bytes`, or as `1 byte`.
+#[derive(Clone, Copy)]
+pub struct ByteCount {
+    pub count: usize,
+}
+
+impl fmt::Display for ByteCount {
+    ghost use Rattle.std.specs.Prelude.{Some};
+
+    ghost output = { λ bytes. Some (spec.byte_count bytes.count) };
+
+    fn fmt<W: Write>(&self, f: &mut Formatter<W>) -> fmt::Result {
+        let count = self.count;
+        if count == 1 {
+            return f.write_str("1 byte");
+        }
+        write!(f, "{count} bytes")
+    }
+}

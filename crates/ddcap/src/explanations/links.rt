@@ -22,8 +22,8 @@ segments again, as it was.",
 - a node that cuts a message into other pieces when it sends it again
 - numbers that began at 0
 - a node that composes a segment and loses it before its first sending, as
-  where a queue is flushed: it is refused at the next one, and such a node is
-  not judged",
+  where a queue between NSP and DDCMP is flushed at a restart of the line: it is
+  refused at the next one, although it breaks no rule of NSP",
 };
 
 pub const WRONG_ACK: Explanation = Explanation {
@@ -41,8 +41,9 @@ a number in that range.",
   behind this unit
 - number too high: a segment before it that was lost with a restart of the
   line, and acknowledged over the gap
-- number too low: an acknowledgement that was composed early and sent late,
-  which only a segment that is sent again may be",
+- number too low: an acknowledgement that was composed early and sent late, as
+  where it waited in a queue between NSP and DDCMP: only a segment that is sent
+  again may have it",
 };
 
 pub const SEGMENT_TOO_LONG: Explanation = Explanation {
@@ -115,7 +116,7 @@ An own address that `u open`, `u accept` or `u reject` gives belongs to no live
 link of the node.",
     allowed: "\
 another address; the same one once its link is over.",
-    fault: "the user",
+    fault: "the user, or the node where it chose the address",
     look_for: "\
 - a `k` line of a DI or DC that is missing, so that the earlier link never
   ended here

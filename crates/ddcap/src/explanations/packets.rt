@@ -77,8 +77,10 @@ the same, once its link is there.",
 - a DI or DC that came before, and ended the link
 - addresses that were swapped, DSTADDR for SRCADDR
 - a link that was there before the capture began
-- a DI for a call that its own user gave up before it was answered: such a call
-  is not judged, and nobody is at fault",
+- a DI for a call that its own user gave up before it was answered: that is
+  refused, although neither node broke a rule of NSP
+- a packet that waited in a queue between NSP and DDCMP until its link had
+  ended, as a DI that a timer repeated: see 19",
 };
 
 pub const LINK_STATE: Explanation = Explanation {
@@ -92,14 +94,15 @@ Confirming and RUN. A DC is refused where its link is still live.",
 the same in one of these phases.",
     fault: "the sender, or the user",
     look_for: "\
-- a segment or data acknowledgement that the node composed before it got into
-  RUN, or after the user closed the link: a packet is judged by the moment of
-  its first sending
+- a segment or data acknowledgement that went before the link got into RUN, or
+  after the user closed it: a packet is judged by the moment of its first
+  sending, and not by that in which it was composed
+- a node that queues packets between NSP and DDCMP: it is judged as if it had no
+  queue, and refused where a packet waited until its link was in another phase.
+  Such a packet has to leave the queue
 - a node that answers a CC by data before it has acted on it
 - a missing `u close` in front of a DI
 - a CC that was sent again after the link got into RUN
 - a user who gives up a call before it is answered, by a `u close` in Calling:
-  that is not judged, and nobody is at fault
-- a node that first sends a message in a later phase of its link than that in
-  which it was composed: that is not judged either",
+  that is refused, although it breaks no rule of NSP",
 };

@@ -145,7 +145,7 @@ pub const WRONG_USER_EVENT: Explanation = Explanation {
 A station starts in HALTED alone.",
     allowed: "\
 a halt first, which may come in every state.",
-    fault: "the user",
+    fault: "the user, or the node where it started by itself",
     look_for: "\
 - a missing `u halt`, as where the station started again by itself
 - the receipt of the STRT that halted it
