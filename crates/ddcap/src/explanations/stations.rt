@@ -9,31 +9,33 @@ pub const WRONG_STATE: Explanation = Explanation {
 The message may not be sent in the station's state.",
     allowed: "\
 STRT in ISTRT; STACK in ASTRT; ACK, NAK and data in RUNNING; REP in
-RUNNING as long as a packet is not acknowledged.",
+RUNNING while a packet is unacknowledged.",
     fault: "the sender",
     look_for: "\
-- a capture that begins in mid-session
+- a capture that begins in the middle of a session
 - a missing `u start`, above all where the station started again by itself
 - a missing or late receipt of the STRT or STACK that is answered here
-- a STRT that came in RUNNING, which halts the station
-- where a REP is refused, the acknowledgement that came just before it",
+- a STRT that arrived in RUNNING, which halts the station
+- for a REP, the acknowledgement that arrived just before it
+- node: data sent before the start is complete",
 };
 
 pub const WRONG_NUMBER: Explanation = Explanation {
     reason: Reason::WrongNumber,
     rule: "\
-NUM of a data message is the number that is next to send: 1 after a start, and
-then one more each time. After a NAK has come, it is again the first that is
-not acknowledged. It is never one that is acknowledged by then. NUM of a REP is
-the highest number given.",
+NUM of a data message is the number that is next to send: 1 after a start, then
+one more each time. After a NAK has arrived it is again the first
+unacknowledged one. It is never one that is acknowledged already. NUM of a REP
+is the highest number given.",
     allowed: "\
 that number.",
     fault: "the sender",
     look_for: "\
-- a data message sent before, which has no line
-- a NAK whose receipt is missing, or stands too early or too late
-- a missing `u start`, where the number is 1
-- a station that sends again for a timer alone, where DDCMP has it send a REP",
+- an earlier data message that has no line
+- the receipt of a NAK, which is missing, too early or too late
+- a missing `u start`, if the number is 1
+- node: data sent again after a timer alone, where DDCMP has it send a REP
+- node: a REP with the next number instead of the highest",
 };
 
 pub const WRONG_RESPONSE: Explanation = Explanation {
@@ -45,13 +47,14 @@ that the station received in order, 0 at first.",
 that number.",
     fault: "the sender",
     look_for: "\
-- RESP too high: a `k` line that is missing, stands behind this unit, or is
+- RESP too high: a `k` line that is missing, comes after this unit, or is
   written as `r`
-- RESP too low: a `k` line that stands too early, as where it was written when
-  the bytes passed
-- RESP too low: an `s` line that was written when the last bit left, and not
-  when the unit was decided on
-- RESP too low: a packet that was not kept after all",
+- RESP too low: a `k` line that is too early, for example written when the
+  bytes passed, or a packet that was not kept after all
+- RESP too low: an `s` line written when the last bit left, not when the unit
+  was decided on
+- node: a frame kept whole and sent again with its old RESP
+- node: numbers that go on after a restart",
 };
 
 pub const WINDOW_FULL: Explanation = Explanation {
@@ -59,12 +62,12 @@ pub const WINDOW_FULL: Explanation = Explanation {
     rule: "\
 At most 255 packets may be unacknowledged.",
     allowed: "\
-one of them again, where a NAK has come; a REP; or the new packet,
-once an acknowledgement has come.",
+one of them again, after a NAK; a REP; or the new packet, after an
+acknowledgement.",
     fault: "the sender",
     look_for: "\
-- the receipt of an ACK, a NAK or data with a RESP, which is missing or stands
-  behind this unit",
+- the receipt of an ACK, a NAK or data with a RESP, which is missing or comes
+  after this unit",
 };
 
 pub const CHANGED: Explanation = Explanation {
@@ -75,80 +78,77 @@ A packet that is sent again has the data of its first sending.",
 the same data.",
     fault: "the sender",
     look_for: "\
-- a station that writes into a packet between two sendings, as where it counts
-  hops in place
-- a restart without its `u start`, since when the numbers are others
-- a recorder that has the bytes from a buffer which was used again",
+- a restart without its `u start`, after which the numbers mean other packets
+- a recorder that takes the bytes from a buffer which was used again
+- node: a packet changed between two sendings, for example by counting hops in
+  place",
 };
 
 pub const NO_CAUSE: Explanation = Explanation {
     reason: Reason::NoCause,
     rule: "\
-A NAK with reason 1, 2, 3 or 8 answers something that came in RUNNING in this
+A NAK of reason 1, 2, 3 or 8 answers something that arrived in RUNNING in this
 period, and each such thing once. Reason 1: a unit or noise with a bad header.
 Reason 2: one with bad data. Reason 3: a REP that asked for another number than
-that of the last packet received. Reason 8: the next packet, for which there
-was no buffer; also where its message has just ended the start.",
+that of the last packet received. Reason 8: the next packet, if there was no
+buffer for it; also if its message has just ended the start.",
     allowed: "\
-an ACK; a NAK with reason 9, 16 or 17, which need no cause.",
+an ACK; a NAK of reason 9, 16 or 17, which need no cause.",
     fault: "the sender",
     look_for: "\
-- the receipt that it answers, which is missing or stands behind it (recorders
-  often drop what was damaged)
-- noise between two units, whose `n` line is missing
-- a second NAK for one and the same unit
-- a NAK for data out of order, for which a station has to wait for a REP",
+- the receipt that it answers, which is missing or comes after it: recorders
+  often drop damaged units
+- noise between two units, without its `n` line
+- node: a second NAK for the same unit
+- node: a NAK for data out of order, for which a station has to wait for a REP",
 };
 
 pub const WRONG_KEEP: Explanation = Explanation {
     reason: Reason::WrongKeep,
     rule: "\
-A `k` line says that the receipt's packet was taken. That can be only an
-undamaged data message with the number after that of the last one received. It
-has to come in RUNNING, or in ASTRT with RESP 0. The claim alone is refused:
-nothing is said against the sender.",
+A `k` line says that the packet was taken. That is possible only for an
+undamaged data message with the number after the last one received, in RUNNING
+or, with RESP 0, in ASTRT. Only this claim is refused: the sender is not
+accused.",
     allowed: "\
-an `r` line for all else, and for the next packet where there was no
-buffer for it.",
+an `r` line; also for the next packet, if there was no buffer for it.",
     fault: "the receiver's own claim",
     look_for: "\
-- a `k` line before it that is missing or written as `r`
-- a recorder that writes `k` for each data message, also for one that came
-  twice
-- a station that took a packet out of order",
+- an earlier `k` line that is missing or written as `r`
+- a recorder that writes `k` for every data message, also for repeats
+- node: a packet taken out of order, or a repeat kept again",
 };
 
 pub const CROSSED_PERIOD: Explanation = Explanation {
     reason: Reason::CrossedPeriod,
     rule: "\
-A message that is acted on belongs to this pair of starts. A STACK that ends a
-start answers the receiver's present start. All else but a STRT was sent in the
-period that the receiver's present one goes with, by a station that took the
-two for a pair too. The protocol can't tell such messages apart, so neither
-station broke a rule.",
+A message that is acted on must belong to this pair of starts. A STACK that
+ends a start must answer the receiver's present start. Anything else, except a
+STRT, must be sent in the period that the receiver's present one goes with, by
+a station that took the two for a pair too. The protocol can't tell such
+messages apart, so neither station broke a rule.",
     allowed: "\
 the STACK that answers the present start; a message of the period that
 goes with the present one.",
     fault: "nobody",
     look_for: "\
-- a stale message, which was under way while its receiver started again, and
-  which it took: then neither capture is wrong
-- a hint that points to an earlier start, where units with the same bytes were
+- a stale message that was under way while its receiver started again: then
+  neither capture is wrong. It happens when both ends restart at once
+- a hint that points to an earlier start, if units with the same bytes were
   sent in both
-- a `u start` too many
-- a start of the other side that is missing",
+- an extra `u start` here, or a missing one on the other side",
 };
 
 pub const WRONG_USER_EVENT: Explanation = Explanation {
     reason: Reason::WrongUserEvent,
     rule: "\
-A station starts in HALTED alone.",
+A station can start only in HALTED.",
     allowed: "\
-a halt first, which may come in every state.",
+a halt first, which is possible in every state.",
     fault: "the user, or the node where it started by itself",
     look_for: "\
-- a missing `u halt`, as where the station started again by itself
-- the receipt of the STRT that halted it
+- a missing `u halt`, for example where the station started again by itself
+- the missing receipt of the STRT that halted it
 - two sessions in one file
-- a recorder that writes `u start` for each STRT sent",
+- a recorder that writes `u start` for every STRT sent",
 };
