@@ -1,6 +1,6 @@
 -- Both sides of what a tap wrote, where no more is read, and behind the last line.
 use Rattle.std.proofs.Common.{◌≡◌, ℕ, ◌+◌, ◌<◌, ◌^◌, inr, List, [], ◌++◌, length, Option, Ok, Err, refl, sym, ap, subst}
-use Rattle.std.proofs.Common.{◌∙◌, append_assoc, append-nil}
+use Rattle.std.proofs.Common.{◌∙◌, append_assoc, append-nil, arith}
 use Rattle.wire_base.specs.Side.{other_side}
 use Rattle.wire_base.specs.declared.side.Side.{Side}
 use Rattle.wire_base.specs.declared.side.Side.TheVariants.{A, B}
@@ -11,7 +11,7 @@ use Rattle.capture.specs.Reader.{FaultShows}
 use Rattle.placing.specs.Placed.{Waiting, units_sent}
 use Rattle.wire_text.specs.WireText.{PieceDeparts}
 use Rattle.wire_tap.specs.Tapping.{EndWith, HasWritten, HaveAll, HaveFirst, Held, Reached, Taps, held}
-use Rattle.wire_tap.specs.Tapping.{EndsAs, sent_at}
+use Rattle.wire_tap.specs.Tapping.{EndsAs, HasCounted, sent_at}
 use Rattle.wire_tap.specs.Units.{units_of}
 use Rattle.wire_tap.specs.declared.fault.TapFault.TheVariants as faults
 use Rattle.wire_tap.specs.declared.stop.Stop.{Stop}
@@ -24,8 +24,12 @@ use Rattle.wire_tap.specs.inner.Moving.{IsLineOver, LineState, others_at, units_
 use Rattle.capture.specs.inner.Outlets.{FailsAt, Outlet, outlet}
 use Rattle.capture.proofs.OverLaws.{all_over, beginning_over, begun_over, on_over, some_over}
 use Rattle.wire_tap.specs.inner.Moving.{EndsOver, IsAllOver, PutsAll, StopsAs, fault_of}
-use Rattle.wire_tap.specs.inner.Side.{EndsAt, IsUnitAt, aim}
+use Rattle.wire_tap.specs.inner.Side.{EndsAt, IsUnitAt, aim, counted}
 use Rattle.wire_tap.proofs.SideLaws.{over_put, same_units}
+
+-- a count of few units is their number
+few_counted : {count many fewer : ℕ} → count ≡ counted 0 many → many ≡ fewer → fewer < 2 ^ 64 → count ≡ fewer
+few_counted count same few = omega arith
 
 -- ---- both sides, where no more is read
 
@@ -86,6 +90,14 @@ module _ (last : Option (Side × ℕ)) (text : Option (List ℕ)) (old : Held) (
       number = subst (λ (n : ℕ). n < 2 ^ 64 → passed.unit + 1 ≡ n) (number passed.side) ends.number;
     }
 
+    -- the counts are those of the units
+    has_counted : (tapped : Tapped) → tapped.units_a.count ≡ line.a.units.count → tapped.units_b.count ≡ line.b.units.count →
+        HasCounted tapped reached
+    has_counted tapped count_a count_b = record {
+      a = λ few. few_counted (count_a ∙ h.a.count) (number A) few;
+      b = λ few. few_counted (count_b ∙ h.b.count) (number B) few;
+    }
+
     module _ (later : Held) (over_a : HandsOver line.a.units.waiting.text [] line.now.a later.a)
         (over_b : HandsOver line.b.units.waiting.text [] line.now.b later.b) where
       written : HasWritten old later reached
@@ -94,8 +106,9 @@ module _ (last : Option (Side × ℕ)) (text : Option (List ℕ)) (old : Held) (
         b = all_over _ [] _ _ (on_over _ _ _ _ h.b.over [] later.b over_b) refl;
       }
 
-      pub tapped_all : (tapped : Tapped) → StopsAs h last (stops.Ends tapped.ending) → Taps last text old later (Ok tapped)
-      tapped_all tapped stop = (reached, h.read, written, by_ending tapped.ending stop)
+      pub tapped_all : (tapped : Tapped) → StopsAs h last (stops.Ends tapped.ending) → tapped.units_a.count ≡ line.a.units.count →
+          tapped.units_b.count ≡ line.b.units.count → Taps last text old later (Ok tapped)
+      tapped_all tapped stop count_a count_b = (reached, h.read, written, (by_ending tapped.ending stop, has_counted tapped count_a count_b))
         where
           by_ending : (ending : Ending) → StopsAs h last (stops.Ends ending) → EndsAs last ending reached
           by_ending Whole stop = (have_all stop.0, stop.1)
@@ -128,14 +141,14 @@ module _ (last : Option (Side × ℕ)) (text : Option (List ℕ)) (old : Held) (
     wire = h.wire;
     come = h.come;
     read = h.read;
-    a = over_put _ _ _ _ line.a.units.waiting a h.a put_a.moves;
-    b = over_put _ _ _ _ line.b.units.waiting b h.b put_b.moves;
+    a = over_put _ _ _ _ line.a.units a h.a put_a.moves;
+    b = over_put _ _ _ _ line.b.units b h.b put_b.moves;
   }
 
   number_put : (side : Side) → units_at side h ≡ units_at side put_over
   unfolding put_over over_put
-  number_put A = ap length (sym (same_units _ _ _ _ line.a.units.waiting a h.a put_a.moves))
-  number_put B = ap length (sym (same_units _ _ _ _ line.b.units.waiting b h.b put_b.moves))
+  number_put A = ap length (sym (same_units _ _ _ _ line.a.units a h.a put_a.moves))
+  number_put B = ap length (sym (same_units _ _ _ _ line.b.units b h.b put_b.moves))
 
   others_put : (side : Side) → others_at side put_over ≡ others_at side h
   unfolding put_over over_put
@@ -196,11 +209,11 @@ module _ (last : Option (Side × ℕ)) (text : Option (List ℕ)) (old : Held) (
     all_b = subst (λ (x : List ℕ). HandsOver b.text x line.now.b later.b) none_b over_b
 
     pub tap_ends : (ending : Ending) (tapped : Tapped) → tapped.ending ≡ ending → StopsAs h last (stops.Ends ending) →
-        Taps last text old later (Ok tapped)
-    tap_ends ending tapped same stop =
+        tapped.units_a.count ≡ line.a.units.count → tapped.units_b.count ≡ line.b.units.count → Taps last text old later (Ok tapped)
+    tap_ends ending tapped same stop count_a count_b =
         tapped_all last text old _ (put_over last text old line a b h put_a put_b) put_a.all put_b.all later all_a all_b tapped
         (subst (λ (e : Ending). StopsAs (put_over last text old line a b h put_a put_b) last (stops.Ends e)) (sym same)
-        (stops_put last text old line a b h put_a put_b (stops.Ends ending) stop))
+        (stops_put last text old line a b h put_a put_b (stops.Ends ending) stop)) count_a count_b
 
     pub tap_departs : (fault : CaptureFault) → StopsAs h last (stops.Text fault) → Taps last text old later (Err (fault_of fault))
     tap_departs fault stop =

@@ -14,7 +14,7 @@ use Rattle.placing.specs.Placed.{Waiting, units_sent}
 use Rattle.wire_text.specs.WireText.{Piece}
 use Rattle.wire_tap.specs.Units.{bytes_if, bytes_of, messages}
 use Rattle.wire_tap.specs.inner.Moving.{IsOver, IsUnderWay, StandsBeside}
-use Rattle.wire_tap.specs.inner.Side.{MovesOn, PassesAll, PassesFound, SideState, counted}
+use Rattle.wire_tap.specs.inner.Side.{MovesOn, PassesAll, PassesFound, SideState, UnitsState, counted}
 use Rattle.wire_tap.proofs.MoveLaws.{lines-append, messages-append, sent-append}
 use Rattle.capture.proofs.OverLaws.{more_over, on_over}
 
@@ -63,10 +63,11 @@ sent_more records more own own' units passed e f =
 
 module _ (bytes head : List ℕ) (old now : Option (List ℕ)) (side : SideState) (h : IsUnderWay bytes head old now side) where
   -- all that was read passed
-  unfoldable pub over_all : IsOver bytes head old now side.units.waiting
+  unfoldable pub over_all : IsOver bytes head old now side.units
   over_all = record {
     records = h.records;
     others = [];
+    count = h.count ∙ ap (λ (units : List (List ℕ)). counted 0 (length units)) (sym h.sent);
     sent = append-nil (units_sent h.records ++ side.units.waiting.units.own) ∙ h.sent
         ∙ sym (ap (λ (f : Framing). messages f.units) (whole bytes side.held h.found h.framed h.left));
     over = h.over;
@@ -106,7 +107,7 @@ module _ (bytes head : List ℕ) (old now : Option (List ℕ)) (side : SideState
     all_over_now =
         over_more head h.records p.passes.moves.records side.units.waiting.text new.units.waiting.text old now h.over p.passes.moves.text
 
-    all_count : new.units.count ≡ counted 0 (length (messages all_found.units))
+    pub all_count : new.units.count ≡ counted 0 (length (messages all_found.units))
     all_count =
         let before = h.count in
         let below : side.units.count < 2 ^ 64 = omega arith in
@@ -126,8 +127,9 @@ module _ (bytes head : List ℕ) (old now : Option (List ℕ)) (side : SideState
         omega arith
 
     -- no more is read
-    unfoldable pub over_some : (bytes' : List ℕ) → bytes' ≡ bytes ++ more → IsOver bytes' head old now new.units.waiting
+    unfoldable pub over_some : (bytes' : List ℕ) → bytes' ≡ bytes ++ more → IsOver bytes' head old now new.units
     over_some bytes' same = record {
+      count = all_count ∙ ap (λ (units : List (List ℕ)). counted 0 (length units)) (sym all_sent);
       records = h.records ++ p.passes.moves.records;
       others = messages (framing come).units;
       sent = ap (λ (units : List (List ℕ)). units ++ messages (framing come).units) all_sent
@@ -164,18 +166,20 @@ module _ (bytes head : List ℕ) (old now : Option (List ℕ)) (side : SideState
     over = on_over _ side.units.waiting.text old now h.over waiting.text later over;
   }
 
-pub same_units : (bytes head : List ℕ) (old now : Option (List ℕ)) (waiting new : Waiting) (h : IsOver bytes head old now waiting)
-    (moves : MovesOn [] waiting new)
-    → units_sent (h.records ++ moves.records) ++ new.units.own ≡ units_sent h.records ++ waiting.units.own
-same_units bytes head old now waiting new h moves =
-    sent_more h.records moves.records waiting.units.own new.units.own _ [] refl moves.sent ∙ append-nil (units_sent h.records ++ waiting.units.own)
+pub same_units : (bytes head : List ℕ) (old now : Option (List ℕ)) (units : UnitsState) (new : Waiting) (h : IsOver bytes head old now units)
+    (moves : MovesOn [] units.waiting new)
+    → units_sent (h.records ++ moves.records) ++ new.units.own ≡ units_sent h.records ++ units.waiting.units.own
+same_units bytes head old now units new h moves =
+    sent_more h.records moves.records units.waiting.units.own new.units.own _ [] refl moves.sent
+    ∙ append-nil (units_sent h.records ++ units.waiting.units.own)
 
 -- more lines were put
-unfoldable pub over_put : (bytes head : List ℕ) (old now : Option (List ℕ)) (waiting new : Waiting) (h : IsOver bytes head old now waiting) →
-    MovesOn [] waiting new → IsOver bytes head old now new
-over_put bytes head old now waiting new h moves = record {
+unfoldable pub over_put : (bytes head : List ℕ) (old now : Option (List ℕ)) (units : UnitsState) (new : Waiting) (h : IsOver bytes head old now units) →
+    MovesOn [] units.waiting new → IsOver bytes head old now (record units { waiting = new })
+over_put bytes head old now units new h moves = record {
   records = h.records ++ moves.records;
   others = h.others;
-  sent = ap (λ (units : List (List ℕ)). units ++ h.others) (same_units bytes head old now waiting new h moves) ∙ h.sent;
-  over = over_more head h.records moves.records waiting.text new.text old now h.over moves.text;
+  sent = ap (λ (us : List (List ℕ)). us ++ h.others) (same_units bytes head old now units new h moves) ∙ h.sent;
+  count = h.count ∙ ap (λ (us : List (List ℕ)). counted 0 (length us)) (sym (same_units bytes head old now units new h moves));
+  over = over_more head h.records moves.records units.waiting.text new.text old now h.over moves.text;
 }

@@ -73,6 +73,11 @@ pub record EndWith (passed : Passed) (r : Reached) : Type 0 where
   pub other : HasAll (other_side passed.side) r
   pub number : length (sent_at passed.side r) < 2 ^ 64 → passed.unit + 1 ≡ length (sent_at passed.side r)
 
+-- how many units each capture has, as far as 64 bits count them
+pub record HasCounted (tapped : Tapped) (r : Reached) : Type 0 where
+  pub a : length (sent_at A r) < 2 ^ 64 → tapped.units_a.count ≡ length (sent_at A r)
+  pub b : length (sent_at B r) < 2 ^ 64 → tapped.units_b.count ≡ length (sent_at B r)
+
 -- ---- what is written
 
 -- the texts of both captures, in format 1
@@ -128,7 +133,7 @@ TapsTo text old new Behind = (r : Reached) × IsListSoFar wire_form text r.wire 
 -- One call, where this text was to come, by its answer. At each fault what was written is a beginning of both captures: of all that passed before a
 -- line that departs or that can't be read; or as far as there was memory, or as the writers took it.
 abbrev pub Taps : Option (Side × ℕ) → Option (List ℕ) → Held → Held → Result Tapped TapFault → Type 0
-Taps last text old new (Ok tapped) = TapsTo text old new (EndsAs last tapped.ending)
+Taps last text old new (Ok tapped) = TapsTo text old new (λ r. EndsAs last tapped.ending r × HasCounted tapped r)
 Taps last text old new (Err (faults.Departs kind line)) = (HeadDepartsAt text kind line × TakesNothing old new)
     ⊎ TapsTo text old new (λ r. HaveAll r × DepartsBehind kind line r)
 Taps last text old new (Err faults.Read) = TakesNothing old new ⊎ TapsTo text old new HaveAll

@@ -99,6 +99,8 @@ impl Sides {
     fn finish(&mut self) -> Result<(), AllocError>
         ensures a { OnOk result (PutsAll self.old.a.units.placing self.new.a.units.placing) }
         ensures b { OnOk result (PutsAll self.old.b.units.placing self.new.b.units.placing) }
+        ensures count_a { self.new.a.units.count ≡ self.old.a.units.count }
+        ensures count_b { self.new.b.units.count ≡ self.old.b.units.count }
     {
         self.a.units.placing.finish()?;
         self.b.units.placing.finish()
@@ -106,7 +108,9 @@ impl Sides {
 
     // What was found, where what the framers hold at last is no unit.
     fn tapped(&mut self, ending: Ending) -> Tapped
-        ensures { result.ending ≡ ending }
+        ensures ending { result.ending ≡ ending }
+        ensures units_a { result.units_a.count ≡ self.old.a.units.count }
+        ensures units_b { result.units_b.count ≡ self.old.b.units.count }
     {
         if let Ending::Whole = ending {
             self.a.units.skip(self.a.framer.held().len());

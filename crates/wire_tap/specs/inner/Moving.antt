@@ -20,7 +20,7 @@ use Rattle.capture.specs.Listed.{IsListSoFar}
 use Rattle.wire_text.specs.WireText.{PieceDeparts, Wire, wire_form}
 use Rattle.wire_tap.specs.Tapping.{Held, Taps}
 use Rattle.wire_tap.specs.Units.{bytes_of, messages}
-use Rattle.wire_tap.specs.inner.Side.{MovesOn, PassesBytes, SideState, aim, counted, side_state}
+use Rattle.wire_tap.specs.inner.Side.{MovesOn, PassesBytes, SideState, UnitsState, aim, counted, side_state}
 use Rattle.wire_tap.specs.declared.fault.TapFault.{TapFault}
 use Rattle.wire_tap.specs.declared.fault.TapFault.TheVariants as faults
 use Rattle.wire_tap.specs.declared.side_tap.SideTap.{SideTap}
@@ -56,11 +56,12 @@ pub record IsUnderWay (bytes head : List ℕ) (old now : Option (List ℕ)) (sid
   pub over : HandsOver (head ++ record_lines Number records) side.units.waiting.text old now
 
 -- The same where no more is read: these units have no record, and don't wait.
-pub record IsOver (bytes head : List ℕ) (old now : Option (List ℕ)) (waiting : Waiting) : Type 0 where
+pub record IsOver (bytes head : List ℕ) (old now : Option (List ℕ)) (units : UnitsState) : Type 0 where
   pub records : List Record
   pub others : List (List ℕ)
-  pub sent : (units_sent records ++ waiting.units.own) ++ others ≡ messages (framing bytes).units
-  pub over : HandsOver (head ++ record_lines Number records) waiting.text old now
+  pub sent : (units_sent records ++ units.waiting.units.own) ++ others ≡ messages (framing bytes).units
+  pub count : units.count ≡ counted 0 (length (units_sent records ++ units.waiting.units.own))
+  pub over : HandsOver (head ++ record_lines Number records) units.waiting.text old now
 
 -- ---- both sides
 
@@ -93,8 +94,8 @@ pub record IsLineOver (text : Option (List ℕ)) (old : Held) (line : LineState)
   pub wire : Wire
   pub come : Option (List ℕ)
   pub read : IsListSoFar wire_form text wire come
-  pub a : IsOver (bytes_of A wire.items) (head_a wire) old.a line.now.a line.a.units.waiting
-  pub b : IsOver (bytes_of B wire.items) (head_b wire) old.b line.now.b line.b.units.waiting
+  pub a : IsOver (bytes_of A wire.items) (head_a wire) old.a line.now.a line.a.units
+  pub b : IsOver (bytes_of B wire.items) (head_b wire) old.b line.now.b line.b.units
 
 -- the units of a side that have no record and don't wait
 abbrev pub others_at : {text : Option (List ℕ)} → {old : Held} → {line : LineState} → Side → IsLineOver text old line → List (List ℕ)

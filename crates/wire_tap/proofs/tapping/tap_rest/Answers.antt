@@ -36,7 +36,8 @@ returns-in-Ends-clause-taps g c text old h =
       tap_ends c.args.last text old _ _ _ stopped.2.0 c.in-Ok-finish.ensures.a c.in-Ok-finish.ensures.b
           (held (g.A.Write.contents (tally_lent c.write_both.new.a)) (g.B.Write.contents (tally_lent c.write_both.new.b)))
           c.write_both.new.of_a.text c.write_both.new.of_b.text c.in_default-write_both.ensures.empty_a c.in_default-write_both.ensures.empty_b
-          passes.0.over passes.1.over c.in-Ends.ending c.tapped.result c.tapped.ensures stopped.2.1,
+          passes.0.over passes.1.over c.in-Ends.ending c.tapped.result c.tapped.ensures.ending stopped.2.1
+          (c.tapped.ensures.units_a ∙ c.in-Ok-finish.ensures.count_a) (c.tapped.ensures.units_b ∙ c.in-Ok-finish.ensures.count_b),
       rw c.in-Ends.is at c.in-Ok.ensures.reads,
     )
 
