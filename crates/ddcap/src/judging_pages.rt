@@ -79,7 +79,8 @@ The first line is that of check. Then come the record, layer by layer; what was
 seen and allowed, with the rule and its page; both stations and their links as
 they were before it; the last ten rows, a on the left and b on the right; who
 is accused; and whether a small change of a recording makes the pair a run:
-then rather the recording is wrong than a node, which is no proof.
+then rather the recording is wrong than a node, if one wrong unit of the node
+would not tell the same, which is no proof.
 
 With --json, before or behind the files, each of these is an object on a line
 of its own. A pair that is not refused is told as by check.
