@@ -56,7 +56,7 @@ pub struct Asked {
 }
 
 /// What is asked for of this side's capture: where the other side's record is refused, the unit that it received, or the receipt of what it sent.
-pub fn asked(ends: &JudgedEnds, refused: Side, side: Side) -> Asked {
+pub fn what_is_asked(ends: &JudgedEnds, refused: Side, side: Side) -> Asked {
     let nothing = Asked {
         unit: None,
         receipt: None,

@@ -7,7 +7,8 @@ ghost use Rattle.drawing.specs.Drawing.{kind_by};
 ghost use Rattle.drawing.specs.declared.range.TheConstants.{MAX_ROWS};
 ghost use Rattle.ddcap.specs.PrintedDrawing.{verdict_answered};
 
-use crate::near::{asked, near_of};
+use crate::near::{near_of, what_is_asked};
+use capture::CaptureFault;
 use ddcmp_msg::read_unit;
 use drawing::{DrawnPair, MAX_ROWS, Range, drawing_of};
 use ladder::Caption;
@@ -130,13 +131,16 @@ fn unit_named<A: Read + Seek, B: Read + Seek>(
     let Verdict::Refused { side, .. } = ends.verdict() else {
         return Ok(None);
     };
+    let other = side.other();
+    let asked = what_is_asked(ends, side, other);
     let near = match side {
-        Side::A => near_of(alloc, b, ends.records(Side::B), asked(ends, side, Side::B))?,
-        Side::B => near_of(alloc, a, ends.records(Side::A), asked(ends, side, Side::A))?,
+        Side::A => near_of(alloc, b, ends.records(other), asked),
+        Side::B => near_of(alloc, a, ends.records(other), asked),
     };
     match near {
-        Some(near) => Ok(near.unit),
-        None => Ok(None),
+        Ok(Some(near)) => Ok(near.unit),
+        Err(CaptureFault::OutOfMemory) => Err(AllocError),
+        Ok(None) | Err(_) => Ok(None),
     }
 }
 

@@ -3,7 +3,7 @@
 
 use crate::due::{damage_of, due_near};
 use crate::judged_again::{PairChanges, is_run_again};
-use crate::near::{Near, asked, near_of};
+use crate::near::{Near, near_of, what_is_asked};
 use crate::unit_changes::{is_sent_at_another_time, unit_changes};
 use capture::{CaptureFault, Entry};
 use edited::{Edit, MistakeOf, Refused, candidates};
@@ -105,11 +105,21 @@ pub fn try_edits<A: Read + Seek, B: Read + Seek>(
     ends: &JudgedEnds,
     side: Side,
 ) -> Result<Tried, AllocError> {
-    let near_a = match near_of(alloc, a, ends.records(Side::A), asked(ends, side, Side::A)) {
+    let near_a = match near_of(
+        alloc,
+        a,
+        ends.records(Side::A),
+        what_is_asked(ends, side, Side::A),
+    ) {
         Ok(near) => near,
         Err(fault) => return unread(alloc, Side::A, fault),
     };
-    let near_b = match near_of(alloc, b, ends.records(Side::B), asked(ends, side, Side::B)) {
+    let near_b = match near_of(
+        alloc,
+        b,
+        ends.records(Side::B),
+        what_is_asked(ends, side, Side::B),
+    ) {
         Ok(near) => near,
         Err(fault) => return unread(alloc, Side::B, fault),
     };

@@ -4,7 +4,7 @@ ghost use Rattle.std.specs.Prelude.{◌≡◌, IfOk, option_map};
 ghost use Rattle.why.specs.Digits.{fronts, fronts_told};
 
 use crate::digits::{Fronts, due_bytes, front_digits, seen_bytes};
-use crate::undetected::{Differing, differing, name_before};
+use crate::undetected::{Differing, difference, name_before};
 use capture::Entry;
 use pair_judge::SideEnd;
 use std::alloc::{AllocError, Global};
@@ -47,7 +47,7 @@ impl FrontTexts {
         let seen = front_digits(alloc, seen_bytes(says, bytes))?;
         let due = front_digits(alloc, due_bytes(end, says, bytes))?;
         let unit_name = name_before(alloc, unit)?;
-        let differs = differing(alloc, bytes, unit)?;
+        let differs = difference(alloc, bytes, unit)?;
         Ok(FrontTexts {
             seen,
             due,

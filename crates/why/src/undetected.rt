@@ -22,7 +22,7 @@ pub struct Differing {
 
 /// The first byte in which these bytes differ from those of the unit, where that is known and both have the same name; else `None`. Fails for want
 /// of memory alone.
-pub fn differing(
+pub fn difference(
     alloc: Global,
     bytes: &[u8],
     unit: Option<&[u8]>,
