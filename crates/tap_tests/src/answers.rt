@@ -8,7 +8,7 @@ use tap_answer::{
     units_before,
 };
 use wire_base::{Side, Tally};
-use wire_tap::{Ending, Passed, Skipped, Tapped};
+use wire_tap::{Ending, Passed, Skipped, Tapped, Units};
 
 const CAPTURE: &str = "ddcap 1 1.1 1.2
 u start
@@ -29,7 +29,7 @@ fn an_unplaced_unit_is_named_with_the_reason(rt: HostRuntime) -> Result<(), Allo
         place: 20,
         reason: Reason::WrongNumber,
     };
-    let reason = Some(Reason::WrongNumber);
+    let reason = Reason::WrongNumber;
     assert_eq!(rt;
         said_of(Ending::Unplaced(passed), verdict),
         Told::Unexplained { passed, reason }
@@ -37,12 +37,10 @@ fn an_unplaced_unit_is_named_with_the_reason(rt: HostRuntime) -> Result<(), Allo
     let text = unexplained_text(rt.alloc(), passed, reason)?;
     assert_eq!(rt;
         text.as_str(),
-        "unexplained a unit 7 line 16: 7 WrongNumber\nno placing was found, which accuses nobody\n"
-    );
-    let text = unexplained_text(rt.alloc(), passed, None)?;
-    assert_eq!(rt;
-        text.as_str(),
-        "unexplained a unit 7 line 16: no placing was found\n"
+        "unexplained a unit 7 line 16: 7 WrongNumber
+no placing was found, which accuses nobody
+ddcap why shows the unit; what it says, and whom it accuses, rests on the placing
+"
     );
     let text = too_wide_text(rt.alloc(), passed)?;
     assert_eq!(rt; text.as_str(), "a unit 7 line 16: too wide a choice\n");
@@ -59,15 +57,24 @@ fn what_was_skipped_stands_behind_the_premise(rt: HostRuntime) -> Result<(), All
         maintenance: 0,
         bytes: 0,
     };
+    let units_a = Units {
+        count: 1,
+        bytes: 11,
+    };
+    let units_b = Units { count: 0, bytes: 0 };
     let tapped = Tapped {
         ending: Ending::Whole,
+        units_a,
+        units_b,
         skipped_a,
         skipped_b,
     };
+    assert!(rt; !tapped.is_silent());
     let text = premise_text(rt.alloc(), tapped)?;
     assert_eq!(rt;
         text.as_str(),
-        "each unit that was sent has to have passed here, from before the first start
+        "more bytes were skipped than read: these may be no two directions of a DDCMP line
+each unit that was sent has to have passed here, from before the first start
 a skipped maintenance messages 1 bytes between units 12
 b skipped maintenance messages 0 bytes between units 0
 "
@@ -75,7 +82,10 @@ b skipped maintenance messages 0 bytes between units 0
     let text = unexplained_end_text(rt.alloc(), Reason::WrongUserEvent)?;
     assert_eq!(rt;
         text.as_str(),
-        "unexplained behind the last unit: 14 WrongUserEvent\nno placing was found, which accuses nobody\n"
+        "unexplained behind the last unit: 14 WrongUserEvent
+no placing was found, which accuses nobody
+ddcap why shows the unit; what it says, and whom it accuses, rests on the placing
+"
     );
     Ok(())
 }

@@ -2,7 +2,7 @@
 
 use std::alloc::Global;
 use wire_base::Tally;
-use wire_tap::{Ending, Skipped, TapFault, Tapped, tap};
+use wire_tap::{Ending, Skipped, TapFault, Tapped, Units, tap};
 
 const STARTUP: &str = "ddwire 1 1.1 1.2
 a 96960506c00000
@@ -41,6 +41,12 @@ fn a_startup_that_passed_gives_both_captures(rt: HostRuntime) -> Result<(), TapF
         bytes: 1,
     };
     assert_eq!(rt; tapped.skipped_a, skipped);
+    let units = Units {
+        count: 2,
+        bytes: 16,
+    };
+    assert_eq!(rt; tapped.units_a, units);
+    assert!(rt; !tapped.is_silent());
     assert_eq!(rt; a.as_slice(), LINES_A.as_bytes());
     assert_eq!(rt; b.as_slice(), LINES_B.as_bytes());
     Ok(())
