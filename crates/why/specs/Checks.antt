@@ -75,16 +75,21 @@ below_words other sent =
     else codes "a hint below " ++ (decimal sent ++ (codes ", the number of units that " ++ (side_letter other ++ codes " sent")))
 
 -- the bytes of a unit of that side, behind its name, where that is known, with the byte that tells, where one is told
+abbrev pub unit_named : (other : Side) → (unit : ℕ) → (name : List ℕ) → List ℕ
+unit_named other unit name = name ++ (codes "the bytes of unit " ++ (decimal unit ++ (codes " of " ++ side_letter other)))
+
 abbrev pub unit_bytes : (other : Side) → (unit : ℕ) → Fronts → List ℕ
-unit_bytes other unit fronts =
-    fronts.unit_name ++ (codes "the bytes of unit " ++ (decimal unit ++ (codes " of " ++ (side_letter other ++ of_which (sent_byte fronts.differs)))))
+unit_bytes other unit fronts = unit_named other unit fronts.unit_name ++ of_which (sent_byte fronts.differs)
+
+abbrev pub undetected_allowed : (other : Side) → (unit : ℕ) → Fronts → List ℕ
+undetected_allowed other unit fronts = unit_bytes other unit fronts ++ codes "; or damaged bytes"
 
 abbrev pub allowed : Side → FailedCheck → ReadingValue → Fronts → List ℕ
 allowed side (check.Message departure) reading fronts = codes "a sound message of DDCMP"
 allowed side (check.HintOrder x lowest) reading fronts = codes "hint " ++ (decimal lowest ++ codes " or a higher one")
 allowed side (check.NoSuchUnit awaited) reading fronts = below_words (other_side side) awaited.sent
 allowed side (check.NoOrder own other) reading fronts = below_words (other_side side) own.sent
-allowed side (check.Undetected unit) reading fronts = unit_bytes (other_side side) unit fronts ++ codes "; or damaged bytes"
+allowed side (check.Undetected unit) reading fronts = undetected_allowed (other_side side) unit fronts
 allowed side (check.StationSending failed) reading fronts = sending_allowed failed
 allowed side (check.StationArrival failed) reading fronts = arrival_allowed side failed reading
 allowed side (check.StationEvent state) reading fronts = codes "start in HALTED"

@@ -49,6 +49,10 @@ no_operation_words rest = codes "no operation" ++ unread_words rest
 abbrev pub user_data_words : List ℕ → List ℕ
 user_data_words bytes = codes ", " ++ (byte_count (length bytes) ++ codes " of user data")
 
+-- `CI of link 1, sent again`
+abbrev pub call_of : (src : ℕ) → (retransmitted : Bool) → List ℕ
+call_of src retransmitted = codes "CI of link " ++ (decimal src ++ words_if retransmitted (codes ", sent again"))
+
 -- `, SEGSIZE 512, services 1, info 2`
 abbrev pub connect_words : (services info segsize : ℕ) → List ℕ
 connect_words services info segsize =
@@ -66,8 +70,7 @@ nsp_words (OtherDataAck dst src rest) = of_link (codes "other-data ack") src dst
 nsp_words (ConnectAck dst) = codes "connect ack to link " ++ decimal dst
 nsp_words (NoOperation rest) = no_operation_words rest
 nsp_words (ConnectInitiate retransmitted src services info segsize user_data) =
-    codes "CI of link " ++ (decimal src ++ (words_if retransmitted (codes ", sent again")
-    ++ (connect_words services info segsize ++ user_data_words user_data)))
+    call_of src retransmitted ++ (connect_words services info segsize ++ user_data_words user_data)
 nsp_words (ConnectConfirm dst src services info segsize user_data) =
     of_link (codes "CC") src dst ++ (connect_words services info segsize ++ user_data_words user_data)
 nsp_words (DisconnectInitiate dst src reason user_data) =

@@ -1,5 +1,6 @@
 //! Who is accused.
 
+ghost use Rattle.why.specs.Ends as of_ends;
 ghost use Rattle.std.specs.Prelude.{◌≡◌};
 ghost use Rattle.why.specs.Refused as spec;
 
@@ -85,7 +86,7 @@ impl Accusation {
     }
 
     fn of_link(entry: Entry) -> Accusation
-        ensures { result ≡ spec.sender_or_user (is_of_user entry) }
+        ensures { result ≡ spec.sender_or_user (of_ends.is_of_user entry) }
     {
         if is_of_user(entry) {
             return Accusation::User;

@@ -101,8 +101,7 @@ impl fmt::Display for Allowed<'_, '_> {
             FailedCheck::NoSuchUnit(own) => write_below(f, other, own.sent),
             FailedCheck::NoOrder { own, .. } => write_below(f, other, own.sent),
             FailedCheck::Undetected { unit } => {
-                write_unit_bytes(f, other, unit, self.check.fronts)?;
-                f.write_str("; or damaged bytes")
+                write_undetected_allowed(f, other, unit, self.check.fronts)
             }
             FailedCheck::StationSending(failed) => write_sending_allowed(f, failed),
             FailedCheck::StationArrival(failed) => {
@@ -123,6 +122,18 @@ impl fmt::Display for Allowed<'_, '_> {
     }
 }
 
+fn write_undetected_allowed<W: Write>(
+    f: &mut Formatter<W>,
+    other: Side,
+    unit: u64,
+    fronts: Fronts<'_>,
+) -> fmt::Result
+    ensures { WritesOnOk W.write_str_gives f.old result (spec.undetected_allowed other unit (fronts_told fronts.entry)) f.new }
+{
+    write_unit_bytes(f, other, unit, fronts)?;
+    f.write_str("; or damaged bytes")
+}
+
 // Writes the bytes of a unit of the other side by its name, where that is known, and where it has one by the byte that tells.
 fn write_unit_bytes<W: Write>(
     f: &mut Formatter<W>,
@@ -132,9 +143,19 @@ fn write_unit_bytes<W: Write>(
 ) -> fmt::Result
     ensures { WritesOnOk W.write_str_gives f.old result (spec.unit_bytes other unit (fronts_told fronts.entry)) f.new }
 {
-    let name = fronts.unit_name;
-    write!(f, "{name}the bytes of unit {unit} of {other}")?;
+    write_unit_named(f, other, unit, fronts.unit_name)?;
     write_byte(f, sent_byte(fronts.differs))
+}
+
+fn write_unit_named<W: Write>(
+    f: &mut Formatter<W>,
+    other: Side,
+    unit: u64,
+    name: &str,
+) -> fmt::Result
+    ensures { WritesOnOk W.write_str_gives f.old result (spec.unit_named other unit name.now) f.new }
+{
+    write!(f, "{name}the bytes of unit {unit} of {other}")
 }
 
 // Writes the hints of units that the other side sent: they are counted from 0. Where it sent none, no receipt is right.

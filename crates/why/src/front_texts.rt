@@ -42,7 +42,7 @@ impl FrontTexts {
         bytes: &[u8],
         unit: Option<&[u8]>,
     ) -> Result<FrontTexts, AllocError>
-        ensures { IfOk result (λ texts. texts ≡ fronts end.now.links says bytes.now (option_map (λ unit. unit.now) unit)) }
+        ensures { IfOk result (λ texts. texts ≡ fronts end.now.links says bytes.now (option_map (λ bytes. bytes.now) unit.entry)) }
     {
         let seen = front_digits(alloc, seen_bytes(says, bytes))?;
         let due = front_digits(alloc, due_bytes(end, says, bytes))?;

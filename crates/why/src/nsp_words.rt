@@ -1,6 +1,6 @@
 //! What a message of NSP says, in words (NSP 4.0, message formats).
 
-ghost use Rattle.std.specs.Prelude.{◌≡◌};
+ghost use Rattle.std.specs.Prelude.{◌≡◌, ◌++◌};
 ghost use Rattle.std.specs.Fmt.{WritesOnOk};
 ghost use Rattle.dna_packet.specs.Nsp.{segment_view, view};
 ghost use Rattle.dna_packet.specs.ReadingNsp.{nsp_at};
@@ -105,8 +105,22 @@ fn write_connect_initiate<W: Write>(
 ) -> fmt::Result
     ensures { WritesOnOk W.write_str_gives f.old result (spec.nsp_words (view (messages.ConnectInitiate message.now))) f.new }
 {
-    let again = words_if(message.retransmitted, ", sent again");
-    write!(f, "CI of link {}{again}", message.srcaddr)?;
+    write_call_of(f, message.srcaddr, message.retransmitted)?;
+    write_connect_rest(f, message)
+}
+
+fn write_call_of<W: Write>(f: &mut Formatter<W>, link: u16, is_again: bool) -> fmt::Result
+    ensures { WritesOnOk W.write_str_gives f.old result (spec.call_of link is_again) f.new }
+{
+    let again = words_if(is_again, ", sent again");
+    write!(f, "CI of link {link}{again}")
+}
+
+// What follows the addresses of a CI.
+fn write_connect_rest<W: Write>(f: &mut Formatter<W>, message: &ConnectInitiate<'_>) -> fmt::Result
+    ensures { WritesOnOk W.write_str_gives f.old result (spec.connect_words message.now.services message.now.info message.now.segsize
+        ++ spec.user_data_words message.now.user_data.now) f.new }
+{
     write_connect_fields(f, message.services, message.info, message.segsize)?;
     write_user_data(f, message.user_data)
 }

@@ -160,11 +160,12 @@ pub fn others(
 fn has_own(named: Addresses, live: &[LinkView]) -> bool
     ensures { result ≡ spec.has_own named live.now }
 {
-    let mut found = false;
-    for index in 0..live.len() {
-        found = found || is_at(named.own, live[index].port.own);
+    for link in live {
+        if is_at(named.own, link.port.own) {
+            return true;
+        }
     }
-    found
+    false
 }
 
 // Whether a link is the one that the record is about, where its own address tells, or else its far one.

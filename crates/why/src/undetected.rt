@@ -27,7 +27,7 @@ pub fn difference(
     bytes: &[u8],
     unit: Option<&[u8]>,
 ) -> Result<Option<Differing>, AllocError>
-    ensures { IfOk result (λ found. found ≡ spec.differing bytes.now (option_map (λ unit. unit.now) unit)) }
+    ensures { IfOk result (λ found. found ≡ spec.differing bytes.now (option_map (λ bytes. bytes.now) unit.entry)) }
 {
     match unit {
         Some(unit) => differing_from(alloc, bytes, unit),
@@ -70,7 +70,7 @@ fn first_place(bytes: &[u8], unit: &[u8]) -> usize
 
 /// The short name of a unit that is known, with a comma and a blank behind it; nothing of one that is not. Fails for want of memory alone.
 pub fn name_before(alloc: Global, unit: Option<&[u8]>) -> Result<String, AllocError>
-    ensures { IfOk result (λ text. string_bytes text ≡ spec.name_before (option_map (λ unit. unit.now) unit)) }
+    ensures { IfOk result (λ text. string_bytes text ≡ spec.name_before (option_map (λ bytes. bytes.now) unit.entry)) }
 {
     match unit {
         Some(unit) => named(alloc, unit),
