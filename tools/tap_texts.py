@@ -15,6 +15,12 @@ UP = [('a', STRT), ('b', STACK), ('a', ack_of(0))]
 ANSWERS = (
     ('lossless', 'accepted\na records 175 sent 87 received 87 damaged 0 kept 40'),
     ('skipped_number', 'unexplained a unit 7 line 16: 7 WrongNumber\nno placing was found, which accuses nobody\n'),
+    # the unit begins in the line that is named, and ends in the next one
+    ('number_skipped_in_two_pieces', 'unexplained a unit 7 line 16: 7 WrongNumber\n'),
+    # 255 packets are outstanding
+    ('full_window', 'accepted\na records 259 sent 257 received 1 damaged 0 kept 0'),
+    # a CI and its CC pass again, and are no other call
+    ('call_and_confirm_twice', 'accepted\na records 9 sent 4 received 3 damaged 0 kept 2'),
     # a NAK of damaged data, of a data message and of an ACK
     ('nak2', 'accepted\n'),
     ('nak_of_data', 'accepted\n'),

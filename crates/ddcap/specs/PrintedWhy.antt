@@ -5,7 +5,7 @@ use Rattle.wire_base.specs.declared.side.Side.{Side}
 use Rattle.capture.specs.Entries.{record_with}
 use Rattle.dna_node.specs.Kind.{both_layers}
 use Rattle.pair_judge.specs.Ends.{ShownEnds, StandsFor, verdict_in}
-use Rattle.pair_judge.specs.FailedCheck.{IsFailedIn}
+use Rattle.pair_judge.specs.FailedIn.{IsFailedIn}
 use Rattle.pair_judge.specs.Finding.{of_side}
 use Rattle.pair_judge.specs.Judged.{IsAnswer}
 use Rattle.pair_judge.specs.declared.fault.JudgeFault.{JudgeFault}
@@ -24,7 +24,7 @@ use Rattle.ddcap.specs.declared.telling.Form.{Form}
 use Rattle.ddcap.specs.declared.telling.Form.TheVariants.{Rows, Json}
 use Rattle.ddcap.specs.declared.telling.Refused.{Refused}
 
--- what is told of a refusal is told of the record ahead of its side, and the check that is named is one of the reason of the verdict
+-- what is told of a refusal is told of the record ahead of its side, and the check that is named is the first of the verdict's reason that fails there
 pub record IsTold (ends : ShownEnds) (refused : Refused) (told : Refusal) : Type 0 where
   pub side : told.side ≡ refused.side
   pub place : told.place ≡ refused.place
@@ -32,7 +32,7 @@ pub record IsTold (ends : ShownEnds) (refused : Refused) (told : Refusal) : Type
   pub accused : told.accusation ≡ accuses refused.reason told.says
   pub ahead : (of_side refused.side ends.a ends.b).ahead ≡ Some (record_with told.says told.bytes.now)
   pub failing : Side
-  pub failed : IsFailedIn failing told.failed ends.verdict
+  pub failed : IsFailedIn ends (Some (failing, told.failed))
 
 -- in rows, behind the line of the verdict and an empty one
 pub record AreRows (told : Refusal) (ends : ShownEnds) (text : List ℕ) : Type 0 where

@@ -8,7 +8,7 @@ use Rattle.pair_judge.specs.EndJudged.{IsJudgedAlone}
 use Rattle.pair_judge.specs.EndKind.{layers_alone}
 use Rattle.pair_judge.specs.EndShown.{StandsAlone}
 use Rattle.pair_judge.specs.Ends.{ShownEnd}
-use Rattle.pair_judge.specs.FailedCheck.{reason_of_failed}
+use Rattle.pair_judge.specs.FailedIn.{IsFailedAlone}
 use Rattle.pair_judge.specs.Order.{MadeRecord}
 use Rattle.pair_judge.specs.Watched.{only}
 use Rattle.pair_judge.specs.declared.end_verdict.Accused.{Accused}
@@ -37,7 +37,7 @@ pub record IsToldOf (told : EndRefusal) (s : Stop) : Type 0 where
   pub is_refused : s.verdict ≡ Refused told.place accused told.reason
   pub accusation : told.accusation ≡ end_accuses accused told.reason told.says
   pub ahead : s.end.ahead ≡ Some (record_with told.says told.bytes.now)
-  pub failed : IfSome told.failed (λ check. reason_of_failed check ≡ told.reason)
+  pub failed : IsFailedAlone s.end told.reason told.failed
 
 -- in rows, behind the line of the verdict and an empty one
 pub record AreEndRows (told : EndRefusal) (s : Stop) (text : List ℕ) : Type 0 where

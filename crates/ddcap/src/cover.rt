@@ -1,6 +1,7 @@
 //! `cover`: which rows of the rule tables pairs of captures went through.
 
 ghost use Rattle.std.specs.Prelude.{◌≡◌, IfOk, OnOk, [], string_bytes};
+ghost use Rattle.coverage.specs.Counts.{AreCounts};
 ghost use Rattle.ddcap.specs.Covering as spec;
 ghost use Rattle.ddcap.specs.inner.NotOpened as names;
 ghost use Rattle.ddcap.specs.Printed.{moved, stream_of};
@@ -35,9 +36,11 @@ impl Model for Covered {
 }
 
 impl Covered {
-    /// No pair yet. Takes no memory.
+    /// No pair yet, and no row was gone through. Takes no memory.
     pub fn new(alloc: Global) -> Covered
         ensures lines { result.lines ≡ [] }
+        ensures counts_a { AreCounts result.a [] }
+        ensures counts_b { AreCounts result.b [] }
         ensures status { result.status ≡ 0 }
     {
         Covered {

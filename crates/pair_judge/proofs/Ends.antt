@@ -1,6 +1,7 @@
 -- Both ends where the judge stops show the world in which the named record is refused, or waits.
-use Rattle.std.proofs.Common.{◌≡◌, ℕ, List, [], ◌∷◌, ◌++◌, length, map, Option, Some, refl, sym, ap, ap₂, subst, ◌∙◌}
+use Rattle.std.proofs.Common.{◌≡◌, ℕ, List, [], ◌∷◌, ◌++◌, length, map, drop, Option, Some, None, true, refl, sym, ap, ap₂, subst, ◌∙◌}
 use Rattle.std.proofs.Common.{arith, length-drop}
+use Rattle.std.proofs.lemmas.List.{drop-map}
 use Rattle.std.specs.List.{slice_get}
 use Rattle.std.specs.Option.{option_to_list}
 use Rattle.wire_base.specs.Side.{other_side}
@@ -20,9 +21,11 @@ use Rattle.dna_node.specs.declared.finding.Cause.{Cause}
 use Rattle.dna_node.specs.declared.finding.Cause.TheVariants.{Step, NoSuchUnit, NoOrder}
 use Rattle.dna_node.specs.declared.finding.Finding.{Finding}
 use Rattle.dna_node.specs.declared.finding.Finding.TheVariants.{Accepted, Refused}
-use Rattle.dna_node.specs.CutLayers.{tagged_packets, with_tags}
+use Rattle.dna_node.specs.CutLayers.{cut_layers, cut_layers_unit, tagged_packets, with_tags}
 use Rattle.dna_node.specs.Kind.{KindNode, KindUnit, both_layers, kind_pair, kind_start}
-use Rattle.dna_node.specs.WireLayers.{WireLayers, wire_layers_start}
+use Rattle.dna_node.specs.Layers.{LayersUnit}
+use Rattle.dna_node.specs.Seen.{IsSeenLayers}
+use Rattle.dna_node.specs.WireLayers.{WireLayers, WireLayersUnit, wire_layers_start}
 use Rattle.ddcmp_station.specs.View.{true_view, view_of}
 use Rattle.pair_judge.specs.declared.course.Ahead.{Ahead}
 use Rattle.pair_judge.specs.declared.course.Ahead.TheVariants.{Unread, Waits, Ended}
@@ -34,12 +37,14 @@ use Rattle.pair_judge.specs.declared.summary.Summary.{Summary}
 use Rattle.pair_judge.specs.declared.summary.SideSummary.{SideSummary}
 use Rattle.pair_judge.specs.Ends.{NodeHalf, NodeWorld, ShowsNode, StandsFor, StandsThere, record_ahead}
 use Rattle.pair_judge.specs.Ends as ends
+use Rattle.pair_judge.specs.FailedIn.{IsFirstOf, NamesOne, NamesOneBy, checks_at, hint_of}
 use Rattle.pair_judge.specs.Finding.{of_side}
 use Rattle.pair_judge.specs.Heads.{head_of}
 use Rattle.pair_judge.specs.Reason.{reason_of}
 use Rattle.pair_judge.specs.inner.Answer.{answer_of, verdict_of}
 use Rattle.pair_judge.specs.inner.Ends.{sent_on, shown_end}
 use Rattle.pair_judge.specs.inner.Course.{IsWaiting, Track, along, read_of, waiting}
+use Rattle.pair_judge.specs.inner.Lines.{Shows, held}
 use Rattle.pair_judge.specs.inner.Making.{StandsFor as StandsForHalf}
 use Rattle.pair_judge.specs.inner.Reached.{IsShown, ShowsHalf, StopsAt, StopsFor}
 use Rattle.pair_judge.specs.inner.Reached as reached
@@ -49,7 +54,9 @@ use Rattle.pair_judge.specs.inner.Runs.{tag_of}
 use Rattle.pair_judge.specs.inner.Stopped.{IsStoppedIn, ends_of, found_of}
 use Rattle.pair_judge.specs.inner.Tops.{links_on_top_left}
 use Rattle.pair_judge.specs.inner.Wire.{JudgeHalf, JudgeTop, JudgeWorld, judge_pair}
+use Rattle.pair_judge.proofs.FailsThere.{cause_there, fails_same, order_named, step_named, unit_named, waits_by_hint}
 use Rattle.pair_judge.proofs.Runs.{length-units_from}
+use Rattle.pair_judge.proofs.Seen.{shown, shown_is_cut}
 
 -- ---- lists
 
@@ -86,8 +93,8 @@ ahead_listed bytes Ended = refl
 
 -- the laws that the two ends rest on
 pub record EndLaws : Type 1 where
-  pub shown : (head_a head_b : Head) (w : JudgeWorld) (of_a of_b : List Record) →
-      Run (judge_pair links_on_top_left) (wire_layers_start head_a head_b) of_a of_b w → IsShown links_on_top_left head_a head_b w of_a of_b
+  pub seen : (head_a head_b : Head) (w : JudgeWorld) (of_a of_b : List Record) →
+      Run (judge_pair links_on_top_left) (wire_layers_start head_a head_b) of_a of_b w → IsSeenLayers head_a head_b w of_a of_b
   pub ordered_a : (head_a head_b : Head) (w : NodeWorld) (of_a of_b : List Record) →
       Run (kind_pair both_layers) (kind_start both_layers head_a head_b) of_a of_b w → IsOrdered w.a.state.station.station
   pub ordered_b : (head_a head_b : Head) (w : NodeWorld) (of_a of_b : List Record) →
@@ -102,6 +109,9 @@ module _ (laws : EndLaws) (own : End) (incoming : Line) (w : JudgeHalf) (half : 
   station_true ordered =
       ap (λ (l : WireLayers). view_of l.station) (sym stands.layers ∙ shows.station)
       ∙ laws.true_views (tagged_packets half.state.station) half.state.station.station (bodies half.state.station.station.packets _) ordered
+
+  layers_true : own.layers ≡ cut_layers half.state.station
+  layers_true = sym stands.layers ∙ shows.station
 
   links_true : own.layers.links ≡ cut_links half.state.station.links
   links_true = ap (λ (l : WireLayers). l.links) (sym stands.layers ∙ shows.station)
@@ -120,11 +130,19 @@ module _ (laws : EndLaws) (own : End) (incoming : Line) (w : JudgeHalf) (half : 
 node_shown : EndLaws → (own : Course) (incoming : Line) (w : JudgeHalf) (half : NodeHalf) → StandsForHalf own.end incoming w →
     ShowsHalf links_on_top_left w half → IsOrdered half.state.station.station → ShowsNode (shown_end own incoming.gone) half
 node_shown laws own incoming w half stands shows ordered = record {
+  layers = layers_true laws own.end incoming w half stands shows;
   station = station_true laws own.end incoming w half stands shows ordered;
   links = links_true laws own.end incoming w half stands shows;
   sent = sent_true laws own.end incoming w half stands shows;
   front = front_true laws own.end incoming w half stands shows;
 }
+
+-- the units that the line holds are those that the true node may still receive, as it sees them
+units_shown : (incoming : Line) (front : ℕ) (sent : List WireLayersUnit) (of_other : List LayersUnit) → Shows incoming sent →
+    sent ≡ map cut_layers_unit of_other → incoming.gone ≡ front → held incoming ≡ map cut_layers_unit (drop front of_other)
+units_shown incoming front sent of_other shows is_cut same =
+    shows.rest ∙ ap (drop incoming.gone) is_cut ∙ drop-map cut_layers_unit incoming.gone of_other
+    ∙ ap (λ (n : ℕ). map cut_layers_unit (drop n of_other)) same
 
 -- ---- what the observer was told, of either kind of node
 
@@ -164,10 +182,65 @@ module _ (top : JudgeTop)
         (x.world, run_there (records_of A done) (records_of B done) x.world x.run);
   }
 
+-- ---- a check of the reason fails where the judge stops
+
+module _ (text_a text_b : Option (List ℕ)) (tells : List MadeRecord → Type 0) (s : Stopped)
+    (i : IsStoppedIn links_on_top_left text_a text_b tells s) where
+  abbrev of_a : Track
+  of_a = along text_a s.a i.come_a i.made_a
+
+  abbrev of_b : Track
+  of_b = along text_b s.b i.come_b i.made_b
+
+  named_at : (side : Side) (place : ℕ) (cause : Cause) → StopsAt links_on_top_left of_a of_b side place cause →
+      ¬ IsFirstOf (reason_of cause) (checks_at side (ends_of links_on_top_left s)) None
+  named_at A place (Step refusal) q =
+      let h = q.reached in
+      step_named (shown_end s.a s.b.end.line.gone) (shown_end s.b s.a.end.line.gone) (held s.b.end.line) q.next refusal
+      (is_ahead s.a.capture.bytes s.a.ahead q.next q.ahead)
+      (fails_same s.a.end s.b.end.line h.world.a h.world.b h.stands_a h.stands_b.sent q.next ∙ ap cause_there q.becomes)
+  named_at B place (Step refusal) q =
+      let h = q.reached in
+      step_named (shown_end s.b s.a.end.line.gone) (shown_end s.a s.b.end.line.gone) (held s.a.end.line) q.next refusal
+      (is_ahead s.b.capture.bytes s.b.ahead q.next q.ahead)
+      (fails_same s.b.end s.a.end.line h.world.b h.world.a h.stands_b h.stands_a.sent q.next ∙ ap cause_there q.becomes)
+  named_at A place NoSuchUnit q =
+      let w = waits_by_hint q.reached.world.a q.reached.world.b q.next q.becomes in
+      unit_named (shown_end s.a s.b.end.line.gone) (shown_end s.b s.a.end.line.gone) (held s.b.end.line) w.0
+      (ap hint_of (is_ahead s.a.capture.bytes s.a.ahead q.next q.ahead) ∙ w.1)
+  named_at B place NoSuchUnit q =
+      let w = waits_by_hint q.reached.world.b q.reached.world.a q.next q.becomes in
+      unit_named (shown_end s.b s.a.end.line.gone) (shown_end s.a s.b.end.line.gone) (held s.a.end.line) w.0
+      (ap hint_of (is_ahead s.b.capture.bytes s.b.ahead q.next q.ahead) ∙ w.1)
+  named_at A place NoOrder q =
+      let w = waits_by_hint q.reached.world.a q.reached.world.b q.next q.becomes in
+      let far = waits_by_hint q.reached.world.b q.reached.world.a q.other.0 q.other.2 in
+      order_named (shown_end s.a s.b.end.line.gone) (shown_end s.b s.a.end.line.gone) (held s.b.end.line) w.0 far.0
+      (ap hint_of (is_ahead s.a.capture.bytes s.a.ahead q.next q.ahead) ∙ w.1)
+      (ap hint_of (is_ahead s.b.capture.bytes s.b.ahead q.other.0 q.other.1) ∙ far.1)
+  named_at B place NoOrder q =
+      let w = waits_by_hint q.reached.world.b q.reached.world.a q.next q.becomes in
+      let far = waits_by_hint q.reached.world.a q.reached.world.b q.other.0 q.other.2 in
+      order_named (shown_end s.b s.a.end.line.gone) (shown_end s.a s.b.end.line.gone) (held s.a.end.line) w.0 far.0
+      (ap hint_of (is_ahead s.b.capture.bytes s.b.ahead q.next q.ahead) ∙ w.1)
+      (ap hint_of (is_ahead s.a.capture.bytes s.a.ahead q.other.0 q.other.1) ∙ far.1)
+
+  pub named_there : NamesOne (ends_of links_on_top_left s)
+  named_there = by_finding s.finding _ i.stops
+    where
+      by_finding : (finding : Finding) (summary : Summary) → StopsFor links_on_top_left of_a of_b finding →
+          NamesOneBy (ends_of links_on_top_left s) (answer_of finding summary)
+      by_finding Accepted summary stops = tt
+      by_finding (Refused side place cause) summary stops = named_at side place cause stops
+
 -- ---- where the judge stops
 
 module _ (laws : EndLaws) (text_a text_b : Option (List ℕ)) (tells : List MadeRecord → Type 0) (s : Stopped)
     (i : IsStoppedIn links_on_top_left text_a text_b tells s) where
+  shown_by : (head_a head_b : Head) (w : JudgeWorld) (of_a of_b : List Record) →
+      Run (judge_pair links_on_top_left) (wire_layers_start head_a head_b) of_a of_b w → IsShown links_on_top_left head_a head_b w of_a of_b
+  shown_by head_a head_b w of_a of_b run = shown true head_a head_b w of_a of_b (laws.seen head_a head_b w of_a of_b run)
+
   abbrev track_a : Track
   track_a = along text_a s.a i.come_a i.made_a
 
@@ -205,7 +278,9 @@ module _ (laws : EndLaws) (text_a text_b : Option (List ℕ)) (tells : List Made
       StandsThere text_a text_b (ends_of links_on_top_left s) side place (reason_of cause)
   stands_at side place cause q =
       let h = q.reached in
-      let x = laws.shown s.a.end.head s.b.end.head h.world i.made_a i.made_b h.run in
+      let seen = laws.seen s.a.end.head s.b.end.head h.world i.made_a i.made_b h.run in
+      let x = shown true s.a.end.head s.b.end.head h.world i.made_a i.made_b seen in
+      let is_cut = shown_is_cut true s.a.end.head s.b.end.head h.world i.made_a i.made_b seen in
       record {
         read_a = read_of track_a;
         read_b = read_of track_b;
@@ -217,7 +292,7 @@ module _ (laws : EndLaws) (text_a text_b : Option (List ℕ)) (tells : List Made
         begins_b = (waiting s.b.capture.bytes s.b.ahead, refl);
         place_is = place_at side place q.place_is;
         world = x.world;
-        run = run_there links_on_top_left laws.shown text_a text_b tells s i i.made_a i.made_b x.world x.run;
+        run = run_there links_on_top_left shown_by text_a text_b tells s i i.made_a i.made_b x.world x.run;
         next = q.next;
         is_next = next_at side place q.next q.ahead q.place_is;
         is_ahead = ahead_is side q.next q.ahead;
@@ -228,6 +303,10 @@ module _ (laws : EndLaws) (text_a text_b : Option (List ℕ)) (tells : List Made
             (laws.ordered_a s.a.end.head s.b.end.head x.world i.made_a i.made_b x.run);
         shows_b = node_shown laws s.b s.a.end.line h.world.b x.world.b h.stands_b x.shows_b
             (laws.ordered_b s.a.end.head s.b.end.head x.world i.made_a i.made_b x.run);
+        to_a = units_shown s.b.end.line x.world.a.state.front h.world.b.sent x.world.b.sent h.stands_b.sent
+            (ap (λ (w : JudgeWorld). w.b.sent) is_cut) (sym h.stands_a.front ∙ x.shows_a.front);
+        to_b = units_shown s.a.end.line x.world.b.state.front h.world.a.sent x.world.a.sent h.stands_a.sent
+            (ap (λ (w : JudgeWorld). w.a.sent) is_cut) (sym h.stands_b.front ∙ x.shows_b.front);
         records_a = ap (λ (c : SideSummary). c.records) h.counts_a;
         records_b = ap (λ (c : SideSummary). c.records) h.counts_b;
       }

@@ -24,6 +24,7 @@ stands_alone text tells s i = record {
   node = node_of_end s.end;
   passes = i.stands.passes;
   shows = record {
+    layers = refl;
     station = refl;
     links = refl;
     front = refl;

@@ -22,7 +22,7 @@ use Rattle.dna_node.specs.Kind.{NodeKind, KindNode}
 use Rattle.dna_node.specs.WireLayers.{WireLayers}
 use Rattle.pair_judge.specs.declared.end.End.{End}
 use Rattle.pair_judge.specs.declared.summary.SideSummary.{SideSummary}
-use Rattle.pair_judge.specs.inner.Reached.{BecomesThere, HasReached, IsFound, IsShown, IsStopped, StopsAt, StopsFor}
+use Rattle.pair_judge.specs.inner.Reached.{BecomesThere, HasReached, IsFound, IsShown, IsStopped, OtherBecomes, StopsAt, StopsFor}
 use Rattle.pair_judge.specs.Summary.{counts_of, summary_at, summary_of, summary_with}
 use Rattle.pair_judge.specs.inner.Wire.{IfLeft, JudgeTop}
 use Rattle.pair_judge.proofs.Left.{left_any}
@@ -74,13 +74,15 @@ module _ (top : JudgeTop) where
       (reached : HasReached top order a.course.end b.course.end a.made b.made) →
       IsWaiting (of_side side a b).course.capture.bytes (of_side side a b).course.ahead r →
       BecomesThere top cause (of_side side reached.world.a reached.world.b) (of_side side reached.world.b reached.world.a) r →
+      OtherBecomes top cause (of_side side b a).course (of_side side reached.world.b reached.world.a) (of_side side reached.world.a reached.world.b) →
       StopsAt top a b side (length (of_side side a b).made) cause
-  stops_at {order} side a b cause r reached ahead becomes = record {
+  stops_at {order} side a b cause r reached ahead becomes other = record {
     order = order;
     reached = reached;
     next = r;
     ahead = ahead;
     becomes = becomes;
+    other = other;
     place_is = refl;
   }
 

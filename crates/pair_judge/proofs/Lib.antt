@@ -27,5 +27,7 @@ pub mod Alike
 pub mod Seen
 pub mod Alone
 pub mod LineToo
+pub mod FirstFailed
+pub mod FailsThere
 pub mod Ends
 pub mod EndsAlone

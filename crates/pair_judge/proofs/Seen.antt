@@ -3,7 +3,7 @@ use Rattle.std.proofs.Common.{◌≡◌, Bool, List, length, refl, sym, ap, ◌�
 use Rattle.std.proofs.lemmas.List.{length-map}
 use Rattle.two_nodes.specs.Nodes.{Outcome, advance}
 use Rattle.two_nodes.specs.Nodes.Outcome.{Made, Waits, Refused}
-use Rattle.two_nodes.specs.Cutting.{Cut, cut_outcome}
+use Rattle.two_nodes.specs.Cutting.{Cut, cut_outcome, cut_world}
 use Rattle.capture.specs.declared.record.Record.{Record}
 use Rattle.dna_station.specs.declared.head.Head.{Head}
 use Rattle.dna_station.specs.declared.refusal.StepRefusal.{StepRefusal}
@@ -50,3 +50,9 @@ shown leaves head_a head_b w of_a of_b s = record {
     sent = ap (λ (x : JudgeWorld). length x.b.sent) s.is_cut ∙ length-map s.world.b.sent cut_layers_unit;
   };
 }
+
+-- of that world the wire nodes' one is the cut
+pub shown_is_cut : (leaves : Bool) (head_a head_b : Head) (w : JudgeWorld) (of_a of_b : List Record) (s : IsSeenLayers head_a head_b w of_a of_b) →
+    w ≡ cut_world layers_seen (shown leaves head_a head_b w of_a of_b s).world
+unfolding shown
+shown_is_cut leaves head_a head_b w of_a of_b s = s.is_cut

@@ -26,6 +26,7 @@ told_alone made = map (made_by A) made
 
 -- Its numbers are shown as the node keeps them, modulo 256 and 4,096
 pub record ShowsAlone (end : ShownEnd) (node : WireLayersNode) (made : List Record) : Type 0 where
+  pub layers : end.layers ≡ node.station
   pub station : end.station ≡ view_of node.station.station
   pub links : end.links ≡ node.station.links
   pub front : end.front ≡ node.front

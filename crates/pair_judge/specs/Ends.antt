@@ -1,7 +1,8 @@
 -- Both ends where the judge of both layers gives its verdict, and what they show of the nodes there.
-use Rattle.std.specs.Prelude.{◌≡◌, ℕ, List, length, slice_get, Option, Some, None, Result, Ok, Err}
+use Rattle.std.specs.Prelude.{◌≡◌, ℕ, List, length, map, drop, slice_get, Option, Some, None, Result, Ok, Err}
 use Rattle.wire_base.specs.Side.{other_side}
 use Rattle.wire_base.specs.declared.side.Side.{Side}
+use Rattle.wire_base.specs.declared.side.Side.TheVariants.{A, B}
 use Rattle.two_nodes.specs.Nodes.{Half, World, Run, advance}
 use Rattle.two_nodes.specs.Nodes.Outcome.{Waits as Waiting, Refused as IsRefused}
 use Rattle.capture.specs.declared.record.Record.{Record}
@@ -14,7 +15,9 @@ use Rattle.dna_links.specs.CutLinks.{cut_links}
 use Rattle.dna_links.specs.WireLinks.{WireLinks}
 use Rattle.dna_node.specs.declared.finding.Cause.{Cause}
 use Rattle.dna_node.specs.declared.finding.Cause.TheVariants.{Step, NoSuchUnit, NoOrder}
+use Rattle.dna_node.specs.CutLayers.{cut_layers, cut_layers_unit}
 use Rattle.dna_node.specs.Kind.{KindNode, KindUnit, both_layers, kind_pair, kind_start}
+use Rattle.dna_node.specs.WireLayers.{WireLayers, WireLayersUnit}
 use Rattle.pair_judge.specs.declared.course.Ahead.{Ahead}
 use Rattle.pair_judge.specs.declared.course.Ahead.TheVariants.{Unread, Waits, Ended}
 use Rattle.pair_judge.specs.declared.fault.JudgeFault.{JudgeFault}
@@ -30,9 +33,10 @@ use Rattle.pair_judge.specs.Reason.{reason_of}
 -- ---- what is shown
 
 -- One end: how many of its records were made, its station's variables, its links as a node keeps them, how many units it sent, the lowest hint that
--- its next receipt may have, and the record that was read and not made, if one was
+-- its next receipt may have, and the record that was read and not made, if one was; and both layers as a node keeps them, on which its checks go
 pub record ShownEnd : Type 0 where
   pub records : ℕ
+  pub layers : WireLayers
   pub station : StationView
   pub links : WireLinks
   pub sent : ℕ
@@ -45,11 +49,17 @@ record_ahead bytes Unread = None
 record_ahead bytes (Waits entry) = Some (record_with entry bytes)
 record_ahead bytes Ended = None
 
--- both ends, and the verdict
+-- both ends, and the verdict; and of each direction the units that may still come, from the lowest hint on
 pub record ShownEnds : Type 0 where
   pub verdict : Verdict
   pub a : ShownEnd
   pub b : ShownEnd
+  pub to_a : List WireLayersUnit
+  pub to_b : List WireLayersUnit
+
+abbrev pub to_side : Side → ShownEnds → List WireLayersUnit
+to_side A ends = ends.to_a
+to_side B ends = ends.to_b
 
 -- ---- what that says of its node
 
@@ -61,10 +71,15 @@ NodeWorld = World (KindNode both_layers) (KindUnit both_layers)
 
 -- The station's variables are shown as the line has them
 pub record ShowsNode (end : ShownEnd) (half : NodeHalf) : Type 0 where
+  pub layers : end.layers ≡ cut_layers half.state.station
   pub station : end.station ≡ true_view half.state.station.station
   pub links : end.links ≡ cut_links half.state.station.links
   pub sent : end.sent ≡ length half.sent
   pub front : end.front ≡ half.state.front
+
+-- the units that this half may still receive, as its node sees them
+abbrev pub coming_to : (own other : NodeHalf) → List WireLayersUnit
+coming_to own other = map cut_layers_unit (drop own.state.front other.sent)
 
 -- in this world the record is refused, or waits for its unit
 abbrev pub BecomesThere : Cause → (own other : NodeHalf) → Record → Type 0
@@ -94,6 +109,8 @@ pub record StandsThere (text_a text_b : Option (List ℕ)) (ends : ShownEnds) (s
   pub becomes : BecomesThere cause (of_side side world.a world.b) (of_side (other_side side) world.a world.b) next
   pub shows_a : ShowsNode ends.a world.a
   pub shows_b : ShowsNode ends.b world.b
+  pub to_a : ends.to_a ≡ coming_to world.a world.b
+  pub to_b : ends.to_b ≡ coming_to world.b world.a
   pub records_a : ends.a.records ≡ length made_a
   pub records_b : ends.b.records ≡ length made_b
 

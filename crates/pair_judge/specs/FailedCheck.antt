@@ -41,10 +41,7 @@ use Rattle.pair_judge.specs.declared.failed_check.FailedCheck.{FailedCheck}
 use Rattle.pair_judge.specs.declared.failed_check.FailedCheck.TheVariants as failed
 use Rattle.pair_judge.specs.declared.failed_check.NotSound.TheVariants as not_sound
 use Rattle.pair_judge.specs.declared.reason.Reason.{Reason}
-use Rattle.pair_judge.specs.declared.verdict.Verdict.{Verdict}
-use Rattle.pair_judge.specs.declared.verdict.Verdict.TheVariants.{Accepted, Refused}
 use Rattle.pair_judge.specs.Reason.{reason_of}
-use Rattle.wire_base.specs.declared.side.Side.{Side}
 
 -- ---- a packet
 
@@ -168,8 +165,3 @@ cause_in (Err refusal) = Some (causes.Step refusal)
 
 abbrev pub reason_of_failed : FailedCheck → Reason
 reason_of_failed check = reason_of (cause_of check)
-
--- the verdict names a record of this side, and for the reason of this check
-abbrev pub IsFailedIn : Side → FailedCheck → Verdict → Type 0
-IsFailedIn side check (Accepted summary) = ⊥
-IsFailedIn side check (Refused named place reason) = (side ≡ named) × (reason_of_failed check ≡ reason)

@@ -12,6 +12,7 @@ pub mod EndKind
 pub mod EndJudged
 pub mod Order
 pub mod Ends
+pub mod FailedIn
 pub mod Watched
 pub mod EndShown
 pub mod Events

@@ -1,11 +1,13 @@
 //! The reason that goes with a failed check.
 
-ghost use Rattle.std.specs.Prelude.{◌≡◌};
+ghost use Rattle.std.specs.Prelude.{◌≡◌, List, ◌∷◌, Option};
 ghost use Rattle.ddcmp_station.specs.Failed as of_station;
 ghost use Rattle.nsp_link.specs.FailedArrival as arrives;
 ghost use Rattle.nsp_link.specs.FailedEvent as events;
 ghost use Rattle.nsp_link.specs.FailedSending as sends;
 ghost use Rattle.pair_judge.specs.FailedCheck.{cause_of, reason_of_failed};
+ghost use Rattle.pair_judge.specs.FailedIn as spec;
+ghost use Rattle.pair_judge.specs.declared.failed_check.FailedCheck.{FailedCheck as Check};
 
 use crate::failed_check::FailedCheck;
 use crate::reason::Reason;
@@ -42,6 +44,23 @@ impl FailedCheck {
             FailedCheck::Noise => Cause::Step(StepRefusal::NotNoise),
         }
     }
+}
+
+/// This check, if there is one of this reason, and else what was found of those behind it.
+pub fn of_reason(
+    reason: Reason,
+    check: Option<FailedCheck>,
+    behind: Option<FailedCheck>,
+) -> Option<FailedCheck>
+    ensures { (checks : List (Option Check)) → spec.IsFirstOf reason checks behind → spec.IsFirstOf reason (check ∷ checks) result }
+{
+    let Some(found) = check else {
+        return behind;
+    };
+    if found.reason() == reason {
+        return check;
+    }
+    behind
 }
 
 fn of_station(refusal: StationRefusal) -> Cause

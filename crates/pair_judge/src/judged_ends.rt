@@ -4,7 +4,7 @@ ghost use Rattle.std.specs.Prelude.{◌≡◌, None, Some, IfSome, option_map, s
 ghost use Rattle.capture.specs.Entries.{record_with};
 ghost use Rattle.nsp_link.specs.View as link;
 ghost use Rattle.pair_judge.specs.Finding.{of_side};
-ghost use Rattle.pair_judge.specs.inner.Ends.{shown_end};
+ghost use Rattle.pair_judge.specs.inner.Ends.{ends_shown};
 
 mod failing;
 
@@ -31,20 +31,26 @@ pub struct JudgedEnds {
 }
 
 impl Model for JudgedEnds {
+    ghost use Rattle.std.specs.Prelude.{◌≡◌};
     ghost use Rattle.pair_judge.specs.Ends.{ShownEnds};
+    ghost use Rattle.pair_judge.specs.inner.Lines.{held};
 
     ghost Value = { ShownEnds };
 
-    ghost view = { λ ends. record { verdict = ends.verdict; a = ends.a; b = ends.b } };
+    ghost view = { λ ends. record {
+      verdict = ends.verdict;
+      a = ends.a;
+      b = ends.b;
+      to_a = held ends.line_b;
+      to_b = held ends.line_a;
+    } };
+
+    ghost invariant = { λ ends. (ends.a.front ≡ ends.line_b.gone) × (ends.b.front ≡ ends.line_a.gone) };
 }
 
 /// Both sides where the judge stops, with this verdict.
 pub fn ends_with(verdict: Verdict, stopped: Stopped) -> JudgedEnds
-    ensures { result ≡ record {
-      verdict = verdict;
-      a = shown_end stopped.a stopped.b.end.line.gone;
-      b = shown_end stopped.b stopped.a.end.line.gone;
-    } }
+    ensures { result ≡ ends_shown verdict stopped }
 {
     let front_a = stopped.b.end.line.gone;
     let front_b = stopped.a.end.line.gone;

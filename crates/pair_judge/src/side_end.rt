@@ -37,6 +37,7 @@ impl Model for SideEnd {
 
     ghost view = { λ e. record {
       records = e.records;
+      layers = e.layers;
       station = view_of e.layers.station;
       links = e.layers.links;
       sent = e.sent;
@@ -48,7 +49,8 @@ impl Model for SideEnd {
 impl SideEnd {
     /// This side, whose next receipt may have this hint at the lowest, and apart from it the line on which its units lie.
     pub(crate) fn of(course: Course, front: u64) -> (Self, Line)
-        ensures { result.0 ≡ shown_end course front }
+        ensures end { result.0 ≡ shown_end course front }
+        ensures line { result.1 ≡ course.end.line }
     {
         let sent = course.end.line.sent();
         let records = course.end.counts.records;

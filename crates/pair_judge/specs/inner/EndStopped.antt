@@ -32,6 +32,7 @@ use Rattle.pair_judge.specs.inner.Wire.{IfLeft, JudgeTop}
 abbrev pub shown_lone : CaptureState → LoneEnd → Ahead → ShownEnd
 shown_lone capture end ahead = record {
   records = end.counts.records;
+  layers = end.layers;
   station = view_of end.layers.station;
   links = end.layers.links;
   sent = end.counts.sent;

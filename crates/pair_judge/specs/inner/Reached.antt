@@ -109,6 +109,13 @@ module _ (top : JudgeTop) where
   BecomesThere NoSuchUnit own other r = advance (judge_step top) own other r ≡ Waits
   BecomesThere NoOrder own other r = advance (judge_step top) own other r ≡ Waits
 
+  -- where both sides wait, the next record of the other side does too
+  abbrev pub OtherBecomes : Cause → Course → (other own : JudgeHalf) → Type 0
+  OtherBecomes (Step refusal) course other own = Unit {0}
+  OtherBecomes NoSuchUnit course other own = Unit {0}
+  OtherBecomes NoOrder course other own =
+      (next : Record) × IsWaiting course.capture.bytes course.ahead next × (advance (judge_step top) other own next ≡ Waits)
+
   -- The named record is the next of its side, and was read. Both ends stand for the world in which it is refused, or waits
   pub record StopsAt (a b : Track) (side : Side) (place : ℕ) (cause : Cause) : Type 0 where
     pub order : List MadeRecord
@@ -116,6 +123,8 @@ module _ (top : JudgeTop) where
     pub next : Record
     pub ahead : IsWaiting (of_side side a b).course.capture.bytes (of_side side a b).course.ahead next
     pub becomes : BecomesThere cause (of_side side reached.world.a reached.world.b) (of_side side reached.world.b reached.world.a) next
+    pub other : OtherBecomes cause (of_side side b a).course (of_side side reached.world.b reached.world.a)
+        (of_side side reached.world.a reached.world.b)
     pub place_is : place ≡ length (of_side side a b).made
 
   -- an acceptance names none

@@ -8,7 +8,7 @@ use Rattle.pair_judge.specs.Finding.{IsFoundIn}
 use Rattle.pair_judge.specs.Summary.{summary_at}
 use Rattle.pair_judge.specs.inner.Answer.{verdict_of}
 use Rattle.pair_judge.specs.inner.Course.{IsRead, along}
-use Rattle.pair_judge.specs.inner.Ends.{shown_end}
+use Rattle.pair_judge.specs.inner.Ends.{ends_shown}
 use Rattle.pair_judge.specs.Order.{MadeRecord}
 use Rattle.pair_judge.specs.inner.Reached.{IsInOrder, StopsFor}
 use Rattle.pair_judge.specs.inner.Wire.{IfLeft, JudgeTop}
@@ -20,7 +20,7 @@ module _ (top : JudgeTop) where
 
   -- with what is answered of that
   abbrev pub ends_of : Stopped → ShownEnds
-  ends_of s = record { verdict = verdict_of (found_of s); a = shown_end s.a s.b.end.line.gone; b = shown_end s.b s.a.end.line.gone }
+  ends_of s = ends_shown (verdict_of (found_of s)) s
 
   -- The finding is that of the two texts. So much of them was read and made, in an order that the observer was told; and where a refused step leaves
   -- both layers, both ends stand for the world in which the named record is refused, or waits

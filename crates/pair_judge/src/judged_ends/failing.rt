@@ -1,12 +1,15 @@
 //! Which check the refused record does not pass.
 
-ghost use Rattle.std.specs.Prelude.{◌≡◌, IfSome, option_and_then, option_copied, slice_get};
+ghost use Rattle.std.specs.Prelude.{◌≡◌, option_and_then, option_copied, option_map, slice_get};
 ghost use Rattle.nsp_link.specs.View.{rest_of};
+ghost use Rattle.pair_judge.specs.FailedIn as spec;
 ghost use Rattle.pair_judge.specs.Finding.{of_side};
-ghost use Rattle.pair_judge.specs.FailedCheck.{IsFailedIn};
+ghost use Rattle.pair_judge.specs.inner.Lines.{held};
 
 use super::JudgedEnds;
+use crate::failed_cause::of_reason;
 use crate::failed_check::{Awaited, FailedCheck};
+use crate::line::Line;
 use crate::reason::Reason;
 use crate::side_end::SideEnd;
 use crate::verdict::Verdict;
@@ -16,7 +19,7 @@ impl JudgedEnds {
     /// The side of the refused record, and the check that the record does not pass, with what is seen there and what is allowed. The check is
     /// one of the reason of the verdict. `None` where the pair is accepted. Takes no memory.
     pub fn failed(&self) -> Option<(Side, FailedCheck)>
-        ensures { IfSome result (λ failed. IsFailedIn failed.0 failed.1 self.now.verdict) }
+        ensures { spec.IsFailedIn self.now result }
     {
         let Verdict::Refused {
             side,
@@ -26,13 +29,20 @@ impl JudgedEnds {
         else {
             return None;
         };
-        let Some(check) = self.check(side, reason) else {
-            return None;
-        };
-        if check.reason() != reason {
-            return None;
+        match self.first_at(side, reason) {
+            Some(check) => Some((side, check)),
+            None => None,
         }
-        Some((side, check))
+    }
+
+    // The first check of this reason that fails at this side.
+    fn first_at(&self, side: Side, reason: Reason) -> Option<FailedCheck>
+        ensures { spec.IsFirstOf reason (spec.checks_at side self.now) result }
+    {
+        match side {
+            Side::A => first_of(reason, &self.a, &self.b, &self.line_b),
+            Side::B => first_of(reason, &self.b, &self.a, &self.line_a),
+        }
     }
 
     /// What is left of the message that the link of this side with this number sends: bytes with which its next new segment has to begin; `None`
@@ -45,26 +55,25 @@ impl JudgedEnds {
             Side::B => self.b.rest(number),
         }
     }
+}
 
-    // What fails at this side, whose record is refused for this reason.
-    fn check(&self, side: Side, reason: Reason) -> Option<FailedCheck> {
-        let (own, other, incoming) = match side {
-            Side::A => (&self.a, &self.b, &self.line_b),
-            Side::B => (&self.b, &self.a, &self.line_a),
-        };
-        match reason {
-            Reason::NoSuchUnit => match awaited(own, other) {
-                Some(awaited) => Some(FailedCheck::NoSuchUnit(awaited)),
-                None => None,
-            },
-            Reason::NoOrder => both_await(own, other),
-            _ => own.failed(incoming, reason),
-        }
-    }
+// The first check of this reason that fails at a side, to which this line leads from the other one.
+fn first_of(reason: Reason, own: &SideEnd, other: &SideEnd, incoming: &Line) -> Option<FailedCheck>
+    requires { own.now.front ≡ incoming.now.gone }
+    ensures { spec.IsFirstOf reason (spec.checks_by own.now other.now (held incoming.now)) result }
+{
+    let here = awaited(own, other);
+    let there = awaited(other, own);
+    let on_top = of_reason(reason, own.on_top_ahead(incoming), None);
+    let no_order = of_reason(reason, both_await(here, there), on_top);
+    let no_unit = of_reason(reason, one_awaits(here), no_order);
+    of_reason(reason, own.failed_ahead(incoming), no_unit)
 }
 
 // What a side waits for, if it does.
-fn awaited(own: &SideEnd, other: &SideEnd) -> Option<Awaited> {
+fn awaited(own: &SideEnd, other: &SideEnd) -> Option<Awaited>
+    ensures { result ≡ spec.awaited own.now other.now }
+{
     let Some(hint) = own.hint_ahead() else {
         return None;
     };
@@ -74,15 +83,23 @@ fn awaited(own: &SideEnd, other: &SideEnd) -> Option<Awaited> {
     })
 }
 
-fn both_await(own: &SideEnd, other: &SideEnd) -> Option<FailedCheck> {
-    let Some(first) = awaited(own, other) else {
+fn one_awaits(own: Option<Awaited>) -> Option<FailedCheck>
+    ensures { result ≡ option_map FailedCheck.NoSuchUnit own }
+{
+    match own {
+        Some(awaited) => Some(FailedCheck::NoSuchUnit(awaited)),
+        None => None,
+    }
+}
+
+fn both_await(own: Option<Awaited>, other: Option<Awaited>) -> Option<FailedCheck>
+    ensures { result ≡ spec.both_await own other }
+{
+    let Some(own) = own else {
         return None;
     };
-    let Some(second) = awaited(other, own) else {
+    let Some(other) = other else {
         return None;
     };
-    Some(FailedCheck::NoOrder {
-        own: first,
-        other: second,
-    })
+    Some(FailedCheck::NoOrder { own, other })
 }

@@ -6,6 +6,7 @@ ghost use Rattle.wire_base.specs.declared.side.Side.{Side};
 ghost use Rattle.capture.specs.Faulty.{CountsReads};
 ghost use Rattle.dna_node.specs.Kind.{both_layers};
 ghost use Rattle.pair_judge.specs.Ends.{StandsFor, verdict_in};
+ghost use Rattle.pair_judge.specs.FailedIn.{NamesOne};
 ghost use Rattle.pair_judge.specs.Faulty.{is_failed_read_of};
 ghost use Rattle.pair_judge.specs.Judged.{IsAnswer};
 ghost use Rattle.pair_judge.specs.Watched.{WasTold, only};
@@ -15,10 +16,9 @@ use crate::fault::JudgeFault;
 use crate::judged_ends::JudgedEnds;
 use crate::layers::LinksOnTopLeft;
 use crate::observer::{Nobody, Observer};
-use crate::top::Top;
 use ddcmp_station::view_shows_truth;
 use dna_links::LinkTag;
-use dna_node::layers_run_as_stations;
+use dna_node::{layers_run_as_stations, wire_layers_see_right};
 use dna_station::numbers_within_bounds;
 use std::alloc::Global;
 use std::io::Read;
@@ -35,7 +35,7 @@ pub struct Watched<O: Observer> {
 ///
 /// Where the verdict is `Refused`: all records of the named side before the named one, and some of the other side, lead two nodes to a world in
 /// which the named record is refused for this reason, or waits; and both ends show this world. The named record is the one ahead of its
-/// side.
+/// side, and `failed` names a check of this reason that it does not pass.
 ///
 /// It asks the links what they say of a packet before the station makes its step, which `judge` does not.
 pub fn judge_with_ends<R: Read, S: Read>(
@@ -45,6 +45,7 @@ pub fn judge_with_ends<R: Read, S: Read>(
 ) -> Result<JudgedEnds, JudgeFault>
     ensures answer { IsAnswer both_layers (R.remaining (tally_lent a.old)) (S.remaining (tally_lent b.old)) (verdict_in result) }
     ensures stands { IfOk result (λ ends. StandsFor (R.remaining (tally_lent a.old)) (S.remaining (tally_lent b.old)) ends ends.verdict) }
+    ensures fails { IfOk result NamesOne }
     ensures reads_a { CountsReads (is_failed_read_of Side.A result) (tally_faults a.old) (tally_faults a.new) }
     ensures reads_b { CountsReads (is_failed_read_of Side.B result) (tally_faults b.old) (tally_faults b.new) }
 {
@@ -71,6 +72,7 @@ pub fn judge_watched<O: Observer, R: Read, S: Read>(
         (verdict_in (only result (λ watched. watched.ends))) }
     ensures stands { IfOk result (λ watched.
         StandsFor (R.remaining (tally_lent a.old)) (S.remaining (tally_lent b.old)) watched.ends watched.ends.verdict) }
+    ensures fails { IfOk result (λ watched. NamesOne watched.ends) }
     ensures told { IfOk result (λ watched.
         WasTold both_layers (R.remaining (tally_lent a.old)) (S.remaining (tally_lent b.old)) watched.ends (O.told watched.observer)) }
     ensures reads_a { CountsReads (is_failed_read_of Side.A result) (tally_faults a.old) (tally_faults a.new) }
@@ -79,6 +81,6 @@ pub fn judge_watched<O: Observer, R: Read, S: Read>(
     layers_run_as_stations();
     numbers_within_bounds();
     view_shows_truth::<LinkTag>();
-    LinksOnTopLeft::shows();
+    wire_layers_see_right();
     decide::<LinksOnTopLeft, O, R, S>(alloc, a, b, observer)
 }

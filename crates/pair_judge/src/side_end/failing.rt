@@ -1,63 +1,68 @@
 //! Which check the record ahead does not pass.
 
-ghost use Rattle.std.specs.Prelude.{◌≡◌, IfSome, option_and_then, option_copied, slice_get};
+ghost use Rattle.std.specs.Prelude.{◌≡◌, List, [], ◌∷◌, Option, Some, None, option_and_then, option_copied, slice_get};
+ghost use Rattle.capture.specs.Entries.{record_with};
+ghost use Rattle.ddcmp_msg.specs.Reading.{reading};
 ghost use Rattle.nsp_link.specs.View.{rest_of};
-ghost use Rattle.pair_judge.specs.FailedCheck.{reason_of_failed};
+ghost use Rattle.pair_judge.specs.FailedCheck as of_any;
+ghost use Rattle.pair_judge.specs.FailedIn as spec;
+ghost use Rattle.pair_judge.specs.inner.Lines.{held};
 
 use super::SideEnd;
+use crate::carried::carried;
 use crate::course::Ahead;
+use crate::failed_cause::of_reason;
 use crate::failed_check::{FailedCheck, NotSound};
-use crate::failed_record::{failed_at_links, failed_own, failed_record};
+use crate::failed_record::{failed_on_top, failed_own, failed_record};
+use crate::layers::Layers;
 use crate::line::Line;
 use crate::reason::Reason;
 use capture::Entry;
 use ddcmp_msg::{Message, Reading, read_unit};
 use ddcmp_station::FailedArrival;
-use dna_packet::{Packet, read_nsp, read_packet};
+use dna_packet::read_nsp;
 
 impl SideEnd {
-    /// The first check that the record ahead does not pass, which is refused for this reason, where this line leads from the other side; `None` where
-    /// there is none, or it waits. Where the links refused it and the station had made its own step by then, it is theirs. Takes no memory.
-    pub(crate) fn failed(&self, incoming: &Line, reason: Reason) -> Option<FailedCheck> {
+    /// The first check that the record ahead does not pass, where this line leads from the other side; `None` where it is made, or waits, or there
+    /// is none. Takes no memory.
+    pub(crate) fn failed_ahead(&self, incoming: &Line) -> Option<FailedCheck>
+        requires { self.now.front ≡ incoming.now.gone }
+        ensures { result ≡ spec.failed_ahead self.now (held incoming.now) self.now.ahead }
+    {
         let Ahead::Waits(entry) = self.ahead else {
             return None;
         };
-        let bytes = self.capture.bytes();
-        match failed_record(&self.layers, incoming, entry, bytes) {
-            Some(check) if check.reason() == reason => Some(check),
-            _ => failed_at_links(&self.layers, incoming, entry, bytes),
-        }
+        failed_record(&self.layers, incoming, entry, self.capture.bytes())
+    }
+
+    /// The check that its packet does not pass at the links, whatever the station says of its message. Takes no memory.
+    pub(crate) fn on_top_ahead(&self, incoming: &Line) -> Option<FailedCheck>
+        requires { self.now.front ≡ incoming.now.gone }
+        ensures { result ≡ spec.on_top_ahead self.now (held incoming.now) self.now.ahead }
+    {
+        let Ahead::Waits(entry) = self.ahead else {
+            return None;
+        };
+        failed_on_top(&self.layers, incoming, entry, self.capture.bytes())
     }
 
     /// The check that the record ahead of an end alone does not pass, which is refused for this reason, with what is seen there and what is allowed.
     /// The check is one of this reason. `None` where none is named: a response or an acknowledgement that no right other end sends, or a message of
     /// other nodes, that came. Takes no memory.
     pub fn failed_alone(&self, reason: Reason) -> Option<FailedCheck>
-        ensures { IfSome result (λ check. reason_of_failed check ≡ reason) }
+        ensures { spec.IsFailedAlone self.now reason result }
     {
-        let Some(check) = self.check_alone(reason) else {
-            return None;
-        };
-        if check.reason() != reason {
-            return None;
-        }
-        Some(check)
-    }
-
-    #[tactic(auto, using(crate::proofs::Entries::no_receipt))]
-    fn check_alone(&self, reason: Reason) -> Option<FailedCheck> {
         let Ahead::Waits(entry) = self.ahead else {
             return None;
         };
         let bytes = self.capture.bytes();
-        match entry {
-            Entry::Received { hint, .. } => failed_coming(reason, self.front, hint, bytes),
-            _ => failed_own(&self.layers, entry, bytes),
-        }
+        failed_entry(reason, &self.layers, self.front, entry, bytes)
     }
 
     /// The hint of the record ahead, where it is a receipt.
-    pub(crate) fn hint_ahead(&self) -> Option<u64> {
+    pub(crate) fn hint_ahead(&self) -> Option<u64>
+        ensures { result ≡ spec.hint_of self.now.ahead }
+    {
         let Ahead::Waits(entry) = self.ahead else {
             return None;
         };
@@ -75,32 +80,61 @@ impl SideEnd {
     }
 }
 
-// What fails where these bytes come, at this front, and are refused for this reason.
-fn failed_coming(reason: Reason, front: u64, hint: u64, bytes: &[u8]) -> Option<FailedCheck> {
-    match reason {
-        Reason::HintOrder => Some(FailedCheck::HintOrder {
-            seen: hint,
-            lowest: front,
-        }),
-        Reason::WrongKeep => Some(FailedCheck::StationArrival(FailedArrival::Keep)),
-        _ => failed_bytes(bytes),
+// What fails of this record at an end alone at this front, and is of this reason.
+#[tactic(auto, using(crate::proofs::Entries::no_receipt))]
+fn failed_entry(
+    reason: Reason,
+    layers: &Layers,
+    front: u64,
+    entry: Entry,
+    bytes: &[u8],
+) -> Option<FailedCheck>
+    ensures { spec.IsFirstOf reason (spec.checks_alone layers.now front (Some (record_with entry bytes.now))) result }
+{
+    match entry {
+        Entry::Received { hint, .. } => failed_receipt(reason, front, hint, bytes),
+        _ => of_reason(reason, failed_own(layers, entry, bytes), None),
     }
 }
 
+// What fails where these bytes come, at this front, and is of this reason.
+fn failed_receipt(reason: Reason, front: u64, hint: u64, bytes: &[u8]) -> Option<FailedCheck>
+    ensures { spec.IsFirstOf reason (Some (FailedCheck.HintOrder hint front) ∷ Some (FailedCheck.StationArrival FailedArrival.Keep)
+        ∷ spec.failed_bytes (reading bytes.now) ∷ []) result }
+{
+    let order = FailedCheck::HintOrder {
+        seen: hint,
+        lowest: front,
+    };
+    let keep = FailedCheck::StationArrival(FailedArrival::Keep);
+    let of_bytes = of_reason(reason, failed_bytes(bytes), None);
+    let of_letter = of_reason(reason, Some(keep), of_bytes);
+    of_reason(reason, Some(order), of_letter)
+}
+
 // What fails in bytes themselves.
-fn failed_bytes(bytes: &[u8]) -> Option<FailedCheck> {
+fn failed_bytes(bytes: &[u8]) -> Option<FailedCheck>
+    ensures { result ≡ spec.failed_bytes (reading bytes.now) }
+{
     match read_unit(bytes) {
         Reading::Malformed(departure) => {
             Some(FailedCheck::Message(NotSound::Malformed(departure)))
         }
-        Reading::Sound(Message::Data { body, .. }) => match read_packet(body) {
-            Ok(Packet::Data { nsp, .. }) => match read_nsp(nsp) {
-                Ok(_) => None,
-                Err(fault) => Some(FailedCheck::Nsp(fault)),
-            },
-            Ok(Packet::Control(_)) => None,
-            Err(fault) => Some(FailedCheck::Packet(fault)),
-        },
+        Reading::Sound(Message::Data { body, .. }) => failed_packet(body),
         _ => None,
+    }
+}
+
+// What fails in a packet itself, or in the message in it.
+fn failed_packet(packet: &[u8]) -> Option<FailedCheck>
+    ensures { result ≡ of_any.failed_packet (λ _. None) packet.now }
+{
+    match carried(packet) {
+        Ok(Some(carried)) => match read_nsp(carried.message) {
+            Ok(_) => None,
+            Err(fault) => Some(FailedCheck::Nsp(fault)),
+        },
+        Ok(None) => None,
+        Err(fault) => Some(FailedCheck::Packet(fault)),
     }
 }

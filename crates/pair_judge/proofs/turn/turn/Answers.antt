@@ -53,7 +53,7 @@ returns-in-Ok-Fails-clause-turn g c = λ order text_a text_b made_a made_b under
           (same_read text_b c.args.b.now _ _ made_b refl refl refl under.read_b)
           (left_so g.T.Top.top.leaves (λ still. stops_at g.T.Top.top A _ _ (Step c.in-Ok-Fails.refusal) f.next
           (reached_still g.T.Top.top order c.args.a.now.end _ c.args.b.now.end _ made_a made_b h (same_end _ _ still.same_end)
-          (record { head = refl; layers = refl; counts = refl; line = still.same_line })) f.ahead refused) f.still)
+          (record { head = refl; layers = refl; counts = refl; line = still.same_line })) f.ahead refused tt) f.still)
           (λ rest_a rest_b. c.endings.ensures.a_refused _ _ h.world made_a rest_a made_b rest_b f.next c.in-Ok-Fails.refusal h.run refused)),
       ordered g.T.Top.top _ _ order c.args.a.now.end c.args.b.now.end h c.advance.ensures.head refl f.counts refl,
     )

@@ -1,0 +1,68 @@
+-- The first check of a reason, found from the last one on.
+use Rattle.std.proofs.Common.{◌≡◌, ℕ, Bool, false, Option, Some, None, List, [], ◌∷◌, refl, sym, ap, ◌∙◌, subst, option_map}
+use Rattle.std.specs.Prelude.{IfSome}
+use Rattle.wire_base.specs.declared.side.Side.{Side}
+use Rattle.capture.specs.declared.entry.Entry.{Entry}
+use Rattle.capture.specs.declared.entry.Entry.TheVariants as entries
+use Rattle.capture.specs.Entries.{record_with}
+use Rattle.dna_node.specs.WireLayers.{WireLayers}
+use Rattle.pair_judge.specs.declared.failed_check.FailedCheck.{FailedCheck}
+use Rattle.pair_judge.specs.declared.reason.Reason.{Reason}
+use Rattle.pair_judge.specs.declared.verdict.Verdict.{Verdict}
+use Rattle.pair_judge.specs.declared.verdict.Verdict.TheVariants.{Refused}
+use Rattle.pair_judge.specs.Ends.{ShownEnds}
+use Rattle.pair_judge.specs.FailedCheck.{failed_record}
+use Rattle.pair_judge.specs.FailedIn.{IsFailedIn, IsFirstOf, IsNamedBy, checks_alone, checks_at}
+use Rattle.pair_judge.specs.inner.Making.{is_receipt}
+
+-- this check, or else what was found of those behind it
+abbrev pub Follows : Reason → (check behind found : Option FailedCheck) → Type 0
+Follows reason check behind found = (checks : List (Option FailedCheck)) → IsFirstOf reason checks behind → IsFirstOf reason (check ∷ checks) found
+
+module _ (reason : Reason) where
+  pub of_three : (a b c x y z first second third : Option FailedCheck) → x ≡ a → y ≡ b → z ≡ c → Follows reason z None third →
+      Follows reason y third second → Follows reason x second first → IsFirstOf reason (a ∷ b ∷ c ∷ []) first
+  of_three a b c x y z first second third of_a of_b of_c last next now =
+      let same : ◌≡◌ {A = List (Option FailedCheck)} (x ∷ y ∷ z ∷ []) (a ∷ b ∷ c ∷ []) = cc in
+      subst (λ (l : List (Option FailedCheck)). IsFirstOf reason l first) same (now (y ∷ z ∷ []) (next (z ∷ []) (last [] refl)))
+
+  pub of_four : (a b c d w x y z first second third fourth : Option FailedCheck) → w ≡ a → x ≡ b → y ≡ c → z ≡ d → Follows reason z None fourth →
+      Follows reason y fourth third → Follows reason x third second → Follows reason w second first →
+      IsFirstOf reason (a ∷ b ∷ c ∷ d ∷ []) first
+  of_four a b c d w x y z first second third fourth of_a of_b of_c of_d last more next now =
+      let same : ◌≡◌ {A = List (Option FailedCheck)} (w ∷ x ∷ y ∷ z ∷ []) (a ∷ b ∷ c ∷ d ∷ []) = cc in
+      subst (λ (l : List (Option FailedCheck)). IsFirstOf reason l first) same
+      (now (x ∷ y ∷ z ∷ []) (next (y ∷ z ∷ []) (more (z ∷ []) (last [] refl))))
+
+-- ---- of a verdict
+
+pub failed_in : (ends : ShownEnds) (side : Side) (place : ℕ) (reason : Reason) (found : Option FailedCheck) →
+    ends.verdict ≡ Refused side place reason → IsFirstOf reason (checks_at side ends) found →
+    IsFailedIn ends (option_map (λ (check : FailedCheck). (side, check)) found)
+failed_in ends side place reason (Some check) is first =
+    subst (λ (verdict : Verdict). IsNamedBy ends verdict (Some (side, check))) (sym is) (refl, first)
+failed_in ends side place reason None is first =
+    subst (λ (verdict : Verdict). IsNamedBy ends verdict None) (sym is) (tt, first)
+
+-- ---- of one end alone
+
+alone_by : (s : WireLayers) (front : ℕ) (entry : Entry) (bytes : List ℕ) → is_receipt entry ≡ false →
+    checks_alone s front (Some (record_with entry bytes)) ≡ failed_record s front [] (record_with entry bytes) ∷ []
+alone_by s front entries.Sent bytes other = refl
+alone_by s front (entries.Received kept hint) bytes other = absurd (cc)
+alone_by s front entries.Noise bytes other = refl
+alone_by s front entries.Start bytes other = refl
+alone_by s front entries.Halt bytes other = refl
+alone_by s front (entries.Open link) bytes other = refl
+alone_by s front (entries.Accept partner link) bytes other = refl
+alone_by s front (entries.Reject partner link) bytes other = refl
+alone_by s front (entries.In link) bytes other = refl
+alone_by s front (entries.Up link) bytes other = refl
+alone_by s front (entries.Close link) bytes other = refl
+
+pub alone_first : (reason : Reason) (s : WireLayers) (front : ℕ) (entry : Entry) (bytes : List ℕ) (check found : Option FailedCheck) →
+    is_receipt entry ≡ false → check ≡ failed_record s front [] (record_with entry bytes) → Follows reason check None found →
+    IsFirstOf reason (checks_alone s front (Some (record_with entry bytes))) found
+alone_first reason s front entry bytes check found other is follows =
+    subst (λ (l : List (Option FailedCheck)). IsFirstOf reason l found)
+    (ap (λ (c : Option FailedCheck). c ∷ []) is ∙ sym (alone_by s front entry bytes other)) (follows [] refl)
