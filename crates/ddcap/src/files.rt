@@ -176,6 +176,14 @@ fn print_path_not_opened<W: Write>(
     if error.kind() == ErrorKind::OutOfMemory {
         return print_out_of_memory(err);
     }
+    print_path(alloc, err, named, path)
+}
+
+// Prints `a: cannot open: PATH`, and answers the status.
+fn print_path<W: Write>(alloc: Global, err: &mut Tally<W>, named: Named, path: &str) -> u8
+    ensures { Writes (stream_of W.contents err.old) (stream_of W.contents err.new) (path_not_opened_text named path.now) 3 result
+        ⊎ Writes (stream_of W.contents err.old) (stream_of W.contents err.new) (fault_text OutOfMemory) 3 result }
+{
     match path_not_opened(alloc, named, path) {
         Ok(text) => print(err, text.as_slice(), FAILED),
         Err(_) => print_out_of_memory(err),
