@@ -228,15 +228,24 @@ fn nothing_later(alloc: Global) -> ComesLater {
 
 // The unit that the refused record names, and what comes later.
 fn what_is_left(near_a: Near, near_b: Near) -> (Option<Vec<u8>>, ComesLater) {
+    let Near {
+        hints: hints_a,
+        has_all_hints: has_all_a,
+        unit: unit_a,
+        ..
+    } = near_a;
+    let Near {
+        hints: hints_b,
+        has_all_hints: has_all_b,
+        unit: unit_b,
+        ..
+    } = near_b;
     let later = ComesLater {
-        is_all: near_a.has_all_hints && near_b.has_all_hints,
-        hints_a: near_a.hints,
-        hints_b: near_b.hints,
+        is_all: has_all_a && has_all_b,
+        hints_a,
+        hints_b,
     };
-    match near_a.unit {
-        Some(unit) => (Some(unit), later),
-        None => (near_b.unit, later),
-    }
+    (unit_a.or(unit_b), later)
 }
 
 // How many records of both captures stand behind the refused one.

@@ -12,6 +12,7 @@ returns c = IfOk-weaker c.format.result _ _
         ladder = c.as_str-2.result;
         tried = c.args.tried.now.counts;
         edits = c.as_str-3.result;
+        unit_as_well = c.args.tried.now.unit_as_well;
       };
       are_rows = rw (c.in_ok-first.ensures, c.verdict.ensures) at is
           ∙ ap (λ (rows : List ℕ). verdict_text c.args.ends.now.verdict ++ (codes "\n" ++ rows)) c.in_ok-rows.ensures;
