@@ -21,6 +21,8 @@ ANSWERS = (
     ('full_window', 'accepted\na records 259 sent 257 received 1 damaged 0 kept 0'),
     # a CI and its CC pass again, and are no other call
     ('call_and_confirm_twice', 'accepted\na records 9 sent 4 received 3 damaged 0 kept 2'),
+    # a NAK came before the unit, which goes by it and has a wrong RESP besides
+    ('wrong_response_behind_a_nak', 'unexplained a unit 4 line 9: 8 WrongResponse\n'),
     # a NAK of damaged data, of a data message and of an ACK
     ('nak2', 'accepted\n'),
     ('nak_of_data', 'accepted\n'),
