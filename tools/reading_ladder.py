@@ -6,6 +6,8 @@ from reading_packets import DATA_BAD, HEADER_BAD, MALFORMED, read_nsp, read_pack
 
 # As many records are looked at for each row that is drawn.
 RECORDS_PER_ROW = 4
+# of the words between both sides
+COLUMNS = 30
 
 # A record: its side, its line, its letter, its hint, its bytes as digits, the words of a `u` line, and the number of the unit that it sends
 Record = namedtuple('Record', 'side line letter hint digits words unit')
@@ -160,18 +162,23 @@ def note_of(record):
     return 'not kept' if record.letter == 'r' and is_data(record.digits) else ''
 
 
+def fitted(words, room):
+    """Words in so many columns, cut where they have more."""
+    return words if len(words) <= room else words[:room - 2] + '..'
+
+
 def cell(record, is_left):
     """A line number with its note, in 22 columns."""
     if record is None:
         return ' ' * 22 if is_left else ''
     room = 20 - max(len(str(record.line)), 6)
-    note = note_of(record)[:room]
+    note = fitted(note_of(record), room)
     return '%6d %*s ' % (record.line, room, note) if is_left else ' %-*s %d' % (room, note, record.line)
 
 
 def centred(words, fill):
     """Words between two rows of this letter, 33 columns together."""
-    words = ' %s ' % words if len(words) <= 30 else ' %s~ ' % words[:29]
+    words = ' %s ' % fitted(words, COLUMNS)
     left = (33 - len(words)) // 2
     return fill * left + words + fill * (33 - len(words) - left)
 
@@ -179,11 +186,14 @@ def centred(words, fill):
 def sent_middle(sides, row, mark):
     """The arrow of a sending."""
     sending = row[0]
-    words = ('again ' if is_again(sides, sending) else '') + said(sending.digits)
+    again = 'again ' if is_again(sides, sending) else ''
+    words = again + said(sending.digits)
     if len(row) == 2:
         mark = '><'[sending.side]
         if said(row[1].digits) != said(sending.digits):
             words += ' ~' + said(row[1].digits)
+            if len(words) > COLUMNS:
+                words = again + said(sending.digits, True) + ' ~' + said(row[1].digits, True)
     return centred(words, '-') + mark if sending.side == 0 else mark + centred(words, '-')
 
 
@@ -194,10 +204,12 @@ def came_words(sides, record, made):
     # bytes that show no damage and are not those of the unit: that is refused, and may read alike
     is_changed = sending is not None and record.digits != sending.digits and read_unit(record.digits) not in (HEADER_BAD, DATA_BAD)
     if sending not in made or any(other.hint is not None and other.hint >= record.hint for other in sides[record.side][:record.line - 2]):
-        return '%s%s of %s unit %d' % ('~' * is_changed, said(record.digits), sender, record.hint)
+        words = '~' * is_changed + '%s of %s unit %d'
+        full = words % (said(record.digits), sender, record.hint)
+        return full if len(full) <= COLUMNS else words % (said(record.digits, True), sender, record.hint)
     damage = '' if said(record.digits) == said(sending.digits) and not is_changed else ' ~' + said(record.digits)
     words = '%s of %s line %d' % (said(sending.digits), sender, sending.line) + damage
-    if len(words) <= 30:
+    if len(words) <= COLUMNS:
         return words
     damage = '' if said(record.digits, True) == said(sending.digits, True) and not is_changed else ' ~' + said(record.digits, True)
     return '%s of %s line %d' % (said(sending.digits, True), sender, sending.line) + damage

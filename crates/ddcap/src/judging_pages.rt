@@ -151,8 +151,8 @@ It ends with status 0 and prints:
        6                |------------ ACK /0 ------------->|                5
 
 The arrow ends with > or < where the unit comes in this row, with . where it
-comes in another one, and with x where it never comes. ~ stands before what
-came damaged.
+comes in another one, and with x where it never comes. ~ is before what came
+damaged or with other bytes, and .. after words that are cut.
 
 With --from a:9 the rows begin with the record in line 9 of A (b:9: of B).
 With --rows 80 there are up to 80 of them; 200 is the most. With --svg FILE

@@ -1,7 +1,7 @@
 -- The text of a row.
 use Rattle.std.specs.Prelude.{ℕ, ◌-◌, ◌^◌, Bool, true, false, Option, Some, None, List, [], ◌++◌, codes, length, max, nat_eq, nat_le, if◌then◌else◌}
 use lib.Pointwise.{pointwise}
-use Rattle.std.specs.Fmt.{decimal, format_spec, padded, styled_decimal}
+use Rattle.std.specs.Fmt.{decimal, format_spec, padded, styled_decimal, styled_text}
 use Rattle.wire_base.specs.declared.side.Side.{Side}
 use Rattle.wire_base.specs.declared.side.Side.TheVariants.{A, B}
 use Rattle.wire_base.specs.Side.{other_side, side_letter}
@@ -43,19 +43,24 @@ abbrev pub cell : Row → Side → Option Cell
 cell row side =
     if is_side row.told.side side then Some (record { line = row.told.line; note = own_note row.told.what }) else receipt_cell row.fate
 
+-- words in so many columns: what is cut ends in two dots
+abbrev pub fitted : ℕ → List ℕ → List ℕ
+fitted room words =
+    if nat_le (length words) room then words else padded (format_spec 32 0 0 0 (room - 2)) words ++ codes ".."
+
 -- the line in six columns, or more, and the note in the rest of twenty
 abbrev pub left_line : ℕ → List ℕ
 left_line line = styled_decimal (format_spec 32 3 0 6 WHOLE) line
 
 abbrev pub left_note : ℕ → List ℕ → List ℕ
-left_note room words = padded (format_spec 32 3 0 room room) words
+left_note room words = styled_text (format_spec 32 3 0 room WHOLE) (fitted room words)
 
 abbrev pub left : Option Cell → List ℕ
 left None = codes "                      "
 left (Some cell) = left_line cell.line ++ (codes " " ++ (left_note (20 - length (left_line cell.line)) (note_words cell.note) ++ codes " "))
 
 abbrev pub right_note : ℕ → List ℕ → List ℕ
-right_note room words = padded (format_spec 32 1 0 room room) words
+right_note room words = styled_text (format_spec 32 1 0 room WHOLE) (fitted room words)
 
 abbrev pub right : Option Cell → List ℕ
 right None = []
@@ -70,9 +75,7 @@ centred fill text = padded (format_spec fill 2 0 33 WHOLE) text
 
 -- words with a space on both sides; more than thirty are cut
 abbrev pub spaced : List ℕ → List ℕ
-spaced words =
-    if nat_le (length words) 30 then codes " " ++ (words ++ codes " ")
-    else codes " " ++ (padded (format_spec 32 0 0 0 29) words ++ codes "~ ")
+spaced words = codes " " ++ (fitted 30 words ++ codes " ")
 
 -- an arrow from the side that sent, with this mark at its end
 abbrev pub sending : Side → List ℕ → List ℕ → List ℕ
@@ -107,11 +110,18 @@ front false = []
 abbrev pub is_same : Said → Said → Bool
 is_same came said = pointwise nat_eq (said_words came) (said_words said)
 
+-- a unit that came as something else; words that would be cut go without those of packets
+abbrev pub came_as : List ℕ → Said → Said → List ℕ
+came_as before said came = before ++ (said_words said ++ (codes " ~" ++ said_words came))
+
+abbrev pub damaged_words : List ℕ → Said → Said → List ℕ
+damaged_words before said came =
+    if nat_le (length (came_as before said came)) 30 then came_as before said came else came_as before (brief said) (brief came)
+
 -- a unit that was sent, and what came in its row, where it reads as something else
 abbrev pub sent_and_came : Said → Bool → Said → List ℕ
 sent_and_came said again came =
-    if is_same came said then front again ++ said_words said
-    else front again ++ (said_words said ++ (codes " ~" ++ said_words came))
+    if is_same came said then front again ++ said_words said else damaged_words (front again) said came
 
 abbrev pub sent_words : Said → Bool → Fate → List ℕ
 sent_words said again (fate.Here receipt) = sent_and_came said again receipt.said
@@ -143,9 +153,17 @@ abbrev pub change_mark : (changed : Bool) → List ℕ
 change_mark true = codes "~"
 change_mark false = []
 
-abbrev pub came_words : Side → ℕ → Said → (changed : Bool) → Option Sending → List ℕ
-came_words sender hint came changed None =
+-- a unit that came, with its number
+abbrev pub of_unit : Side → ℕ → Said → (changed : Bool) → List ℕ
+of_unit sender hint came changed =
     change_mark changed ++ (said_words came ++ (codes " of " ++ (side_letter sender ++ (codes " unit " ++ decimal hint))))
+
+abbrev pub unit_words : Side → ℕ → Said → (changed : Bool) → List ℕ
+unit_words sender hint came changed =
+    if nat_le (length (of_unit sender hint came changed)) 30 then of_unit sender hint came changed else of_unit sender hint (brief came) changed
+
+abbrev pub came_words : Side → ℕ → Said → (changed : Bool) → Option Sending → List ℕ
+came_words sender hint came changed None = unit_words sender hint came changed
 came_words sender hint came changed (Some sending) = brief_line sender sending came changed
 
 -- no record is left to come behind this one, which was made

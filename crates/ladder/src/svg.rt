@@ -4,11 +4,15 @@ ghost use Rattle.std.specs.Prelude.{IfOk};
 ghost use Rattle.ladder.specs.Xml.{IsDocument};
 
 use crate::drawn::Drawn;
-use crate::svg_arrows::{arrow_of, with_label, with_stroke};
-use crate::svg_cells::{with_bands, with_cells, with_check};
-use crate::svg_parts::{WIDTH, with_text, x_of};
+use crate::svg_arrows::{arrow_of, with_stroke};
+use crate::svg_columns::Columns;
+use crate::svg_key::{KEY_HEIGHT, with_key};
+use crate::svg_labels::{Label, columns_of, labels_of, with_label};
+use crate::svg_marks::{with_bands, with_caption, with_check, with_user};
+use crate::svg_parts::{MARGIN, WIDTH, with_text, y_of};
 use crate::svg_places::{Places, places_of};
-use crate::svg_style::{with_legend, with_style};
+use crate::svg_style::with_style;
+use crate::text::fitted;
 use crate::xml::{Attributes, Content};
 use crate::xml_names::{Attribute, Tag};
 use std::alloc::{AllocError, Global};
@@ -37,52 +41,55 @@ impl Drawn {
         ensures { IfOk result (λ text. IsDocument text.items) }
     {
         let places = places_of(alloc, self)?;
-        let height = places.height();
+        let labels = labels_of(alloc, self, &places)?;
+        let columns = columns_of(&labels);
+        let height = places.bottom().saturating_add(KEY_HEIGHT);
         let svg = Content::new(alloc).with_words("\n")?;
         let svg = with_style(svg, alloc, height)?;
-        let svg = with_head(svg, alloc, caption)?;
-        let svg = with_bands(svg, alloc, self, &places, Side::A)?;
-        let svg = with_bands(svg, alloc, self, &places, Side::B)?;
-        let svg = self.with_strokes(svg, alloc, &places)?;
-        let svg = self.with_labels(svg, alloc, &places, caption)?;
-        let svg = with_legend(svg, alloc, places.bottom())?;
+        let svg = with_head(svg, alloc, columns, caption)?;
+        let svg = with_bands(svg, alloc, self, &places, columns, Side::A)?;
+        let svg = with_bands(svg, alloc, self, &places, columns, Side::B)?;
+        let svg = self.with_rows(svg, alloc, &places, columns, caption)?;
+        let svg = with_labels(svg, alloc, columns, &labels)?;
+        let svg = with_key(svg, alloc, places.bottom())?;
         svg.document(Tag::Svg, size_of(alloc, height)?)
     }
 
-    // The arrows.
-    fn with_strokes(
+    // All that is between the columns, and the box of the refused record.
+    fn with_rows(
         &self,
         svg: Content,
         alloc: Global,
         places: &Places,
-    ) -> Result<Content, AllocError> {
-        let mut svg = svg;
-        for index in 0..self.len() {
-            if let Some(arrow) = arrow_of(alloc, self, places, index)? {
-                svg = with_stroke(svg, alloc, &arrow)?;
-            }
-        }
-        Ok(svg)
-    }
-
-    // The words on the arrows and beside the rows.
-    fn with_labels(
-        &self,
-        svg: Content,
-        alloc: Global,
-        places: &Places,
+        columns: Columns,
         caption: Caption<'_>,
     ) -> Result<Content, AllocError> {
         let mut svg = svg;
         for index in 0..self.len() {
-            if let Some(arrow) = arrow_of(alloc, self, places, index)? {
-                svg = with_label(svg, alloc, &arrow)?;
+            if let Some(arrow) = arrow_of(alloc, self, places, columns, index)? {
+                svg = with_stroke(svg, alloc, &arrow)?;
             }
-            svg = with_cells(svg, alloc, self, places, index)?;
-            svg = with_check(svg, alloc, self, places, index, caption)?;
+            if let Some(row) = self.row(index) {
+                let y = y_of(places.of(index).told);
+                svg = with_user(svg, alloc, columns, row, y)?;
+                svg = with_check(svg, alloc, caption, row, y)?;
+            }
         }
         Ok(svg)
     }
+}
+
+fn with_labels(
+    svg: Content,
+    alloc: Global,
+    columns: Columns,
+    labels: &Vec<Label>,
+) -> Result<Content, AllocError> {
+    let mut svg = svg;
+    for label in labels {
+        svg = with_label(svg, alloc, columns, label)?;
+    }
+    Ok(svg)
 }
 
 fn size_of(alloc: Global, height: usize) -> Result<Attributes, AllocError> {
@@ -95,17 +102,32 @@ fn size_of(alloc: Global, height: usize) -> Result<Attributes, AllocError> {
         .with(Attribute::Space, "preserve")
 }
 
-// What stands above the rows.
-fn with_head(svg: Content, alloc: Global, caption: Caption<'_>) -> Result<Content, AllocError> {
-    let svg = with_text(svg, alloc, "title", (16, 20), caption.title)?;
+// How many letters of a title have room.
+const TITLE: usize = 104;
+
+// What is above the rows.
+fn with_head(
+    svg: Content,
+    alloc: Global,
+    columns: Columns,
+    caption: Caption<'_>,
+) -> Result<Content, AllocError> {
+    let title = fitted(alloc, caption.title, TITLE)?;
+    let svg = with_text(svg, alloc, "title", (MARGIN, 20), title.as_str())?;
     let answer = match caption.seen.is_empty() {
         true => "answer",
         false => "verdict",
     };
-    let mut svg = with_text(svg, alloc, answer, (16, 38), caption.verdict)?;
+    let mut svg = with_caption(svg, alloc, answer, 38, caption.verdict)?;
     for side in [Side::A, Side::B] {
         let name = format!(in alloc; "{side}")?;
-        svg = with_text(svg, alloc, "side", (x_of(side), 54), name.as_str())?;
+        svg = with_text(
+            svg,
+            alloc,
+            "side",
+            (columns.time_line(side), 54),
+            name.as_str(),
+        )?;
     }
     Ok(svg)
 }

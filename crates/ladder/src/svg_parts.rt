@@ -3,7 +3,6 @@
 use crate::xml::{Attributes, Content};
 use crate::xml_names::{Attribute, Tag};
 use std::alloc::{AllocError, Global};
-use wire_base::Side;
 
 /// How wide a picture is.
 pub const WIDTH: usize = 860;
@@ -13,37 +12,11 @@ pub const TOP: usize = 70;
 
 pub const STEP: usize = 19;
 
-// The time lines of both sides.
-const LEFT: usize = 230;
-
-const RIGHT: usize = 630;
+/// How far from the edges of a picture words begin.
+pub const MARGIN: usize = 16;
 
 /// A place in a picture: so far from its left edge, and from its upper edge.
 pub type At = (usize, usize);
-
-/// Where the time line of this side is drawn.
-pub fn x_of(side: Side) -> usize {
-    match side {
-        Side::A => LEFT,
-        Side::B => RIGHT,
-    }
-}
-
-/// So far from the time line of this side, to the middle.
-pub fn x_inside(side: Side, distance: usize) -> usize {
-    match side {
-        Side::A => LEFT.saturating_add(distance),
-        Side::B => RIGHT.saturating_sub(distance),
-    }
-}
-
-/// The class that anchors words at their beginning on a's side, and at their end on b's.
-pub fn anchor_of(side: Side) -> &'static str {
-    match side {
-        Side::A => "",
-        Side::B => " end",
-    }
-}
 
 /// Where a record so many steps below the first one is drawn.
 pub fn y_of(level: usize) -> usize {
@@ -98,4 +71,19 @@ pub fn with_line(
         .with_number(Attribute::X2, x2)?
         .with_number(Attribute::Y2, y2)?;
     svg.with_empty(Tag::Line, form)
+}
+
+/// A dot of these classes.
+pub fn with_dot(
+    svg: Content,
+    alloc: Global,
+    class: &str,
+    (x, y): At,
+) -> Result<Content, AllocError> {
+    let form = Attributes::new(alloc)
+        .with(Attribute::Class, class)?
+        .with_number(Attribute::CenterX, x)?
+        .with_number(Attribute::CenterY, y)?
+        .with_number(Attribute::Radius, 3)?;
+    svg.with_empty(Tag::Circle, form)?.with_words("\n")
 }

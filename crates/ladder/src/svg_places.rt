@@ -3,13 +3,15 @@
 use crate::drawn::Drawn;
 use crate::row::{Fate, Row};
 use crate::sides::faces;
-use crate::svg_parts::{STEP, y_of};
+use crate::svg_parts::y_of;
 use crate::told::What;
 use std::alloc::{AllocError, Global};
 use wire_base::Side;
 
-// What stands below the refused record: what is seen, and what is allowed.
-const CHECK: usize = 34;
+// How far below the refused record the time lines end, and its box, in which there are two lines of words.
+const LINES: usize = 9;
+
+const CHECK: usize = 44;
 
 /// Where the records of one row stand, in steps below the first record: the record, and the receipt in its row, if there is one.
 #[derive(Clone, Copy, Debug)]
@@ -39,18 +41,22 @@ impl Places {
         }
     }
 
-    /// Where the time lines end.
-    pub fn bottom(&self) -> usize {
-        let rows = y_of(self.next_a.max(self.next_b));
+    /// Where the time lines end: at the refused record, which is below all others, if there is one.
+    pub fn lines_end(&self) -> usize {
+        let last = self.next_a.max(self.next_b);
         match self.has_refused {
-            true => rows.saturating_add(CHECK),
-            false => rows,
+            true => y_of(last.saturating_sub(1)).saturating_add(LINES),
+            false => y_of(last),
         }
     }
 
-    /// How high the picture is.
-    pub fn height(&self) -> usize {
-        self.bottom().saturating_add(2 * STEP)
+    /// Where all rows end.
+    pub fn bottom(&self) -> usize {
+        let last = self.next_a.max(self.next_b);
+        match self.has_refused {
+            true => y_of(last.saturating_sub(1)).saturating_add(CHECK),
+            false => y_of(last),
+        }
     }
 
     // A side's next record stands here or below, and its next one below that.

@@ -1,21 +1,20 @@
 //! How the picture of a ladder looks.
 
-use crate::svg_parts::{WIDTH, with_line, with_rect, with_text};
+use crate::svg_parts::{WIDTH, with_rect};
 use crate::xml::{Attributes, Content};
 use crate::xml_names::{Attribute, Tag};
 use std::alloc::{AllocError, Global};
 
-// Light, and dark where the reader's screen asks for that. What the colours tell stands in words and strokes too: what came damaged is dashed,
-// as is what has not come, and what was not kept has a hollow head.
+// Light, and dark where the reader's screen asks for that. What the colours tell is in words and strokes too: what came damaged is dashed, what has
+// an end that is not drawn is dotted, and what was not kept has a hollow head.
 const STYLE: &str = "
 text { fill: #24292f; font: 11px 'DejaVu Sans Mono', monospace; white-space: pre; }
 text.title { font-size: 13px; font-weight: bold; }
 text.side { font-size: 13px; font-weight: bold; text-anchor: middle; }
 text.answer { font-weight: bold; }
-text.verdict { fill: #cf222e; font-weight: bold; }
+text.verdict, text.seen { fill: #cf222e; font-weight: bold; }
 text.line { fill: #6e7781; font-size: 9px; }
 text.end { text-anchor: end; }
-text.word { stroke: #ffffff; stroke-width: 3px; stroke-linejoin: round; paint-order: stroke; }
 text.key { font-size: 10px; }
 line { stroke-width: 1.5; marker-end: url(#head); }
 line.data { stroke: #0969da; }
@@ -24,11 +23,13 @@ line.ack { stroke: #57606a; }
 line.nak, line.bad { stroke: #cf222e; }
 line.rep { stroke: #8250df; }
 line.start { stroke: #1a7f37; }
-line.bad, line.open, line.outside { stroke-dasharray: 5 3; }
+line.bad { stroke-dasharray: 6 3; }
+line.open, line.outside { stroke-dasharray: 2 3; }
 line.hollow { marker-end: url(#hollow); }
 line.open { marker-end: none; }
 line.lost { marker-end: url(#cross); }
 line.key { stroke-width: 3; marker-end: none; }
+line.sign { stroke: #57606a; }
 text.data { fill: #0969da; }
 text.again { fill: #bc6c00; }
 text.ack { fill: #57606a; }
@@ -45,12 +46,11 @@ path.hollow { fill: #ffffff; stroke: #24292f; }
 path.cross { fill: none; stroke: #cf222e; stroke-width: 2; }
 @media (prefers-color-scheme: dark) {
 text { fill: #e6edf3; }
-text.verdict, text.nak, text.bad { fill: #ff7b72; }
+text.verdict, text.seen, text.nak, text.bad { fill: #ff7b72; }
 text.line { fill: #8b949e; }
-text.word { stroke: #0d1117; }
 line.data { stroke: #79c0ff; }
 line.again { stroke: #f0a030; }
-line.ack { stroke: #9aa4af; }
+line.ack, line.sign { stroke: #9aa4af; }
 line.nak, line.bad { stroke: #ff7b72; }
 line.rep { stroke: #d2a8ff; }
 line.start { stroke: #7ee787; }
@@ -135,101 +135,4 @@ fn with_head(heads: Content, alloc: Global, head: &Head) -> Result<Content, Allo
         .with(Attribute::Drawn, head.lines)?;
     let content = Content::new(alloc).with_empty(Tag::Path, lines)?;
     heads.with(Tag::Marker, form, content)?.with_words("\n")
-}
-
-// What a stroke of this class means, where it begins, and where its words do.
-struct Key {
-    class: &'static str,
-    x: usize,
-    words_x: usize,
-    words: &'static str,
-}
-
-static STROKES: [Key; 7] = [
-    Key {
-        class: "data key",
-        x: 16,
-        words_x: 39,
-        words: "data",
-    },
-    Key {
-        class: "again key",
-        x: 78,
-        words_x: 101,
-        words: "sent again",
-    },
-    Key {
-        class: "ack key",
-        x: 177,
-        words_x: 200,
-        words: "ACK",
-    },
-    Key {
-        class: "nak key",
-        x: 233,
-        words_x: 256,
-        words: "NAK",
-    },
-    Key {
-        class: "bad key",
-        x: 289,
-        words_x: 312,
-        words: "damaged",
-    },
-    Key {
-        class: "rep key",
-        x: 370,
-        words_x: 393,
-        words: "REP",
-    },
-    Key {
-        class: "start key",
-        x: 426,
-        words_x: 449,
-        words: "STRT STACK",
-    },
-];
-
-static STATES: [Key; 3] = [
-    Key {
-        class: "HALTED",
-        x: 525,
-        words_x: 541,
-        words: "HALTED",
-    },
-    Key {
-        class: "ISTRT",
-        x: 590,
-        words_x: 606,
-        words: "starting",
-    },
-    Key {
-        class: "RUNNING",
-        x: 667,
-        words_x: 683,
-        words: "RUNNING",
-    },
-];
-
-/// What the colours and strokes mean, below this height.
-pub fn with_legend(svg: Content, alloc: Global, y: usize) -> Result<Content, AllocError> {
-    let stroke_y = y.saturating_add(19);
-    let words_y = y.saturating_add(23);
-    let mut svg = svg;
-    for key in &STROKES {
-        let stop = key.x.saturating_add(18);
-        svg = with_line(svg, alloc, key.class, (key.x, stroke_y), (stop, stroke_y))?;
-        svg = with_text(svg, alloc, "key", (key.words_x, words_y), key.words)?;
-    }
-    for key in &STATES {
-        svg = with_rect(
-            svg,
-            alloc,
-            key.class,
-            (key.x, y.saturating_add(15)),
-            (12, 8),
-        )?;
-        svg = with_text(svg, alloc, "key", (key.words_x, words_y), key.words)?;
-    }
-    Ok(svg)
 }

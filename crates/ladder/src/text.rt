@@ -1,18 +1,16 @@
 //! The text of a row, of at most 80 columns.
 
 ghost use Rattle.std.specs.Prelude.{◌≡◌, IfOk, string_bytes};
+ghost use Rattle.ladder.specs.Note.{note_words};
 ghost use Rattle.ladder.specs.Text as spec;
 
 use crate::note::Note;
 use crate::row::{Fate, Row};
-use crate::said::Said;
+use crate::row_words::{Received, WORDS, came_words, sent_words};
 use crate::sides::is_side;
-use crate::told::{Sending, What};
+use crate::told::What;
 use std::alloc::{AllocError, Global};
 use wire_base::Side;
-
-// The longest words that stand in the middle of a row.
-const WORDS: usize = 30;
 
 // A line number and the note beside it have these columns together, with a space between.
 const CELL: usize = 20;
@@ -30,7 +28,8 @@ impl Row {
     /// come never comes. `AllocError` where there is no memory for it.
     ///
     /// In the middle stands what was sent, as `DATA 2/1`, with `again` before it where it was sent before, and `~` before what came in its
-    /// place; then `>` or `<` where it comes in this row, `.` where in another one, and `x` where it never comes:
+    /// place; then `>` or `<` where it comes in this row, `.` where in another one, and `x` where it never comes. Words for which there is no room
+    /// are cut, and end in `..`:
     ///
     /// `    21           kept |<-------- again DATA 2/1 ---------|                21`
     pub fn text(&self, alloc: Global, ended: bool) -> Result<String, AllocError>
@@ -72,7 +71,7 @@ impl Row {
                 sent,
                 ..
             } => {
-                let came = Arrival {
+                let came = Received {
                     said,
                     changed: self.changed,
                 };
@@ -158,114 +157,23 @@ fn head(sender: Side) -> &'static str
     }
 }
 
-// The words of a unit that was sent.
-fn sent_words(alloc: Global, said: Said, again: bool, fate: Fate) -> Result<String, AllocError>
-    ensures { IfOk result (λ text. string_bytes text ≡ spec.sent_words said again fate) }
-{
-    let front = front(again);
-    match fate {
-        Fate::Here(receipt) => {
-            let came = receipt.said;
-            match same_words(alloc, came, said)? {
-                true => format!(in alloc; "{front}{said}"),
-                false => format!(in alloc; "{front}{said} ~{came}"),
-            }
-        }
-        Fate::Open | Fate::Came | Fate::Lost => format!(in alloc; "{front}{said}"),
-    }
-}
-
-fn front(again: bool) -> &'static str
-    ensures { result.now ≡ spec.front again }
-{
-    match again {
-        true => "again ",
-        false => "",
-    }
-}
-
-// What came: how it reads, and whether it is not what was sent although it may read alike.
-#[derive(Clone, Copy)]
-struct Arrival {
-    said: Said,
-    changed: bool,
-}
-
-// The words of a unit whose sending stands in another row. They go without those of its packet where they would be too long.
-fn came_words(
-    alloc: Global,
-    sender: Side,
-    hint: u64,
-    came: Arrival,
-    sent: Option<Sending>,
-) -> Result<String, AllocError>
-    ensures { IfOk result (λ text. string_bytes text ≡ spec.came_words sender hint came.said came.changed sent) }
-{
-    let Some(sending) = sent else {
-        let mark = change_mark(came.changed);
-        return format!(in alloc; "{mark}{} of {sender} unit {hint}", came.said);
-    };
-    let words = of_line(alloc, sender, sending, came)?;
-    if words.len() <= WORDS {
-        return Ok(words);
-    }
-    let brief = Sending {
-        line: sending.line,
-        said: sending.said.brief(),
-    };
-    let came = Arrival {
-        said: came.said.brief(),
-        changed: came.changed,
-    };
-    of_line(alloc, sender, brief, came)
-}
-
-// What stands before bytes that are not those that were sent.
-fn change_mark(changed: bool) -> &'static str
-    ensures { result.now ≡ spec.change_mark changed }
-{
-    match changed {
-        true => "~",
-        false => "",
-    }
-}
-
-// The words of a unit, the line of its sending, and how it reads where it came as something else.
-fn of_line(
-    alloc: Global,
-    sender: Side,
-    sending: Sending,
-    came: Arrival,
-) -> Result<String, AllocError>
-    ensures { IfOk result (λ text. string_bytes text ≡ spec.of_line sender sending came.said came.changed) }
-{
-    let said = sending.said;
-    let line = sending.line;
-    let same = same_words(alloc, came.said, said)?;
-    match (came.changed, same) {
-        (false, true) => format!(in alloc; "{said} of {sender} line {line}"),
-        _ => format!(in alloc; "{said} of {sender} line {line} ~{}", came.said),
-    }
-}
-
-// Whether both are told in the same words.
-fn same_words(alloc: Global, came: Said, said: Said) -> Result<bool, AllocError>
-    ensures { IfOk result (λ same. same ≡ spec.is_same came said) }
-{
-    let came = format!(in alloc; "{came}")?;
-    let said = format!(in alloc; "{said}")?;
-    let same = came.as_str() == said.as_str();
-    Ok(same)
-}
-
 // The words with a space on both sides, cut to fit.
 fn spaced(alloc: Global, words: &str) -> Result<String, AllocError>
     ensures { IfOk result (λ text. string_bytes text ≡ spec.spaced words.now) }
 {
-    if words.len() > WORDS {
-        return format!(in alloc; " {words:.29}~ ");
-    }
+    let words = fitted(alloc, words, WORDS)?;
     format!(in alloc; " {words} ")
+}
+
+/// Words that are no longer than the room for them; what is cut ends in `..`. `AllocError` where there is no memory for them.
+pub fn fitted(alloc: Global, words: &str, room: usize) -> Result<String, AllocError>
+    ensures { IfOk result (λ text. string_bytes text ≡ spec.fitted room words.now) }
+{
+    if words.len() <= room {
+        return String::from_str(alloc, words);
+    }
+    let kept = room.saturating_sub(2);
+    format!(in alloc; "{words:.kept$}..")
 }
 
 // An arrow from the side that sent, with this mark at its end.
@@ -298,9 +206,24 @@ fn left(alloc: Global, cell: Option<Cell>) -> Result<String, AllocError>
         return String::from_str(alloc, NO_CELL);
     };
     let number = format!(in alloc; "{line:>6}")?;
+    let words = left_note(alloc, note, CELL.saturating_sub(number.len()))?;
+    format!(in alloc; "{number} {words} ")
+}
+
+// The note of a cell on the left, in so many columns.
+fn left_note(alloc: Global, note: Note, room: usize) -> Result<String, AllocError>
+    ensures { IfOk result (λ text. string_bytes text ≡ spec.left_note room (note_words note)) }
+{
+    let words = fitted_note(alloc, note, room)?;
+    format!(in alloc; "{words:>room$}")
+}
+
+// The words of a note, cut to fit.
+fn fitted_note(alloc: Global, note: Note, room: usize) -> Result<String, AllocError>
+    ensures { IfOk result (λ text. string_bytes text ≡ spec.fitted room (note_words note)) }
+{
     let words = format!(in alloc; "{note}")?;
-    let room = CELL.saturating_sub(number.len());
-    format!(in alloc; "{number} {words:>room$.room$} ")
+    fitted(alloc, words.as_str(), room)
 }
 
 // The cell on the right, with no spaces at its end.
@@ -311,9 +234,16 @@ fn right(alloc: Global, cell: Option<Cell>) -> Result<String, AllocError>
         return Ok(String::new(alloc));
     };
     let number = format!(in alloc; "{line}")?;
-    let words = format!(in alloc; "{note}")?;
-    let room = CELL.saturating_sub(number.len().max(6));
-    format!(in alloc; " {words:<room$.room$} {number}")
+    let words = right_note(alloc, note, CELL.saturating_sub(number.len().max(6)))?;
+    format!(in alloc; " {words} {number}")
+}
+
+// The note of a cell on the right, in so many columns.
+fn right_note(alloc: Global, note: Note, room: usize) -> Result<String, AllocError>
+    ensures { IfOk result (λ text. string_bytes text ≡ spec.right_note room (note_words note)) }
+{
+    let words = fitted_note(alloc, note, room)?;
+    format!(in alloc; "{words:<room$}")
 }
 
 // What stands behind the middle: in 22 columns and with the mark where the record was refused.

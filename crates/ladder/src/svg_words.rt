@@ -1,20 +1,45 @@
-//! The words of the arrows of a picture, and their titles.
+//! The words of units in a picture, and the titles of its arrows.
 
 use crate::row::Row;
 use crate::said::Said;
+use crate::svg_arrivals::Arrival;
 use crate::told::{Sending, What};
 use std::alloc::{AllocError, Global};
 
+/// How much is told of a unit.
+#[derive(Clone, Copy, Debug, PartialEq, Eq)]
+pub enum Detail {
+    /// Nothing of the packet in a data message.
+    Brief,
+    Full,
+}
+
+fn told(said: Said, detail: Detail) -> Said {
+    match detail {
+        Detail::Brief => said.brief(),
+        Detail::Full => said,
+    }
+}
+
 /// The words of a sending: `again DATA 2/1`, with `~` before what came in its place, where it is another one. `AllocError` where there is no
 /// memory for them, as of each below.
-pub fn sent_words(alloc: Global, row: &Row, came: Option<Said>) -> Result<String, AllocError> {
+pub fn sent_words(
+    alloc: Global,
+    row: &Row,
+    came: Option<Arrival>,
+    detail: Detail,
+) -> Result<String, AllocError> {
     let What::Sent { said, again, .. } = row.told.what else {
         return Ok(String::new(alloc));
     };
     let front = if again { "again " } else { "" };
+    let sent = told(said, detail);
     match came {
-        Some(came) => format!(in alloc; "{front}{said} ~ {came}"),
-        None => format!(in alloc; "{front}{said}"),
+        Some(came) if came.is_other_than(said) => {
+            let came = told(came.said, detail);
+            format!(in alloc; "{front}{sent} ~ {came}")
+        }
+        _ => format!(in alloc; "{front}{sent}"),
     }
 }
 
@@ -49,7 +74,7 @@ pub fn outside_title(alloc: Global, row: &Row) -> Result<String, AllocError> {
 }
 
 /// Its words: `DATA 2/1 of a line 5`.
-pub fn outside_words(alloc: Global, row: &Row) -> Result<String, AllocError> {
+pub fn outside_words(alloc: Global, row: &Row, detail: Detail) -> Result<String, AllocError> {
     let from = row.told.side.other();
     match row.told.what {
         What::Came {
@@ -57,11 +82,12 @@ pub fn outside_words(alloc: Global, row: &Row) -> Result<String, AllocError> {
             said: came,
             ..
         } => {
-            let said = said.brief();
-            if came.brief() == said && !row.changed {
-                return format!(in alloc; "{said} of {from} line {line}");
+            let sent = told(said, detail);
+            if came == said && !row.changed {
+                return format!(in alloc; "{sent} of {from} line {line}");
             }
-            format!(in alloc; "{said} of {from} line {line} ~ {came}")
+            let came = told(came, detail);
+            format!(in alloc; "{sent} of {from} line {line} ~ {came}")
         }
         What::Came {
             hint,
@@ -70,7 +96,8 @@ pub fn outside_words(alloc: Global, row: &Row) -> Result<String, AllocError> {
             ..
         } => {
             let mark = change_mark(row);
-            format!(in alloc; "{mark}{said} of {from} unit {hint}")
+            let came = told(said, detail);
+            format!(in alloc; "{mark}{came} of {from} unit {hint}")
         }
         What::Noise { said } => format!(in alloc; "noise ~ {said}"),
         What::Sent { .. } | What::User { .. } => Ok(String::new(alloc)),

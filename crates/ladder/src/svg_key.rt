@@ -1,0 +1,211 @@
+//! The key of a picture: what its colours and signs mean.
+
+use crate::svg_parts::{At, with_dot, with_line, with_rect, with_text};
+use crate::xml::Content;
+use std::alloc::{AllocError, Global};
+
+/// How high the key is.
+pub const KEY_HEIGHT: usize = 57;
+
+// How far a form is from its words.
+const APART: usize = 7;
+
+// How far below the rows the middle of its lines is, and how far below that their words are.
+const COLOURS: usize = 19;
+
+const SIGNS: usize = 39;
+
+const WORDS: usize = 4;
+
+// What is drawn beside words of the key.
+#[derive(Clone, Copy, PartialEq, Eq)]
+enum Form {
+    Line,
+    Dot,
+    Box,
+    Nothing,
+}
+
+// What a form of this class means: where it begins, how wide it is, and its words.
+struct Key {
+    form: Form,
+    class: &'static str,
+    x: usize,
+    width: usize,
+    words: &'static str,
+}
+
+static COLOUR_KEYS: [Key; 10] = [
+    Key {
+        form: Form::Line,
+        class: "data key",
+        x: 16,
+        width: 18,
+        words: "data",
+    },
+    Key {
+        form: Form::Line,
+        class: "again key",
+        x: 78,
+        width: 18,
+        words: "sent again",
+    },
+    Key {
+        form: Form::Line,
+        class: "ack key",
+        x: 177,
+        width: 18,
+        words: "ACK",
+    },
+    Key {
+        form: Form::Line,
+        class: "nak key",
+        x: 233,
+        width: 18,
+        words: "NAK",
+    },
+    Key {
+        form: Form::Line,
+        class: "bad key",
+        x: 289,
+        width: 18,
+        words: "damaged",
+    },
+    Key {
+        form: Form::Line,
+        class: "rep key",
+        x: 370,
+        width: 18,
+        words: "REP",
+    },
+    Key {
+        form: Form::Line,
+        class: "start key",
+        x: 426,
+        width: 18,
+        words: "STRT STACK",
+    },
+    Key {
+        form: Form::Box,
+        class: "HALTED key",
+        x: 525,
+        width: 12,
+        words: "HALTED",
+    },
+    Key {
+        form: Form::Box,
+        class: "ISTRT key",
+        x: 595,
+        width: 12,
+        words: "starting",
+    },
+    Key {
+        form: Form::Box,
+        class: "RUNNING key",
+        x: 677,
+        width: 12,
+        words: "RUNNING",
+    },
+];
+
+static SIGN_KEYS: [Key; 8] = [
+    Key {
+        form: Form::Line,
+        class: "sign",
+        x: 16,
+        width: 24,
+        words: "comes",
+    },
+    Key {
+        form: Form::Line,
+        class: "sign hollow",
+        x: 90,
+        width: 24,
+        words: "comes, not kept",
+    },
+    Key {
+        form: Form::Line,
+        class: "sign lost",
+        x: 224,
+        width: 20,
+        words: "lost",
+    },
+    Key {
+        form: Form::Line,
+        class: "sign open",
+        x: 288,
+        width: 24,
+        words: "end not drawn",
+    },
+    Key {
+        form: Form::Line,
+        class: "sign outside",
+        x: 410,
+        width: 24,
+        words: "start not drawn",
+    },
+    Key {
+        form: Form::Dot,
+        class: "sign",
+        x: 544,
+        width: 6,
+        words: "the user's doing",
+    },
+    Key {
+        form: Form::Box,
+        class: "sign refused",
+        x: 666,
+        width: 12,
+        words: "refused",
+    },
+    Key {
+        form: Form::Nothing,
+        class: "",
+        x: 740,
+        width: 0,
+        words: "~ what came",
+    },
+];
+
+/// The key, below this height.
+pub fn with_key(svg: Content, alloc: Global, y: usize) -> Result<Content, AllocError> {
+    let mut svg = svg;
+    for key in &COLOUR_KEYS {
+        svg = with_meaning(svg, alloc, key, y.saturating_add(COLOURS))?;
+    }
+    for key in &SIGN_KEYS {
+        svg = with_meaning(svg, alloc, key, y.saturating_add(SIGNS))?;
+    }
+    Ok(svg)
+}
+
+// A form, with what it means beside it.
+fn with_meaning(svg: Content, alloc: Global, key: &Key, y: usize) -> Result<Content, AllocError> {
+    let words_at = (
+        key.x.saturating_add(key.width).saturating_add(APART),
+        y.saturating_add(WORDS),
+    );
+    let svg = with_form(svg, alloc, key, (key.x, y))?;
+    with_text(svg, alloc, "key", words_at, key.words)
+}
+
+fn with_form(svg: Content, alloc: Global, key: &Key, (x, y): At) -> Result<Content, AllocError> {
+    match key.form {
+        Form::Line => with_line(
+            svg,
+            alloc,
+            key.class,
+            (x, y),
+            (x.saturating_add(key.width), y),
+        ),
+        Form::Dot => with_dot(svg, alloc, key.class, (x.saturating_add(3), y)),
+        Form::Box => with_rect(
+            svg,
+            alloc,
+            key.class,
+            (x, y.saturating_sub(4)),
+            (key.width, 8),
+        ),
+        Form::Nothing => Ok(svg),
+    }
+}
