@@ -114,9 +114,10 @@ def is_open(link):
 def named_by(words):
     """The own and the far address of the link that a record names, as its side has them."""
     if words[0] == 'u':
-        numbers = [int(word) for word in words[2:4]]
-        return (None, None) if not numbers else (numbers[1], numbers[0]) if words[1] in ('accept', 'reject') else (numbers[0], None)
-    unit = read_unit(words[-1]) if words[0] != 'n' else None
+        if words[1] in ('accept', 'reject'):
+            return int(words[3]), int(words[2])
+        return (int(words[2]) if len(words) > 2 else None), None
+    unit = read_unit(words[-1]) if words[0] != 'n' and words[-1] != '-' else None
     packet = read_packet(unit.packet) if unit and unit.kind == 'data' else None
     message = read_nsp(packet.nsp) if packet and packet.nsp is not None and not packet.returned else None
     if message is None or message.kind == 'no operation':
