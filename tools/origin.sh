@@ -1,5 +1,7 @@
-# From what dist/ was made: functions for ./ddcap, ./test and the scripts of this folder, which set `top` to the folder of the repository.
-# dist/ORIGIN has lines of a name and what it is: `program` and `toolchain`, the checksum of the `sources`, and that of each file of assembly.
+# From what dist/ was made: functions for ./ddcap, ./test and the scripts of this folder, which set `top` to the folder of the repository. A machine
+# is called as in the names of dist/: x86_64, aarch64, armv7 and so on. Its assembly is packed by gzip, which is a seventh of it.
+# dist/ORIGIN has lines of a name and what it is: `program` and `toolchain`, the checksum of the `sources`, that of each file of assembly, of the
+# WebAssembly module in web/ddcap.html, and of the LLVM `module` that they were compiled from.
 
 # The program's crate and those that it stands on, lowest first, as crates.txt lists them.
 needed() {
@@ -32,22 +34,62 @@ misfit() {
   local name sum
   [ -f "$top/dist/ORIGIN" ] || { echo 'there is no dist/ORIGIN'; return; }
   [ "$(origin_of sources)" = "$(sum_of_sources)" ] || { echo 'a source is not the one that dist/ was made from'; return; }
+  command -v gzip > /dev/null || { echo 'gzip is wanted, and is not on the path'; return; }
   while read -r name sum; do
-    [ -f "$top/dist/$name" ] && [ "$(checksum < "$top/dist/$name")" = "$sum" ] ||
-      { echo "dist/$name is not the file that dist/ORIGIN names"; return; }
+    [ "$(unpacked "$top/dist/$name" 2> /dev/null | checksum)" = "$sum" ] ||
+      { echo "$(cd "$top" && packed "dist/$name") is not the file that dist/ORIGIN names"; return; }
   done < <(grep '^ddcap-.*\.s ' "$top/dist/ORIGIN")
-  [ -f "$top/dist/ddcap-$(uname -m).s" ] || echo "dist/ has no program for this machine, $(uname -m)"
+  name=$(machine_of ${CC:-cc})
+  has_assembly "$name" || echo "dist/ has no program for this machine, $name"
 }
 
-# GNU's assembler knows all of the assembly but these lines, which make no code.
-assembly() { grep -v '^[[:space:]]*\.addrsig' "$1"; }
+# The machine that a compiler makes programs for; where there is no compiler, this machine: [COMPILER..]
+machine_of() {
+  local named
+  named=$("$@" -dumpmachine 2> /dev/null) || named=$(uname -m)
+  case $named in
+    arm*) if [ "$(uname -m)" = armv6l ]; then echo armv6; else echo armv7; fi ;;
+    i?86*) echo i686 ;;
+    *mingw*) echo windows ;;
+    *) echo "${named%%-*}" ;;
+  esac
+}
+
+has_assembly() { [ -f "$(packed "$top/dist/ddcap-$1.s")" ]; }
+
+# The name of a file that may be packed, and what it holds.
+packed() { if [ -f "$1.gz" ]; then echo "$1.gz"; else echo "$1"; fi; }
+unpacked() { if [ -f "$1.gz" ]; then gzip -dc "$1.gz"; else cat "$1"; fi; }
+
+# Assembly without the lines that GNU's assembler doesn't know, which make no code.
+known_to_gnu() { grep -vE '^[[:space:]]*\.(addrsig|attribute[[:space:]])'; }
+
+# The assembly for a machine.
+assembly() { unpacked "$top/dist/ddcap-$1.s" | known_to_gnu; }
+
+# The path of objcopy or ar that goes with a compiler: NAME COMPILER..
+tool_of() { "${@:2}" -print-prog-name="$1"; }
+
+# Makes an object of the assembly that comes on standard input, in which what the program calls of a system has the names of dist/names: OBJECT
+# [COMPILER..]
+outer_object() {
+  local object=$1
+  shift
+  "$@" -c -x assembler - -o "$object" && "$(tool_of objcopy "$@")" --redefine-syms="$top/dist/names" "$object"
+}
+
+# Makes a program of the assembly that comes on standard input: PROGRAM [COMPILER..]
+link_assembly() {
+  local program=$1 status
+  shift
+  outer_object "$program.o" "$@" && "$@" -O2 -o "$program" "$program.o" "$top"/dist/{system,memory}.c -Wl,--gc-sections
+  status=$?
+  rm -f "$program.o"
+  return "$status"
+}
 
 # Makes a program of dist/ for a machine: MACHINE PROGRAM [COMPILER..]
-link_program() {
-  local machine=$1 program=$2
-  shift 2
-  (set -o pipefail; assembly "$top/dist/ddcap-$machine.s" | "$@" -O2 -o "$program" -x assembler - -x c "$top/dist/system.c" -Wl,--gc-sections)
-}
+link_program() { (set -o pipefail; assembly "$1" | link_assembly "${@:2}"); }
 
 # The folder of the toolchain that is on the path.
 kit() { dirname "$(rt doc)"; }

@@ -1,0 +1,52 @@
+/* ddcap.h: judges captures of a DDCMP line between two DECnet nodes, as the program ddcap does. docs/CAPTURES.md says what a capture is.
+ *
+ * Nothing is shared and nothing outlives a call, so each thread may judge at the same time; a stack of 128 KB is enough for it. No file is read or
+ * written, and nothing is printed.
+ *
+ *   struct ddcap_answer answer;
+ *   if (ddcap_check(a, strlen(a), b, strlen(b), 0, &answer) == DDCAP_REFUSED) puts(answer.text);
+ *   ddcap_free(&answer);
+ */
+#ifndef DDCAP_H
+#define DDCAP_H
+#include <stddef.h>
+#ifdef __cplusplus
+extern "C" {
+#endif
+
+enum {
+  DDCAP_ACCEPTED = 0, /* the captures obey the rules; of one end: as far as one end shows */
+  DDCAP_REFUSED = 1,
+  DDCAP_FAULTY = 2,   /* a text is no capture: `a: line 3: syntax`; or the choices do not go with the call */
+  DDCAP_NO_MEMORY = 3
+};
+
+/* Choices, which are added. */
+enum {
+  DDCAP_LINE = 1, /* DDCMP alone is judged, without links */
+  DDCAP_JSON = 2  /* `ddcap_why` tells each part as a JSON object on a line of its own */
+};
+
+/* What the program prints for it, standard output first. `text` ends with a NUL that `length` doesn't count. It is never NULL. */
+struct ddcap_answer {
+  int status;
+  size_t length;
+  char *text;
+};
+
+/* Judges the captures of both ends, as `ddcap check A B`. The texts need no NUL at their end. Answers the status. */
+int ddcap_check(const char *a, size_t a_length, const char *b, size_t b_length, unsigned choices, struct ddcap_answer *answer);
+
+/* Judges the capture of one end without the other, as `ddcap alone A`. */
+int ddcap_alone(const char *a, size_t a_length, unsigned choices, struct ddcap_answer *answer);
+
+/* Tells why they are refused, as `ddcap why A B`; with a `b` of NULL why one is, as `ddcap why A`. */
+int ddcap_why(const char *a, size_t a_length, const char *b, size_t b_length, unsigned choices, struct ddcap_answer *answer);
+
+/* Gives the text of an answer back. */
+void ddcap_free(struct ddcap_answer *answer);
+
+#ifdef __cplusplus
+}
+#endif
+#endif

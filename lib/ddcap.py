@@ -1,0 +1,88 @@
+"""Judges captures of a DDCMP line between two DECnet nodes, as the program ddcap does, without running it.
+
+    >>> import ddcap
+    >>> ddcap.alone('ddcap 1 1.1 1.2\\nu start\\n').is_accepted
+    True
+
+This one file and libddcap.so are all it takes (`tools/library` makes that). The library is looked for where the variable LIBDDCAP says, beside this
+file, in the folder out/ of the repository, and where the system has its libraries. Threads may judge at the same time. docs/CAPTURES.md says what
+a capture is; texts are `str` or `bytes`."""
+import ctypes
+import json as _json
+import os
+from collections import namedtuple
+
+_LINE, _JSON = 1, 2
+
+
+class Answer(namedtuple('Answer', 'status text')):
+    """What the program answers: `status` is 0 for accepted (or passed), 1 for refused, 2 where a text is no capture, 3 where there is no memory.
+    `text` is what it prints."""
+    __slots__ = ()
+
+    @property
+    def is_accepted(self):
+        """Whether the captures obey the rules; of one end, as far as one end shows."""
+        return self.status == 0
+
+    @property
+    def is_refused(self):
+        """Whether they do not."""
+        return self.status == 1
+
+    def parts(self):
+        """Of an answer of `why(.., json=True)` its objects; docs/WORDS.md has their keys."""
+        return [_json.loads(line) for line in self.text.splitlines()]
+
+
+class _Answer(ctypes.Structure):
+    _fields_ = [('status', ctypes.c_int), ('length', ctypes.c_size_t), ('text', ctypes.POINTER(ctypes.c_char))]
+
+
+def _loaded():
+    here = os.path.dirname(os.path.abspath(__file__))
+    paths = [os.environ.get('LIBDDCAP'), os.path.join(here, 'libddcap.so'), os.path.join(here, '..', 'out', 'libddcap.so')]
+    path = next((path for path in paths if path and os.path.exists(path)), 'libddcap.so')
+    try:
+        library = ctypes.CDLL(path)
+    except OSError as error:
+        raise ImportError('libddcap.so is not there, or is for another machine; tools/library makes it, and LIBDDCAP names it: %s' % error) from error
+    text = [ctypes.c_char_p, ctypes.c_size_t]
+    for name, texts in ('check', 2), ('alone', 1), ('why', 2):
+        call = getattr(library, 'ddcap_' + name)
+        call.argtypes = text * texts + [ctypes.c_uint, ctypes.POINTER(_Answer)]
+        call.restype = ctypes.c_int
+    library.ddcap_free.argtypes = [ctypes.POINTER(_Answer)]
+    library.ddcap_free.restype = None
+    return library
+
+
+_LIBRARY = _loaded()
+
+
+def _answer(call, texts, choices):
+    arguments = []
+    for text in texts:
+        content = text.encode() if isinstance(text, str) else text
+        arguments += [content, len(content or b'')]
+    got = _Answer()
+    call(*arguments, choices, ctypes.byref(got))
+    try:
+        return Answer(got.status, ctypes.string_at(got.text, got.length).decode('utf-8', 'replace'))
+    finally:
+        _LIBRARY.ddcap_free(ctypes.byref(got))
+
+
+def check(a, b, line=False):
+    """Judges the captures of both ends of a line, as `ddcap check A B`. With `line` DDCMP is judged alone, without links."""
+    return _answer(_LIBRARY.ddcap_check, [a, b], _LINE if line else 0)
+
+
+def alone(a, line=False):
+    """Judges the capture of one end without the other, as `ddcap alone A`."""
+    return _answer(_LIBRARY.ddcap_alone, [a], _LINE if line else 0)
+
+
+def why(a, b=None, json=False):
+    """Tells why two captures are refused, or one, as `ddcap why A B`. With `json` each part is an object on a line of its own: `why(..).parts()`."""
+    return _answer(_LIBRARY.ddcap_why, [a, b], _JSON if json else 0)

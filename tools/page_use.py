@@ -1,0 +1,179 @@
+"""The page as somebody uses it: rows of files that are chosen, and what has to be seen then. tools/test_page runs them in a browser."""
+import gzip
+import os
+import time
+
+from program import TOP
+
+GOOD = b'ddcap 1 1.1 1.2\nu start\ns 0506c00000017595\n'
+OTHER = b'ddcap 1 1.2 1.1\nu start\nr 0 0506c00000017595\n'
+
+# Files that are not what they seem, by their names: what is said of each, and the title once its button was pressed, where there is one.
+STRANGE = [
+    ('empty.a', b'', 'is empty', None),
+    ('packed.a', gzip.compress(GOOD), 'is a gzip file', 'Passed'),
+    ('torn.gz', gzip.compress(GOOD)[:20], 'is a gzip file', 'could not be unpacked'),
+    ('line.pcap', bytes.fromhex('d4c3b2a10200040000000000'), 'is a packet capture (pcap)', None),
+    ('line.pcapng', bytes.fromhex('0a0d0d0a1c0000004d3c2b1a'), 'is a packet capture (pcapng)', None),
+    ('some.zip', b'PK\x03\x04' + bytes(20), 'is a zip archive', None),
+    ('windows.a', GOOD.replace(b'\n', b'\r\n'), 'with CR at the end of its lines', 'Passed'),
+    ('marked.a', b'\xef\xbb\xbf' + GOOD, 'with a byte order mark', 'Passed'),
+    ('wide.a', GOOD.decode().encode('utf-16'), 'is text in UTF-16', 'Passed'),
+    ('some.png', b'\x89PNG\r\n\x1a\n', 'is a picture (PNG)', None),
+    ('random.a', bytes(range(256)), 'is no plain text', None),
+    ('notes.txt', b'hello\nworld\n', 'is no capture', None),
+]
+
+# Captures of side a with a fault, and what is said of the line.
+FAULTY = [
+    (GOOD[:-1], 'the text breaks off here'),
+    (GOOD + b's 0506C00000017595\n', 'a capital digit'),
+    (GOOD + b's 0506c0000001759\n', 'odd in number'),
+    (GOOD + b'\n', 'it is empty'),
+    (GOOD + b'# note\n', 'a comment'),
+    (GOOD + b'u start \n', 'ends with a space'),
+    (GOOD + b'r 0506c00000017595\n', 'number of the unit'),
+    (b'ddcap 1 1.1\nu start\n', 'The first line has to be the head'),
+]
+
+
+class Use:
+    """A page that is used."""
+
+    def __init__(self, browser, page, folder):
+        self.browser, self.page, self.folder = browser, page, folder
+        self.count, self.faults = 0, []
+
+    def expect(self, name, holds):
+        self.count += 1
+        if not holds:
+            self.faults.append(name)
+
+    def file(self, name, content):
+        path = os.path.join(self.folder, name)
+        with open(path, 'wb') as file:
+            file.write(content)
+        return path
+
+    def choose(self, side, *paths):
+        """Chooses files for a side, and waits for what is said: the title of the verdict, or the note."""
+        self.browser.value('globalThis.shown = null; document.querySelector("#note").hidden = true')
+        self.browser.choose('#end-%s input' % side, *paths)
+        return self.said()
+
+    def said(self):
+        note = 'document.querySelector("#note")'
+        return self.browser.until('globalThis.shown ? shown.verdict.title : !%s.hidden && %s.textContent' % (note, note))
+
+    def text(self, selector):
+        return self.browser.value('document.querySelector(%r).textContent' % selector)
+
+    def click(self, selector):
+        self.browser.value('document.querySelector(%r).click()' % selector)
+
+    def clear(self):
+        self.click('#clear')
+
+
+def example(name):
+    return os.path.join(TOP, 'examples', name)
+
+
+def several_drops(use):
+    """One drop after another."""
+    use.clear()
+    use.expect('one end passes', use.choose('a', use.file('one.a', GOOD)) == 'Passed')
+    use.expect('and with the other it is accepted', use.choose('b', use.file('one.b', OTHER)) == 'Accepted')
+    use.expect('a pair at once', use.choose('a', example('wrong_response.a'), example('wrong_response.b')) == 'Refused')
+    use.expect('the place', 'line 5 of wrong_response.a' in use.text('#verdict'))
+    use.expect('the accused', 'the sender, a' in use.text('#verdict'))
+    use.browser.until('document.querySelector("#panel .seen")')
+    use.expect('what was seen and allowed', 'RESP 1' in use.text('#panel .seen') and 'RESP 0' in use.text('#panel .allowed'))
+    use.expect('the line', '050100010001ad95' in use.text('#panel .excerpt .here'))
+    use.browser.value('globalThis.shown = null; document.querySelector("#line").click()')
+    use.expect('DDCMP alone', use.said() == 'Refused' and 'line 5 of wrong_response.a' in use.text('#verdict'))
+    use.browser.until('document.querySelector("#panel .excerpt") && document.querySelector("#panel").textContent.includes("Look for")')
+    use.browser.value('globalThis.shown = null; document.querySelector("#line").click()')
+    use.expect('and with links again', use.said() == 'Refused')
+    use.expect('a wire text takes the place of both', use.choose('b', example('two_way_links.wire')) == 'Accepted')
+    saved = use.browser.value('[...document.querySelectorAll("#saved a")].map(it => it.download).join()')
+    use.expect('its captures can be saved', saved == 'line.a,line.b')
+    use.expect('a wire text without an explanation', use.choose('a', os.path.join(TOP, 'tools', 'tap', 'skipped_number.wire')) == 'Unexplained')
+    use.expect('its place, and nobody accused', 'unit 7 of a' in use.text('#verdict') and 'Accused' not in use.text('#verdict'))
+    use.expect('a script too', use.choose('a', example('lost_and_damaged.script')) == 'Accepted')
+    use.expect('a pair in place of a script', use.choose('a', example('two_links.a'), example('two_links.b')) == 'Accepted')
+    use.click('#swap')
+    use.expect('swapped sides', 'two_links.b' in use.text('#end-a') and use.said() == 'Accepted')
+    use.clear()
+    use.expect('cleared', use.browser.value('document.querySelector("#result").hidden'))
+
+
+def strange_files(use):
+    """What is not what it seems is told so, and mended where it can be."""
+    for name, content, words, after in STRANGE:
+        use.clear()
+        said = use.choose('a', use.file(name, content))
+        use.expect('%s: %s' % (name, said), words in said and name in said)
+        use.expect('%s has a button' % name, bool(after) == use.browser.value('Boolean(document.querySelector("#note button"))'))
+        if after:
+            use.browser.value('globalThis.shown = null; document.querySelector("#note").hidden = true')
+            use.click('#note button')
+            said = use.said()
+            use.expect('%s, mended: %s' % (name, said), after in said)
+    use.clear()
+    large = use.file('large.a', b'')
+    os.truncate(large, 2 << 30)
+    said = use.choose('a', large)
+    use.expect('2 GB: ' + said, '2.1 GB is more than this page can hold' in said)
+    for content, words in FAULTY:
+        use.clear()
+        use.choose('a', use.file('faulty.a', content))
+        use.browser.until('document.querySelector("#panel h3")')
+        use.expect(words, words.lower() in use.text('#panel').lower())
+
+
+def tabs_and_keys(use):
+    """Every tab shows something, also by keys; each control has a name."""
+    use.choose('a', example('wrong_delivery.a'), example('wrong_delivery.b'))
+    count = use.browser.value('document.querySelectorAll(".tabs button").length')
+    use.expect('seven tabs', count == 7)
+    use.browser.value('document.querySelector(".tabs button").focus()')
+    for number in range(1, count):
+        use.browser.send('Input.dispatchKeyEvent', type='keyDown', key='ArrowRight', code='ArrowRight', windowsVirtualKeyCode=39)
+        chosen = '(it => it.id === "tab-%d" && it.getAttribute("aria-selected") === "true" && it.textContent)(document.activeElement)'
+        name = use.browser.until(chosen % number)
+        use.browser.value('new Promise(later => setTimeout(later, 150))')
+        shown = use.browser.value('(it => it.textContent.length + (it.firstChild.shadowRoot ? it.firstChild.shadowRoot.textContent.length : 0))'
+                                  '(document.querySelector("#panel"))')
+        use.expect('tab %s is not empty' % name, shown > 40)
+        use.expect('tab %s can be shown' % name, 'could not be shown' not in use.text('#panel'))
+    named = ('button', 'tab', 'checkbox', 'link', 'tabpanel', 'img')
+    nodes = use.browser.send('Accessibility.getFullAXTree')['nodes']
+    found = [node for node in nodes if node.get('role', {}).get('value') in named]
+    use.expect('controls', len(found) > 10)
+    for node in found:
+        use.expect('a %s has a name' % node['role']['value'], node.get('name', {}).get('value'))
+
+
+def opened(use):
+    """The page from nothing: how soon it answers, and that it connects to nothing."""
+    use.browser.open('about:blank')
+    begun = time.time()
+    use.browser.open('file://' + use.page + '#wrong_response')
+    use.expect('an example by its name', use.browser.until('globalThis.shown && shown.verdict.title') == 'Refused')
+    print('from opening the page to an answer: %.2f s' % (time.time() - begun))
+    use.expect('no connection', use.browser.value('fetch("data:text/plain,x").then(() => false, () => true)'))
+    use.browser.errors.clear()  # which that was
+    policy = use.browser.value('document.querySelector("meta[http-equiv]").content')
+    use.expect('the policy', "default-src 'none'" in policy and 'unsafe-inline' not in policy and 'http' not in policy)
+
+
+def expectations(browser, page, folder):
+    """How many things were expected of the page, and those that did not hold."""
+    use = Use(browser, page, folder)
+    opened(use)
+    for part in several_drops, strange_files, tabs_and_keys:
+        part(use)
+    for error in browser.errors:
+        use.expect('an error of the page: ' + error, False)
+    return use.count, use.faults

@@ -1,0 +1,81 @@
+// What the program answered, taken apart for the page. The words stay the program's.
+
+const decode = bytes => new TextDecoder().decode(bytes);
+
+// What was printed to both streams.
+export const printed = answer => decode(answer.out) + decode(answer.err);
+
+// Of a verdict its kind (good, bad or fault), a title, what it means, and the program's own first line.
+export function verdictOf(answer, isOneEnd) {
+  const [first] = printed(answer).split('\n'), word = first.split(' ')[0];
+  const rows = {
+    accepted: ['good', 'Accepted', 'Some order of all records of both captures obeys the protocol.'],
+    passed: ['good', 'Passed', 'This end kept its rules, as far as one end shows.'],
+    refused: ['bad', 'Refused', isOneEnd ? 'No capture of the other end, whatever it is, goes with this one.'
+      : 'No order of the records obeys the protocol, whatever follows what was read.'],
+    unexplained: ['bad', 'Unexplained', 'No consistent explanation was found. This alone accuses neither node.'],
+  };
+  const fault = answer.status === 2 ? 'A text can’t be read to its end.' : 'Something failed that is no fault of the texts.';
+  const [kind, title, meaning] = rows[answer.status < 2 ? word : ''] || ['fault', 'Not judged', fault];
+  return {kind, title, meaning, first};
+}
+
+// The fault of a text: {side, line, fault}, or null. `a: line 3: syntax`
+export function faultOf(answer) {
+  const found = printed(answer).match(/^(\S+): line (\d+): (.*)$/m);
+  return found && {side: found[1], line: Number(found[2]), fault: found[3]};
+}
+
+// The refusal of `why --json`: its objects by what they are; of states, links and edits a list.
+export function refusalOf(answer) {
+  const told = {state: [], link: [], edit: []};
+  for (const line of decode(answer.out).split('\n')) {
+    if (!line.startsWith('{')) continue;
+    const item = JSON.parse(line);
+    if (told[item.what] instanceof Array) told[item.what].push(item);
+    else told[item.what] = item;
+  }
+  return told.refused ? told : null;
+}
+
+// The same of the first line of a refusal, where `why` tells nothing of it; or null.
+export function refusedIn(text) {
+  const found = text.match(/^refused ([ab]) (\d+) line (\d+): (\d+) (\w+)/);
+  if (!found) return null;
+  const [, side, record, line, number, name] = found;
+  return {refused: {side, record: Number(record), line: Number(line), number: Number(number), name}, state: [], link: [], edit: []};
+}
+
+// The rows of `why` with these names, as rule, accused or recorder: of each name a list of texts.
+export function rowsOf(text, ...names) {
+  const found = Object.fromEntries(names.map(name => [name, []]));
+  for (const line of text.split('\n')) {
+    const row = line.match(/^ {0,2}(\w+) +(.*)$/);
+    if (row && found[row[1]]) found[row[1]].push(row[2]);
+  }
+  return found;
+}
+
+// The counts of an accepted answer: {names, a: [..], b: [..]}, or null. `a records 25 sent 11 ..`
+export function countsOf(text) {
+  const sides = Object.fromEntries([...text.matchAll(/^([ab]) (records (?:\d+ \w+ )*\d+)$/gm)].map(([, side, words]) => [side, words.split(' ')]));
+  const some = sides.a || sides.b;
+  if (!some) return null;
+  const values = words => words && words.filter((_, i) => i % 2 === 1).map(Number);
+  return {names: some.filter((_, i) => i % 2 === 0), a: values(sides.a), b: values(sides.b)};
+}
+
+// The table of `cover`: {through: [..], rows: [[name, a, b], ..]}, or null.
+export function coverOf(text) {
+  const rows = [...text.matchAll(/^(.+?) {2,}(\d+|\.) +(\d+|\.)$/gm)].map(([, ...row]) => row);
+  return rows.length ? {through: [...text.matchAll(/^[ab] went through .*$/gm)].map(([line]) => line), rows} : null;
+}
+
+// What `explain` says of a reason: paragraphs and lists, in order, without its heading: [{text}, {items: [..]}, ..]
+export function explanationOf(text) {
+  return text.split('\n\n').slice(1).map(part => {
+    const lines = part.trimEnd().split('\n');
+    if (!lines[0].startsWith('- ')) return {text: lines.join(' ')};
+    return {items: part.trimEnd().split(/\n(?=- )/).map(item => item.slice(2).split('\n').map(line => line.trim()).join(' '))};
+  }).filter(part => part.items || part.text);
+}
