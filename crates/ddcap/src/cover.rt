@@ -8,7 +8,7 @@ ghost use Rattle.ddcap.specs.Printed.{moved, stream_of};
 
 use crate::check::{print, print_fault, print_out_of_memory};
 use crate::path_text::put_path;
-use crate::text::{FAILED, verdict_line, verdict_status};
+use crate::text::{verdict_line, verdict_status};
 use coverage::{Counts, Cover, judge_covered, table};
 use pair_judge::Verdict;
 use std::alloc::{AllocError, Global};
@@ -112,18 +112,21 @@ fn covered_text(alloc: Global, covered: &Covered) -> Result<String, AllocError>
     format!(in alloc; "{lines}{table}")
 }
 
-/// Prints which of several pairs it was of which a fault was told: `pair 2: A B`. Where there is no memory for that, nothing more is told.
+/// Prints which of several pairs it was of which a fault was told: `pair 2: A B`, and answers that fault's status, or 3 where a write failed. Where
+/// there is no memory for the line, nothing more is told.
 pub fn print_pair<E: Write>(
     alloc: Global,
     err: &mut Tally<E>,
     number: u64,
     path_a: &str,
     path_b: &str,
-)
-    ensures { names.PrintsPair (moved E.contents err.old err.new) (names.pair_text number path_a.now path_b.now) }
+    status: u8,
+) -> u8
+    ensures { names.PrintsPair (moved E.contents err.old err.new) (names.pair_text number path_a.now path_b.now) status result }
 {
-    if let Ok(text) = pair_text(alloc, number, path_a, path_b) {
-        print(err, text.as_slice(), FAILED);
+    match pair_text(alloc, number, path_a, path_b) {
+        Ok(text) => print(err, text.as_slice(), status),
+        Err(_) => status,
     }
 }
 

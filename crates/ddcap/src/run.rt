@@ -134,10 +134,10 @@ impl<R: Files + AllocGlobal, O: Write, E: Write> Program<'_, '_, '_, R, O, E> {
             let Err(status) = self.cover_files(pair[0], pair[1], &mut covered) else {
                 continue;
             };
-            if files.len() > 2 {
-                print_pair(self.rt.alloc(), self.err, number, pair[0], pair[1]);
+            if files.len() == 2 {
+                return Err(status);
             }
-            return Err(status);
+            return Err(print_pair(self.rt.alloc(), self.err, number, pair[0], pair[1], status));
         }
         Ok(print_covered(self.rt.alloc(), &covered, self.out, self.err))
     }

@@ -43,5 +43,5 @@ pair_text number path_a path_b =
     codes "pair " ++ (decimal number ++ (codes ": " ++ (told_path path_a ++ (codes " " ++ (told_path path_b ++ codes "\n")))))
 
 -- it is written; where there is no memory for that, nothing is
-abbrev pub PrintsPair : (err : Moved) → (text : List ℕ) → Type 0
-PrintsPair err text = ((status : ℕ) × Writes err.old err.new text 3 status) ⊎ (err.new ≡ err.old)
+abbrev pub PrintsPair : (err : Moved) → (text : List ℕ) → (status result : ℕ) → Type 0
+PrintsPair err text status result = Writes err.old err.new text status result ⊎ ((err.new ≡ err.old) × (result ≡ status))
