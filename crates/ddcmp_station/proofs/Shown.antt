@@ -1,11 +1,11 @@
 -- What is shown of a station is what is true of it.
-use Rattle.std.proofs.Common.{◌≡◌, ℕ, ◌+◌, ◌-◌, ◌≤◌, List, length, drop, map, sym, ap, ◌∙◌, arith, length-drop}
+use Rattle.std.proofs.Common.{◌≡◌, ℕ, ◌+◌, ◌-◌, ◌≤◌, List, length, drop, sym, ap, ◌∙◌, arith, length-drop}
 use Rattle.std.proofs.lemmas.List.{length-map}
 use Rattle.dna_station.specs.Bounds.{IsOrdered}
 use Rattle.dna_station.specs.Cut.{AreLabelled, cut}
 use Rattle.dna_station.specs.Station.{Station, given, wire}
 use Rattle.dna_station.specs.WireStation.{HeldPacket}
-use Rattle.ddcmp_station.specs.View.{open_of, true_view, view_of}
+use Rattle.ddcmp_station.specs.View.{true_view, view_of}
 use Rattle.ddcmp_station.specs.declared.view.StationView.{StationView}
 
 wire_on : (a n : ℕ) → a ≤ n → wire (wire a + (n - a)) ≡ wire n

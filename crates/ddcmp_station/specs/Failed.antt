@@ -8,9 +8,10 @@ use Rattle.dna_station.specs.declared.refusal.StationRefusal.{StationRefusal}
 use Rattle.dna_station.specs.declared.refusal.StationRefusal.TheVariants.{WrongState, WrongNumber, WrongResponse, WindowFull, Changed, NoCause}
 use Rattle.dna_station.specs.declared.refusal.StationRefusal.TheVariants.{WrongKeep, CrossedPeriod}
 use Rattle.dna_station.specs.declared.tag.Tag.{Tag}
-use Rattle.dna_station.specs.Table.{Check, checks, Needs, Anything, Fresh, OfPair, row}
+use Rattle.dna_station.specs.Table.{Check, checks, Needs, row}
 use Rattle.dna_station.specs.Table as table
-use Rattle.dna_station.specs.PeriodRule.{meets}
+use Rattle.dna_station.specs.ArrivalRows.{need_of}
+use Rattle.dna_station.specs.PeriodRule.{PeriodRule, meets}
 use Rattle.dna_station.specs.Book.{ArrivalValue, Sound, HeaderBad, DataBad, resp_of, num_of, body_of, takes_by}
 use Rattle.dna_station.specs.Station.{wire}
 use Rattle.dna_station.specs.WireStation.{HeldPacket, WireStation}
@@ -21,8 +22,6 @@ use Rattle.ddcmp_station.specs.declared.failed.FailedSending.{FailedSending}
 use Rattle.ddcmp_station.specs.declared.failed.FailedSending.TheVariants as failed
 use Rattle.ddcmp_station.specs.declared.failed.FailedArrival.{FailedArrival}
 use Rattle.ddcmp_station.specs.declared.failed.FailedArrival.TheVariants as arrivals
-use Rattle.ddcmp_station.specs.declared.failed.PeriodNeed.{PeriodNeed}
-use Rattle.ddcmp_station.specs.declared.failed.PeriodNeed.TheVariants as needed
 
 -- the reason of a NAK; a message that is none has none that needs a cause
 abbrev pub reason_in : MessageValue → NakReason
@@ -83,11 +82,6 @@ refusal_of_failed (failed.CauseIsOpen seen causes) = NoCause
 
 -- ---- an arrival
 
-abbrev pub need_of : Needs → PeriodNeed
-need_of Anything = needed.Anything
-need_of Fresh = needed.Fresh
-need_of OfPair = needed.OfPair
-
 abbrev pub failed_keep : (takes kept : Bool) → Option FailedArrival
 failed_keep takes false = None
 failed_keep true true = None
@@ -97,13 +91,13 @@ module _ {L : Type 0} where
   abbrev pub needs_of : WireStation L → MessageValue → Needs
   needs_of w m = (row w.variables.state m).needs
 
-  abbrev pub failed_arrival : WireStation L → ArrivalValue Tag → (kept : Bool) → Option FailedArrival
-  failed_arrival w (Sound m tag) kept =
-      if meets (needs_of w m) (wire_tag w) tag
+  abbrev pub failed_arrival : PeriodRule → WireStation L → ArrivalValue Tag → (kept : Bool) → Option FailedArrival
+  failed_arrival rule w (Sound m tag) kept =
+      if rule (meets (needs_of w m) (wire_tag w) tag)
       then failed_keep (takes_by wire_book w m tag) kept
       else Some (arrivals.Period (need_of (needs_of w m)) tag (wire_tag w))
-  failed_arrival w HeaderBad kept = failed_keep false kept
-  failed_arrival w DataBad kept = failed_keep false kept
+  failed_arrival rule w HeaderBad kept = failed_keep false kept
+  failed_arrival rule w DataBad kept = failed_keep false kept
 
 abbrev pub refusal_of_arrival : FailedArrival → StationRefusal
 refusal_of_arrival (arrivals.Period needs seen own) = CrossedPeriod

@@ -1,7 +1,7 @@
 -- What a contract sees of the types of this crate; the rules stand in `dna_station`
 pub mod Arrival
-pub mod Fault
 pub mod PeriodRules
+pub mod Permit
 pub mod Sent
 pub mod View
 pub mod Failed

@@ -1,5 +1,5 @@
 -- What is shown of a station: of what a node keeps of it, and the same on true numbers.
-use Rattle.std.specs.Prelude.{ℕ, ◌+◌, ◌-◌, length}
+use Rattle.std.specs.Prelude.{◌+◌, ◌-◌, length}
 use Rattle.dna_station.specs.NakCauses.{Causes}
 use Rattle.dna_station.specs.Station.{Station, given, wire}
 use Rattle.dna_station.specs.WireStation.{WireStation}

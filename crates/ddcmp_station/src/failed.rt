@@ -1,8 +1,11 @@
 //! Which check a message does not pass, with what is seen and what is allowed.
 
+ghost use Rattle.std.specs.Prelude.{◌≡◌};
+ghost use Rattle.ddcmp_station.specs.Failed.{refusal_of_arrival, refusal_of_failed};
+
 use crate::view::OpenCauses;
 use ddcmp_msg::NakReason;
-use dna_station::{State, Tag};
+use dna_station::{PeriodNeed, State, StationRefusal, Tag};
 
 /// The first check that a message does not pass which a station's node sent (DDCMP 4.1, startup state table, data transfer), with what is
 /// seen there and what is allowed.
@@ -75,13 +78,32 @@ pub enum FailedArrival {
     Keep,
 }
 
-/// What the row of a message needs of the periods.
-#[derive(Clone, Copy, Debug, PartialEq, Eq)]
-pub enum PeriodNeed {
-    /// Nothing.
-    Anything,
-    /// The message answers the receiver's present period: that is the partner in its tag.
-    Fresh,
-    /// Besides, it comes from the receiver's partner: that is the period in its tag.
-    OfPair,
+impl FailedSending {
+    /// The refusal that goes with it.
+    pub fn refusal(self) -> StationRefusal
+        ensures { result ≡ refusal_of_failed self }
+    {
+        match self {
+            FailedSending::State { .. } => StationRefusal::WrongState,
+            FailedSending::RespIsLast { .. } => StationRefusal::WrongResponse,
+            FailedSending::NumIsNext { .. } => StationRefusal::WrongNumber,
+            FailedSending::NumIsHighest { .. } => StationRefusal::WrongNumber,
+            FailedSending::SomeOutstanding => StationRefusal::WrongState,
+            FailedSending::RoomIfNew { .. } => StationRefusal::WindowFull,
+            FailedSending::AsFirstGiven { .. } => StationRefusal::Changed,
+            FailedSending::CauseIsOpen { .. } => StationRefusal::NoCause,
+        }
+    }
+}
+
+impl FailedArrival {
+    /// The refusal that goes with it.
+    pub fn refusal(self) -> StationRefusal
+        ensures { result ≡ refusal_of_arrival self }
+    {
+        match self {
+            FailedArrival::Period { .. } => StationRefusal::CrossedPeriod,
+            FailedArrival::Keep => StationRefusal::WrongKeep,
+        }
+    }
 }

@@ -6,17 +6,17 @@
 mod arrival;
 mod causes;
 mod failed;
-mod fault;
 mod laws;
+mod permit;
 mod sent_as;
 mod station;
 mod view;
 
 pub use arrival::Arrival;
-pub use dna_station::{State, StationEvent, StationRefusal, Tag};
-pub use failed::{DataByte, FailedArrival, FailedSending, PeriodNeed};
-pub use fault::StationFault;
+pub use dna_station::{ArrivalRow, PeriodNeed, State, StationEvent, StationRefusal, Tag};
+pub use failed::{DataByte, FailedArrival, FailedSending};
 pub use laws::{allowed_arrives, allowed_passes, view_shows_truth};
+pub use permit::{ArrivalPermit, SendPermit};
 pub use sent_as::SentAs;
 pub use station::{HeldPacket, Station};
 pub use view::{OpenCauses, StationView};

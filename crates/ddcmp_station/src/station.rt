@@ -1,19 +1,15 @@
 //! The station, and what its user does.
 
-ghost use Rattle.std.specs.Prelude.{◌≡◌, ◌+◌, ◌^◌, ◌<◌, ◌≤◌, length, nat_le, IfOk, OnOk, OnErr, IfErr};
+ghost use Rattle.std.specs.Prelude.{◌≡◌, ◌+◌, ◌^◌, ◌<◌, ◌≤◌, Some, length, nat_le, IfOk, OnOk, OnErr, IfErr};
 ghost use Rattle.dna_station.specs.Table.{user_refusal};
 ghost use Rattle.dna_station.specs.WireBook.{acknowledges};
 ghost use Rattle.dna_station.specs.WireStation.{new_wire_station, wire_after_event, wire_after_label, load};
-ghost use Rattle.ddcmp_station.specs.Fault.{IsRefused};
 
 mod arriving;
-mod asking;
 mod failing;
-mod failing_arrival;
 mod sending;
 mod viewing;
 
-use crate::StationFault;
 use crate::causes::Causes;
 use dna_station::{State, StationEvent, StationRefusal};
 use station_variables::StationVariables;
@@ -24,8 +20,8 @@ use wire_base::{Copied, Window};
 /// A packet that has a number and is not acknowledged: a copy of its bytes, and the label of type `T` that the node put beside it, if it did.
 pub type HeldPacket<T> = station_variables::HeldPacket<T, Copied>;
 
-/// One station, with three verbs: [`Station::user`], what its user does; [`Station::sent`], its node sent this;
-/// [`Station::arrived`], this came.
+/// One station, with three verbs: [`Station::user`], what its user does; [`Station::send`], its node sent this; [`Station::arrive`], this
+/// came. What is sent and what comes is asked first ([`Station::ask_to_send`], [`Station::ask_arrival`]), which changes nothing.
 ///
 /// ```text
 ///            start            STRT comes      ACK or data with RESP 0, or STACK, comes
@@ -100,14 +96,13 @@ impl<T: Copy, W: Window<HeldPacket<T>, 256>> Station<T, W> {
     /// which has no partner yet: all packets and causes are dropped, and the next packet will have number 1. A halt leads to
     /// HALTED from every state. The counts that the station keeps are together below 2^63. Takes no memory.
     ///
-    /// `Refused` with `WrongUserEvent`, and with nothing else: a start in a state other than HALTED. The station stays as it
+    /// `WrongUserEvent`, and nothing else: a start in a state other than HALTED. The station stays as it
     /// was.
-    pub fn user(&mut self, event: StationEvent) -> Result<(), StationFault>
+    pub fn user(&mut self, event: StationEvent) -> Result<(), StationRefusal>
         requires { load self.old < 2 ^ 63 }
         ensures allowed { OnOk result (user_refusal self.old.variables.state event ≡ None) }
         ensures ok { OnOk result (self.new ≡ wire_after_event self.old event) }
-        ensures refused { IfErr result (λ fault. IsRefused (user_refusal self.old.variables.state event) fault) }
-        ensures alone { IfErr result (λ fault. fault ≡ StationFault.Refused StationRefusal.WrongUserEvent) }
+        ensures refused { IfErr result (λ refusal. user_refusal self.old.variables.state event ≡ Some refusal) }
         ensures err { OnErr result (self.new ≡ self.old) }
         ensures load { load self.new ≤ load self.old + 1 }
     {
@@ -121,17 +116,16 @@ impl<T: Copy, W: Window<HeldPacket<T>, 256>> Station<T, W> {
     }
 
     // Its user starts it.
-    fn start(&mut self) -> Result<(), StationFault>
+    fn start(&mut self) -> Result<(), StationRefusal>
         requires { load self.old < 2 ^ 63 }
         ensures allowed { OnOk result (user_refusal self.old.variables.state StationEvent.Start ≡ None) }
         ensures ok { OnOk result (self.new ≡ wire_after_event self.old StationEvent.Start) }
-        ensures refused { IfErr result (λ fault. IsRefused (user_refusal self.old.variables.state StationEvent.Start) fault) }
-        ensures alone { IfErr result (λ fault. fault ≡ StationFault.Refused StationRefusal.WrongUserEvent) }
+        ensures refused { IfErr result (λ refusal. user_refusal self.old.variables.state StationEvent.Start ≡ Some refusal) }
         ensures err { OnErr result (self.new ≡ self.old) }
         ensures load { load self.new ≤ load self.old + 1 }
     {
         let State::Halted = self.variables.state() else {
-            return Err(StationFault::Refused(StationRefusal::WrongUserEvent));
+            return Err(StationRefusal::WrongUserEvent);
         };
         self.variables.start();
         self.period += 1;

@@ -3,6 +3,7 @@ pub mod NakCauses
 pub mod Table
 pub mod PeriodRule
 pub mod Book
+pub mod ArrivalRows
 -- the station on true numbers, and what the words of the tables mean there
 pub mod Station
 pub mod Truth

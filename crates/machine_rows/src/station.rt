@@ -6,7 +6,9 @@ ghost use Rattle.dna_station.specs.WireStation.{load};
 use crate::Plays;
 use crate::words::{bytes, number, number_or_none};
 use ddcmp_msg::{Reading, read_unit};
-use ddcmp_station::{Arrival, HeldPacket, SentAs, State, Station, StationEvent, StationFault, Tag};
+use ddcmp_station::{
+    Arrival, HeldPacket, SentAs, State, Station, StationEvent, StationRefusal, Tag,
+};
 use std::alloc::{AllocError, Global};
 use std::str::Split;
 use wire_base::Window;
@@ -27,8 +29,15 @@ enum Given {
     Packet(Vec<u8>),
 }
 
+// Why it makes no step.
+#[derive(Drop)]
+enum Fault {
+    Refused(StationRefusal),
+    OutOfMemory,
+}
+
 // What a call answers. None where the words are no call.
-type Answer = Option<Result<Given, StationFault>>;
+type Answer = Option<Result<Given, Fault>>;
 
 impl<W: Window<HeldPacket<u64>, 256> + Drop> Plays for OneStation<u64, W> {
     fn play(&mut self, alloc: Global, line: &str) -> Result<String, AllocError> {
@@ -80,13 +89,13 @@ impl<W: Window<HeldPacket<u64>, 256>> OneStation<u64, W> {
 fn does<W: Window<HeldPacket<u64>, 256>>(
     station: &mut Station<u64, W>,
     event: StationEvent,
-) -> Result<Given, StationFault>
+) -> Result<Given, Fault>
     requires { load station.old < 2 ^ 63 }
     ensures { load station.new ≤ load station.old + 1 }
 {
     match station.user(event) {
         Ok(()) => Ok(Given::Nothing),
-        Err(fault) => Err(fault),
+        Err(refusal) => Err(Fault::Refused(refusal)),
     }
 }
 
@@ -103,9 +112,13 @@ fn sends<W: Window<HeldPacket<u64>, 256>>(
     let Reading::Sound(message) = read_unit(unit.as_slice()) else {
         return None;
     };
-    let sent = match station.sent(&message) {
+    let permit = match station.ask_to_send(&message) {
+        Ok(permit) => permit,
+        Err(failed) => return Some(Err(Fault::Refused(failed.refusal()))),
+    };
+    let sent = match station.send(&message, permit) {
         Ok(sent) => sent,
-        Err(fault) => return Some(Err(fault)),
+        Err(AllocError) => return Some(Err(Fault::OutOfMemory)),
     };
     if let Some(label) = label
         && sent.first
@@ -134,10 +147,14 @@ fn takes<W: Window<HeldPacket<u64>, 256>>(
         Reading::DataBad => Arrival::DataBad,
         Reading::Malformed(_) => return None,
     };
-    match station.arrived::<true>(arrival, kept) {
-        Ok(Some(packet)) => Some(Ok(Given::Packet(Vec::from_slice(alloc, packet).ok()?))),
-        Ok(None) => Some(Ok(Given::Nothing)),
-        Err(fault) => Some(Err(fault)),
+    let permit = match station.ask_arrival::<true>(arrival, kept) {
+        Ok(permit) => permit,
+        Err(failed) => return Some(Err(Fault::Refused(failed.refusal()))),
+    };
+    station.arrive(arrival, permit.row, kept);
+    match permit.packet {
+        Some(packet) => Some(Ok(Given::Packet(Vec::from_slice(alloc, packet).ok()?))),
+        None => Some(Ok(Given::Nothing)),
     }
 }
 
@@ -161,12 +178,12 @@ fn told(alloc: Global, given: Given, state: State, period: u64) -> Result<String
 
 fn told_fault(
     alloc: Global,
-    fault: StationFault,
+    fault: Fault,
     state: State,
     period: u64,
 ) -> Result<String, AllocError> {
     match fault {
-        StationFault::Refused(refusal) => format!(in alloc; "{refusal:?} {state:?} {period}"),
-        StationFault::OutOfMemory => String::from_str(alloc, "out of memory"),
+        Fault::Refused(refusal) => format!(in alloc; "{refusal:?} {state:?} {period}"),
+        Fault::OutOfMemory => String::from_str(alloc, "out of memory"),
     }
 }

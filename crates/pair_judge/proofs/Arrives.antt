@@ -5,7 +5,8 @@ use Rattle.dna_station.specs.declared.tag.Tag.{Tag}
 use Rattle.dna_links.specs.declared.tag.LinkTag.{LinkTag}
 use Rattle.dna_station.specs.declared.refusal.StationRefusal.{StationRefusal}
 use Rattle.dna_station.specs.declared.refusal.StepRefusal.{StepRefusal}
-use Rattle.dna_station.specs.Book.{ArrivalValue, Sound, HeaderBad, DataBad, body_of, takes_by}
+use Rattle.dna_station.specs.declared.refusal.StationRefusal.TheVariants.{CrossedPeriod}
+use Rattle.dna_station.specs.Book.{ArrivalValue, Sound, HeaderBad, DataBad, body_of, keep_refusal, meets_by, takes_by}
 use Rattle.dna_node.specs.Content.{content}
 use Rattle.dna_station.specs.Machine.{unless_refused}
 use Rattle.dna_node.specs.TagRules.{Rules}
@@ -61,6 +62,23 @@ module _ (rules : Rules) (s : WireLayers) (link : Option LinkTag) (kept : Bool) 
       ∙ keeps
   arrives_kept HeaderBad packet after tag r free taken after_is tag_is keeps = absurd (cc)
   arrives_kept DataBad packet after tag r free taken after_is tag_is keeps = absurd (cc)
+
+-- what is kept is taken
+kept_untaken : {P : Type 0} (met t : Bool) (body : List ℕ) → cond met (keep_refusal t true) (Some CrossedPeriod) ≡ None →
+    cond (t && true) (Some body) None ≡ None → P
+kept_untaken met true body free nothing = absurd (cc)
+kept_untaken true false body free nothing = absurd (cc)
+kept_untaken false false body free nothing = absurd (cc)
+
+-- nothing was taken: the links stay
+pub arrives_untaken : (rules : Rules) (s : WireLayers) (link : Option LinkTag) (kept : Bool) (arrival : ArrivalValue Tag) →
+    wire_arrival_refusal rules.periods s.station arrival kept ≡ None → wire_taken s.station arrival kept ≡ None →
+    (wire_layers_machine rules).arrives s (with_link link arrival) kept ≡ Ok (record s { station = wire_after_arrival s.station arrival kept })
+arrives_untaken rules s link false arrival free nothing = on_station rules s link false arrival free
+arrives_untaken rules s link true (Sound m tag) free nothing =
+    kept_untaken (meets_by wire_book rules.periods s.station m tag) (takes_by wire_book s.station m tag) (body_of m) free nothing
+arrives_untaken rules s link true HeaderBad free nothing = on_station rules s link true HeaderBad free
+arrives_untaken rules s link true DataBad free nothing = on_station rules s link true DataBad free
 
 -- what is taken shows no damage, and was kept
 pub taken_may_keep : (s : WireLayers) (arrival : ArrivalValue Tag) (kept : Bool) (packet : List ℕ) → wire_taken s.station arrival kept ≡ Some packet →

@@ -1,5 +1,5 @@
 -- Both ends where the judge stops show the world in which the named record is refused, or waits.
-use Rattle.std.proofs.Common.{◌≡◌, ℕ, List, [], ◌∷◌, ◌++◌, length, map, drop, Option, Some, None, true, refl, sym, ap, ap₂, subst, ◌∙◌}
+use Rattle.std.proofs.Common.{◌≡◌, ℕ, List, [], ◌∷◌, ◌++◌, length, map, drop, Option, Some, None, refl, sym, ap, ap₂, subst, ◌∙◌}
 use Rattle.std.proofs.Common.{arith, length-drop}
 use Rattle.std.proofs.lemmas.List.{drop-map}
 use Rattle.std.specs.List.{slice_get}
@@ -52,7 +52,7 @@ use Rattle.pair_judge.specs.Order.{MadeRecord, records_of}
 use Rattle.pair_judge.specs.Watched.{WasTold}
 use Rattle.pair_judge.specs.inner.Runs.{tag_of}
 use Rattle.pair_judge.specs.inner.Stopped.{IsStoppedIn, ends_of, found_of}
-use Rattle.pair_judge.specs.inner.Tops.{links_on_top_left}
+use Rattle.pair_judge.specs.inner.Tops.{links_on_top}
 use Rattle.pair_judge.specs.inner.Wire.{JudgeHalf, JudgeTop, JudgeWorld, judge_pair}
 use Rattle.pair_judge.proofs.FailsThere.{cause_there, fails_same, order_named, step_named, unit_named, waits_by_hint}
 use Rattle.pair_judge.proofs.Runs.{length-units_from}
@@ -94,7 +94,7 @@ ahead_listed bytes Ended = refl
 -- the laws that the two ends rest on
 pub record EndLaws : Type 1 where
   pub seen : (head_a head_b : Head) (w : JudgeWorld) (of_a of_b : List Record) →
-      Run (judge_pair links_on_top_left) (wire_layers_start head_a head_b) of_a of_b w → IsSeenLayers head_a head_b w of_a of_b
+      Run (judge_pair links_on_top) (wire_layers_start head_a head_b) of_a of_b w → IsSeenLayers head_a head_b w of_a of_b
   pub ordered_a : (head_a head_b : Head) (w : NodeWorld) (of_a of_b : List Record) →
       Run (kind_pair both_layers) (kind_start both_layers head_a head_b) of_a of_b w → IsOrdered w.a.state.station.station
   pub ordered_b : (head_a head_b : Head) (w : NodeWorld) (of_a of_b : List Record) →
@@ -104,7 +104,7 @@ pub record EndLaws : Type 1 where
 -- ---- an end shows the half that it stands for
 
 module _ (laws : EndLaws) (own : End) (incoming : Line) (w : JudgeHalf) (half : NodeHalf) (stands : StandsForHalf own incoming w)
-    (shows : ShowsHalf links_on_top_left w half) where
+    (shows : ShowsHalf links_on_top w half) where
   station_true : IsOrdered half.state.station.station → view_of own.layers.station ≡ true_view half.state.station.station
   station_true ordered =
       ap (λ (l : WireLayers). view_of l.station) (sym stands.layers ∙ shows.station)
@@ -128,7 +128,7 @@ module _ (laws : EndLaws) (own : End) (incoming : Line) (w : JudgeHalf) (half : 
   front_true = sym stands.front ∙ shows.front
 
 node_shown : EndLaws → (own : Course) (incoming : Line) (w : JudgeHalf) (half : NodeHalf) → StandsForHalf own.end incoming w →
-    ShowsHalf links_on_top_left w half → IsOrdered half.state.station.station → ShowsNode (shown_end own incoming.gone) half
+    ShowsHalf links_on_top w half → IsOrdered half.state.station.station → ShowsNode (shown_end own incoming.gone) half
 node_shown laws own incoming w half stands shows ordered = record {
   layers = layers_true laws own.end incoming w half stands shows;
   station = station_true laws own.end incoming w half stands shows ordered;
@@ -185,15 +185,15 @@ module _ (top : JudgeTop)
 -- ---- a check of the reason fails where the judge stops
 
 module _ (text_a text_b : Option (List ℕ)) (tells : List MadeRecord → Type 0) (s : Stopped)
-    (i : IsStoppedIn links_on_top_left text_a text_b tells s) where
+    (i : IsStoppedIn links_on_top text_a text_b tells s) where
   abbrev of_a : Track
   of_a = along text_a s.a i.come_a i.made_a
 
   abbrev of_b : Track
   of_b = along text_b s.b i.come_b i.made_b
 
-  named_at : (side : Side) (place : ℕ) (cause : Cause) → StopsAt links_on_top_left of_a of_b side place cause →
-      ¬ IsFirstOf (reason_of cause) (checks_at side (ends_of links_on_top_left s)) None
+  named_at : (side : Side) (place : ℕ) (cause : Cause) → StopsAt links_on_top of_a of_b side place cause →
+      ¬ IsFirstOf (reason_of cause) (checks_at side (ends_of links_on_top s)) None
   named_at A place (Step refusal) q =
       let h = q.reached in
       step_named (shown_end s.a s.b.end.line.gone) (shown_end s.b s.a.end.line.gone) (held s.b.end.line) q.next refusal
@@ -225,21 +225,21 @@ module _ (text_a text_b : Option (List ℕ)) (tells : List MadeRecord → Type 0
       (ap hint_of (is_ahead s.b.capture.bytes s.b.ahead q.next q.ahead) ∙ w.1)
       (ap hint_of (is_ahead s.a.capture.bytes s.a.ahead q.other.0 q.other.1) ∙ far.1)
 
-  pub named_there : NamesOne (ends_of links_on_top_left s)
+  pub named_there : NamesOne (ends_of links_on_top s)
   named_there = by_finding s.finding _ i.stops
     where
-      by_finding : (finding : Finding) (summary : Summary) → StopsFor links_on_top_left of_a of_b finding →
-          NamesOneBy (ends_of links_on_top_left s) (answer_of finding summary)
+      by_finding : (finding : Finding) (summary : Summary) → StopsFor links_on_top of_a of_b finding →
+          NamesOneBy (ends_of links_on_top s) (answer_of finding summary)
       by_finding Accepted summary stops = tt
       by_finding (Refused side place cause) summary stops = named_at side place cause stops
 
 -- ---- where the judge stops
 
 module _ (laws : EndLaws) (text_a text_b : Option (List ℕ)) (tells : List MadeRecord → Type 0) (s : Stopped)
-    (i : IsStoppedIn links_on_top_left text_a text_b tells s) where
+    (i : IsStoppedIn links_on_top text_a text_b tells s) where
   shown_by : (head_a head_b : Head) (w : JudgeWorld) (of_a of_b : List Record) →
-      Run (judge_pair links_on_top_left) (wire_layers_start head_a head_b) of_a of_b w → IsShown links_on_top_left head_a head_b w of_a of_b
-  shown_by head_a head_b w of_a of_b run = shown true head_a head_b w of_a of_b (laws.seen head_a head_b w of_a of_b run)
+      Run (judge_pair links_on_top) (wire_layers_start head_a head_b) of_a of_b w → IsShown links_on_top head_a head_b w of_a of_b
+  shown_by head_a head_b w of_a of_b run = shown head_a head_b w of_a of_b (laws.seen head_a head_b w of_a of_b run)
 
   abbrev track_a : Track
   track_a = along text_a s.a i.come_a i.made_a
@@ -264,8 +264,8 @@ module _ (laws : EndLaws) (text_a text_b : Option (List ℕ)) (tells : List Made
   ahead_is A next w = is_ahead s.a.capture.bytes s.a.ahead next w
   ahead_is B next w = is_ahead s.b.capture.bytes s.b.ahead next w
 
-  becomes_at : (side : Side) (cause : Cause) (next : Record) (w : JudgeWorld) (x : IsShown links_on_top_left s.a.end.head s.b.end.head w i.made_a
-      i.made_b) → reached.BecomesThere links_on_top_left cause (of_side side w.a w.b) (of_side side w.b w.a) next →
+  becomes_at : (side : Side) (cause : Cause) (next : Record) (w : JudgeWorld) (x : IsShown links_on_top s.a.end.head s.b.end.head w i.made_a
+      i.made_b) → reached.BecomesThere links_on_top cause (of_side side w.a w.b) (of_side side w.b w.a) next →
       ends.BecomesThere cause (of_side side x.world.a x.world.b) (of_side (other_side side) x.world.a x.world.b) next
   becomes_at A (Step refusal) next w x is = x.refused_a next refusal is
   becomes_at A NoSuchUnit next w x is = x.waits_a next is
@@ -274,13 +274,13 @@ module _ (laws : EndLaws) (text_a text_b : Option (List ℕ)) (tells : List Made
   becomes_at B NoSuchUnit next w x is = x.waits_b next is
   becomes_at B NoOrder next w x is = x.waits_b next is
 
-  stands_at : (side : Side) (place : ℕ) (cause : Cause) → StopsAt links_on_top_left track_a track_b side place cause →
-      StandsThere text_a text_b (ends_of links_on_top_left s) side place (reason_of cause)
+  stands_at : (side : Side) (place : ℕ) (cause : Cause) → StopsAt links_on_top track_a track_b side place cause →
+      StandsThere text_a text_b (ends_of links_on_top s) side place (reason_of cause)
   stands_at side place cause q =
       let h = q.reached in
       let seen = laws.seen s.a.end.head s.b.end.head h.world i.made_a i.made_b h.run in
-      let x = shown true s.a.end.head s.b.end.head h.world i.made_a i.made_b seen in
-      let is_cut = shown_is_cut true s.a.end.head s.b.end.head h.world i.made_a i.made_b seen in
+      let x = shown s.a.end.head s.b.end.head h.world i.made_a i.made_b seen in
+      let is_cut = shown_is_cut s.a.end.head s.b.end.head h.world i.made_a i.made_b seen in
       record {
         read_a = read_of track_a;
         read_b = read_of track_b;
@@ -292,7 +292,7 @@ module _ (laws : EndLaws) (text_a text_b : Option (List ℕ)) (tells : List Made
         begins_b = (waiting s.b.capture.bytes s.b.ahead, refl);
         place_is = place_at side place q.place_is;
         world = x.world;
-        run = run_there links_on_top_left shown_by text_a text_b tells s i i.made_a i.made_b x.world x.run;
+        run = run_there links_on_top shown_by text_a text_b tells s i i.made_a i.made_b x.world x.run;
         next = q.next;
         is_next = next_at side place q.next q.ahead q.place_is;
         is_ahead = ahead_is side q.next q.ahead;
@@ -311,10 +311,10 @@ module _ (laws : EndLaws) (text_a text_b : Option (List ℕ)) (tells : List Made
         records_b = ap (λ (c : SideSummary). c.records) h.counts_b;
       }
 
-  pub stands_there : StandsFor text_a text_b (ends_of links_on_top_left s) (verdict_of (found_of links_on_top_left s))
+  pub stands_there : StandsFor text_a text_b (ends_of links_on_top s) (verdict_of (found_of links_on_top s))
   stands_there = by_finding s.finding _ i.stops
     where
-      by_finding : (finding : Finding) (summary : Summary) → StopsFor links_on_top_left track_a track_b finding →
-          StandsFor text_a text_b (ends_of links_on_top_left s) (answer_of finding summary)
+      by_finding : (finding : Finding) (summary : Summary) → StopsFor links_on_top track_a track_b finding →
+          StandsFor text_a text_b (ends_of links_on_top s) (answer_of finding summary)
       by_finding Accepted summary stops = tt
       by_finding (Refused side place cause) summary stops = stands_at side place cause stops

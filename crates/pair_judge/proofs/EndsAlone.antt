@@ -10,10 +10,10 @@ use Rattle.pair_judge.specs.Ends.{record_ahead}
 use Rattle.pair_judge.specs.Order.{MadeRecord}
 use Rattle.pair_judge.specs.inner.EndStopped.{IsEndStopped, StopsThere, shown_lone}
 use Rattle.pair_judge.specs.inner.LoneEnd.{node_of_end}
-use Rattle.pair_judge.specs.inner.Tops.{links_on_top_left}
+use Rattle.pair_judge.specs.inner.Tops.{links_on_top}
 use Rattle.pair_judge.proofs.Ends.{ahead_listed, is_ahead}
 
-pub stands_alone : (text : Option (List ℕ)) (tells : List MadeRecord → Type 0) (s : StoppedEnd) → IsEndStopped links_on_top_left text tells s →
+pub stands_alone : (text : Option (List ℕ)) (tells : List MadeRecord → Type 0) (s : StoppedEnd) → IsEndStopped links_on_top text tells s →
     StandsAlone text (shown_lone s.capture s.end s.ahead) s.verdict tells
 stands_alone text tells s i = record {
   read = i.read;
@@ -34,7 +34,7 @@ stands_alone text tells s i = record {
   stops = by_verdict s.verdict i.stands.stops;
 }
   where
-    by_verdict : (verdict : EndVerdict) → StopsThere links_on_top_left s verdict →
+    by_verdict : (verdict : EndVerdict) → StopsThere links_on_top s verdict →
         StopsWith (shown_lone s.capture s.end s.ahead) (node_of_end s.end) verdict
     by_verdict (Passed summary) ended = ap (record_ahead s.capture.bytes) ended
     by_verdict (Refused place accused reason) r = record {

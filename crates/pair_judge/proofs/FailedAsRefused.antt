@@ -24,6 +24,7 @@ use Rattle.dna_station.specs.declared.state.StationEvent.TheVariants.{Start, Hal
 use Rattle.dna_station.specs.declared.tag.Tag.{Tag}
 use Rattle.dna_station.specs.Book.{ArrivalValue, Sound, HeaderBad, DataBad, body_of}
 use Rattle.dna_station.specs.Machine.{unless_refused}
+use Rattle.dna_station.specs.PeriodRule.{of_period}
 use Rattle.dna_station.specs.Table.{user_refusal}
 use Rattle.dna_station.specs.WireBook.{gives_new, wire_book, wire_sending_refusal, wire_after_sending, wire_arrival_refusal, wire_after_arrival}
 use Rattle.dna_station.specs.WireStation.{WireStation}
@@ -166,9 +167,9 @@ pub arrival_same : (s : WireLayers) (arrival : ArrivalValue LayersTag) (kept : B
     caused (failed_arrival s arrival kept) ≡ cause_in ((wire_layers_machine judged).arrives s arrival kept)
 arrival_same s arrival kept =
     arrival_by s arrival kept (wire_after_arrival s.station (to_wire_station arrival) kept)
-    (of_station.failed_arrival s.station (to_wire_station arrival) kept)
+    (of_station.failed_arrival of_period s.station (to_wire_station arrival) kept)
     (wire_arrival_refusal judged.periods s.station (to_wire_station arrival) kept)
-    (station_arrival_same s.station (to_wire_station arrival) kept)
+    (station_arrival_same of_period s.station (to_wire_station arrival) kept)
 
 -- ---- the user
 

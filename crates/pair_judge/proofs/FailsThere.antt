@@ -1,12 +1,11 @@
 -- Where a record is refused, or waits, a check of the printed reason fails there.
 use Rattle.std.proofs.Common.{◌≡◌, ◌≤◌, ◌<◌, ℕ, ◌+◌, ◌-◌, Bool, true, false, cond, nat_lt, Option, Some, None, List, [], ◌∷◌, Result, Ok, Err}
-use Rattle.std.proofs.Common.{length, drop, refl, sym, ap, ◌∙◌, subst, inl, inr, arith, option_map}
+use Rattle.std.proofs.Common.{refl, sym, ap, ◌∙◌, subst, inl, inr, arith, option_map}
 use Rattle.std.specs.List.{slice_get}
 use Rattle.std.proofs.lemmas.Bool.{cases_lt, lt-ltb, le-ltb}
 use Rattle.two_nodes.specs.Nodes.{Outcome, advance, answered, concluded}
 use Rattle.two_nodes.specs.Nodes.Outcome.{Made, Waits, Refused}
 use Rattle.two_nodes.specs.Nodes as any
-use Rattle.capture.specs.declared.event.Event.{Event}
 use Rattle.capture.specs.declared.record.Record.{Record}
 use Rattle.capture.specs.declared.record.Record.TheVariants.{Sent, Received, Noise, User}
 use Rattle.ddcmp_msg.specs.Message.{MessageValue}
@@ -26,12 +25,12 @@ use Rattle.pair_judge.specs.declared.failed_check.FailedCheck.TheVariants as fai
 use Rattle.pair_judge.specs.declared.line.Line.{Line}
 use Rattle.pair_judge.specs.declared.reason.Reason.{Reason}
 use Rattle.pair_judge.specs.Ends.{ShownEnd}
-use Rattle.pair_judge.specs.FailedCheck.{cause_in, cause_of, failed_coming, failed_noise, failed_receipt, failed_record, failed_sent, reason_of_failed}
-use Rattle.pair_judge.specs.FailedIn.{IsFirstOf, IsOf, awaited, both_await, checks_by, failed_ahead, hint_of, on_top_ahead}
+use Rattle.pair_judge.specs.FailedCheck.{cause_in, cause_of, failed_coming, failed_noise, failed_receipt, failed_record, failed_sent}
+use Rattle.pair_judge.specs.FailedIn.{IsFirstOf, IsOf, awaited, both_await, checks_by, failed_ahead, hint_of}
 use Rattle.pair_judge.specs.Reason.{reason_of}
 use Rattle.pair_judge.specs.inner.Lines.{Shows, held}
 use Rattle.pair_judge.specs.inner.Making.{StandsFor}
-use Rattle.pair_judge.specs.inner.Tops.{layers_run, links_on_top_left}
+use Rattle.pair_judge.specs.inner.Tops.{layers_run, links_on_top}
 use Rattle.pair_judge.specs.inner.Wire.{JudgeHalf, judge_step}
 use Rattle.pair_judge.proofs.FailedAsRefused.{arrival_same, message_same, user_same}
 use Rattle.pair_judge.proofs.Sent.{held_at, item_within}
@@ -117,7 +116,7 @@ module _ (own other : JudgeHalf) where
 
 module _ (own : End) (incoming : Line) (mine theirs : JudgeHalf) (stands : StandsFor own incoming mine) (shows : Shows incoming theirs.sent) where
   at_state : (r : Record) → caused (failed_record mine.state.station mine.state.front (held incoming) r) ≡
-      cause_there (advance (judge_step links_on_top_left) mine theirs r)
+      cause_there (advance (judge_step links_on_top) mine theirs r)
   at_state (Sent bytes) = sent_same mine theirs bytes (reading bytes)
   at_state (Noise bytes) = noise_same mine theirs (damage (reading bytes))
   at_state (User event) =
@@ -134,7 +133,7 @@ module _ (own : End) (incoming : Line) (mine theirs : JudgeHalf) (stands : Stand
       absurd (cc))
 
   pub fails_same : (r : Record) → caused (failed_record own.layers incoming.gone (held incoming) r) ≡
-      cause_there (advance (judge_step links_on_top_left) mine theirs r)
+      cause_there (advance (judge_step links_on_top) mine theirs r)
   fails_same r =
       ap (λ (layers : WireLayers). caused (failed_record layers incoming.gone (held incoming) r)) (sym stands.layers)
       ∙ ap (λ (front : ℕ). caused (failed_record mine.state.station front (held incoming) r)) (sym stands.front)
@@ -158,7 +157,7 @@ sent_not_waits own other bytes HeaderBad waits = absurd (cc)
 sent_not_waits own other bytes DataBad waits = absurd (cc)
 sent_not_waits own other bytes (Malformed departure) waits = absurd (cc)
 
-pub waits_by_hint : (own other : JudgeHalf) (r : Record) → advance (judge_step links_on_top_left) own other r ≡ Waits →
+pub waits_by_hint : (own other : JudgeHalf) (r : Record) → advance (judge_step links_on_top) own other r ≡ Waits →
     (hint : ℕ) × (hint_of (Some r) ≡ Some hint)
 waits_by_hint own other (Received hint kept bytes) waits = (hint, refl)
 waits_by_hint own other (Sent bytes) waits = absurd (sent_not_waits own other bytes (reading bytes) waits)
@@ -200,26 +199,23 @@ module _ (own other : ShownEnd) (units : List WireLayersUnit) where
   abbrev order : Option FailedCheck
   order = both_await (awaited own other) (awaited other own)
 
-  abbrev on_top : Option FailedCheck
-  on_top = on_top_ahead own units own.ahead
-
   pub step_named : (r : Record) (refusal : StepRefusal) → own.ahead ≡ Some r → caused (failed_record own.layers own.front units r) ≡ Some (Step refusal)
       → ¬ IsFirstOf (reason_of (Step refusal)) (checks_by own other units) None
   step_named r refusal ahead same =
-      named_at (reason_of (Step refusal)) first (unit ∷ order ∷ on_top ∷ [])
+      named_at (reason_of (Step refusal)) first (unit ∷ order ∷ [])
       (of_cause first (Step refusal) (ap (λ (o : Option Record). caused (failed_ahead own units o)) ahead ∙ same))
 
   pub unit_named : (hint : ℕ) → hint_of own.ahead ≡ Some hint → ¬ IsFirstOf (reason_of NoSuchUnit) (checks_by own other units) None
   unit_named hint is =
-      named_behind (reason_of NoSuchUnit) first (unit ∷ order ∷ on_top ∷ [])
-      (named_at (reason_of NoSuchUnit) unit (order ∷ on_top ∷ []) (of_cause unit NoSuchUnit
+      named_behind (reason_of NoSuchUnit) first (unit ∷ order ∷ [])
+      (named_at (reason_of NoSuchUnit) unit (order ∷ []) (of_cause unit NoSuchUnit
       (ap (λ (found : Option Awaited). caused (option_map failed.NoSuchUnit found)) (awaits own other hint is))))
 
   pub order_named : (hint far : ℕ) → hint_of own.ahead ≡ Some hint → hint_of other.ahead ≡ Some far →
       ¬ IsFirstOf (reason_of NoOrder) (checks_by own other units) None
   order_named hint far is is_far =
-      named_behind (reason_of NoOrder) first (unit ∷ order ∷ on_top ∷ [])
-      (named_behind (reason_of NoOrder) unit (order ∷ on_top ∷ [])
-      (named_at (reason_of NoOrder) order (on_top ∷ []) (of_cause order NoOrder
+      named_behind (reason_of NoOrder) first (unit ∷ order ∷ [])
+      (named_behind (reason_of NoOrder) unit (order ∷ [])
+      (named_at (reason_of NoOrder) order [] (of_cause order NoOrder
       (ap (λ (found : Option Awaited). caused (both_await found (awaited other own))) (awaits own other hint is)
       ∙ ap (λ (found : Option Awaited). caused (both_await (Some (record { hint = hint; sent = other.sent })) found)) (awaits other own far is_far)))))

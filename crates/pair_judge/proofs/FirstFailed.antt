@@ -1,6 +1,5 @@
 -- The first check of a reason, found from the last one on.
-use Rattle.std.proofs.Common.{◌≡◌, ℕ, Bool, false, Option, Some, None, List, [], ◌∷◌, refl, sym, ap, ◌∙◌, subst, option_map}
-use Rattle.std.specs.Prelude.{IfSome}
+use Rattle.std.proofs.Common.{◌≡◌, ℕ, false, Option, Some, None, List, [], ◌∷◌, refl, sym, ap, ◌∙◌, subst, option_map}
 use Rattle.wire_base.specs.declared.side.Side.{Side}
 use Rattle.capture.specs.declared.entry.Entry.{Entry}
 use Rattle.capture.specs.declared.entry.Entry.TheVariants as entries
@@ -25,14 +24,6 @@ module _ (reason : Reason) where
   of_three a b c x y z first second third of_a of_b of_c last next now =
       let same : ◌≡◌ {A = List (Option FailedCheck)} (x ∷ y ∷ z ∷ []) (a ∷ b ∷ c ∷ []) = cc in
       subst (λ (l : List (Option FailedCheck)). IsFirstOf reason l first) same (now (y ∷ z ∷ []) (next (z ∷ []) (last [] refl)))
-
-  pub of_four : (a b c d w x y z first second third fourth : Option FailedCheck) → w ≡ a → x ≡ b → y ≡ c → z ≡ d → Follows reason z None fourth →
-      Follows reason y fourth third → Follows reason x third second → Follows reason w second first →
-      IsFirstOf reason (a ∷ b ∷ c ∷ d ∷ []) first
-  of_four a b c d w x y z first second third fourth of_a of_b of_c of_d last more next now =
-      let same : ◌≡◌ {A = List (Option FailedCheck)} (w ∷ x ∷ y ∷ z ∷ []) (a ∷ b ∷ c ∷ d ∷ []) = cc in
-      subst (λ (l : List (Option FailedCheck)). IsFirstOf reason l first) same
-      (now (x ∷ y ∷ z ∷ []) (next (y ∷ z ∷ []) (more (z ∷ []) (last [] refl))))
 
 -- ---- of a verdict
 

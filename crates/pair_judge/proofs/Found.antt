@@ -24,8 +24,7 @@ use Rattle.pair_judge.specs.declared.end.End.{End}
 use Rattle.pair_judge.specs.declared.summary.SideSummary.{SideSummary}
 use Rattle.pair_judge.specs.inner.Reached.{BecomesThere, HasReached, IsFound, IsShown, IsStopped, OtherBecomes, StopsAt, StopsFor}
 use Rattle.pair_judge.specs.Summary.{counts_of, summary_at, summary_of, summary_with}
-use Rattle.pair_judge.specs.inner.Wire.{IfLeft, JudgeTop}
-use Rattle.pair_judge.proofs.Left.{left_any}
+use Rattle.pair_judge.specs.inner.Wire.{JudgeTop}
 
 -- ---- what goes on behind what was read
 
@@ -100,7 +99,7 @@ module _ (top : JudgeTop) where
     -- a refusal, where the captures that go on behind what was read are these
     refused_so : (side : Side) (cause : Cause) → IsRead a → IsRead b →
         EndsWhere (Refused side place cause) (read_of a).behind (read_of b).behind →
-        IfLeft top.leaves (StopsFor top a b (Refused side place cause)) →
+        StopsFor top a b (Refused side place cause) →
         ((all_a all_b : List Record) → GoesOn (read_of a) all_a → GoesOn (read_of b) all_b →
         (xs : List Record) × (ys : List Record) × (all_a ≡ xs) × (all_b ≡ ys) × IsFinding top.kind head_a head_b xs ys (Refused side place cause)) →
         IsFound top a b (Refused side place cause)
@@ -121,7 +120,7 @@ module _ (top : JudgeTop) where
 
     -- a's next record is refused
     pub a_fails : (refusal : StepRefusal) (r : Record) → IsRead a → IsWaiting a.course.capture.bytes a.course.ahead r → IsRead b →
-        IfLeft top.leaves (StopsFor top a b (Refused A place (Step refusal))) →
+        StopsFor top a b (Refused A place (Step refusal)) →
         ((rest_a rest_b : List Record) → IsFinding top.kind head_a head_b (a.made ++ r ∷ rest_a) (b.made ++ rest_b) (Refused A place (Step
         refusal))) →
         IsFound top a b (Refused A place (Step refusal))
@@ -132,7 +131,7 @@ module _ (top : JudgeTop) where
 
     -- b's next record is refused, and a waits
     pub b_fails_behind : (refusal : StepRefusal) (p r : Record) → IsRead a → IsRead b → IsWaiting b.course.capture.bytes b.course.ahead r →
-        IfLeft top.leaves (StopsFor top a b (Refused B place (Step refusal))) → IsWaiting a.course.capture.bytes a.course.ahead p
+        StopsFor top a b (Refused B place (Step refusal)) → IsWaiting a.course.capture.bytes a.course.ahead p
         → ((rest_a rest_b : List Record) → IsFinding top.kind head_a head_b (a.made ++ p ∷ rest_a) (b.made ++ r ∷ rest_b) (Refused B place (Step
         refusal))) →
         IsFound top a b (Refused B place (Step refusal))
@@ -144,7 +143,7 @@ module _ (top : JudgeTop) where
 
     -- or a has ended
     pub b_fails_last : (refusal : StepRefusal) (r : Record) → IsRead a → IsRead b → IsWaiting b.course.capture.bytes b.course.ahead r →
-        IfLeft top.leaves (StopsFor top a b (Refused B place (Step refusal))) → a.course.ahead ≡ Ended
+        StopsFor top a b (Refused B place (Step refusal)) → a.course.ahead ≡ Ended
         → ((rest_b : List Record) → IsFinding top.kind head_a head_b a.made (b.made ++ r ∷ rest_b) (Refused B place (Step refusal))) →
         IsFound top a b (Refused B place (Step refusal))
     b_fails_last refusal r read_a read_b ahead_b stops ended law = refused_so B (Step refusal) read_a read_b tt stops
@@ -156,7 +155,7 @@ module _ (top : JudgeTop) where
     pub b_fails : (refusal : StepRefusal) (r : Record) (waits : Bool) (own : Course) (incoming : Line) → own.capture ≡ a.course.capture →
         own.ahead ≡ a.course.ahead → IsStopped top waits own incoming
         → IsRead a → IsRead b → IsWaiting b.course.capture.bytes b.course.ahead r →
-        IfLeft top.leaves (StopsFor top a b (Refused B place (Step refusal)))
+        StopsFor top a b (Refused B place (Step refusal))
         → ((p : Record) (rest_a rest_b : List Record) → WaitsAt top own.end incoming p → IsFinding top.kind head_a head_b (a.made ++ p ∷ rest_a)
         (b.made ++ r ∷ rest_b) (Refused B place (Step refusal)))
         → ((rest_b : List Record) → IsFinding top.kind head_a head_b a.made (b.made ++ r ∷ rest_b) (Refused B place (Step refusal)))
@@ -170,7 +169,7 @@ module _ (top : JudgeTop) where
     -- both wait
     pub both_wait : (r s : Record) → IsRead a → IsRead b → IsWaiting a.course.capture.bytes a.course.ahead r →
         IsWaiting b.course.capture.bytes b.course.ahead s →
-        IfLeft top.leaves (StopsFor top a b (Refused A place NoOrder)) →
+        StopsFor top a b (Refused A place NoOrder) →
         ((rest_a rest_b : List Record) → IsFinding top.kind head_a head_b (a.made ++ r ∷ rest_a) (b.made ++ s ∷ rest_b) (Refused A place NoOrder)) →
         IsFound top a b (Refused A place NoOrder)
     both_wait r s read_a read_b ahead_a ahead_b stops law = refused_so A NoOrder read_a read_b tt stops (λ all_a all_b goes_a goes_b.
@@ -180,7 +179,7 @@ module _ (top : JudgeTop) where
 
     -- a waits and b has ended
     pub a_waits : (r : Record) → IsRead a → IsRead b → IsWaiting a.course.capture.bytes a.course.ahead r → b.course.ahead ≡ Ended →
-        IfLeft top.leaves (StopsFor top a b (Refused A place NoSuchUnit)) →
+        StopsFor top a b (Refused A place NoSuchUnit) →
         ((rest_a : List Record) → IsFinding top.kind head_a head_b (a.made ++ r ∷ rest_a) b.made (Refused A place NoSuchUnit)) →
         IsFound top a b (Refused A place NoSuchUnit)
     a_waits r read_a read_b ahead_a ahead_b stops law = refused_so A NoSuchUnit read_a read_b (at_the_end b.course.ahead b.come ahead_b) stops
@@ -190,7 +189,7 @@ module _ (top : JudgeTop) where
 
     -- b waits and a has ended
     pub b_waits : (r : Record) → IsRead a → IsRead b → a.course.ahead ≡ Ended → IsWaiting b.course.capture.bytes b.course.ahead r →
-        IfLeft top.leaves (StopsFor top a b (Refused B place NoSuchUnit)) →
+        StopsFor top a b (Refused B place NoSuchUnit) →
         ((rest_b : List Record) → IsFinding top.kind head_a head_b a.made (b.made ++ r ∷ rest_b) (Refused B place NoSuchUnit)) →
         IsFound top a b (Refused B place NoSuchUnit)
     b_waits r read_a read_b ahead_a ahead_b stops law = refused_so B NoSuchUnit read_a read_b (at_the_end a.course.ahead a.come ahead_a) stops
@@ -223,7 +222,7 @@ module _ (top : JudgeTop) where
       ends = (at_the_end a.course.ahead a.come ahead_a, at_the_end b.course.ahead b.come ahead_b);
       same_a = refl;
       same_b = refl;
-      stops = left_any top.leaves tt;
+      stops = tt;
       counts = λ e. record {
         run = (law.world, law.run);
         counts_a = counted_at a.course.end law.world.a.state (top.links reached.world.a.state.station) a.made reached.counts_a

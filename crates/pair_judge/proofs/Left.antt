@@ -1,22 +1,11 @@
 -- What a step that is refused leaves as it was.
-use Rattle.std.proofs.Common.{◌≡◌, ℕ, Bool, true, false}
+use Rattle.std.proofs.Common.{◌≡◌, ℕ}
 use Rattle.dna_station.specs.declared.head.Head.{Head}
 use Rattle.dna_node.specs.WireLayers.{WireLayers}
 use Rattle.pair_judge.specs.declared.line.Line.{Line}
 use Rattle.pair_judge.specs.declared.summary.SideSummary.{SideSummary}
 use Rattle.pair_judge.specs.declared.end.End.{End}
 use Rattle.pair_judge.specs.declared.lone_end.LoneEnd.{LoneEnd}
-use Rattle.pair_judge.specs.inner.Course.{IsStill}
-use Rattle.pair_judge.specs.inner.Making.{Move}
-use Rattle.pair_judge.specs.inner.Wire.{IfLeft}
-
-pub left_any : {P : Type 0} (leaves : Bool) → P → IfLeft leaves P
-left_any true holds = holds
-left_any false holds = tt
-
-pub left_so : {P Q : Type 0} (leaves : Bool) → (P → Q) → IfLeft leaves P → IfLeft leaves Q
-left_so true follows holds = follows holds
-left_so false follows holds = tt
 
 -- an end of which both layers and all else are the same
 same_fields : {h h' : Head} {y y' : WireLayers} {l l' : Line} {c c' : SideSummary} → h ≡ h' → y ≡ y' → l ≡ l' → c ≡ c' →
@@ -32,7 +21,3 @@ same_lone eh ey ef ec = cc
 
 pub whole_lone : (old new : LoneEnd) → new.head ≡ old.head → new.front ≡ old.front → new.counts ≡ old.counts → new.layers ≡ old.layers → new ≡ old
 whole_lone old new head front counts layers = same_lone head layers front counts
-
--- and the line that leads to it
-pub left_still : (leaves : Bool) (m : Move) → m.after ≡ m.before → IfLeft leaves (m.new ≡ m.old) → IfLeft leaves (IsStill m)
-left_still leaves m same_line left = left_so leaves (λ same. record { same_end = same; same_line = same_line }) left

@@ -40,9 +40,8 @@ use Rattle.pair_judge.specs.EndShown.{told_alone}
 use Rattle.pair_judge.specs.Order.{MadeRecord}
 use Rattle.pair_judge.specs.inner.EndStopped.{IsEndStopped}
 use Rattle.pair_judge.specs.inner.LoneEnd.{HasRoomAlone, IsMadeAlone, node_of_end, summary_of_end}
-use Rattle.pair_judge.specs.inner.Wire.{EndsAlike, EndsSo, IfLeft, JudgeTop}
+use Rattle.pair_judge.specs.inner.Wire.{EndsAlike, EndsSo, JudgeTop}
 use Rattle.pair_judge.proofs.Turns.{counts_of-push}
-use Rattle.pair_judge.proofs.Left.{left_any, left_so}
 
 -- the laws of a text that is read on
 pub record GrowingLaws : Type 0 where
@@ -165,16 +164,16 @@ module _ (top : JudgeTop) where
     pub stopped_at : (tells : List MadeRecord → Type 0) (entry : Entry) (end' : LoneEnd) (accused : Accused) (reason : Reason)
         (refusal : StepRefusal) → record_with entry new.bytes ≡ r → reason ≡ reason_of_step refusal →
         step_alone top.alone (node_of_end end) r ≡ Refuses (accused_view accused) refusal →
-        ((head : Head) (records : List Record) → EndsAlike top head records) → tells (told_alone h.records) → IfLeft top.leaves (end' ≡ end) →
+        ((head : Head) (records : List Record) → EndsAlike top head records) → tells (told_alone h.records) → end' ≡ end →
         IsEndStopped top text tells (record { verdict = Refused number accused reason; capture = new; end = end'; ahead = Waits entry })
-    stopped_at tells entry end' accused reason refusal is_entry named is ends told left = record {
+    stopped_at tells entry end' accused reason refusal is_entry named is ends told same = record {
       answer = refused_at accused reason refusal named is ends;
       read = so_far new.form new.own new.peer (h.records ++ r ∷ []) (ToCome after);
       from = read_on;
       made = h.records;
       all = ap (λ (next : Record). h.records ++ next ∷ []) (sym is_entry);
       told = told;
-      stands = left_so top.leaves (λ (same : end' ≡ end).
+      stands =
           let counts = ap (λ (e : LoneEnd). e.counts) same ∙ h.counts in
           record {
             passes = passes_before ∙ ap (λ (e : LoneEnd). Passed (node_of_end e)) (sym same);
@@ -187,7 +186,7 @@ module _ (top : JudgeTop) where
               is_reason = named;
               refused = subst (λ (e : LoneEnd). step_alone top.alone (node_of_end e) r ≡ Refuses (accused_view accused) refusal) (sym same) is;
             };
-          }) left;
+          };
     }
 
   -- ---- all that was read was made
@@ -219,11 +218,11 @@ module _ (top : JudgeTop) where
       made = h.records;
       all = sym (append-nil h.records);
       told = told;
-      stands = left_any top.leaves (record {
+      stands = record {
         passes = ap (begins (head_in capture)) (sym (append-nil h.records)) ∙ h.made [];
         counts = h.counts;
         stops = refl;
-      });
+      };
     }
 
     pub fault_at : (fault : CaptureFault) → FaultShows (RecordDeparts capture.form capture.records) (capture.records + 2) come fault →

@@ -1,5 +1,5 @@
 -- What becomes of a record on true numbers, from what is seen of it; and how many links are seen.
-use Rattle.std.proofs.Common.{◌≡◌, Bool, List, length, refl, sym, ap, ◌∙◌}
+use Rattle.std.proofs.Common.{◌≡◌, List, length, refl, sym, ap, ◌∙◌}
 use Rattle.std.proofs.lemmas.List.{length-map}
 use Rattle.two_nodes.specs.Nodes.{Outcome, advance}
 use Rattle.two_nodes.specs.Nodes.Outcome.{Made, Waits, Refused}
@@ -12,7 +12,7 @@ use Rattle.dna_links.specs.CutLinks.{cut_link}
 use Rattle.dna_node.specs.LayersPair.{layers_pair}
 use Rattle.dna_node.specs.Seen.{IsSeenLayers}
 use Rattle.pair_judge.specs.inner.Reached.{IsShown}
-use Rattle.pair_judge.specs.inner.Tops.{links_on_top_that}
+use Rattle.pair_judge.specs.inner.Tops.{links_on_top}
 use Rattle.pair_judge.specs.inner.Wire.{JudgeWorld}
 
 module _ {S U T V : Type 0} (cut : Cut S U T V) where
@@ -27,10 +27,10 @@ module _ {S U T V : Type 0} (cut : Cut S U T V) where
   waits_there Waits e = refl
   waits_there (Refused reason) e = absurd (cc)
 
--- what the wire nodes over both layers show, whatever a refused step leaves
-pub shown : (leaves : Bool) (head_a head_b : Head) (w : JudgeWorld) (of_a of_b : List Record) → IsSeenLayers head_a head_b w of_a of_b →
-    IsShown (links_on_top_that leaves) head_a head_b w of_a of_b
-shown leaves head_a head_b w of_a of_b s = record {
+-- what the wire nodes over both layers show
+pub shown : (head_a head_b : Head) (w : JudgeWorld) (of_a of_b : List Record) → IsSeenLayers head_a head_b w of_a of_b →
+    IsShown links_on_top head_a head_b w of_a of_b
+shown head_a head_b w of_a of_b s = record {
   world = s.world;
   run = s.run;
   refused_a = λ r refusal is. refused_there layers_seen (advance layers_pair.node_a s.world.a s.world.b r) refusal (sym (s.same_a r) ∙ is);
@@ -52,7 +52,7 @@ shown leaves head_a head_b w of_a of_b s = record {
 }
 
 -- of that world the wire nodes' one is the cut
-pub shown_is_cut : (leaves : Bool) (head_a head_b : Head) (w : JudgeWorld) (of_a of_b : List Record) (s : IsSeenLayers head_a head_b w of_a of_b) →
-    w ≡ cut_world layers_seen (shown leaves head_a head_b w of_a of_b s).world
+pub shown_is_cut : (head_a head_b : Head) (w : JudgeWorld) (of_a of_b : List Record) (s : IsSeenLayers head_a head_b w of_a of_b) →
+    w ≡ cut_world layers_seen (shown head_a head_b w of_a of_b s).world
 unfolding shown
-shown_is_cut leaves head_a head_b w of_a of_b s = s.is_cut
+shown_is_cut head_a head_b w of_a of_b s = s.is_cut

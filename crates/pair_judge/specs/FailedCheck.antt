@@ -1,7 +1,7 @@
 -- The first check that a record does not pass, over both layers and the line, with what is seen there and what is allowed; and the reason of each.
 -- The checks of a station are named in `Failed` of `ddcmp_station`, those of its links in `FailedSending`, `FailedArrival` and `FailedEvent` of
 -- `nsp_link`; in which order they come is that of `WireLayers` of `dna_node` and `Machine` of `dna_station`.
-use Rattle.std.specs.Prelude.{◌≡◌, ℕ, ◌-◌, slice_get, Bool, false, if◌then◌else◌, nat_lt, Option, Some, None, option_map, List, Result, Ok, Err}
+use Rattle.std.specs.Prelude.{ℕ, ◌-◌, slice_get, Bool, false, if◌then◌else◌, nat_lt, Option, Some, None, option_map, List, Result, Ok, Err}
 use Rattle.capture.specs.declared.event.Event.{Event}
 use Rattle.capture.specs.declared.event.Event.TheVariants as user
 use Rattle.capture.specs.declared.record.Record.{Record}
@@ -25,6 +25,7 @@ use Rattle.dna_station.specs.declared.state.StationEvent.TheVariants.{Start}
 use Rattle.dna_station.specs.Book.{ArrivalValue, HeaderBad, DataBad, body_of}
 use Rattle.dna_station.specs.Book as arriving
 use Rattle.dna_station.specs.Line.{coming, damage}
+use Rattle.dna_station.specs.PeriodRule.{of_period}
 use Rattle.dna_station.specs.Table.{user_refusal}
 use Rattle.dna_station.specs.WireBook.{gives_new}
 use Rattle.dna_links.specs.Links.{Carried}
@@ -94,7 +95,7 @@ failed_kept s DataBad = None
 
 abbrev pub failed_arrival : WireLayers → ArrivalValue LayersTag → (kept : Bool) → Option FailedCheck
 failed_arrival s arrival kept =
-    or_next (option_map failed.StationArrival (of_station.failed_arrival s.station (to_wire_station arrival) kept))
+    or_next (option_map failed.StationArrival (of_station.failed_arrival of_period s.station (to_wire_station arrival) kept))
     (if kept then failed_kept s arrival else None)
 
 abbrev pub failed_start : State → Option StationRefusal → Option FailedCheck

@@ -1,7 +1,7 @@
 -- Which check the refused record does not pass, with what is seen there and what is allowed: read off that record and both ends where the judge
 -- stops, or off one end alone. What each check sees and allows has a row in `FailedCheck`, in `Failed` of `ddcmp_station` and in `FailedSending`,
 -- `FailedArrival` and `FailedEvent` of `nsp_link`.
-use Rattle.std.specs.Prelude.{◌≡◌, ℕ, ◌-◌, ◌⊎◌, true, false, nat_lt, if◌then◌else◌, slice_get, option_map, IfSome, Option, Some, None}
+use Rattle.std.specs.Prelude.{◌≡◌, ℕ, ◌⊎◌, option_map, IfSome, Option, Some, None}
 use Rattle.std.specs.Prelude.{List, [], ◌∷◌}
 use Rattle.wire_base.specs.Side.{other_side}
 use Rattle.wire_base.specs.declared.side.Side.{Side}
@@ -10,10 +10,7 @@ use Rattle.capture.specs.declared.record.Record.TheVariants.{Sent, Received, Noi
 use Rattle.ddcmp_msg.specs.Message.{Data}
 use Rattle.ddcmp_msg.specs.Reading.{ReadingValue, reading, Sound, Malformed}
 use Rattle.ddcmp_station.specs.declared.failed.FailedArrival.TheVariants.{Keep}
-use Rattle.dna_station.specs.Book.{body_of}
-use Rattle.dna_node.specs.WireLayers.{WireLayers, WireLayersUnit, tag_or_none}
-use Rattle.nsp_link.specs.FailedArrival as arrives
-use Rattle.nsp_link.specs.FailedSending as sends
+use Rattle.dna_node.specs.WireLayers.{WireLayers, WireLayersUnit}
 use Rattle.pair_judge.specs.declared.failed_check.Awaited.{Awaited}
 use Rattle.pair_judge.specs.declared.failed_check.FailedCheck.{FailedCheck}
 use Rattle.pair_judge.specs.declared.failed_check.FailedCheck.TheVariants as failed
@@ -60,34 +57,11 @@ abbrev pub failed_ahead : ShownEnd → List WireLayersUnit → Option Record →
 failed_ahead end units None = None
 failed_ahead end units (Some r) = failed_record end.layers end.front units r
 
--- Those of its packet at the links alone: where the links refused it after the station had made its own step
-abbrev pub packet_sent : WireLayers → ReadingValue → Option FailedCheck
-packet_sent s (Sound m) = failed_packet (λ packet. option_map failed.LinkSending (sends.failed_sending s.links packet)) (body_of m)
-packet_sent s bad = None
-
-abbrev pub packet_kept : WireLayers → Option WireLayersUnit → ReadingValue → Option FailedCheck
-packet_kept s (Some unit) (Sound m) =
-    failed_packet (λ packet. option_map failed.LinkArrival (arrives.failed_arrival s.links packet (tag_or_none unit.known.link))) (body_of m)
-packet_kept s unit bad = None
-
-abbrev pub failed_on_top : WireLayers → (front : ℕ) → List WireLayersUnit → Record → Option FailedCheck
-failed_on_top s front units (Sent bytes) = packet_sent s (reading bytes)
-failed_on_top s front units (Received hint true bytes) =
-    if nat_lt hint front then None else packet_kept s (slice_get units (hint - front)) (reading bytes)
-failed_on_top s front units (Received hint false bytes) = None
-failed_on_top s front units (Noise bytes) = None
-failed_on_top s front units (User event) = None
-
-abbrev pub on_top_ahead : ShownEnd → List WireLayersUnit → Option Record → Option FailedCheck
-on_top_ahead end units None = None
-on_top_ahead end units (Some r) = failed_on_top end.layers end.front units r
-
 abbrev pub checks_by : (own other : ShownEnd) → List WireLayersUnit → List (Option FailedCheck)
 checks_by own other units =
     failed_ahead own units own.ahead
     ∷ option_map failed.NoSuchUnit (awaited own other)
     ∷ both_await (awaited own other) (awaited other own)
-    ∷ on_top_ahead own units own.ahead
     ∷ []
 
 -- all that may fail at a side

@@ -1,7 +1,6 @@
 //! The reason that goes with a failed check.
 
 ghost use Rattle.std.specs.Prelude.{◌≡◌, List, ◌∷◌, Option};
-ghost use Rattle.ddcmp_station.specs.Failed as of_station;
 ghost use Rattle.nsp_link.specs.FailedArrival as arrives;
 ghost use Rattle.nsp_link.specs.FailedEvent as events;
 ghost use Rattle.nsp_link.specs.FailedSending as sends;
@@ -11,7 +10,6 @@ ghost use Rattle.pair_judge.specs.declared.failed_check.FailedCheck.{FailedCheck
 
 use crate::failed_check::FailedCheck;
 use crate::reason::Reason;
-use ddcmp_station::{FailedArrival, FailedSending};
 use dna_node::Cause;
 use dna_station::{LinkRefusal, StationRefusal, StepRefusal};
 use nsp_link::{FailedLinkArrival, FailedLinkEvent, FailedLinkSending};
@@ -33,8 +31,8 @@ impl FailedCheck {
             FailedCheck::Message(_) => Cause::Step(StepRefusal::NotAMessage),
             FailedCheck::HintOrder { .. } => Cause::Step(StepRefusal::HintOrder),
             FailedCheck::Undetected { .. } => Cause::Step(StepRefusal::Undetected),
-            FailedCheck::StationSending(failed) => of_station(station_sending(failed)),
-            FailedCheck::StationArrival(failed) => of_station(station_arrival(failed)),
+            FailedCheck::StationSending(failed) => of_station(failed.refusal()),
+            FailedCheck::StationArrival(failed) => of_station(failed.refusal()),
             FailedCheck::StationEvent { .. } => of_station(StationRefusal::WrongUserEvent),
             FailedCheck::Packet(_) => Cause::Step(StepRefusal::BadPacket),
             FailedCheck::Nsp(_) => Cause::Step(StepRefusal::BadNsp),
@@ -73,30 +71,6 @@ fn of_links(refusal: LinkRefusal) -> Cause
     ensures { result ≡ Cause.Step (StepRefusal.Links refusal) }
 {
     Cause::Step(StepRefusal::Links(refusal))
-}
-
-fn station_sending(failed: FailedSending) -> StationRefusal
-    ensures { result ≡ of_station.refusal_of_failed failed }
-{
-    match failed {
-        FailedSending::State { .. } => StationRefusal::WrongState,
-        FailedSending::RespIsLast { .. } => StationRefusal::WrongResponse,
-        FailedSending::NumIsNext { .. } => StationRefusal::WrongNumber,
-        FailedSending::NumIsHighest { .. } => StationRefusal::WrongNumber,
-        FailedSending::SomeOutstanding => StationRefusal::WrongState,
-        FailedSending::RoomIfNew { .. } => StationRefusal::WindowFull,
-        FailedSending::AsFirstGiven { .. } => StationRefusal::Changed,
-        FailedSending::CauseIsOpen { .. } => StationRefusal::NoCause,
-    }
-}
-
-fn station_arrival(failed: FailedArrival) -> StationRefusal
-    ensures { result ≡ of_station.refusal_of_arrival failed }
-{
-    match failed {
-        FailedArrival::Period { .. } => StationRefusal::CrossedPeriod,
-        FailedArrival::Keep => StationRefusal::WrongKeep,
-    }
 }
 
 fn link_sending(failed: FailedLinkSending) -> LinkRefusal

@@ -7,15 +7,13 @@ ghost use Rattle.capture.specs.declared.record.Record.TheVariants as Record;
 ghost use Rattle.dna_node.specs.WireLayers.{WireLayersUnit};
 ghost use Rattle.dna_station.specs.Line.{damage};
 ghost use Rattle.pair_judge.specs.FailedCheck as spec;
-ghost use Rattle.pair_judge.specs.FailedIn as named;
 ghost use Rattle.pair_judge.specs.inner.Lines.{held};
 ghost use Rattle.pair_judge.specs.inner.Making.{is_receipt};
 
 use crate::failed_check::{FailedCheck, NotSound};
 use crate::held_link::HeldLink;
-use crate::layers::{Layers, packet_of};
+use crate::layers::Layers;
 use crate::line::Line;
-use crate::line_unit::LineUnit;
 use crate::receipt::coming;
 use capture::Entry;
 use ddcmp_msg::{Reading, read_unit};
@@ -70,55 +68,6 @@ pub fn failed_own(layers: &Layers, entry: Entry, bytes: &[u8]) -> Option<FailedC
             })
         }
         Entry::Close { link } => layers.failed_link_event(LinkEvent::Close { link }),
-    }
-}
-
-/// The check of a packet that this record does not pass at the links, whatever the station says of its message.
-pub fn failed_on_top(
-    layers: &Layers,
-    incoming: &Line,
-    entry: Entry,
-    bytes: &[u8],
-) -> Option<FailedCheck>
-    ensures { result ≡ named.failed_on_top layers.now incoming.now.gone (held incoming.now) (record_with entry bytes.now) }
-{
-    match entry {
-        Entry::Sent => packet_sent(layers, bytes),
-        Entry::Received { kept: true, hint } => packet_received(layers, incoming, hint, bytes),
-        _ => None,
-    }
-}
-
-// The packet of bytes that were sent.
-fn packet_sent(layers: &Layers, bytes: &[u8]) -> Option<FailedCheck>
-    ensures { result ≡ named.packet_sent layers.now (reading bytes.now) }
-{
-    match read_unit(bytes) {
-        Reading::Sound(message) => layers.failed_first(packet_of(&message)),
-        _ => None,
-    }
-}
-
-// The packet of bytes that came for the unit with this number, and was kept.
-fn packet_received(layers: &Layers, incoming: &Line, hint: u64, bytes: &[u8]) -> Option<FailedCheck>
-    ensures { result ≡ named.failed_on_top layers.now incoming.now.gone (held incoming.now) (Record.Received hint true bytes.now) }
-{
-    if hint < incoming.gone {
-        return None;
-    }
-    let Some(unit) = incoming.unit(hint) else {
-        return None;
-    };
-    packet_kept(layers, &unit, bytes)
-}
-
-// The packet of bytes that came for this unit, and was kept.
-fn packet_kept(layers: &Layers, unit: &LineUnit<'_>, bytes: &[u8]) -> Option<FailedCheck>
-    ensures { result ≡ named.packet_kept layers.now (Some unit.now) (reading bytes.now) }
-{
-    match read_unit(bytes) {
-        Reading::Sound(message) => layers.failed_kept(packet_of(&message), unit.link()),
-        _ => None,
     }
 }
 

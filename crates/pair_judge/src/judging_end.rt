@@ -12,7 +12,7 @@ ghost use Rattle.pair_judge.specs.inner.EndStopped.{IsEndStopped};
 
 use crate::course::Ahead;
 use crate::end_verdict::EndVerdict;
-use crate::layers::{LinksOnTop, LinksOnTopLeft, NothingOnTop};
+use crate::layers::{LinksOnTop, NothingOnTop};
 use crate::lone_end::{LoneEnd, MadeAlone};
 use crate::made_entry::MadeEntry;
 use crate::observer::{Nobody, Observer};
@@ -89,7 +89,7 @@ pub fn judge_end_watched<O: Observer, R: Read>(
     ensures first { IfErr result (λ fault. fault ≢ CaptureFault.Failed) }
     ensures reads { CountsReads (is_failed_read result) (tally_faults a.old) (tally_faults a.new) }
 {
-    match decide_end::<LinksOnTopLeft, O, R>(alloc, a, observer) {
+    match decide_end::<LinksOnTop, O, R>(alloc, a, observer) {
         Ok((stopped, observer)) => {
             let verdict = stopped.verdict;
             let end = SideEnd::alone(stopped.capture, stopped.end, stopped.ahead);

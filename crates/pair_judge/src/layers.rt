@@ -8,10 +8,8 @@ mod accusing;
 mod alone;
 mod arriving;
 mod failing;
-mod left;
 mod linked;
 mod one_end;
-mod one_end_left;
 mod sending;
 mod shown;
 mod user;
@@ -20,9 +18,8 @@ pub use alone::NothingOnTop;
 use ddcmp_station::HeldPacket;
 use dna_links::LinkTag;
 use dna_station::Head;
-pub use linked::{LinksOnTop, LinksOnTopLeft};
+pub use linked::LinksOnTop;
 use nsp_link::Piece;
-pub use sending::packet_of;
 use std::alloc::{AllocError, Global};
 use std::marker::Model;
 use wire_base::RingWindow;
@@ -41,8 +38,7 @@ const OF_NO_LINK: LinkTag = LinkTag {
 
 /// The station of a side and its links on top, with four verbs: its user does something to the station or to the links; its node sent
 /// this; this came. A packet counts for the links when it is first sent, and when it is kept. So each reason of the station comes before
-/// 15 and 17, which are of a packet that is first sent, and before the reasons of the links; and where one of those comes, the station
-/// has made its step, and neither has a use any more.
+/// 15 and 17, which are of a packet that is first sent, and before the reasons of the links. A refusal changes nothing.
 #[derive(Drop)]
 pub struct Layers {
     station: Station,

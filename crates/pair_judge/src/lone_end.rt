@@ -12,7 +12,6 @@ ghost use Rattle.pair_judge.specs.Events.{event_of_station, event_of_links};
 ghost use Rattle.pair_judge.specs.Summary.{counts_of};
 ghost use Rattle.pair_judge.specs.inner.LoneEnd.{HasRoomAlone, IfFailsAlone, MadeAloneIs, node_of_end, summary_of_end};
 ghost use Rattle.pair_judge.specs.inner.Making.{IsEvent};
-ghost use Rattle.pair_judge.specs.inner.Wire.{IfLeft};
 
 mod receiving;
 
@@ -84,7 +83,7 @@ impl LoneEnd {
         requires room { HasRoomAlone self.old }
         requires numbers { NumbersFit (record_with entry bytes.now) }
         ensures made { IfOk result (λ made. MadeAloneIs T.top made self.old self.new (record_with entry bytes.now)) }
-        ensures still { IfOk result (λ made. IfFailsAlone made (IfLeft T.top.leaves (self.new ≡ self.old))) }
+        ensures still { IfOk result (λ made. IfFailsAlone made (self.new ≡ self.old)) }
     {
         match entry {
             Entry::Sent => self.make_sent::<T>(bytes),
@@ -97,7 +96,7 @@ impl LoneEnd {
     fn make_sent<T: Top>(&mut self, bytes: &[u8]) -> Result<MadeAlone, AllocError>
         requires { HasRoomAlone self.old }
         ensures made { IfOk result (λ made. MadeAloneIs T.top made self.old self.new (Record.Sent bytes.now)) }
-        ensures still { IfOk result (λ made. IfFailsAlone made (IfLeft T.top.leaves (self.new ≡ self.old))) }
+        ensures still { IfOk result (λ made. IfFailsAlone made (self.new ≡ self.old)) }
     {
         T::shows_alone();
         match read_unit(bytes) {
@@ -124,7 +123,7 @@ impl LoneEnd {
         requires room { HasRoomAlone self.old }
         requires hint { hint ≤ MAX_HINT }
         ensures made { IfOk result (λ made. MadeAloneIs T.top made self.old self.new (Record.Received hint kept bytes.now)) }
-        ensures still { IfOk result (λ made. IfFailsAlone made (IfLeft T.top.leaves (self.new ≡ self.old))) }
+        ensures still { IfOk result (λ made. IfFailsAlone made (self.new ≡ self.old)) }
     {
         if hint < self.front {
             return Ok(by_this_end(StepRefusal::HintOrder));
@@ -143,7 +142,7 @@ impl LoneEnd {
     fn make_noise<T: Top>(&mut self, bytes: &[u8]) -> MadeAlone
         requires { HasRoomAlone self.old }
         ensures made { MadeAloneIs T.top result self.old self.new (Record.Noise bytes.now) }
-        ensures still { IfFailsAlone result (IfLeft T.top.leaves (self.new ≡ self.old)) }
+        ensures still { IfFailsAlone result (self.new ≡ self.old) }
     {
         T::shows_alone();
         match hear::<T>(&mut self.layers, bytes) {
@@ -159,7 +158,7 @@ impl LoneEnd {
         requires room { HasRoomAlone self.old }
         requires event { IsEvent entry }
         ensures made { IfOk result (λ made. MadeAloneIs T.top made self.old self.new (record_with entry bytes.now)) }
-        ensures still { IfOk result (λ made. IfFailsAlone made (IfLeft T.top.leaves (self.new ≡ self.old))) }
+        ensures still { IfOk result (λ made. IfFailsAlone made (self.new ≡ self.old)) }
     {
         match entry {
             Entry::Start => Ok(self.make_station_event::<T>(StationEvent::Start)),
@@ -189,7 +188,7 @@ impl LoneEnd {
     fn make_station_event<T: Top>(&mut self, event: StationEvent) -> MadeAlone
         requires { HasRoomAlone self.old }
         ensures made { MadeAloneIs T.top result self.old self.new (Record.User (event_of_station event)) }
-        ensures still { IfFailsAlone result (IfLeft T.top.leaves (self.new ≡ self.old)) }
+        ensures still { IfFailsAlone result (self.new ≡ self.old) }
     {
         T::shows_alone();
         match T::start_or_halt(&mut self.layers, event) {
@@ -204,7 +203,7 @@ impl LoneEnd {
     fn make_link_event<T: Top>(&mut self, event: LinkEvent) -> Result<MadeAlone, AllocError>
         requires { HasRoomAlone self.old }
         ensures made { IfOk result (λ made. MadeAloneIs T.top made self.old self.new (Record.User (event_of_links (view event.entry)))) }
-        ensures still { IfOk result (λ made. IfFailsAlone made (IfLeft T.top.leaves (self.new ≡ self.old))) }
+        ensures still { IfOk result (λ made. IfFailsAlone made (self.new ≡ self.old)) }
     {
         T::shows_alone();
         let delivers = is_delivery(&event);

@@ -14,7 +14,7 @@ ghost use Rattle.pair_judge.specs.Summary.{HasRoom};
 ghost use Rattle.pair_judge.specs.declared.line.Line.{Line};
 ghost use Rattle.pair_judge.specs.inner.Memory.{MayEnter, MayKeep, MaySend, MayTakeMemory};
 ghost use Rattle.pair_judge.specs.inner.Making.{IfFails, IfSound, IsEvent, LeavesWaiting, MadeIs, NeverWaits, StandsFor, move};
-ghost use Rattle.pair_judge.specs.inner.Wire.{IfLeft, JudgeHalf};
+ghost use Rattle.pair_judge.specs.inner.Wire.{JudgeHalf};
 
 use crate::end::End;
 use crate::line::Line;
@@ -60,7 +60,7 @@ pub fn make<T: Top>(
     ensures sound { IfOk result (λ made. IfSound made (IsSound (reading bytes.now))) }
     ensures waits { IfOk result (λ made. LeavesWaiting made (move own.old own.new incoming.old incoming.new)) }
     ensures counts { IfOk result (λ made. IfFails made (own.new.counts ≡ own.old.counts)) }
-    ensures still { IfOk result (λ made. IfFails made (IfLeft T.top.leaves (own.new ≡ own.old))) }
+    ensures still { IfOk result (λ made. IfFails made (own.new ≡ own.old)) }
     ensures same_line { IfOk result (λ made. IfFails made (incoming.new ≡ incoming.old)) }
     ensures memory { IfErr result (λ _. MayTakeMemory own.old.layers (record_with entry bytes.now)) }
     ensures head { own.new.head ≡ own.old.head }
@@ -84,7 +84,7 @@ fn make_event_copied<T: Top>(own: &mut End, entry: Entry, bytes: &[u8]) -> Resul
     ensures sound { IfOk result (λ made. IfSound made (IsSound (reading bytes.now))) }
     ensures waits { IfOk result NeverWaits }
     ensures counts { IfOk result (λ made. IfFails made (own.new.counts ≡ own.old.counts)) }
-    ensures still { IfOk result (λ made. IfFails made (IfLeft T.top.leaves (own.new ≡ own.old))) }
+    ensures still { IfOk result (λ made. IfFails made (own.new ≡ own.old)) }
     ensures memory { IfErr result (λ _. MayTakeMemory own.old.layers (record_with entry bytes.now)) }
     ensures head { own.new.head ≡ own.old.head }
 {
@@ -103,7 +103,7 @@ fn make_event<T: Top>(own: &mut End, entry: Entry, bytes: &[u8]) -> Result<Made,
     ensures sound { IfOk result (λ made. IfSound made (IsSound (reading bytes.now))) }
     ensures waits { IfOk result NeverWaits }
     ensures counts { IfOk result (λ made. IfFails made (own.new.counts ≡ own.old.counts)) }
-    ensures still { IfOk result (λ made. IfFails made (IfLeft T.top.leaves (own.new ≡ own.old))) }
+    ensures still { IfOk result (λ made. IfFails made (own.new ≡ own.old)) }
     ensures memory { IfErr result (λ _. MayTakeMemory own.old.layers (record_with entry bytes.now)) }
     ensures head { own.new.head ≡ own.old.head }
 {
@@ -141,7 +141,7 @@ fn make_sent<T: Top>(alloc: Global, own: &mut End, bytes: &[u8]) -> Result<Made,
     ensures sound { IfOk result (λ made. IfSound made (IsSound (reading bytes.now))) }
     ensures waits { IfOk result NeverWaits }
     ensures counts { IfOk result (λ made. IfFails made (own.new.counts ≡ own.old.counts)) }
-    ensures still { IfOk result (λ made. IfFails made (IfLeft T.top.leaves (own.new ≡ own.old))) }
+    ensures still { IfOk result (λ made. IfFails made (own.new ≡ own.old)) }
     ensures memory { IfErr result (λ _. MaySend own.old.layers (reading bytes.now)) }
     ensures head { own.new.head ≡ own.old.head }
 {
@@ -173,7 +173,7 @@ fn make_received<T: Top>(
     ensures sound { IfOk result (λ made. IfSound made (IsSound (reading bytes.now))) }
     ensures waits { IfOk result (λ made. LeavesWaiting made (move own.old own.new incoming.old incoming.new)) }
     ensures counts { IfOk result (λ made. IfFails made (own.new.counts ≡ own.old.counts)) }
-    ensures still { IfOk result (λ made. IfFails made (IfLeft T.top.leaves (own.new ≡ own.old))) }
+    ensures still { IfOk result (λ made. IfFails made (own.new ≡ own.old)) }
     ensures same_line { IfOk result (λ made. IfFails made (incoming.new ≡ incoming.old)) }
     ensures memory { IfErr result (λ _. MayKeep kept (shows_damage (reading bytes.now))) }
     ensures head { own.new.head ≡ own.old.head }
@@ -199,7 +199,7 @@ fn make_noise<T: Top>(own: &mut End, bytes: &[u8]) -> Made
     ensures sound { IfSound result (IsSound (reading bytes.now)) }
     ensures waits { NeverWaits result }
     ensures counts { IfFails result (own.new.counts ≡ own.old.counts) }
-    ensures still { IfFails result (IfLeft T.top.leaves (own.new ≡ own.old)) }
+    ensures still { IfFails result (own.new ≡ own.old) }
     ensures head { own.new.head ≡ own.old.head }
 {
     match hear::<T>(&mut own.layers, bytes) {
@@ -220,7 +220,7 @@ fn make_station_event<T: Top>(own: &mut End, event: StationEvent) -> Made
     ensures sound { IfSound result ⊥ }
     ensures waits { NeverWaits result }
     ensures counts { IfFails result (own.new.counts ≡ own.old.counts) }
-    ensures still { IfFails result (IfLeft T.top.leaves (own.new ≡ own.old)) }
+    ensures still { IfFails result (own.new ≡ own.old) }
     ensures head { own.new.head ≡ own.old.head }
 {
     match T::start_or_halt(&mut own.layers, event) {
@@ -241,7 +241,7 @@ fn make_link_event<T: Top>(own: &mut End, event: LinkEvent) -> Result<Made, Allo
     ensures sound { IfOk result (λ made. IfSound made ⊥) }
     ensures waits { IfOk result NeverWaits }
     ensures counts { IfOk result (λ made. IfFails made (own.new.counts ≡ own.old.counts)) }
-    ensures still { IfOk result (λ made. IfFails made (IfLeft T.top.leaves (own.new ≡ own.old))) }
+    ensures still { IfOk result (λ made. IfFails made (own.new ≡ own.old)) }
     ensures memory { IfErr result (λ _. MayEnter own.old.layers.links (view event.entry)) }
     ensures head { own.new.head ≡ own.old.head }
 {

@@ -3,7 +3,7 @@
 ghost use Rattle.std.specs.Prelude.{◌≡◌, ◌+◌, ◌^◌, ◌<◌, ◌≤◌, Ok, Err, OnOk, OnErr, IfErr};
 ghost use Rattle.ddcmp_msg.specs.Reading.{reading};
 ghost use Rattle.dna_station.specs.WireStation.{load};
-ghost use Rattle.pair_judge.specs.inner.Wire.{IfLeft, judge_hears};
+ghost use Rattle.pair_judge.specs.inner.Wire.{judge_hears};
 
 use crate::held_link::HeldLink;
 use crate::layers::Layers;
@@ -21,7 +21,7 @@ pub fn hear<T: Top>(layers: &mut Layers, bytes: &[u8]) -> Result<(), StepRefusal
     requires { load layers.old.station < 2 ^ 63 }
     ensures ok { OnOk result (judge_hears T.top layers.old (reading bytes.now) ≡ Ok layers.new) }
     ensures refused { IfErr result (λ refusal. judge_hears T.top layers.old (reading bytes.now) ≡ Err refusal) }
-    ensures still { OnErr result (IfLeft T.top.leaves (layers.new ≡ layers.old)) }
+    ensures still { OnErr result (layers.new ≡ layers.old) }
     ensures load { load layers.new.station ≤ load layers.old.station + 1 }
 {
     let no_tag = HeldLink::new(&None);

@@ -12,7 +12,6 @@ ghost use Rattle.pair_judge.specs.inner.Lines.{Shows};
 ghost use Rattle.pair_judge.specs.inner.Memory.{MayKeep};
 ghost use Rattle.pair_judge.specs.inner.Steps.{with_link};
 ghost use Rattle.pair_judge.specs.inner.Receipts.{IfFails, IfSound, ReceiptIs, came, is_damage, layers_move};
-ghost use Rattle.pair_judge.specs.inner.Wire.{IfLeft};
 
 use crate::layers::Layers;
 use crate::line::Line;
@@ -55,7 +54,7 @@ pub fn receive<T: Top>(
         ReceiptIs T.top receipt (layers_move layers.old layers.new line.old line.new) (came hint kept bytes.now) sent) }
     ensures sound { IfOk result (λ receipt. IfSound receipt (IsSound (reading bytes.now))) }
     ensures waits { result ≡ Ok Receipt.Waits → (layers.new ≡ layers.old) × (line.new ≡ line.old) }
-    ensures still { IfOk result (λ receipt. IfFails receipt (IfLeft T.top.leaves (layers.new ≡ layers.old))) }
+    ensures still { IfOk result (λ receipt. IfFails receipt (layers.new ≡ layers.old)) }
     ensures same_line { IfOk result (λ receipt. IfFails receipt (line.new ≡ line.old)) }
     ensures memory { IfErr result (λ _. MayKeep kept (shows_damage (reading bytes.now))) }
     ensures load { load layers.new.station ≤ load layers.old.station + 1 }

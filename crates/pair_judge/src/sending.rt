@@ -9,7 +9,7 @@ ghost use Rattle.pair_judge.specs.inner.Memory.{IfNoMemory, MaySend};
 ghost use Rattle.pair_judge.specs.inner.Receipts.{node_at};
 ghost use Rattle.pair_judge.specs.inner.Steps.{IfRefused, IsNotSent, IsSent};
 ghost use Rattle.pair_judge.specs.inner.Unit.{unit_of, tags_of, IsSoundReading};
-ghost use Rattle.pair_judge.specs.inner.Wire.{IfLeft, judge_sent_step};
+ghost use Rattle.pair_judge.specs.inner.Wire.{judge_sent_step};
 
 use crate::layers::Layers;
 use crate::line::Line;
@@ -38,7 +38,7 @@ pub fn send<T: Top>(
     ensures gone { line.new.gone ≡ line.old.gone }
     ensures load { load layers.new.station ≤ load layers.old.station }
     ensures err { IfErr result (IfRefused (IsNotSent T.top layers.old bytes.now)) }
-    ensures still { IfErr result (IfRefused (λ refusal. IfLeft T.top.leaves (layers.new ≡ layers.old))) }
+    ensures still { IfErr result (IfRefused (λ refusal. layers.new ≡ layers.old)) }
     ensures same_line { IfErr result (IfRefused (λ refusal. line.new ≡ line.old)) }
     ensures memory { IfErr result (IfNoMemory (MaySend layers.old (reading bytes.now))) }
 {
@@ -58,7 +58,7 @@ fn sent<T: Top>(layers: &mut Layers, bytes: &[u8]) -> Result<UnitTag, StepFault>
         ≡ Sends (node_at head layers.new front) (unit_of bytes.now (tags_of tag))) }
     ensures load { load layers.new.station ≤ load layers.old.station }
     ensures err { IfErr result (IfRefused (IsNotSent T.top layers.old bytes.now)) }
-    ensures still { IfErr result (IfRefused (λ refusal. IfLeft T.top.leaves (layers.new ≡ layers.old))) }
+    ensures still { IfErr result (IfRefused (λ refusal. layers.new ≡ layers.old)) }
     ensures allowed { OnOk result (MaySend layers.old (reading bytes.now)) }
     ensures memory { IfErr result (IfNoMemory (MaySend layers.old (reading bytes.now))) }
 {

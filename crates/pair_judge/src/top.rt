@@ -22,7 +22,7 @@ ghost use Rattle.pair_judge.specs.inner.Reached.{IsShown};
 ghost use Rattle.pair_judge.specs.inner.Receipts.{is_damage};
 ghost use Rattle.pair_judge.specs.inner.Steps.{IfRefused, with_link};
 ghost use Rattle.pair_judge.specs.inner.Unit.{tags_of};
-ghost use Rattle.pair_judge.specs.inner.Wire.{EndsAlike, IfLeft, JudgeTop, JudgeWorld, judge_hears, judge_pair};
+ghost use Rattle.pair_judge.specs.inner.Wire.{EndsAlike, JudgeTop, JudgeWorld, judge_hears, judge_pair};
 
 use crate::held_link::HeldLink;
 use crate::layers::Layers;
@@ -43,14 +43,14 @@ pub trait Top {
         requires { load layers.old.station < 2 ^ 63 }
         ensures ok { OnOk result (top.machine.user layers.old (event_of_station event) ≡ Ok layers.new) }
         ensures refused { IfErr result (λ refusal. top.machine.user layers.old (event_of_station event) ≡ Err refusal) }
-        ensures still { OnErr result (IfLeft top.leaves (layers.new ≡ layers.old)) }
+        ensures still { OnErr result (layers.new ≡ layers.old) }
         ensures load { load layers.new.station ≤ load layers.old.station + 1 };
 
     /// An event of the links.
     fn at_links(layers: &mut Layers, event: LinkEvent) -> Result<(), StepFault>
         ensures ok { OnOk result (top.machine.user layers.old (event_of_links (link_view event.entry)) ≡ Ok layers.new) }
         ensures refused { IfErr result (IfRefused (λ refusal. top.machine.user layers.old (event_of_links (link_view event.entry)) ≡ Err refusal)) }
-        ensures still { IfErr result (IfRefused (λ refusal. IfLeft top.leaves (layers.new ≡ layers.old))) }
+        ensures still { IfErr result (IfRefused (λ refusal. layers.new ≡ layers.old)) }
         ensures memory { IfErr result (IfNoMemory (MayEnter layers.old.links (link_view event.entry))) }
         ensures station { layers.new.station ≡ layers.old.station };
 
@@ -59,7 +59,7 @@ pub trait Top {
         ensures ok { IfOk result (λ tag. top.machine.sends layers.old (view message.now) ≡ Ok (layers.new, tags_of tag)) }
         ensures refused { IfErr result (IfRefused (λ refusal. top.machine.sends layers.old (view message.now) ≡ Err refusal)) }
         ensures allowed { OnOk result (wire_sending_refusal layers.old.station (view message.now) ≡ None) }
-        ensures still { IfErr result (IfRefused (λ refusal. IfLeft top.leaves (layers.new ≡ layers.old))) }
+        ensures still { IfErr result (IfRefused (λ refusal. layers.new ≡ layers.old)) }
         ensures memory { IfErr result (IfNoMemory (wire_sending_refusal layers.old.station (view message.now) ≡ None)) }
         ensures load { load layers.new.station ≤ load layers.old.station };
 
@@ -74,7 +74,7 @@ pub trait Top {
         ensures ok { OnOk result (top.machine.arrives layers.old (with_link link.now (arrival_view arrival.entry)) kept ≡ Ok layers.new) }
         ensures refused { IfErr result (IfRefused (λ refusal.
             top.machine.arrives layers.old (with_link link.now (arrival_view arrival.entry)) kept ≡ Err refusal)) }
-        ensures still { IfErr result (IfRefused (λ refusal. IfLeft top.leaves (layers.new ≡ layers.old))) }
+        ensures still { IfErr result (IfRefused (λ refusal. layers.new ≡ layers.old)) }
         ensures memory { IfErr result (IfNoMemory (MayKeep kept (is_damage (arrival_view arrival.entry)))) }
         ensures load { load layers.new.station ≤ load layers.old.station + 1 };
 
@@ -86,7 +86,7 @@ pub trait Top {
             ≡ Ok layers.new) }
         ensures refused { IfErr result (IfRefused (λ refusal.
             top.alone.machine.arrives layers.old (with_link (Some of_no_link) (arrival_view arrival.entry)) kept ≡ Err refusal)) }
-        ensures still { IfErr result (IfRefused (λ refusal. IfLeft top.leaves (layers.new ≡ layers.old))) }
+        ensures still { IfErr result (IfRefused (λ refusal. layers.new ≡ layers.old)) }
         ensures load { load layers.new.station ≤ load layers.old.station + 1 };
 
     /// What `arrived_unknown` would refuse of this, asked without any change. Takes no memory.

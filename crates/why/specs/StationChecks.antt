@@ -15,8 +15,8 @@ use Rattle.ddcmp_station.specs.declared.failed.FailedSending.TheVariants.{State 
 use Rattle.ddcmp_station.specs.declared.failed.FailedSending.TheVariants.{RoomIfNew, AsFirstGiven, CauseIsOpen}
 use Rattle.ddcmp_station.specs.declared.failed.FailedArrival.{FailedArrival}
 use Rattle.ddcmp_station.specs.declared.failed.FailedArrival.TheVariants.{Period, Keep}
-use Rattle.ddcmp_station.specs.declared.failed.PeriodNeed.{PeriodNeed}
-use Rattle.ddcmp_station.specs.declared.failed.PeriodNeed.TheVariants.{Anything, Fresh, OfPair}
+use Rattle.dna_station.specs.declared.arrival_row.PeriodNeed.{PeriodNeed}
+use Rattle.dna_station.specs.declared.arrival_row.PeriodNeed.TheVariants.{Anything, Fresh, OfPair}
 use Rattle.why.specs.PacketWords.{byte_digits}
 use Rattle.why.specs.UnitWords.{reading_name}
 use Rattle.why.specs.StateLine.{state_name}

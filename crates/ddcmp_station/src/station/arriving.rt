@@ -1,31 +1,137 @@
 //! What an arrival does to a station.
 
-ghost use Rattle.std.specs.Prelude.{◌≡◌, ◌+◌, ◌^◌, ◌<◌, ◌≤◌, ◌==◌, ◌&&◌, ◌⊎◌, false, not, None, if◌then◌else◌, fold, IfOk, OnOk, OnErr, IfErr};
+ghost use Rattle.std.specs.Prelude.{false, ◌≡◌, ◌+◌, ◌^◌, ◌<◌, ◌≤◌, ◌==◌, ◌&&◌, not, None, Some, if◌then◌else◌, fold, IfOk, OnOk, IfErr};
 ghost use Rattle.std.specs.Option.{option_copied};
 ghost use Rattle.ddcmp_msg.specs.Message.{view};
 ghost use Rattle.ddcmp_msg.specs.declared.nak_reason.NakReason.TheVariants as nak;
+ghost use Rattle.dna_station.specs.ArrivalRows.{need_view, row_view};
 ghost use Rattle.dna_station.specs.NakCauses.{with_cause};
 ghost use Rattle.dna_station.specs.Table.{row};
 ghost use Rattle.dna_station.specs.PeriodRule.{meets};
 ghost use Rattle.dna_station.specs.PeriodRule as rules;
-ghost use Rattle.dna_station.specs.Book.{num_of, has_packet, keep_refusal, damaged_by};
+ghost use Rattle.dna_station.specs.Book.{damaged_by, has_packet, takes_by};
 ghost use Rattle.dna_station.specs.Book as arriving;
 ghost use Rattle.dna_station.specs.WireStation.{load};
-ghost use Rattle.dna_station.specs.WireBook.{wire_tag, wire_book, wire_is_next, with_next, wire_responded, wire_does, wire_arrival_refusal};
+ghost use Rattle.dna_station.specs.WireBook.{wire_arrival_refusal, wire_tag, wire_book, wire_is_next, with_next, wire_responded, wire_does};
 ghost use Rattle.dna_station.specs.WireBook.{wire_after_arrival, wire_taken};
 ghost use Rattle.ddcmp_station.specs.Arrival.{arrival_view};
-ghost use Rattle.ddcmp_station.specs.Fault.{IsRefused};
+ghost use Rattle.ddcmp_station.specs.Failed.{failed_arrival, failed_keep, refusal_of_arrival};
+ghost use Rattle.ddcmp_station.specs.Permit.{IsRow};
 ghost use Rattle.ddcmp_station.specs.PeriodRules.{period_rule};
 
 use super::{HeldPacket, Station};
-use crate::{Arrival, StationFault};
+use crate::{Arrival, ArrivalPermit, FailedArrival};
 use ddcmp_msg::{Message, NakReason};
-use dna_station::{State, StationRefusal, Tag};
+use dna_station::{ArrivalRow, PeriodNeed, State, Tag, body_of, num_of, resp_of};
 use wire_base::Window;
 
 impl<T: Copy, W: Window<HeldPacket<T>, 256>> Station<T, W> {
-    /// This came, and the node kept its packet or did not (DDCMP 4.1, startup state table, data transfer). The answer is the
-    /// packet that was taken, if one was. The counts that the station keeps are together below 2^63. Takes no memory.
+    /// Whether this can come now, where the node kept its packet or did not (DDCMP 4.1, startup state table, data transfer). Nothing changes, and
+    /// no memory is taken. The answer is a permit for [`Station::arrive`], or else the first check that the arrival does not pass, with what is
+    /// seen there and what is allowed: with that it is passed (`allowed_arrives`). In this order:
+    ///
+    /// - `Period`: a message that is acted on belongs to another pair of starts. Only where `OF_PAIR`, as a judge of two captures asks it:
+    ///   `ask_arrival::<true>`. Who has one end alone knows no period of what comes, and `ask_arrival::<false>` takes any.
+    /// - `Keep`: nothing is taken, and `kept` says that something was.
+    #[inline(always)]
+    pub fn ask_arrival<'a, const OF_PAIR: bool>(
+        &self,
+        arrival: Arrival<'a>,
+        kept: bool,
+    ) -> Result<ArrivalPermit<'a>, FailedArrival>
+        ensures allowed { OnOk result (wire_arrival_refusal (period_rule OF_PAIR) self.now (arrival_view arrival.entry) kept ≡ None) }
+        ensures row { IfOk result (λ permit. IsRow self.now (arrival_view arrival.entry) permit.row) }
+        ensures taken { IfOk result (λ permit. option_copied permit.packet ≡ wire_taken self.now (arrival_view arrival.entry) kept) }
+        ensures passes { OnOk result (failed_arrival (period_rule OF_PAIR) self.now (arrival_view arrival.entry) kept ≡ None) }
+        ensures named { IfErr result (λ failed. failed_arrival (period_rule OF_PAIR) self.now (arrival_view arrival.entry) kept ≡ Some failed) }
+        ensures refused { IfErr result (λ failed.
+            wire_arrival_refusal (period_rule OF_PAIR) self.now (arrival_view arrival.entry) kept ≡ Some (refusal_of_arrival failed)) }
+    {
+        match arrival {
+            Arrival::Sound(message, tag) => self.ask_sound::<OF_PAIR>(message, tag, kept),
+            Arrival::HeaderBad => ask_damage(kept),
+            Arrival::DataBad => ask_damage(kept),
+        }
+    }
+
+    // A sound message that comes.
+    #[inline(always)]
+    fn ask_sound<'a, const OF_PAIR: bool>(
+        &self,
+        message: Message<'a>,
+        tag: Tag,
+        kept: bool,
+    ) -> Result<ArrivalPermit<'a>, FailedArrival>
+        ensures allowed { OnOk result (wire_arrival_refusal (period_rule OF_PAIR) self.now (arriving.Sound (view message.entry) tag) kept ≡ None) }
+        ensures row { IfOk result (λ permit. row_view permit.row ≡ row self.now.variables.state (view message.entry)) }
+        ensures taken { IfOk result (λ permit. option_copied permit.packet ≡ wire_taken self.now (arriving.Sound (view message.entry) tag) kept) }
+        ensures passes { OnOk result (failed_arrival (period_rule OF_PAIR) self.now (arriving.Sound (view message.entry) tag) kept ≡ None) }
+        ensures named { IfErr result (λ failed.
+            failed_arrival (period_rule OF_PAIR) self.now (arriving.Sound (view message.entry) tag) kept ≡ Some failed) }
+        ensures refused { IfErr result (λ failed.
+            wire_arrival_refusal (period_rule OF_PAIR) self.now (arriving.Sound (view message.entry) tag) kept ≡ Some (refusal_of_arrival failed)) }
+    {
+        let row = ArrivalRow::of(self.variables.state(), &message);
+        if OF_PAIR {
+            if !self.meets(row.needs(), tag) {
+                return Err(self.crossed(row.needs(), tag));
+            }
+        }
+        if !kept {
+            return Ok(ArrivalPermit { row, packet: None });
+        }
+        if !self.takes(row, &message) {
+            return Err(FailedArrival::Keep);
+        }
+        Ok(ArrivalPermit {
+            row,
+            packet: Some(body_of(message)),
+        })
+    }
+
+    // Whether the periods of a message with this tag are what is needed.
+    #[inline(always)]
+    fn meets(&self, needs: PeriodNeed, tag: Tag) -> bool
+        ensures { result ≡ meets (need_view needs) (wire_tag self.now) tag }
+    {
+        match needs {
+            PeriodNeed::Anything => true,
+            PeriodNeed::Fresh => is_period(tag.partner, self.period),
+            PeriodNeed::OfPair => {
+                let fresh = is_period(tag.partner, self.period);
+                is_period(self.partner, tag.period) && fresh
+            }
+        }
+    }
+
+    // They are not.
+    #[inline(never)]
+    fn crossed(&self, needs: PeriodNeed, seen: Tag) -> FailedArrival
+        ensures { result ≡ FailedArrival.Period needs seen (wire_tag self.now) }
+    {
+        FailedArrival::Period {
+            needs,
+            seen,
+            own: Tag {
+                period: self.period,
+                partner: self.partner,
+            },
+        }
+    }
+
+    // Whether the packet of a message with this row can be taken.
+    #[inline(always)]
+    fn takes(&self, row: ArrivalRow, message: &Message) -> bool
+        ensures { result ≡ (has_packet (row_view row).effects && wire_is_next self.now.variables (arriving.num_of (view message.now))) }
+    {
+        if row.takes_packet() {
+            return self.variables.is_next(num_of(message));
+        }
+        false
+    }
+
+    /// This came, for which the station gave a permit with this row, and the node kept its packet or did not. The counts that the station keeps are
+    /// together below 2^63. Takes no memory.
     ///
     /// What it does; where nothing stands, and in HALTED, nothing:
     ///
@@ -40,138 +146,48 @@ impl<T: Copy, W: Window<HeldPacket<T>, 256>> Station<T, W> {
     ///                        and then as there           or gives a cause where no buffer is left
     ///  damage                                            a cause
     /// ```
-    ///
-    /// `Refused`, and nothing else, with:
-    ///
-    /// - `CrossedPeriod`: a message that is acted on belongs to another pair of starts. Only where `OF_PAIR`, as a judge of two captures asks it:
-    ///   `arrived::<true>`. Who has one end alone knows no period of what comes, and `arrived::<false>` takes any.
-    /// - `WrongKeep`, after it: nothing is taken, and `kept` says that something was.
-    ///
-    /// After either the station is as it was.
     #[inline(always)]
-    pub fn arrived<'a, const OF_PAIR: bool>(
-        &mut self,
-        arrival: Arrival<'a>,
-        kept: bool,
-    ) -> Result<Option<&'a [u8]>, StationFault>
-        requires { load self.old < 2 ^ 63 }
-        ensures allowed { OnOk result (wire_arrival_refusal (period_rule OF_PAIR) self.old (arrival_view arrival.entry) kept ≡ None) }
-        ensures ok { OnOk result (self.new ≡ wire_after_arrival self.old (arrival_view arrival.entry) kept) }
-        ensures taken { IfOk result (λ taken. option_copied taken ≡ wire_taken self.old (arrival_view arrival.entry) kept) }
-        ensures refused { IfErr result (λ fault.
-            IsRefused (wire_arrival_refusal (period_rule OF_PAIR) self.old (arrival_view arrival.entry) kept) fault) }
-        ensures alone { IfErr result (λ fault. (fault ≡ StationFault.Refused StationRefusal.CrossedPeriod)
-            ⊎ (fault ≡ StationFault.Refused StationRefusal.WrongKeep)) }
-        ensures err { OnErr result (self.new ≡ self.old) }
+    pub fn arrive(&mut self, arrival: Arrival, row: ArrivalRow, kept: bool)
+        requires load { load self.old < 2 ^ 63 }
+        requires row { IsRow self.old (arrival_view arrival) row }
+        ensures step { self.new ≡ wire_after_arrival self.old (arrival_view arrival.entry) kept }
         ensures load { load self.new ≤ load self.old + 1 }
     {
         match arrival {
-            Arrival::Sound(message, tag) => self.meet::<OF_PAIR>(message, tag, kept),
-            Arrival::HeaderBad => self.note_damage(NakReason::HeaderCheck, kept),
-            Arrival::DataBad => self.note_damage(NakReason::DataCheck, kept),
-        }
-    }
-
-    // A sound message came.
-    #[inline(always)]
-    fn meet<'a, const OF_PAIR: bool>(
-        &mut self,
-        message: Message<'a>,
-        tag: Tag,
-        kept: bool,
-    ) -> Result<Option<&'a [u8]>, StationFault>
-        requires { load self.old < 2 ^ 63 }
-        ensures allowed { OnOk result (wire_arrival_refusal (period_rule OF_PAIR) self.old (arriving.Sound (view message.entry) tag) kept ≡ None) }
-        ensures ok { OnOk result (self.new ≡ wire_after_arrival self.old (arriving.Sound (view message.entry) tag) kept) }
-        ensures taken { IfOk result (λ taken. option_copied taken ≡ wire_taken self.old (arriving.Sound (view message.entry) tag) kept) }
-        ensures refused { IfErr result (λ fault.
-            IsRefused (wire_arrival_refusal (period_rule OF_PAIR) self.old (arriving.Sound (view message.entry) tag) kept) fault) }
-        ensures alone { IfErr result (λ fault. (fault ≡ StationFault.Refused StationRefusal.CrossedPeriod)
-            ⊎ (fault ≡ StationFault.Refused StationRefusal.WrongKeep)) }
-        ensures err { OnErr result (self.new ≡ self.old) }
-        ensures load { load self.new ≤ load self.old + 1 }
-    {
-        if OF_PAIR {
-            if !self.meets(&message, tag) {
-                return Err(StationFault::Refused(StationRefusal::CrossedPeriod));
-            }
-        }
-        let takes = self.variables.can_take(&message);
-        if !takes && kept {
-            return Err(StationFault::Refused(StationRefusal::WrongKeep));
-        }
-        self.take_step(&message, tag, kept);
-        if takes && kept {
-            return Ok(Some(body_of(message)));
-        }
-        Ok(None)
-    }
-
-    // ---- what refuses
-
-    // Whether the periods of a message are what its row needs.
-    #[inline(always)]
-    pub(super) fn meets(&self, message: &Message, tag: Tag) -> bool
-        ensures { result ≡ meets (row self.now.variables.state (view message.now)).needs (wire_tag self.now) tag }
-    {
-        let fresh = is_period(tag.partner, self.period);
-        let of_pair = is_period(self.partner, tag.period) && fresh;
-        match self.variables.state() {
-            State::Halted => true,
-            State::Istrt => match message {
-                Message::Stack { .. } => fresh,
-                _ => true,
-            },
-            State::Astrt => match message {
-                Message::Stack { .. } => fresh,
-                Message::Ack { resp: 0, .. } | Message::Data { resp: 0, .. } => of_pair,
-                _ => true,
-            },
-            State::Running => match message {
-                Message::Strt { .. } => true,
-                _ => of_pair,
-            },
+            Arrival::Sound(message, tag) => self.take_step(row, &message, tag, kept),
+            Arrival::HeaderBad => self.note_damage(NakReason::HeaderCheck),
+            Arrival::DataBad => self.note_damage(NakReason::DataCheck),
         }
     }
 
     // ---- what it does
 
-    // The effects of a sound message, row by row.
+    // The effects of a sound message, by its row.
     #[inline(always)]
-    fn take_step(&mut self, message: &Message, tag: Tag, kept: bool)
+    fn take_step(&mut self, row: ArrivalRow, message: &Message, tag: Tag, kept: bool)
         requires { load self.old < 2 ^ 63 }
         ensures load { load self.new ≤ load self.old + 1 }
-        ensures step { self.new ≡ fold (wire_does (view message.now) tag kept) self.old
-            (row self.old.variables.state (view message.now)).effects }
+        ensures step { self.new ≡ fold (wire_does (view message.now) tag kept) self.old (row_view row).effects }
     {
-        match self.variables.state() {
-            State::Halted => {}
-            State::Istrt => match message {
-                Message::Strt { .. } => self.join(tag.period, State::Astrt),
-                Message::Stack { .. } => self.join(tag.period, State::Running),
-                _ => {}
-            },
-            State::Astrt => match message {
-                Message::Strt { .. } => self.partner = Some(tag.period),
-                Message::Stack { .. } => self.join(tag.period, State::Running),
-                Message::Ack { resp: 0, .. } => self.variables.go_to(State::Running),
-                Message::Data { resp: 0, num, .. } => {
-                    self.variables.go_to(State::Running);
-                    self.receive_data(0, *num, kept);
-                }
-                _ => {}
-            },
-            State::Running => match message {
-                Message::Strt { .. } => self.variables.go_to(State::Halted),
-                Message::Stack { .. } => {}
-                Message::Ack { resp, .. } => self.variables.respond(*resp),
-                Message::Nak { resp, .. } => {
-                    self.variables.respond(*resp);
-                    self.variables.set_back();
-                }
-                Message::Rep { num, .. } => self.answer_rep(*num),
-                Message::Data { resp, num, .. } => self.receive_data(*resp, *num, kept),
-            },
+        match row {
+            ArrivalRow::Ignored => {}
+            ArrivalRow::StartMet => self.join(tag.period, State::Astrt),
+            ArrivalRow::StartAnswered => self.join(tag.period, State::Running),
+            ArrivalRow::StartAgain => self.partner = Some(tag.period),
+            ArrivalRow::StartConfirmed => self.variables.go_to(State::Running),
+            ArrivalRow::FirstData => {
+                self.variables.go_to(State::Running);
+                self.receive_data(message, kept);
+            }
+            ArrivalRow::Restarted => self.variables.go_to(State::Halted),
+            ArrivalRow::Noted => {}
+            ArrivalRow::Acknowledged => self.variables.respond(resp_of(message)),
+            ArrivalRow::SetBack => {
+                self.variables.respond(resp_of(message));
+                self.variables.set_back();
+            }
+            ArrivalRow::Asked => self.answer_rep(num_of(message)),
+            ArrivalRow::Delivered => self.receive_data(message, kept),
         }
     }
 
@@ -201,17 +217,18 @@ impl<T: Copy, W: Window<HeldPacket<T>, 256>> Station<T, W> {
 
     // Data in RUNNING: its RESP, and then its packet.
     #[inline(always)]
-    fn receive_data(&mut self, resp: u8, num: u8, kept: bool)
+    fn receive_data(&mut self, message: &Message, kept: bool)
         requires { load self.old < 2 ^ 63 }
         ensures load { load self.new ≤ load self.old + 1 }
         ensures step { self.new ≡ record self.old {
-          variables = with_next (wire_is_next (wire_responded self.old.variables resp) num && kept) (wire_responded self.old.variables resp);
-          causes = if (wire_is_next (wire_responded self.old.variables resp) num && not kept)
-              then with_cause nak.NoBuffer self.old.causes else self.old.causes;
+          variables = with_next (wire_is_next (wire_responded self.old.variables (arriving.resp_of (view message.now)))
+              (arriving.num_of (view message.now)) && kept) (wire_responded self.old.variables (arriving.resp_of (view message.now)));
+          causes = if (wire_is_next (wire_responded self.old.variables (arriving.resp_of (view message.now)))
+              (arriving.num_of (view message.now)) && not kept) then with_cause nak.NoBuffer self.old.causes else self.old.causes;
         } }
     {
-        self.variables.respond(resp);
-        if !self.variables.is_next(num) {
+        self.variables.respond(resp_of(message));
+        if !self.variables.is_next(num_of(message)) {
             return;
         }
         if kept {
@@ -221,29 +238,33 @@ impl<T: Copy, W: Window<HeldPacket<T>, 256>> Station<T, W> {
         }
     }
 
-    // A unit that shows damage came: in RUNNING it gives a cause of this reason, and nothing is taken in any state.
-    fn note_damage<'a>(
-        &mut self,
-        reason: NakReason,
-        kept: bool,
-    ) -> Result<Option<&'a [u8]>, StationFault>
+    // A unit that shows damage came: in RUNNING it gives a cause of this reason.
+    fn note_damage(&mut self, reason: NakReason)
         requires { load self.old < 2 ^ 63 }
-        ensures allowed { OnOk result (keep_refusal false kept ≡ None) }
-        ensures ok { OnOk result (self.new ≡ damaged_by wire_book reason self.old) }
-        ensures taken { IfOk result (λ taken. taken ≡ None) }
-        ensures refused { IfErr result (λ fault. IsRefused (keep_refusal false kept) fault) }
-        ensures alone { IfErr result (λ fault. fault ≡ StationFault.Refused StationRefusal.WrongKeep) }
-        ensures err { OnErr result (self.new ≡ self.old) }
+        ensures step { self.new ≡ damaged_by wire_book reason self.old }
         ensures load { load self.new ≤ load self.old + 1 }
     {
-        if kept {
-            return Err(StationFault::Refused(StationRefusal::WrongKeep));
-        }
         if let State::Running = self.variables.state() {
             self.causes.add(reason);
         }
-        Ok(None)
     }
+}
+
+// A unit, or noise, that shows damage: nothing of it is kept.
+fn ask_damage<'a>(kept: bool) -> Result<ArrivalPermit<'a>, FailedArrival>
+    ensures allowed { OnOk result (arriving.keep_refusal false kept ≡ None) }
+    ensures permit { IfOk result (λ permit. option_copied permit.packet ≡ None) }
+    ensures passes { OnOk result (failed_keep false kept ≡ None) }
+    ensures named { IfErr result (λ failed. failed_keep false kept ≡ Some failed) }
+    ensures refused { IfErr result (λ failed. arriving.keep_refusal false kept ≡ Some (refusal_of_arrival failed)) }
+{
+    if kept {
+        return Err(FailedArrival::Keep);
+    }
+    Ok(ArrivalPermit {
+        row: ArrivalRow::Ignored,
+        packet: None,
+    })
 }
 
 // The period is known, and it is this one.
@@ -253,15 +274,5 @@ fn is_period(known: Option<u64>, period: u64) -> bool
     match known {
         Some(known) => known == period,
         None => false,
-    }
-}
-
-// The data of a message, and none where it has none.
-pub(super) fn body_of<'a>(message: Message<'a>) -> &'a [u8]
-    ensures { result.now ≡ arriving.body_of (view message.entry) }
-{
-    match message {
-        Message::Data { body, .. } => body,
-        _ => &[],
     }
 }

@@ -17,10 +17,9 @@ use dna_station::State;
 use wire_base::Window;
 
 impl<T: Copy, W: Window<HeldPacket<T>, 256>> Station<T, W> {
-    /// The first check that this message does not pass, if its node sent it now (DDCMP 4.1, startup state table, data transfer), with what
-    /// is seen there and what is allowed; `None` where the message may be sent. It is the check for which [`Station::sent`] refuses, and
-    /// with what is allowed in the place of what is seen the check is passed (`allowed_passes`). Takes no memory.
-    pub fn failed_sending(&self, message: &Message) -> Option<FailedSending>
+    // The first check that this message does not pass.
+    #[inline(always)]
+    pub(super) fn failing(&self, message: &Message) -> Option<FailedSending>
         ensures named { result ≡ failed_sending self.now (view message.now) }
         ensures refuses { option_map refusal_of_failed result ≡ wire_sending_refusal self.now (view message.now) }
     {
@@ -39,6 +38,7 @@ impl<T: Copy, W: Window<HeldPacket<T>, 256>> Station<T, W> {
         }
     }
 
+    #[inline(always)]
     fn failed_in_running(&self, message: &Message) -> Option<FailedSending>
         requires { self.now.variables.state ≡ State.Running }
         ensures { result ≡ failed_of self.now (view message.now) (checks State.Running (view message.now)) }
@@ -128,6 +128,7 @@ impl<T: Copy, W: Window<HeldPacket<T>, 256>> Station<T, W> {
     }
 
     // A new packet has room in the window; one that is sent again is as first given.
+    #[inline(always)]
     fn failed_packet(&self, number: u8, body: &[u8]) -> Option<FailedSending>
         ensures { result ≡ if (if wire_is_new self.now.variables then nat_lt (length self.now.variables.held) WINDOW else true)
             then (if (if wire_is_new self.now.variables then true
@@ -148,13 +149,21 @@ impl<T: Copy, W: Window<HeldPacket<T>, 256>> Station<T, W> {
         if self.variables.is_first_given(body) {
             return None;
         }
+        Some(self.not_as_first(number, body))
+    }
+
+    // Data that are not as first given: the first place that differs.
+    #[inline(never)]
+    fn not_as_first(&self, number: u8, body: &[u8]) -> FailedSending
+        ensures { result ≡ not_as_first number body.now (first_data (slice_get self.now.variables.held self.now.variables.ahead)) }
+    {
         let first = self.first_data();
         let place = first_difference(body, first);
-        Some(FailedSending::AsFirstGiven {
+        FailedSending::AsFirstGiven {
             number,
             seen: byte_at(body, place),
             allowed: byte_at(first, place),
-        })
+        }
     }
 
     // The data with which the next packet to send was first sent; none of a new one.

@@ -21,7 +21,7 @@ use Rattle.pair_judge.specs.declared.course.Advance.{Advance}
 use Rattle.pair_judge.specs.declared.course.Advance.TheVariants as answers
 use Rattle.pair_judge.specs.Heads.{head_of}
 use Rattle.pair_judge.specs.inner.Lines.{Shows}
-use Rattle.pair_judge.specs.inner.Wire.{IfLeft, judge_step, JudgeHalf, JudgeTop}
+use Rattle.pair_judge.specs.inner.Wire.{judge_step, JudgeHalf, JudgeTop}
 use Rattle.pair_judge.specs.inner.Making.{Move, StandsFor, IsMade}
 
 -- the reader has not failed, and has not come to the end unseen
@@ -137,7 +137,7 @@ module _ (top : JudgeTop) where
     pub next : Record
     pub read : IsRead t
     pub ahead : IsWaiting t.course.capture.bytes t.course.ahead next
-    pub still : IfLeft top.leaves (IsStill m)
+    pub still : IsStill m
     pub counts : m.new.counts ≡ m.old.counts
     pub refused : (mine theirs : JudgeHalf) → StandsFor m.old m.before mine → Shows m.before theirs.sent →
         advance (judge_step top) mine theirs next ≡ any.Refused refusal

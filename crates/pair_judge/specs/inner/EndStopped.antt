@@ -26,7 +26,7 @@ use Rattle.pair_judge.specs.Reason.{reason_of_step}
 use Rattle.pair_judge.specs.Summary.{counts_of}
 use Rattle.pair_judge.specs.inner.Course.{IsWaiting, waiting}
 use Rattle.pair_judge.specs.inner.LoneEnd.{node_of_end}
-use Rattle.pair_judge.specs.inner.Wire.{IfLeft, JudgeTop}
+use Rattle.pair_judge.specs.inner.Wire.{JudgeTop}
 
 -- what is shown of it
 abbrev pub shown_lone : CaptureState → LoneEnd → Ahead → ShownEnd
@@ -69,4 +69,4 @@ module _ (top : JudgeTop) where
     pub made : List Record
     pub all : read.records ≡ made ++ waiting s.capture.bytes s.ahead
     pub told : tells (told_alone made)
-    pub stands : IfLeft top.leaves (StandsAfter (head_of read) made s)
+    pub stands : StandsAfter (head_of read) made s

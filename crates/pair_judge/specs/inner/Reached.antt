@@ -22,7 +22,7 @@ use Rattle.pair_judge.specs.declared.course.Course.{Course}
 use Rattle.pair_judge.specs.declared.fault.JudgeFault.{JudgeFault}
 use Rattle.dna_station.specs.WireStation.{load}
 use Rattle.dna_node.specs.WireLayers.{wire_layers_start}
-use Rattle.pair_judge.specs.inner.Wire.{IfLeft, judge_pair, judge_step, JudgeHalf, JudgeTop, JudgeWorld}
+use Rattle.pair_judge.specs.inner.Wire.{judge_pair, judge_step, JudgeHalf, JudgeTop, JudgeWorld}
 use Rattle.pair_judge.specs.inner.Making.{StandsFor}
 use Rattle.pair_judge.specs.inner.Course.{IsRead, Track, WaitsAt, IsWaiting, having_made, read_of}
 use Rattle.pair_judge.specs.Finding.{EndsWhere, IsCounted, IsFinding, of_side}
@@ -144,7 +144,7 @@ module _ (top : JudgeTop) where
     pub is_finding : (all_a all_b : List Record) → GoesOn (read_of (having_made a made_a)) all_a → GoesOn (read_of (having_made b made_b)) all_b
         → IsFinding top.kind a.course.end.head b.course.end.head all_a all_b finding
     pub ends : EndsWhere finding (read_of a).behind (read_of b).behind
-    pub stops : IfLeft top.leaves (StopsFor (having_made a made_a) (having_made b made_b) finding)
+    pub stops : StopsFor (having_made a made_a) (having_made b made_b) finding
     pub counts : finding ≡ Accepted → IsCounted top.kind a.course.end.head b.course.end.head made_a made_b
         (record { a = summary_at top.links a.course.end; b = summary_at top.links b.course.end })
 

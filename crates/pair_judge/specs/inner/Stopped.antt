@@ -11,7 +11,7 @@ use Rattle.pair_judge.specs.inner.Course.{IsRead, along}
 use Rattle.pair_judge.specs.inner.Ends.{ends_shown}
 use Rattle.pair_judge.specs.Order.{MadeRecord}
 use Rattle.pair_judge.specs.inner.Reached.{IsInOrder, StopsFor}
-use Rattle.pair_judge.specs.inner.Wire.{IfLeft, JudgeTop}
+use Rattle.pair_judge.specs.inner.Wire.{JudgeTop}
 
 module _ (top : JudgeTop) where
   -- its finding, with the counts of both sides
@@ -35,7 +35,7 @@ module _ (top : JudgeTop) where
     pub order : List MadeRecord
     pub in_order : IsInOrder top order (along text_a s.a come_a made_a) (along text_b s.b come_b made_b)
     pub told : tells order
-    pub stops : IfLeft top.leaves (StopsFor top (along text_a s.a come_a made_a) (along text_b s.b come_b made_b) s.finding)
+    pub stops : StopsFor top (along text_a s.a come_a made_a) (along text_b s.b come_b made_b) s.finding
 
   -- both ends are shown as they are at such a stop
   pub record AreShownIn (text_a text_b : Option (List ℕ)) (tells : List MadeRecord → Type 0) (ends : ShownEnds) : Type 0 where

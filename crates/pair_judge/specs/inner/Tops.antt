@@ -1,5 +1,5 @@
 -- What may stand on top of the stations that the judge runs.
-use Rattle.std.specs.Prelude.{◌≡◌, Bool, true, false, None, Result, Ok, Err, length}
+use Rattle.std.specs.Prelude.{◌≡◌, Bool, None, Result, Ok, Err, length}
 use Rattle.ddcmp_msg.specs.Message.{MessageValue}
 use Rattle.capture.specs.declared.event.Event.{Event}
 use Rattle.dna_station.specs.declared.refusal.StepRefusal.{StepRefusal}
@@ -16,33 +16,33 @@ use Rattle.dna_node.specs.Alone.{EndOf, layers_end, station_end, unknown_tag}
 use Rattle.dna_node.specs.CutLayers.{cut_layers}
 use Rattle.dna_node.specs.Kind.{both_layers, stations_alone}
 use Rattle.dna_node.specs.Layers.{Layers}
-use Rattle.dna_node.specs.TagRules.{judged}
+use Rattle.dna_node.specs.TagRules.{Rules, judged}
+use Rattle.ddcmp_station.specs.PeriodRules.{period_rule}
+use Rattle.nsp_link.specs.PartnerRules.{partner_rule}
 use Rattle.dna_node.specs.WireLayers.{WireLayers, LayersTag, to_wire_station, wire_layers_machine, with_wire_station}
 use Rattle.pair_judge.specs.EndKind.{layers_alone, station_alone}
 use Rattle.pair_judge.specs.inner.Wire.{JudgeTop}
+
+-- ---- the rules on tags
+
+-- of a pair that is judged, or of one end, which goes by bytes
+abbrev pub rules_by : (of_pair : Bool) → Rules
+rules_by of_pair = record { periods = period_rule of_pair; partners = partner_rule of_pair }
 
 -- ---- the links
 
 abbrev pub layers_run : Machine WireLayers LayersTag
 layers_run = wire_layers_machine judged
 
--- Where `leaves` holds, a step that is refused leaves both layers as they were
-abbrev pub links_on_top_that : (leaves : Bool) → JudgeTop
-links_on_top_that leaves = record {
+abbrev pub links_on_top : JudgeTop
+links_on_top = record {
   kind = both_layers;
   machine = layers_run;
   links = λ (s : WireLayers). length s.links.links;
   alone = layers_end;
   end = layers_alone;
-  leaves = leaves;
   Shows = λ (w : WireLayers) (s : Layers). w ≡ cut_layers s;
 }
-
-abbrev pub links_on_top : JudgeTop
-links_on_top = links_on_top_that false
-
-abbrev pub links_on_top_left : JudgeTop
-links_on_top_left = links_on_top_that true
 
 -- ---- nothing: the links stay as they were before any record
 
@@ -78,6 +78,5 @@ nothing_on_top = record {
   links = λ (s : WireLayers). 0;
   alone = line_end;
   end = station_alone;
-  leaves = true;
   Shows = λ (w : WireLayers) (s : Station). w.station ≡ cut (unlabelled s.packets) s;
 }

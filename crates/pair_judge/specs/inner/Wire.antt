@@ -1,5 +1,5 @@
 -- The nodes that the judge runs: wire nodes, with or without their links, beside the kind of node that it takes the ends for.
-use Rattle.std.specs.Prelude.{◌≡◌, ℕ, Bool, true, false, List, Result}
+use Rattle.std.specs.Prelude.{◌≡◌, ℕ, Bool, List, Result}
 use Rattle.two_nodes.specs.Nodes.{Answer, Half, Nodes, World}
 use Rattle.ddcmp_msg.specs.Reading.{ReadingValue}
 use Rattle.capture.specs.declared.record.Record.{Record}
@@ -18,11 +18,6 @@ JudgeHalf = Half WireLayersNode WireLayersUnit
 abbrev pub JudgeWorld : Type 0
 JudgeWorld = World WireLayersNode WireLayersUnit
 
--- a fact of what is left, where it is left so
-abbrev pub IfLeft : Bool → Type 0 → Type 0
-IfLeft true P = P
-IfLeft false P = Unit {0}
-
 -- What stands on top of the stations that the judge runs
 pub record JudgeTop : Type 1 where
   -- the kind of node that it takes the ends for
@@ -33,8 +28,6 @@ pub record JudgeTop : Type 1 where
   -- the same of one end alone, and what it is taken for there
   pub alone : EndOf WireLayers LayersTag
   pub end : EndKind
-  -- whether a step that is refused leaves both layers as they were
-  pub leaves : Bool
   -- what is kept of a node of the kind
   pub Shows : WireLayers → kind.Keeps → Type 0
 

@@ -64,8 +64,7 @@ fn first_of(reason: Reason, own: &SideEnd, other: &SideEnd, incoming: &Line) -> 
 {
     let here = awaited(own, other);
     let there = awaited(other, own);
-    let on_top = of_reason(reason, own.on_top_ahead(incoming), None);
-    let no_order = of_reason(reason, both_await(here, there), on_top);
+    let no_order = of_reason(reason, both_await(here, there), None);
     let no_unit = of_reason(reason, one_awaits(here), no_order);
     of_reason(reason, own.failed_ahead(incoming), no_unit)
 }

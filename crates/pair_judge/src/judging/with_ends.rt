@@ -14,7 +14,7 @@ ghost use Rattle.pair_judge.specs.Watched.{WasTold, only};
 use super::decide;
 use crate::fault::JudgeFault;
 use crate::judged_ends::JudgedEnds;
-use crate::layers::LinksOnTopLeft;
+use crate::layers::LinksOnTop;
 use crate::observer::{Nobody, Observer};
 use ddcmp_station::view_shows_truth;
 use dna_links::LinkTag;
@@ -82,5 +82,5 @@ pub fn judge_watched<O: Observer, R: Read, S: Read>(
     numbers_within_bounds();
     view_shows_truth::<LinkTag>();
     wire_layers_see_right();
-    decide::<LinksOnTopLeft, O, R, S>(alloc, a, b, observer)
+    decide::<LinksOnTop, O, R, S>(alloc, a, b, observer)
 }

@@ -8,10 +8,11 @@ use crate::step_fault::StepFault;
 use crate::top::Top;
 use crate::unit_tag::UnitTag;
 use ddcmp_msg::Message;
-use ddcmp_station::{Arrival, StationEvent, StationFault};
+use ddcmp_station::{Arrival, StationEvent};
 use dna_links::LinkTag;
 use dna_station::{StepRefusal, captures_deliver_in_order, wire_nodes_see_right};
 use nsp_link::LinkEvent;
+use std::alloc::AllocError;
 
 /// Nothing: packets are any bytes, and what the links' user does is not judged.
 pub struct NothingOnTop;
@@ -23,8 +24,7 @@ impl Top for NothingOnTop {
     fn start_or_halt(layers: &mut Layers, event: StationEvent) -> Result<(), StepRefusal> {
         match layers.station.user(event) {
             Ok(()) => Ok(()),
-            Err(StationFault::Refused(refusal)) => Err(StepRefusal::Station(refusal)),
-            Err(StationFault::OutOfMemory) => unreachable!(),
+            Err(refusal) => Err(StepRefusal::Station(refusal)),
         }
     }
 
@@ -36,15 +36,16 @@ impl Top for NothingOnTop {
     // No packet has a tag.
     #[inline(always)]
     fn sent(layers: &mut Layers, message: &Message) -> Result<UnitTag, StepFault> {
-        match layers.station.sent(message) {
+        let permit = match layers.station.ask_to_send(message) {
+            Ok(permit) => permit,
+            Err(failed) => return Err(StepFault::Refused(StepRefusal::Station(failed.refusal()))),
+        };
+        match layers.station.send(message, permit) {
             Ok(sent) => Ok(UnitTag {
                 station: sent.tag,
                 link: None,
             }),
-            Err(StationFault::Refused(refusal)) => {
-                Err(StepFault::Refused(StepRefusal::Station(refusal)))
-            }
-            Err(StationFault::OutOfMemory) => Err(StepFault::OutOfMemory),
+            Err(AllocError) => Err(StepFault::OutOfMemory),
         }
     }
 
@@ -55,22 +56,22 @@ impl Top for NothingOnTop {
         _link: &HeldLink,
         kept: bool,
     ) -> Result<(), StepFault> {
-        match layers.station.arrived::<true>(arrival, kept) {
-            Ok(_) => Ok(()),
-            Err(StationFault::Refused(refusal)) => {
-                Err(StepFault::Refused(StepRefusal::Station(refusal)))
+        match layers.station.ask_arrival::<true>(arrival, kept) {
+            Ok(permit) => {
+                layers.station.arrive(arrival, permit.row, kept);
+                Ok(())
             }
-            Err(StationFault::OutOfMemory) => unreachable!(),
+            Err(failed) => Err(StepFault::Refused(StepRefusal::Station(failed.refusal()))),
         }
     }
 
     fn arrived_unknown(layers: &mut Layers, arrival: Arrival, kept: bool) -> Result<(), StepFault> {
-        match layers.station.arrived::<false>(arrival, kept) {
-            Ok(_) => Ok(()),
-            Err(StationFault::Refused(refusal)) => {
-                Err(StepFault::Refused(StepRefusal::Station(refusal)))
+        match layers.station.ask_arrival::<false>(arrival, kept) {
+            Ok(permit) => {
+                layers.station.arrive(arrival, permit.row, kept);
+                Ok(())
             }
-            Err(StationFault::OutOfMemory) => unreachable!(),
+            Err(failed) => Err(StepFault::Refused(StepRefusal::Station(failed.refusal()))),
         }
     }
 
@@ -79,9 +80,9 @@ impl Top for NothingOnTop {
         arrival: Arrival,
         kept: bool,
     ) -> Result<(), StepRefusal> {
-        match layers.station.may_arrive::<false>(arrival, kept) {
+        match layers.station.ask_arrival::<false>(arrival, kept) {
             Ok(_) => Ok(()),
-            Err(refusal) => Err(StepRefusal::Station(refusal)),
+            Err(failed) => Err(StepRefusal::Station(failed.refusal())),
         }
     }
 

@@ -2,21 +2,20 @@
 
 ghost use Rattle.std.specs.Prelude.{◌≡◌, ◌+◌, ◌^◌, ◌<◌, ◌≤◌, Ok, Err, OnOk, OnErr, IfErr};
 ghost use Rattle.dna_node.specs.Content as spec;
-ghost use Rattle.dna_node.specs.TagRules.{judged};
 ghost use Rattle.dna_station.specs.WireStation.{load};
-ghost use Rattle.dna_node.specs.WireLayers.{tag_or_none, wire_keeps_packet};
+ghost use Rattle.dna_node.specs.WireLayers.{tag_or_none, wire_keeps_packet, wire_layers_machine};
 ghost use Rattle.ddcmp_station.specs.Arrival.{arrival_view};
 ghost use Rattle.pair_judge.specs.inner.Packets.{lent_content};
 ghost use Rattle.pair_judge.specs.inner.Memory.{IfNoMemory, MayKeep};
 ghost use Rattle.pair_judge.specs.inner.Receipts.{is_damage};
 ghost use Rattle.pair_judge.specs.inner.Steps.{IfRefused, with_link};
-ghost use Rattle.pair_judge.specs.inner.Tops.{layers_run};
+ghost use Rattle.pair_judge.specs.inner.Tops.{rules_by};
 
 use super::{Layers, OF_NO_LINK};
 use crate::held_link::HeldLink;
 use crate::packet::{Carried, content};
 use crate::step_fault::StepFault;
-use ddcmp_station::{Arrival, StationFault};
+use ddcmp_station::Arrival;
 use dna_links::LinkTag;
 use dna_packet::read_nsp;
 use dna_station::StepRefusal;
@@ -24,44 +23,56 @@ use nsp_link::LinkFault;
 
 impl Layers {
     /// This came, with the tag of its packet, and the node kept the packet or did not. A packet that is kept is read again and goes to the
-    /// links.
+    /// links. Of an end whose other side is not known, no period and no link of what comes is known, so neither rule on those is asked: not
+    /// `OF_PAIR`.
     ///
-    /// `Refused`, in this order: as the station refuses; as the links refuse. `OutOfMemory`: memory for a link or for the piece of a
-    /// message was refused. What is damaged or not kept takes none.
+    /// `Refused`, in this order: as the station refuses; as the links refuse. Then both layers are as they were. `OutOfMemory`: memory for a
+    /// link or for the piece of a message was refused; the layers have no use after that. What is damaged or not kept takes none.
     #[inline(always)]
-    pub fn arrived(
+    pub fn arrived<const OF_PAIR: bool>(
         &mut self,
         arrival: Arrival,
         link: &HeldLink,
         kept: bool,
     ) -> Result<(), StepFault>
         requires { load self.old.station < 2 ^ 63 }
-        ensures ok { OnOk result (layers_run.arrives self.old (with_link link.now (arrival_view arrival.entry)) kept ≡ Ok self.new) }
+        ensures ok { OnOk result ((wire_layers_machine (rules_by OF_PAIR)).arrives self.old (with_link link.now (arrival_view arrival.entry)) kept
+            ≡ Ok self.new) }
         ensures refused { IfErr result (IfRefused (λ refusal.
-            layers_run.arrives self.old (with_link link.now (arrival_view arrival.entry)) kept ≡ Err refusal)) }
+            (wire_layers_machine (rules_by OF_PAIR)).arrives self.old (with_link link.now (arrival_view arrival.entry)) kept ≡ Err refusal)) }
+        ensures still { IfErr result (IfRefused (λ refusal. self.new ≡ self.old)) }
         ensures memory { IfErr result (IfNoMemory (MayKeep kept (is_damage (arrival_view arrival.entry)))) }
         ensures load { load self.new.station ≤ load self.old.station + 1 }
     {
-        match self.station.arrived::<true>(arrival, kept) {
-            Ok(Some(packet)) => self.keep(packet, tag_of(link)),
-            Ok(None) => Ok(()),
-            Err(StationFault::Refused(refusal)) => {
-                Err(StepFault::Refused(StepRefusal::Station(refusal)))
-            }
-            Err(StationFault::OutOfMemory) => unreachable!(),
+        match self.station.ask_arrival::<OF_PAIR>(arrival, kept) {
+            Ok(permit) => match permit.packet {
+                Some(packet) => match self.keep::<OF_PAIR>(packet, tag_of(link)) {
+                    Ok(()) => {
+                        self.station.arrive(arrival, permit.row, kept);
+                        Ok(())
+                    }
+                    Err(fault) => Err(fault),
+                },
+                None => {
+                    self.station.arrive(arrival, permit.row, kept);
+                    Ok(())
+                }
+            },
+            Err(failed) => Err(StepFault::Refused(StepRefusal::Station(failed.refusal()))),
         }
     }
 
     // This packet is kept, with this tag: it goes to the links.
     #[inline(never)]
-    pub(super) fn keep(&mut self, packet: &[u8], tag: LinkTag) -> Result<(), StepFault>
-        ensures ok { OnOk result (wire_keeps_packet judged self.old tag (spec.content packet.now) ≡ Ok self.new) }
-        ensures refused { IfErr result (IfRefused (λ refusal. wire_keeps_packet judged self.old tag (spec.content packet.now) ≡ Err refusal)) }
+    fn keep<const OF_PAIR: bool>(&mut self, packet: &[u8], tag: LinkTag) -> Result<(), StepFault>
+        ensures ok { OnOk result (wire_keeps_packet (rules_by OF_PAIR) self.old tag (spec.content packet.now) ≡ Ok self.new) }
+        ensures refused { IfErr result (IfRefused (λ refusal. wire_keeps_packet (rules_by OF_PAIR) self.old tag (spec.content packet.now)
+            ≡ Err refusal)) }
         ensures station { self.new.station ≡ self.old.station }
         ensures err { OnErr result (self.new ≡ self.old) }
     {
         match content(packet) {
-            Ok(Some(carried)) => self.take(carried, tag),
+            Ok(Some(carried)) => self.take::<OF_PAIR>(carried, tag),
             Ok(None) => Ok(()),
             Err(refusal) => Err(StepFault::Refused(refusal)),
         }
@@ -69,16 +80,17 @@ impl Layers {
 
     // The message that a packet carries is read, and the links take it, with this tag.
     #[inline(always)]
-    fn take(&mut self, carried: Carried, tag: LinkTag) -> Result<(), StepFault>
-        ensures ok { OnOk result (wire_keeps_packet judged self.old tag (lent_content carried.entry) ≡ Ok self.new) }
-        ensures refused { IfErr result (IfRefused (λ refusal. wire_keeps_packet judged self.old tag (lent_content carried.entry) ≡ Err refusal)) }
+    fn take<const OF_PAIR: bool>(&mut self, carried: Carried, tag: LinkTag) -> Result<(), StepFault>
+        ensures ok { OnOk result (wire_keeps_packet (rules_by OF_PAIR) self.old tag (lent_content carried.entry) ≡ Ok self.new) }
+        ensures refused { IfErr result (IfRefused (λ refusal. wire_keeps_packet (rules_by OF_PAIR) self.old tag (lent_content carried.entry)
+            ≡ Err refusal)) }
         ensures station { self.new.station ≡ self.old.station }
         ensures err { OnErr result (self.new ≡ self.old) }
     {
         match &read_nsp(carried.message) {
             Ok(message) => match self
                 .links
-                .arrived::<true>(carried.dst, carried.src, message, tag)
+                .arrived::<OF_PAIR>(carried.dst, carried.src, message, tag)
             {
                 Ok(()) => Ok(()),
                 Err(LinkFault::Refused(refusal)) => Err(StepFault::Refused(StepRefusal::Links(

@@ -22,7 +22,7 @@ use crate::failed_check::FailedCheck;
 use crate::held_link::HeldLink;
 use crate::packet::Carried;
 use ddcmp_msg::Message;
-use ddcmp_station::{Arrival, State};
+use ddcmp_station::{Arrival, SendPermit, State};
 use dna_packet::read_nsp;
 use nsp_link::LinkEvent;
 
@@ -31,18 +31,15 @@ impl Layers {
     pub fn failed_message(&self, message: &Message) -> Option<FailedCheck>
         ensures { result ≡ spec.failed_message self.now (view message.now) }
     {
-        if let Some(failed) = self.station.failed_sending(message) {
-            return Some(FailedCheck::StationSending(failed));
-        }
-        match self.station.may_send(message) {
-            Ok(true) => self.failed_first(packet_of(message)),
-            Ok(false) => None,
-            Err(_) => unreachable!(),
+        match self.station.ask_to_send(message) {
+            Ok(SendPermit::FirstSending) => self.failed_first(packet_of(message)),
+            Ok(SendPermit::Control | SendPermit::Repeat) => None,
+            Err(failed) => Some(FailedCheck::StationSending(failed)),
         }
     }
 
-    /// The check that a packet does not pass at the links, if it is first sent now.
-    pub fn failed_first(&self, packet: &[u8]) -> Option<FailedCheck>
+    // The check that a packet does not pass at the links, if it is first sent now.
+    fn failed_first(&self, packet: &[u8]) -> Option<FailedCheck>
         ensures { result ≡ spec.failed_packet
             (λ carried. option_map FailedCheck.LinkSending (link_sending.failed_sending self.now.links carried)) packet.now }
     {
@@ -77,7 +74,7 @@ impl Layers {
     ) -> Option<FailedCheck>
         ensures { result ≡ spec.failed_arrival self.now (with_link link.now (arrival_view arrival.entry)) kept }
     {
-        if let Some(failed) = self.station.failed_arrival(arrival, kept) {
+        if let Err(failed) = self.station.ask_arrival::<true>(arrival, kept) {
             return Some(FailedCheck::StationArrival(failed));
         }
         if !kept {
@@ -89,8 +86,8 @@ impl Layers {
         }
     }
 
-    /// The check that a packet does not pass at the links, if it is kept now with the tag of its unit.
-    pub fn failed_kept(&self, packet: &[u8], link: &HeldLink) -> Option<FailedCheck>
+    // The check that a packet does not pass at the links, if it is kept now with the tag of its unit.
+    fn failed_kept(&self, packet: &[u8], link: &HeldLink) -> Option<FailedCheck>
         ensures { result ≡ spec.failed_packet
             (λ carried. option_map FailedCheck.LinkArrival (link_arrival.failed_arrival self.now.links carried (tag_or_none link.now))) packet.now }
     {

@@ -1,8 +1,8 @@
 //! The links of each side on top of its station.
 
-ghost use Rattle.pair_judge.specs.inner.Tops.{links_on_top, links_on_top_left};
+ghost use Rattle.pair_judge.specs.inner.Tops.{links_on_top};
 
-use super::Layers;
+use super::{Layers, OF_NO_LINK};
 use crate::held_link::HeldLink;
 use crate::step_fault::StepFault;
 use crate::top::Top;
@@ -41,11 +41,11 @@ impl Top for LinksOnTop {
         link: &HeldLink,
         kept: bool,
     ) -> Result<(), StepFault> {
-        layers.arrived(arrival, link, kept)
+        layers.arrived::<true>(arrival, link, kept)
     }
 
     fn arrived_unknown(layers: &mut Layers, arrival: Arrival, kept: bool) -> Result<(), StepFault> {
-        layers.arrived_unknown(arrival, kept)
+        layers.arrived::<false>(arrival, &HeldLink::new(&Some(OF_NO_LINK)), kept)
     }
 
     fn may_arrive_unknown(
@@ -76,73 +76,6 @@ impl Top for LinksOnTop {
         captures_deliver_in_order();
         layers_run_as_stations();
         layers_deliver_in_order();
-    }
-
-    fn shows_alone() {}
-}
-
-/// The links of each side, on both layers, which a step that is refused leaves as they were: what the links say of a packet is asked before
-/// the station makes its step. For those who look at both ends where a record is refused.
-pub struct LinksOnTopLeft;
-
-impl Top for LinksOnTopLeft {
-    ghost top = { links_on_top_left };
-
-    #[inline(always)]
-    fn start_or_halt(layers: &mut Layers, event: StationEvent) -> Result<(), StepRefusal> {
-        layers.start_or_halt(event)
-    }
-
-    #[inline(always)]
-    fn at_links(layers: &mut Layers, event: LinkEvent) -> Result<(), StepFault> {
-        layers.at_links(event)
-    }
-
-    #[inline(always)]
-    fn sent(layers: &mut Layers, message: &Message) -> Result<UnitTag, StepFault> {
-        layers.sent_or_left(message)
-    }
-
-    #[inline(always)]
-    fn arrived(
-        layers: &mut Layers,
-        arrival: Arrival,
-        link: &HeldLink,
-        kept: bool,
-    ) -> Result<(), StepFault> {
-        layers.arrived_or_left(arrival, link, kept)
-    }
-
-    fn arrived_unknown(layers: &mut Layers, arrival: Arrival, kept: bool) -> Result<(), StepFault> {
-        layers.arrived_unknown_or_left(arrival, kept)
-    }
-
-    fn may_arrive_unknown(
-        layers: &Layers,
-        arrival: Arrival,
-        kept: bool,
-    ) -> Result<(), StepRefusal> {
-        layers.may_arrive_unknown(arrival, kept)
-    }
-
-    fn wrong_unit(layers: &Layers, message: &Message) -> Option<StepRefusal> {
-        layers.wrong_unit(message)
-    }
-
-    fn wrong_taken(layers: &Layers, message: &Message) -> Option<StepRefusal> {
-        layers.wrong_taken(message)
-    }
-
-    fn links_begun(layers: &Layers) -> u64 {
-        layers.links_begun()
-    }
-
-    fn shows() {
-        wire_layers_see_right();
-    }
-
-    fn delivers() {
-        LinksOnTop::delivers();
     }
 
     fn shows_alone() {}

@@ -1,6 +1,6 @@
-//! What comes to an end whose other side is not known.
+//! What would refuse what comes to an end whose other side is not known.
 
-ghost use Rattle.std.specs.Prelude.{◌≡◌, ◌+◌, ◌^◌, ◌<◌, ◌≤◌, Ok, Err, Some, OnOk, OnErr, IfErr};
+ghost use Rattle.std.specs.Prelude.{◌≡◌, ◌+◌, ◌^◌, ◌<◌, ◌≤◌, Ok, Err, Some, IsOk, OnOk, IfErr};
 ghost use Rattle.dna_node.specs.Content as spec;
 ghost use Rattle.dna_node.specs.TagRules.{by_bytes};
 ghost use Rattle.dna_station.specs.WireStation.{load};
@@ -9,70 +9,54 @@ ghost use Rattle.ddcmp_station.specs.Arrival.{arrival_view};
 ghost use Rattle.pair_judge.specs.inner.Packets.{lent_content};
 ghost use Rattle.pair_judge.specs.inner.Steps.{IfRefused, with_link};
 
-use super::{Layers, OF_NO_LINK};
+use super::Layers;
 use crate::packet::{Carried, content};
-use crate::step_fault::StepFault;
-use ddcmp_station::{Arrival, StationFault};
+use ddcmp_station::Arrival;
 use dna_packet::read_nsp;
-use dna_station::StepRefusal;
-use nsp_link::LinkFault;
+use dna_station::{LinkRefusal, StepRefusal};
 
 impl Layers {
-    /// This came, and the node kept its packet or did not. It is met as `arrived` meets it, but of what came no period and no link is known, so
-    /// neither rule on those is asked.
-    pub fn arrived_unknown(&mut self, arrival: Arrival, kept: bool) -> Result<(), StepFault>
-        requires { load self.old.station < 2 ^ 63 }
-        ensures ok { OnOk result ((wire_layers_machine by_bytes).arrives self.old (with_link (Some of_no_link)
-            (arrival_view arrival.entry)) kept ≡ Ok self.new) }
-        ensures refused { IfErr result (IfRefused (λ refusal.
-            (wire_layers_machine by_bytes).arrives self.old (with_link (Some of_no_link) (arrival_view arrival.entry)) kept ≡ Err refusal)) }
-        ensures load { load self.new.station ≤ load self.old.station + 1 }
+    /// What `arrived::<false>` would refuse of this, asked without any change. Takes no memory.
+    pub fn may_arrive_unknown(&self, arrival: Arrival, kept: bool) -> Result<(), StepRefusal>
+        ensures ok { OnOk result (IsOk ((wire_layers_machine by_bytes).arrives self.now (with_link (Some of_no_link)
+            (arrival_view arrival.entry)) kept)) }
+        ensures refused { IfErr result (λ refusal.
+            (wire_layers_machine by_bytes).arrives self.now (with_link (Some of_no_link) (arrival_view arrival.entry)) kept ≡ Err refusal) }
     {
-        match self.station.arrived::<false>(arrival, kept) {
-            Ok(Some(packet)) => self.keep_unknown(packet),
-            Ok(None) => Ok(()),
-            Err(StationFault::Refused(refusal)) => {
-                Err(StepFault::Refused(StepRefusal::Station(refusal)))
-            }
-            Err(StationFault::OutOfMemory) => unreachable!(),
+        match self.station.ask_arrival::<false>(arrival, kept) {
+            Ok(permit) => match permit.packet {
+                Some(packet) => self.may_keep_unknown(packet),
+                None => Ok(()),
+            },
+            Err(failed) => Err(StepRefusal::Station(failed.refusal())),
         }
     }
 
-    // This packet is kept: it goes to the links.
-    pub(super) fn keep_unknown(&mut self, packet: &[u8]) -> Result<(), StepFault>
-        ensures ok { OnOk result (wire_keeps_packet by_bytes self.old of_no_link (spec.content packet.now) ≡ Ok self.new) }
-        ensures refused { IfErr result (IfRefused (λ refusal. wire_keeps_packet by_bytes self.old of_no_link (spec.content packet.now)
-            ≡ Err refusal)) }
-        ensures station { self.new.station ≡ self.old.station }
-        ensures err { OnErr result (self.new ≡ self.old) }
+    // What the links would refuse of this packet.
+    fn may_keep_unknown(&self, packet: &[u8]) -> Result<(), StepRefusal>
+        ensures ok { OnOk result (IsOk (wire_keeps_packet by_bytes self.now of_no_link (spec.content packet.now))) }
+        ensures refused { IfErr result (λ refusal. wire_keeps_packet by_bytes self.now of_no_link (spec.content packet.now) ≡ Err refusal) }
     {
         match content(packet) {
-            Ok(Some(carried)) => self.take_unknown(carried),
+            Ok(Some(carried)) => self.may_take_unknown(carried),
             Ok(None) => Ok(()),
-            Err(refusal) => Err(StepFault::Refused(refusal)),
+            Err(refusal) => Err(refusal),
         }
     }
 
-    // The message that a packet carries is read, and the links take it.
-    fn take_unknown(&mut self, carried: Carried) -> Result<(), StepFault>
-        ensures ok { OnOk result (wire_keeps_packet by_bytes self.old of_no_link (lent_content carried.entry) ≡ Ok self.new) }
-        ensures refused { IfErr result (IfRefused (λ refusal. wire_keeps_packet by_bytes self.old of_no_link (lent_content carried.entry)
-            ≡ Err refusal)) }
-        ensures station { self.new.station ≡ self.old.station }
-        ensures err { OnErr result (self.new ≡ self.old) }
+    // What they would refuse of the message that a packet carries.
+    fn may_take_unknown(&self, carried: Carried) -> Result<(), StepRefusal>
+        ensures ok { OnOk result (IsOk (wire_keeps_packet by_bytes self.now of_no_link (lent_content carried.entry))) }
+        ensures refused { IfErr result (λ refusal. wire_keeps_packet by_bytes self.now of_no_link (lent_content carried.entry) ≡ Err refusal) }
     {
         match &read_nsp(carried.message) {
-            Ok(message) => match self
-                .links
-                .arrived::<false>(carried.dst, carried.src, message, OF_NO_LINK)
-            {
-                Ok(()) => Ok(()),
-                Err(LinkFault::Refused(refusal)) => Err(StepFault::Refused(StepRefusal::Links(
-                    refusal,
-                ))),
-                Err(LinkFault::OutOfMemory) => Err(StepFault::OutOfMemory),
-            },
-            Err(_) => Err(StepFault::Refused(StepRefusal::BadNsp)),
+            Ok(_) => {
+                if self.links.comes_here(carried.dst, carried.src) {
+                    return Ok(());
+                }
+                Err(StepRefusal::Links(LinkRefusal::WrongNode))
+            }
+            Err(_) => Err(StepRefusal::BadNsp),
         }
     }
 }

@@ -10,7 +10,7 @@ ghost use Rattle.pair_judge.specs.inner.Tops.{layers_run};
 
 use super::Layers;
 use crate::step_fault::StepFault;
-use ddcmp_station::{StationEvent, StationFault};
+use ddcmp_station::StationEvent;
 use dna_station::StepRefusal;
 use nsp_link::{LinkEvent, LinkFault};
 
@@ -26,8 +26,7 @@ impl Layers {
     {
         match self.station.user(event) {
             Ok(()) => Ok(()),
-            Err(StationFault::Refused(refusal)) => Err(StepRefusal::Station(refusal)),
-            Err(StationFault::OutOfMemory) => unreachable!(),
+            Err(refusal) => Err(StepRefusal::Station(refusal)),
         }
     }
 

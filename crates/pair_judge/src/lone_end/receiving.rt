@@ -7,7 +7,6 @@ ghost use Rattle.dna_node.specs.Alone as alone;
 ghost use Rattle.dna_station.specs.WireStation.{load};
 ghost use Rattle.pair_judge.specs.EndJudged.{accused_view};
 ghost use Rattle.pair_judge.specs.inner.LoneEnd.{CameIs, IfCameFails, MeetsIs, SoundIs};
-ghost use Rattle.pair_judge.specs.inner.Wire.{IfLeft};
 
 use crate::end_verdict::Accused;
 use crate::layers::Layers;
@@ -43,7 +42,7 @@ pub enum Came {
 pub fn receive<T: Top>(layers: &mut Layers, kept: bool, bytes: &[u8]) -> Result<Came, AllocError>
     requires { load layers.old.station < 2 ^ 63 }
     ensures came { IfOk result (λ came. CameIs T.top came layers.old layers.new kept (reading bytes.now)) }
-    ensures still { IfOk result (λ came. IfCameFails came (IfLeft T.top.leaves (layers.new ≡ layers.old))) }
+    ensures still { IfOk result (λ came. IfCameFails came (layers.new ≡ layers.old)) }
     ensures load { load layers.new.station ≤ load layers.old.station + 1 }
 {
     match read_unit(bytes) {
@@ -65,7 +64,7 @@ fn receive_sound<T: Top>(
 ) -> Result<Came, AllocError>
     requires { load layers.old.station < 2 ^ 63 }
     ensures came { IfOk result (λ came. SoundIs T.top came layers.old layers.new kept (view message.entry)) }
-    ensures still { IfOk result (λ came. IfCameFails came (IfLeft T.top.leaves (layers.new ≡ layers.old))) }
+    ensures still { IfOk result (λ came. IfCameFails came (layers.new ≡ layers.old)) }
     ensures load { load layers.new.station ≤ load layers.old.station + 1 }
 {
     T::shows_alone();

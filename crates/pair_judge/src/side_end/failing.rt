@@ -13,7 +13,7 @@ use crate::carried::carried;
 use crate::course::Ahead;
 use crate::failed_cause::of_reason;
 use crate::failed_check::{FailedCheck, NotSound};
-use crate::failed_record::{failed_on_top, failed_own, failed_record};
+use crate::failed_record::{failed_own, failed_record};
 use crate::layers::Layers;
 use crate::line::Line;
 use crate::reason::Reason;
@@ -33,17 +33,6 @@ impl SideEnd {
             return None;
         };
         failed_record(&self.layers, incoming, entry, self.capture.bytes())
-    }
-
-    /// The check that its packet does not pass at the links, whatever the station says of its message. Takes no memory.
-    pub(crate) fn on_top_ahead(&self, incoming: &Line) -> Option<FailedCheck>
-        requires { self.now.front ≡ incoming.now.gone }
-        ensures { result ≡ spec.on_top_ahead self.now (held incoming.now) self.now.ahead }
-    {
-        let Ahead::Waits(entry) = self.ahead else {
-            return None;
-        };
-        failed_on_top(&self.layers, incoming, entry, self.capture.bytes())
     }
 
     /// The check that the record ahead of an end alone does not pass, which is refused for this reason, with what is seen there and what is allowed.

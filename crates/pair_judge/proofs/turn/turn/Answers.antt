@@ -4,7 +4,6 @@ use Rattle.dna_node.specs.declared.finding.Cause.TheVariants.{Step}
 use Rattle.pair_judge.specs.declared.fault.JudgeFault.{JudgeFault}
 use Rattle.pair_judge.specs.Faulty.{IsJudgeFault}
 use Rattle.dna_node.specs.WireLayers.{wire_layers_start}
-use Rattle.pair_judge.proofs.Left.{left_so}
 use Rattle.pair_judge.specs.Order.{made_by}
 use Rattle.std.proofs.lemmas.Result.{IfErr-weaker, IfOk-weaker}
 use Rattle.pair_judge.specs.inner.Reached.{turned}
@@ -51,9 +50,9 @@ returns-in-Ok-Fails-clause-turn g c = λ order text_a text_b made_a made_b under
           c.in-Ok-Fails.refusal f.next
           f.read f.ahead
           (same_read text_b c.args.b.now _ _ made_b refl refl refl under.read_b)
-          (left_so g.T.Top.top.leaves (λ still. stops_at g.T.Top.top A _ _ (Step c.in-Ok-Fails.refusal) f.next
-          (reached_still g.T.Top.top order c.args.a.now.end _ c.args.b.now.end _ made_a made_b h (same_end _ _ still.same_end)
-          (record { head = refl; layers = refl; counts = refl; line = still.same_line })) f.ahead refused tt) f.still)
+          (stops_at g.T.Top.top A _ _ (Step c.in-Ok-Fails.refusal) f.next
+          (reached_still g.T.Top.top order c.args.a.now.end _ c.args.b.now.end _ made_a made_b h (same_end _ _ f.still.same_end)
+          (record { head = refl; layers = refl; counts = refl; line = f.still.same_line })) f.ahead refused tt)
           (λ rest_a rest_b. c.endings.ensures.a_refused _ _ h.world made_a rest_a made_b rest_b f.next c.in-Ok-Fails.refusal h.run refused)),
       ordered g.T.Top.top _ _ order c.args.a.now.end c.args.b.now.end h c.advance.ensures.head refl f.counts refl,
     )

@@ -9,7 +9,6 @@ use Rattle.dna_node.specs.WireLayers.{wire_layers_start}
 use Rattle.pair_judge.specs.Order.{made_by}
 use Rattle.pair_judge.proofs.Turns.{ordered, reached_by_b, reached_stayed, same_read, next_place}
 use Rattle.pair_judge.proofs.Found.{at_place, b_fails, both_wait, a_waits, b_waits, both_ended, stops_at}
-use Rattle.pair_judge.proofs.Left.{left_any, left_so}
 use Rattle.pair_judge.proofs.Faults.{faulty}
 use Rattle.pair_judge.proofs.turn.turn_of_b.Goals as goal
 
@@ -53,9 +52,8 @@ returns-in-Ok-Fails-clause-turn g c = λ order text_a text_b come_a made_a made_
           c.args.a.now c.args.b.now.end.line
           refl refl stopped
           (same_read text_a c.args.a.now _ come_a made_a refl refl refl under.read_a) f.read f.ahead
-          (left_so g.T.Top.top.leaves (λ still. stops_at g.T.Top.top B _ _ (Step c.in-Ok-Fails.refusal) f.next
-          (reached_stayed g.T.Top.top order c.args.a.now.end c.args.b.now.end _ _ made_a made_b h still.same_line still.same_end) f.ahead refused tt)
-          f.still)
+          (stops_at g.T.Top.top B _ _ (Step c.in-Ok-Fails.refusal) f.next
+          (reached_stayed g.T.Top.top order c.args.a.now.end c.args.b.now.end _ _ made_a made_b h f.still.same_line f.still.same_end) f.ahead refused tt)
           (λ p rest_a rest_b waits. c.endings.ensures.b_refused_behind _ _ h.world made_a rest_a made_b rest_b p f.next c.in-Ok-Fails.refusal h.run
           (waits h.world.a h.world.b h.stands_a h.stands_b.sent) refused)
           (λ rest_b. c.endings.ensures.b_refused_last _ _ h.world made_a made_b rest_b f.next c.in-Ok-Fails.refusal h.run refused)),
@@ -77,7 +75,7 @@ returns-in-Ok-Blocked-clause-turn g c = λ order text_a text_b come_a made_a mad
       at_place g.T.Top.top _ _ A NoOrder _ _ (next_place c.args.a.now.end.counts made_a h.counts_a)
           (both_wait g.T.Top.top _ _ c.args.a.now.end.head c.args.b.now.end.head refl c.advance.ensures.head (length made_a) held.next m.next
           (same_read text_a c.args.a.now _ come_a made_a refl refl refl under.read_a) m.read held.ahead m.ahead
-          (left_any g.T.Top.top.leaves (stops_at g.T.Top.top A _ _ NoOrder held.next now held.ahead waits_a (m.next, m.ahead, waits_b)))
+          (stops_at g.T.Top.top A _ _ NoOrder held.next now held.ahead waits_a (m.next, m.ahead, waits_b))
           (λ rest_a rest_b. c.endings.ensures.stuck _ _ h.world made_a rest_a made_b rest_b held.next m.next h.run waits_a waits_b)),
       ordered g.T.Top.top _ _ order _ _ now refl refl refl refl,
     )
@@ -96,7 +94,7 @@ returns-in-Ok-Blocked-2-clause-turn g c = λ order text_a text_b come_a made_a m
       at_place g.T.Top.top _ _ B NoSuchUnit _ _ (next_place c.advance.new.self.end.counts made_b now.counts_b)
           (b_waits g.T.Top.top _ _ c.args.a.now.end.head c.args.b.now.end.head refl c.advance.ensures.head (length made_b) m.next
           (same_read text_a c.args.a.now _ come_a made_a refl refl refl under.read_a) m.read ended m.ahead
-          (left_any g.T.Top.top.leaves (stops_at g.T.Top.top B _ _ NoSuchUnit m.next now m.ahead waits_b tt))
+          (stops_at g.T.Top.top B _ _ NoSuchUnit m.next now m.ahead waits_b tt)
           (λ rest_b. c.endings.ensures.b_lacks _ _ h.world made_a made_b rest_b m.next h.run waits_b)),
       ordered g.T.Top.top _ _ order _ _ now refl refl refl refl,
     )
@@ -115,7 +113,7 @@ returns-in-Ok-Ended-clause-turn g c = λ order text_a text_b come_a made_a made_
       at_place g.T.Top.top _ _ A NoSuchUnit _ _ (next_place c.args.a.now.end.counts made_a h.counts_a)
           (a_waits g.T.Top.top _ _ c.args.a.now.end.head c.args.b.now.end.head refl c.advance.ensures.head (length made_a) held.next
           (same_read text_a c.args.a.now _ come_a made_a refl refl refl under.read_a) m.read held.ahead m.ahead
-          (left_any g.T.Top.top.leaves (stops_at g.T.Top.top A _ _ NoSuchUnit held.next now held.ahead waits_a tt))
+          (stops_at g.T.Top.top A _ _ NoSuchUnit held.next now held.ahead waits_a tt)
           (λ rest_a. c.endings.ensures.a_lacks _ _ h.world made_a rest_a made_b held.next h.run waits_a)),
       ordered g.T.Top.top _ _ order _ _ now refl refl refl refl,
     )

@@ -3,9 +3,7 @@ use Rattle.capture.specs.Entries.{record_with}
 use Rattle.pair_judge.specs.declared.course.Ahead.TheVariants.{Waits}
 use Rattle.pair_judge.specs.declared.end.End.{End}
 use Rattle.pair_judge.specs.inner.Course.{IsRead, along}
-use Rattle.pair_judge.specs.inner.Making.{move}
 use Rattle.pair_judge.proofs.Courses.{put_back}
-use Rattle.pair_judge.proofs.Left.{left_still}
 use Rattle.pair_judge.proofs.course.Course.make.Goals as goal
 
 pub returns-in-Ok-clause-advance : goal.returns-in-Ok-clause-advance
@@ -37,8 +35,10 @@ returns-in-Ok-Fails-clause-advance g c = λ text come made read.
       next = record_with c.args.entry c.args.self.now.capture.bytes;
       read = record { so_far = back.so_far; count = back.count; head = c.make.ensures.head ∙ back.head };
       ahead = record { entry = c.args.entry; ahead_is = refl; is = refl };
-      still = left_still g.T.Top.top.leaves (move c.args.self.now.end _ c.args.incoming.now _)
-          (rw c.in-Ok-Fails.field-0-is at c.in-Ok-Fails.ensures.same_line) (rw c.in-Ok-Fails.field-0-is at c.in-Ok-Fails.ensures.still);
+      still = record {
+        same_end = rw c.in-Ok-Fails.field-0-is at c.in-Ok-Fails.ensures.still;
+        same_line = rw c.in-Ok-Fails.field-0-is at c.in-Ok-Fails.ensures.same_line;
+      };
       counts = rw c.in-Ok-Fails.field-0-is at c.in-Ok-Fails.ensures.counts;
       refused = rw (c.in-Ok-Fails.field-0-is, c.bytes.ensures) at c.in-Ok-Fails.ensures.made;
     }

@@ -1,30 +1,37 @@
-use Rattle.std.proofs.Common.{Ok, Err, sym, ap, ◌∙◌}
+use Rattle.std.proofs.Common.{Ok, sym, ap, ◌∙◌}
 use Rattle.std.specs.Option.{option_copied}
 use Rattle.ddcmp_station.specs.Arrival.{arrival_view}
-use Rattle.dna_node.specs.TagRules.{judged}
-use Rattle.pair_judge.proofs.Arrives.{arrives_kept, no_memory, on_ok, on_refusal, taken_may_keep}
+use Rattle.dna_links.specs.declared.tag.LinkTag.{LinkTag}
+use Rattle.dna_node.specs.WireLayers.{WireLayers}
+use Rattle.dna_station.specs.WireStation.{WireStation}
+use Rattle.pair_judge.specs.inner.Tops.{rules_by}
+use Rattle.pair_judge.proofs.Arrives.{arrives_untaken, if_refused}
+use Rattle.pair_judge.proofs.Meets.{meets_kept, meets_refused}
 use Rattle.pair_judge.proofs.layers.Layers.arrived.Goals as goal
 
-pub returns-in-Ok-Some-clause-ok : goal.returns-in-Ok-Some-clause-ok
-returns-in-Ok-Some-clause-ok c =
-    let taken = sym c.in-Ok-Some.ensures.taken ∙ ap option_copied c.in-Ok-Some.field-0-is in
+pub returns-in-Ok-keep-clause-ok : goal.returns-in-Ok-keep-clause-ok
+returns-in-Ok-keep-clause-ok g c =
+    let taken = sym c.in-Ok.ensures.taken ∙ ap option_copied c.in-Some.is in
+    let old : WireLayers = record { station = c.self.inside.station; links = c.self.inside.links } in
+    let met : WireLayers = record { station = c.self-in-Some.inside.station; links = c.self-in-Some.inside.links } in
     rw (← c.self.view_is)
-    (on_ok c.keep.result (arrives_kept judged (record { station = c.self.inside.station; links = c.self.inside.links }) c.args.link.now c.args.kept
-    (arrival_view c.args.arrival) c.in-Ok-Some.packet.now _ _ (Ok c.keep.new.self) c.in-Ok-Some.ensures.allowed taken c.in-Ok-Some.ensures.ok
-    c.tag_of.ensures) c.keep.ensures.ok)
+    (meets_kept (rules_by _) old c.args.link.now c.args.kept (arrival_view c.args.arrival) c.in-Some.packet.now _ c.in-Ok.ensures.allowed taken
+    c.tag_of.ensures met (rw (← c.self.view_is) at c.in-Ok-keep.ensures.ok ∙ ap Ok (sym c.self-in-Some.view_is))
+    (ap (λ (s : WireLayers). s.station) c.self-in-Some.view_is ∙ rw (← c.self.view_is) at c.in-Ok-keep.ensures.station)
+    ∙ ap (λ (w : WireStation LinkTag). Ok (record met { station = w })) (sym c.arrive.ensures.step))
 
-pub returns-in-Ok-Some-clause-refused : goal.returns-in-Ok-Some-clause-refused
-returns-in-Ok-Some-clause-refused c =
-    let taken = sym c.in-Ok-Some.ensures.taken ∙ ap option_copied c.in-Ok-Some.field-0-is in
+pub returns-in-Err-keep-clause-refused : goal.returns-in-Err-keep-clause-refused
+returns-in-Err-keep-clause-refused g c =
+    let taken = sym c.in-Ok.ensures.taken ∙ ap option_copied c.in-Some.is in
     rw (← c.self.view_is)
-    (on_refusal c.keep.result (λ refusal. arrives_kept judged (record { station = c.self.inside.station; links = c.self.inside.links })
-    c.args.link.now
-    c.args.kept (arrival_view c.args.arrival) c.in-Ok-Some.packet.now _ _ (Err refusal) c.in-Ok-Some.ensures.allowed taken c.in-Ok-Some.ensures.ok
-    c.tag_of.ensures) c.keep.ensures.refused)
+    (if_refused c.in-Err-keep.fault (meets_refused (rules_by _) (record { station = c.self.inside.station; links = c.self.inside.links })
+    c.args.link.now c.args.kept (arrival_view c.args.arrival) c.in-Some.packet.now _ c.in-Ok.ensures.allowed taken c.tag_of.ensures)
+    (rw (← c.self.view_is) at c.in-Err-keep.ensures.refused))
 
-pub returns-in-Ok-Some-clause-memory : goal.returns-in-Ok-Some-clause-memory
-returns-in-Ok-Some-clause-memory c =
-    let taken = sym c.in-Ok-Some.ensures.taken ∙ ap option_copied c.in-Ok-Some.field-0-is in
-    no_memory c.keep.result
-    (taken_may_keep (record { station = c.self.inside.station; links = c.self.inside.links }) (arrival_view c.args.arrival) c.args.kept
-    c.in-Ok-Some.packet.now taken)
+pub returns-in-None-clause-ok : goal.returns-in-None-clause-ok
+returns-in-None-clause-ok g c =
+    let old : WireLayers = record { station = c.self.inside.station; links = c.self.inside.links } in
+    rw (← c.self.view_is)
+    (arrives_untaken (rules_by _) old c.args.link.now c.args.kept (arrival_view c.args.arrival) c.in-Ok.ensures.allowed
+    (sym c.in-Ok.ensures.taken ∙ ap option_copied c.in-None.is)
+    ∙ ap (λ (w : WireStation LinkTag). Ok (record old { station = w })) (sym c.arrive-in-None.ensures.step))

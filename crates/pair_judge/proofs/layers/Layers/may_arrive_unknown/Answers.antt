@@ -8,19 +8,19 @@ use Rattle.pair_judge.proofs.Arrives.{on_ok}
 use Rattle.pair_judge.proofs.Meets.{meets_ok, meets_refused}
 use Rattle.pair_judge.proofs.layers.Layers.may_arrive_unknown.Goals as goal
 
-pub returns-in-Ok-Some-clause-ok : goal.returns-in-Ok-Some-clause-ok
-returns-in-Ok-Some-clause-ok c =
-    let taken = sym c.in-Ok-Some.ensures.taken ∙ ap option_copied c.in-Ok-Some.field-0-is in
+pub returns-in-Some-clause-ok : goal.returns-in-Some-clause-ok
+returns-in-Some-clause-ok c =
+    let taken = sym c.in-Ok.ensures.taken ∙ ap option_copied c.in-Some.is in
     rw (← c.self.view_is)
     (on_ok c.may_keep_unknown.result (meets_ok by_bytes (record { station = c.self.inside.station; links = c.self.inside.links }) (Some of_no_link)
-    c.args.kept (arrival_view c.args.arrival) c.in-Ok-Some.packet.now of_no_link c.in-Ok-Some.ensures.allowed taken refl)
+    c.args.kept (arrival_view c.args.arrival) c.in-Some.packet.now of_no_link c.in-Ok.ensures.allowed taken refl)
     (rw (← c.self.view_is) at c.may_keep_unknown.ensures.ok))
 
-pub returns-in-Ok-Some-clause-refused : goal.returns-in-Ok-Some-clause-refused
-returns-in-Ok-Some-clause-refused c =
-    let taken = sym c.in-Ok-Some.ensures.taken ∙ ap option_copied c.in-Ok-Some.field-0-is in
+pub returns-in-Some-clause-refused : goal.returns-in-Some-clause-refused
+returns-in-Some-clause-refused c =
+    let taken = sym c.in-Ok.ensures.taken ∙ ap option_copied c.in-Some.is in
     rw (← c.self.view_is)
     (IfErr-weaker c.may_keep_unknown.result _ _ (λ refusal refuses. meets_refused by_bytes
     (record { station = c.self.inside.station; links = c.self.inside.links }) (Some of_no_link) c.args.kept (arrival_view c.args.arrival)
-    c.in-Ok-Some.packet.now of_no_link c.in-Ok-Some.ensures.allowed taken refl refusal refuses)
+    c.in-Some.packet.now of_no_link c.in-Ok.ensures.allowed taken refl refusal refuses)
     (rw (← c.self.view_is) at c.may_keep_unknown.ensures.refused))

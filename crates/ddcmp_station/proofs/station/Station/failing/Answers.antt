@@ -7,7 +7,7 @@ use Rattle.dna_station.specs.Book.{failed}
 use Rattle.dna_station.specs.WireBook.{wire_passes}
 use Rattle.ddcmp_station.specs.Failed.{refusal_of_failed}
 use Rattle.ddcmp_station.proofs.Failing.{by_list}
-use Rattle.ddcmp_station.proofs.station.Station.failed_sending.Goals as goal
+use Rattle.ddcmp_station.proofs.station.Station.failing.Goals as goal
 
 pub returns-in-Running-clause-refuses : goal.returns-in-Running-clause-refuses
 returns-in-Running-clause-refuses g c =
