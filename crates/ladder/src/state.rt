@@ -47,7 +47,7 @@ pub fn after_arrival(state: State, said: Said) -> State
 // A message that says so, as far as the state goes by it; none of what shows damage.
 #[inline(always)]
 fn message_of<'a>(said: Said) -> Option<Message<'a>>
-    ensures { option_map unit.view result.entry ≡ spec.message_of said }
+    ensures { option_map unit.view result ≡ spec.message_of said }
 {
     let flags = Flags {
         quick_sync: false,
