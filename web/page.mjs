@@ -3,7 +3,7 @@ import {Judge} from './judge.mjs';
 import {MOST_BYTES, cured, seeming} from './seeming.mjs';
 import {Session} from './session.mjs';
 import {faultOf, printed, rowsOf} from './telling.mjs';
-import {countsView, coverView, faultView, keyView, link, make, pictureView, refusalView, textView, whyView} from './views.mjs';
+import {brokenView, causeView, countsView, coverView, faultView, keyView, link, make, pictureView, textView, whyView} from './views.mjs';
 
 const $ = selector => document.querySelector(selector);
 const EMPTY = {a: 'Drop its capture here, or choose it', b: 'Its capture, if you have it'};
@@ -154,8 +154,8 @@ function show(session, verdict, why, took) {
   box.querySelector('h2').textContent = verdict.title;
   box.querySelector('.first').textContent = verdict.first === verdict.title.toLowerCase() ? '' : verdict.first;
   box.querySelector('.meaning').textContent = verdict.meaning;
-  const file = refused && !session.source ? ends[refused.side] : null;
-  box.querySelector('dl').replaceChildren(...(refused ? refusalView(refused, accused, file, verdict.first) : []));
+  const whole = session.source ? {} : ends;
+  box.querySelector('.parts').replaceChildren(...(refused ? causeView(why, session.texts, whole, isWire) : fault ? [brokenView(fault, bytesOf(fault, session))] : []));
   between(verdict.kind);
   for (const {side} of session.given) {
     $('#end-' + side).classList.toggle('good', verdict.kind === 'good');
@@ -172,14 +172,15 @@ function show(session, verdict, why, took) {
   globalThis.shown = {status: session.answer.status, out: session.answer.out, err: session.answer.err, verdict, took};
 }
 
+const bytesOf = (fault, session) => session.source ? session.source.bytes : session.texts[fault.side] || new Uint8Array();
+
 function tabsOf(session, verdict, why) {
   const {names, line} = session, isPair = names.length === 2, tabs = [], fault = faultOf(session.answer);
   const text = async (isHere, ...words) => [textView(printed(await session.ask(...words)), isHere)];
-  if (why) tabs.push(['Why', async () => whyView(why, session.texts, Boolean(session.source))]);
+  if (why) tabs.push(['Why', async () => whyView(why)]);
   else if (verdict.kind === 'good') tabs.push(['Counts', async () => countsView(printed(session.answer))]);
   else if (fault) {
-    const bytes = session.source ? session.source.bytes : session.texts[fault.side] || new Uint8Array();
-    tabs.push(['What is wrong', async () => faultView(fault, bytes)]);
+    tabs.push(['What is wrong', async () => faultView(fault, bytesOf(fault, session))]);
   }
   if (verdict.kind !== 'fault') {
     const isRefused = row => row.includes('<== refused'), at = why && why.refusal ? why.refusal.refused : {};
