@@ -55,12 +55,17 @@ const EARLIER = {
   26: ({words = ''}) => [[new RegExp(`^u (open|accept|reject) ${words.split(' ')[1]}( |$)`), 'Where that address was given before']],
 };
 
+// The same where one end shows that the other one broke a rule.
+const OF_OTHER = {
+  8: () => [[SENT, 'The last data message that was sent to it'], [START, 'No data message was sent to it since this start']],
+};
+
 // The line of either capture that the refused one contradicts: {side, line, title}; or null, where one end is known alone and nothing is found.
 export function contradicted({refused, record, check, state}, texts, unit) {
   const {side, number, line} = refused, other = opposite(side), ofOther = state.find(it => it.side === other);
-  const sent = unit && unit.match(/^(\d+) of ([ab]), [ab]:(\d+): /);
-  if (sent) return {side: sent[2], line: Number(sent[3]), title: `What ${sent[2]} sent as unit ${sent[1]}`};
-  const rows = refused.accuses === 'other end' || !EARLIER[number] ? [] : EARLIER[number](record || {});
+  const sent = unit && unit.match(/^(\d+) of ([ab]), [ab]:(\d+): (.*)/);
+  if (sent) return {side: sent[2], line: Number(sent[3]), title: `What ${sent[2]} sent as unit ${sent[1]}`, words: sent[4]};
+  const earlier = (refused.accuses === 'other end' ? OF_OTHER : EARLIER)[number], rows = earlier ? earlier(record || {}) : [];
   const begin = lastLine(texts[side], START, line - 1);
   for (const [pattern, title] of rows) {
     const found = lastLine(texts[side], pattern, line - 1, pattern === KEPT || pattern === SENT ? begin : 1);
@@ -75,10 +80,18 @@ export function contradicted({refused, record, check, state}, texts, unit) {
   return {side: other, line: last, title: number === 3 ? `The last line of ${other}` : `The last line of ${other} before it`};
 }
 
-// The lines around a refused one, and around the one that it contradicts, for causeView: [{title, side, line, lines, isRefused}, ..]
+// What a line with a data message says, and what is said of a record.
+const wordsOfLine = text => {
+  const unit = text.match(/^(?:s|[rk] -?\d+) 81.{4}(..)(..)/);
+  return unit ? `DATA NUM ${parseInt(unit[2], 16)} RESP ${parseInt(unit[1], 16)}` : '';
+};
+const wordsOfRecord = ({kind, words, ddcmp, nsp}) => [{s: 'sent', r: 'received', k: 'kept', n: 'noise', u: 'user'}[kind], words, ddcmp, nsp]
+  .filter(Boolean).join(' ');
+
+// The lines around a refused one, and around the one that it contradicts: [{title, words, side, line, lines, isRefused}, ..]
 export function sideBySide(refusal, texts, unit) {
-  const {side, line} = refusal.refused, it = contradicted(refusal, texts, unit);
-  const found = [{title: 'Refused', side, line, isRefused: true}];
-  if (it && it.line > 0) found.push(it);
+  const {refused: {side, line}, record} = refusal, it = contradicted(refusal, texts, unit);
+  const found = [{title: 'Refused', words: record ? wordsOfRecord(record) : '', side, line, isRefused: true}];
+  if (it && it.line > 0) found.push({words: wordsOfLine(linesOf(texts[it.side], it.line, it.line).map(({text}) => text).join()), ...it});
   return found.map(part => ({...part, lines: linesOf(texts[part.side], Math.max(1, part.line - 2), part.line + 1)}));
 }

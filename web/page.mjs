@@ -7,6 +7,7 @@ import {brokenView, causeView, countsView, coverView, faultView, keyView, link, 
 
 const $ = selector => document.querySelector(selector);
 const EMPTY = {a: 'Drop its capture here, or choose it', b: 'Its capture, if you have it'};
+const TITLES = {a: 'One end', b: 'The other end', wire: 'What passed on the line, of both ends', script: 'A script of both ends'};
 const ends = {a: null, b: null}; // {name, bytes}
 let judge = null, round = 0, current = null;
 
@@ -49,6 +50,8 @@ function put(side, file) {
   const box = $('#end-' + side);
   box.classList.toggle('full', file !== null);
   box.classList.remove('good', 'bad');
+  const whole = file && TITLES[seeming(file.bytes).kind];
+  box.querySelector('.title').textContent = whole || TITLES[side];
   box.querySelector('.what').textContent = file ? `${file.name}, ${file.bytes.length.toLocaleString('en')} bytes` : EMPTY[side];
   const begin = new TextDecoder().decode((file ? file.bytes : new Uint8Array()).subarray(0, 400)).replace(/[^\x20-\x7e\n]/g, '·');
   box.querySelector('.head').textContent = begin.split('\n').slice(0, 3).map(line => line.slice(0, 48)).join('\n');
@@ -154,8 +157,8 @@ function show(session, verdict, why, took) {
   box.querySelector('h2').textContent = verdict.title;
   box.querySelector('.first').textContent = verdict.first === verdict.title.toLowerCase() ? '' : verdict.first;
   box.querySelector('.meaning').textContent = verdict.meaning;
-  const whole = session.source ? {} : ends;
-  box.querySelector('.parts').replaceChildren(...(refused ? causeView(why, session.texts, whole, isWire) : fault ? [brokenView(fault, bytesOf(fault, session))] : []));
+  const broken = fault ? [brokenView(fault, bytesOf(fault, session))] : [];
+  box.querySelector('.parts').replaceChildren(...(refused ? causeView(why, session, ends, verdict.first) : broken));
   between(verdict.kind);
   for (const {side} of session.given) {
     $('#end-' + side).classList.toggle('good', verdict.kind === 'good');
@@ -167,8 +170,8 @@ function show(session, verdict, why, took) {
   $('#took').textContent = `${size.toLocaleString('en')} bytes, judged in ${took.toFixed(0)} ms.`;
   $('#result').hidden = false;
   showTabs(session, verdict, why);
-  const isStill = matchMedia('(prefers-reduced-motion: reduce)').matches;
-  if (box.getBoundingClientRect().top > innerHeight * 0.8) box.scrollIntoView({behavior: isStill ? 'auto' : 'smooth'});
+  const isStill = matchMedia('(prefers-reduced-motion: reduce)').matches, {top, bottom} = box.getBoundingClientRect();
+  if (bottom > innerHeight && top > innerHeight / 4) box.scrollIntoView({behavior: isStill ? 'auto' : 'smooth'});
   globalThis.shown = {status: session.answer.status, out: session.answer.out, err: session.answer.err, verdict, took};
 }
 
@@ -280,4 +283,4 @@ $('#examples').append(...Object.entries(examples).map(([name, given]) =>
 const wanted = decodeURIComponent(location.hash.slice(1));
 if (examples[wanted]) example(wanted, examples[wanted]);
 
-globalThis.ddcap = {ready, put, judgeGiven, ask: (words, texts) => judge.ask(words, texts)}; // for tools/test_page
+globalThis.ddcap = {ready, ask: (words, texts) => judge.ask(words, texts), texts: () => current.texts}; // for tools/test_page

@@ -40,7 +40,7 @@ export function textView(text, isHere = () => false) {
 
 // Lines of a capture with their numbers, one of them marked: as the wrong one, or as one to look at.
 function excerptView(lines, line, mark = 'here') {
-  const box = make('div', {className: 'excerpt mono', tabIndex: 0});
+  const box = make('div', {className: 'excerpt mono', tabIndex: 0, role: 'group', 'aria-label': `lines near ${line}`});
   for (const {number, text, cut} of lines) {
     const shown = text.replaceAll('\r', '␍') + (cut ? '..' : '');
     box.append(make('div', {className: number === line ? mark : ''}, make('span', {}, String(number)), shown));
@@ -68,23 +68,34 @@ export function faultView(fault, bytes) {
     make('p', {className: 'soft'}, words + ' docs/CAPTURES.md has all kinds of lines.')];
 }
 
-// The cause of a refusal, at once: what happened, in a sentence; what was seen and is allowed; the refused line beside the one that it contradicts; the
-// rule, who is accused, and the change of a recording that would mend it. `files` are the captures that were given, by sides, and not made.
-export function causeView({refusal, text, meaning}, texts, files, isWire) {
-  const {refused, check, edit} = refusal, told = rowsOf(text, 'accused', 'unit');
-  const nameOf = side => files[side] ? files[side].name : `the capture made of ${side}`;
-  const boxed = (name, title, text) => make('div', {className: name}, make('small', {}, title), make('b', {}, text));
-  const parts = [make('p', {className: 'cause'}, (isWire ? 'As far as it could be placed: ' : '') + sentence(refused))];
+// The cause of a refusal, at once: what happened, in a sentence; what was seen and is allowed; the refused line beside the one that it
+// contradicts; the rule, who is accused, and the change of a recording that would mend it. `ends` are the captures that were given, `first` is the
+// program's first line.
+export function causeView({refusal, text, meaning}, {texts, source}, ends, first) {
+  const {refused, check, edit} = refusal, told = rowsOf(text, 'accused', 'rule', 'unit'), isWire = source && source.kind === 'wire';
+  const boxed = (name, title, words) => make('div', {className: name}, make('small', {}, title), make('b', {}, words));
+  const parts = [make('p', {className: 'cause'}, isWire ? `As far as it could be placed, ${lowered(sentence(refused))}` : sentence(refused))];
   if (check) parts.push(make('div', {className: 'pair'}, boxed('seen', 'Seen', check.seen), boxed('allowed', 'Allowed there', check.allowed)));
-  const columns = sideBySide(refusal, texts, told.unit[0]).map(({title, side, line, lines, isRefused}) =>
-    make('div', {className: 'column'}, make('p', {}, make('b', {}, `${title}: `), `line ${line} of ${nameOf(side)}`),
-      excerptView(lines, line, isRefused ? 'here' : 'other')));
+  const nameOf = side => source ? `the capture made of ${side}` : ends[side].name;
+  const columns = sideBySide(refusal, texts, told.unit[0]).map(column => columnView(column, nameOf(column.side)));
   parts.push(make('div', {className: 'pair lines'}, ...columns));
-  const rule = explanationOf(meaning).find(part => part.text);
+  const rule = told.rule.join(' ').replace(/ \(docs\/[^)]*\)/, '') || explanationOf(meaning).find(part => part.text).text;
   const likely = edit.map(({words}) => words).join('; or ');
-  const known = [['The rule', rule && rule.text], ['Accused', isWire ? null : told.accused[0]], ['The recording', likely && `likely at fault: ${likely}`]];
+  const place = first.match(/^unexplained ([ab]) unit (\d+) line (\d+)/);
+  const where = place && `unit ${place[2]} of ${place[1]} (counted from 0), whose first byte is on line ${place[3]} of ${ends.a.name}`;
+  const known = [['On the wire', where], ['The rule', rule], ['Accused', isWire ? '' : told.accused[0]],
+    ['The recording', likely && `likely at fault: ${likely}`]];
   parts.push(make('dl', {}, ...rows(known.filter(([, value]) => value).map(([name, value]) => [name, codes(value)]))));
   return parts;
+}
+
+const lowered = text => text[0].toLowerCase() + text.slice(1);
+
+// A line among its neighbours, with what it is.
+function columnView({title, words, side, line, lines, isRefused}, name) {
+  const head = make('p', {}, make('b', {}, title), make('span', {className: 'soft'}, `line ${line} of ${name}`));
+  if (words) head.append(make('span', {className: 'words'}, words));
+  return make('div', {className: 'column'}, head, excerptView(lines, line, isRefused ? 'here' : 'other'));
 }
 
 // The counts of an accepted pair, or of an end that passed.
@@ -123,13 +134,13 @@ function recordRows({kind, hint, bytes, words, ddcmp, routing, nsp}) {
   return rows(known.filter(([, value]) => value));
 }
 
-// More of a refusal: what to look for, what the line says, how both ends were, and whether it is the recording.
+// More of a refusal: what to look for, whether it is the recording, what the line says, and how both ends were.
 export function whyView({refusal, text, meaning}) {
   if (!refusal) return [textView(text)];
-  const {refused, record, state, link, edit, edits} = refusal, told = rowsOf(text, 'rule', 'recorder');
-  const parts = [make('h3', {}, `Reason ${refused.number}, ${refused.name}`), ...explanationOf(meaning).map(part =>
+  const {refused, record, state, link, edit, edits} = refusal, told = rowsOf(text, 'recorder');
+  const isHere = ({text: words = ''}) => !/^(By whose fault|A pair that is refused)/.test(words);
+  const parts = [make('h3', {}, `Reason ${refused.number}, ${refused.name}`), ...explanationOf(meaning).filter(isHere).map(part =>
     part.items ? make('ul', {}, ...part.items.map(item => make('li', {}, ...codes(item)))) : make('p', {}, ...codes(part.text)))];
-  if (told.rule.length) parts.push(make('p', {className: 'rule'}, told.rule.join(' ')));
   if (edits) {
     const found = [make('p', {}, 'Likely. Each of these small changes would make the pair acceptable:'),
       make('ul', {}, ...edit.map(({words}) => make('li', {}, ...codes(words))))];
