@@ -142,8 +142,14 @@ def causes(use):
         use.expect('%s: it is to be seen' % path[-1], seen)
     use.expect('what was seen and allowed', 'DATA 5/1' in use.text('#verdict .seen') and 'ACK /2' in use.text('#verdict .allowed'))
     use.expect('the recording', 'is missing before line 19 of b' in use.text('#verdict dl'))
-    use.expect('one end', use.drop(example('one_end.a'), on='#clear') == 'Refused')
-    use.expect('the other end did it', use.text('#verdict .cause').startswith('The other end acknowledged'))
+    for box in '#end-a', '#end-b':
+        use.expect('one end on %s' % box, use.drop(example('one_end.a'), on=box) == 'Refused')
+        use.expect('the other end did it', use.text('#verdict .cause').startswith('The other end acknowledged'))
+        use.expect('its file', 'line 6 of one_end.a' in use.text('#verdict .column'))
+        use.expect('in its place', 'one_end.a' in use.text(box) and 'bad' in use.browser.value('document.querySelector(%r).className' % box))
+        use.browser.value('globalThis.shown = null; document.querySelector("#line").click()')
+        use.expect('likewise of DDCMP alone', use.said() == 'Refused' and use.text('#verdict .cause').startswith('The other end acknowledged'))
+        use.click('#line')
 
 
 def strange_files(use):

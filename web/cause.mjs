@@ -8,7 +8,7 @@ const SENTENCES = [null,
   'SIDE received a unit that is not in the capture of OTHER.',
   'Both ends wait for a unit that the other has not sent yet.',
   'SIDE received other bytes than OTHER sent, and no block check shows the damage.',
-  'SIDE sent a message that may not be sent in this state of the line.',
+  'SIDE sent a message that its station may not send in this state.',
   'SIDE sent a message with the wrong number, NUM.',
   'SIDE acknowledged the wrong message: RESP is not the number of the last one that it received in order.',
   'SIDE sent one more packet, although 255 are not acknowledged yet.',
@@ -35,10 +35,10 @@ const SENTENCES = [null,
 const opposite = side => side === 'a' ? 'b' : 'a';
 
 // What happened, in a sentence.
-export function sentence({side, number, accuses}) {
-  const [own, other] = [side, opposite(side)].map(letter => `End ${letter}`), isOther = accuses === 'other end';
-  const said = (SENTENCES[number] || '').replace('SIDE', isOther ? 'The other end' : own).replace('OTHER', isOther ? own : other);
-  return said.replace(/(.)End /g, '$1end ').replace(/(.)The other/g, '$1the other');
+export function sentence({side, number, accuses}, isOneEnd) {
+  const [own, other] = isOneEnd ? ['This end', 'The other end'] : [`End ${side}`, `End ${opposite(side)}`], isOther = accuses === 'other end';
+  const said = (SENTENCES[number] || '').replace('SIDE', isOther ? other : own).replace('OTHER', isOther ? own : other);
+  return said.replace(/(.)(End|This|The) /g, (_, before, word) => before + word.toLowerCase() + ' ');
 }
 
 const START = /^u start$/, KEPT = /^k -?\d+ 81/, SENT = /^s 81/;
@@ -51,6 +51,7 @@ const EARLIER = {
   10: ({bytes = ''}) => [[new RegExp(`^s 81.{6}${bytes.slice(8, 10)}`), 'The packet when it was sent before']],
   12: () => [[KEPT, 'The last packet that it kept'], [START, 'It had kept no packet since this start']],
   14: () => [[START, 'Its last start']],
+  16: () => [[/^ddcap /, 'The first line, which names both nodes']],
   20: () => [[/^u in /, 'What its user handed in last']],
   26: ({words = ''}) => [[new RegExp(`^u (open|accept|reject) ${words.split(' ')[1]}( |$)`), 'Where that address was given before']],
 };
@@ -64,7 +65,7 @@ const OF_OTHER = {
 export function contradicted({refused, record, check, state}, texts, unit) {
   const {side, number, line} = refused, other = opposite(side), ofOther = state.find(it => it.side === other);
   const sent = unit && unit.match(/^(\d+) of ([ab]), [ab]:(\d+): (.*)/);
-  if (sent) return {side: sent[2], line: Number(sent[3]), title: `What ${sent[2]} sent as unit ${sent[1]}`, words: sent[4]};
+  if (sent && number !== 12) return {side: sent[2], line: Number(sent[3]), title: `What ${sent[2]} sent as unit ${sent[1]}`, words: sent[4]};
   const earlier = (refused.accuses === 'other end' ? OF_OTHER : EARLIER)[number], rows = earlier ? earlier(record || {}) : [];
   const begin = lastLine(texts[side], START, line - 1);
   for (const [pattern, title] of rows) {

@@ -157,12 +157,12 @@ function show(session, verdict, why, took) {
   box.querySelector('h2').textContent = verdict.title;
   box.querySelector('.first').textContent = verdict.first === verdict.title.toLowerCase() ? '' : verdict.first;
   box.querySelector('.meaning').textContent = verdict.meaning;
-  const broken = fault ? [brokenView(fault, bytesOf(fault, session))] : [];
-  box.querySelector('.parts').replaceChildren(...(refused ? causeView(why, session, ends, verdict.first) : broken));
+  const broken = fault ? [brokenView(fault, session)] : [];
+  box.querySelector('.parts').replaceChildren(...(refused ? causeView(why, session, verdict.first) : broken));
   between(verdict.kind);
   for (const {side} of session.given) {
     $('#end-' + side).classList.toggle('good', verdict.kind === 'good');
-    $('#end-' + side).classList.toggle('bad', Boolean(at && at.side === side));
+    $('#end-' + side).classList.toggle('bad', Boolean(at && (session.isOneEnd || at.side === side)));
   }
   $('#saved').replaceChildren(...Object.entries(session.made).map(([side, bytes]) => link(`Save the capture of ${side}`, `line.${side}`, bytes)));
   $('#status').textContent = `${verdict.title}. ${verdict.first}${accused ? `. Accused: ${accused}` : ''}`;
@@ -175,15 +175,13 @@ function show(session, verdict, why, took) {
   globalThis.shown = {status: session.answer.status, out: session.answer.out, err: session.answer.err, verdict, took};
 }
 
-const bytesOf = (fault, session) => session.source ? session.source.bytes : session.texts[fault.side] || new Uint8Array();
-
 function tabsOf(session, verdict, why) {
   const {names, line} = session, isPair = names.length === 2, tabs = [], fault = faultOf(session.answer);
   const text = async (isHere, ...words) => [textView(printed(await session.ask(...words)), isHere)];
   if (why) tabs.push(['Why', async () => whyView(why)]);
   else if (verdict.kind === 'good') tabs.push(['Counts', async () => countsView(printed(session.answer))]);
   else if (fault) {
-    tabs.push(['What is wrong', async () => faultView(fault, bytesOf(fault, session))]);
+    tabs.push(['What is wrong', async () => faultView(fault, session)]);
   }
   if (verdict.kind !== 'fault') {
     const isRefused = row => row.includes('<== refused'), at = why && why.refusal ? why.refusal.refused : {};
@@ -196,7 +194,10 @@ function tabsOf(session, verdict, why) {
       tabs.push(['Ladder', async () => [...await text(isRefused, 'draw', ...names, ...line), keyView()]]);
       tabs.push(['Rules met', async () => coverView(printed(await session.ask('cover', ...names)))]);
     }
-    for (const side of names) tabs.push([`Records of ${side}`, () => text(row => side === at.side && row.startsWith(at.record + ' '), 'show', side)]);
+    for (const side of names) {
+      const isIt = row => side === at.side && row.startsWith(at.record + ' ');
+      tabs.push([isPair ? `Records of ${side}` : 'Records', () => text(isIt, 'show', side)]);
+    }
   }
   tabs.push(['As printed', async () => [textView((why && why.text) || printed(session.answer))]]);
   return tabs;

@@ -40,10 +40,10 @@ export function refusalOf(answer) {
 
 // The same of the first line of a refusal, where `why` tells nothing of it; or null.
 export function refusedIn(text) {
-  const found = text.match(/^refused ([ab]) (\d+) line (\d+): (\d+) (\w+)/);
+  const found = text.match(/^refused ([ab]) (\d+) line (\d+): (\d+) (\w+)( by the other end)?/);
   if (!found) return null;
-  const [, side, record, line, number, name] = found;
-  return {refused: {side, record: Number(record), line: Number(line), number: Number(number), name}, state: [], link: [], edit: []};
+  const [, side, record, line, number, name, byOther] = found, accuses = byOther ? 'other end' : '';
+  return {refused: {side, record: Number(record), line: Number(line), number: Number(number), name, accuses}, state: [], link: [], edit: []};
 }
 
 // The rows of `why` with these names, as rule, accused or recorder: of each name a list of texts.

@@ -53,36 +53,36 @@ const around = (bytes, line) => linesOf(bytes, Math.max(1, line - 4), line + 2);
 const mistakes = (fault, bytes) => linesOf(bytes, fault.line, fault.line).flatMap(wrongWith);
 
 // A fault of a text in a sentence.
-export function brokenView(fault, bytes) {
-  const [first = fault.fault] = mistakes(fault, bytes);
-  return make('p', {className: 'cause'}, `Line ${fault.line} of ${fault.side} can’t be read: ${first}.`);
+export function brokenView(fault, session) {
+  const [first = fault.fault] = mistakes(fault, session.bytesOf(fault.side));
+  return make('p', {className: 'cause'}, `Line ${fault.line} of ${session.nameOf(fault.side)} can’t be read: ${first}.`);
 }
 
 // A fault of a text: the line, and what may be wrong with it.
-export function faultView(fault, bytes) {
-  const found = mistakes(fault, bytes);
+export function faultView(fault, session) {
+  const bytes = session.bytesOf(fault.side), found = mistakes(fault, bytes);
   const words = fault.line === 1 ? 'The first line has to be the head: “ddcap 1 1.1 1.2”, the format, this node’s address and its peer’s.'
     : 'A record is a line as “u start”, “s BYTES”, “r NUMBER BYTES”, “k NUMBER BYTES” or “n BYTES”, in small hexadecimal digits.';
-  return [make('h3', {}, `Line ${fault.line} of ${fault.side} can’t be read: ${fault.fault}`), excerptView(around(bytes, fault.line), fault.line),
+  return [make('h3', {}, `Line ${fault.line} of ${session.nameOf(fault.side)}: ${fault.fault}`), excerptView(around(bytes, fault.line), fault.line),
     ...(found.length ? [make('ul', {}, ...found.map(text => make('li', {}, text[0].toUpperCase() + text.slice(1) + '.')))] : []),
     make('p', {className: 'soft'}, words + ' docs/CAPTURES.md has all kinds of lines.')];
 }
 
 // The cause of a refusal, at once: what happened, in a sentence; what was seen and is allowed; the refused line beside the one that it
-// contradicts; the rule, who is accused, and the change of a recording that would mend it. `ends` are the captures that were given, `first` is the
-// program's first line.
-export function causeView({refusal, text, meaning}, {texts, source}, ends, first) {
-  const {refused, check, edit} = refusal, told = rowsOf(text, 'accused', 'rule', 'unit'), isWire = source && source.kind === 'wire';
+// contradicts; the rule, who is accused, and the change of a recording that would mend it. `first` is the program's first line.
+export function causeView({refusal, text, meaning}, session, first) {
+  const {refused, check, edit} = refusal, told = rowsOf(text, 'accused', 'rule', 'unit'), {texts, source} = session;
+  const isWire = source && source.kind === 'wire', meant = explanationOf(meaning).find(part => part.text).text;
+  const said = sentence(refused, session.names.length === 1) || meant;
   const boxed = (name, title, words) => make('div', {className: name}, make('small', {}, title), make('b', {}, words));
-  const parts = [make('p', {className: 'cause'}, isWire ? `As far as it could be placed, ${lowered(sentence(refused))}` : sentence(refused))];
+  const parts = [make('p', {className: 'cause'}, isWire ? `As far as it could be placed, ${lowered(said)}` : said)];
   if (check) parts.push(make('div', {className: 'pair'}, boxed('seen', 'Seen', check.seen), boxed('allowed', 'Allowed there', check.allowed)));
-  const nameOf = side => source ? `the capture made of ${side}` : ends[side].name;
-  const columns = sideBySide(refusal, texts, told.unit[0]).map(column => columnView(column, nameOf(column.side)));
+  const columns = sideBySide(refusal, texts, told.unit[0]).map(column => columnView(column, session.nameOf(column.side)));
   parts.push(make('div', {className: 'pair lines'}, ...columns));
-  const rule = told.rule.join(' ').replace(/ \(docs\/[^)]*\)/, '') || explanationOf(meaning).find(part => part.text).text;
+  const rule = told.rule.join(' ').replace(/ \(docs\/[^)]*\)/, '') || meant;
   const likely = edit.map(({words}) => words).join('; or ');
   const place = first.match(/^unexplained ([ab]) unit (\d+) line (\d+)/);
-  const where = place && `unit ${place[2]} of ${place[1]} (counted from 0), whose first byte is on line ${place[3]} of ${ends.a.name}`;
+  const where = place && `unit ${place[2]} of ${place[1]} (counted from 0), whose first byte is on line ${place[3]} of ${source.name}`;
   const known = [['On the wire', where], ['The rule', rule], ['Accused', isWire ? '' : told.accused[0]],
     ['The recording', likely && `likely at fault: ${likely}`]];
   parts.push(make('dl', {}, ...rows(known.filter(([, value]) => value).map(([name, value]) => [name, codes(value)]))));
