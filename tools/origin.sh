@@ -100,6 +100,14 @@ of_module() {
 }
 sum_of_making() { cat "$1" "$top"/tools/{for_machine,retarget} "$top/dist/names" | checksum; }
 
+# An LLVM module as text; one that is text already stays: MODULE TEXT
+as_text() {
+  case $1 in
+    *.ll) ln -sf "$1" "$2" ;;
+    *) "$(kit)/toolchain/bin/clang" -S -emit-llvm -O0 -Xclang -disable-llvm-passes -Wno-override-module -x ir "$1" -o "$2" ;;
+  esac
+}
+
 # The folder of the toolchain that is on the path.
 kit() { dirname "$(rt doc)"; }
 
