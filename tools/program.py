@@ -12,6 +12,7 @@ CRATES = os.path.join(TOP, 'crates')
 PROVED = os.path.join(CRATES, 'ddcap', 'out', 'ddcap')
 EMULATED = os.environ.get('DDCAP_EMULATED')
 IS_WINDOWS = EMULATED == 'wine'
+ONE_IN = 10 if EMULATED else 1  # so many of the longest lists are tried, since an emulator takes long to start
 HAS_TOOLCHAIN = 'DDCAP_QUICK' not in os.environ and shutil.which('rt') is not None
 
 
