@@ -1,6 +1,6 @@
 -- What is printed where one end is told, and where there was no memory for the text.
 use Rattle.std.proofs.Common.{◌≡◌, ℕ, List, Option, Result, Ok, Err, inl, inr, sym, subst}
-use Rattle.std.specs.Prelude.{IfOk, string_bytes}
+use Rattle.std.specs.Prelude.{IfOk}
 use Rattle.std.proofs.lemmas.Result.{IfOk-weaker}
 use Rattle.capture.specs.Faulty.{CountsReads, is_failed_read}
 use Rattle.capture.specs.declared.fault.CaptureFault.{CaptureFault}

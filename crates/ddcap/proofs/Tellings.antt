@@ -1,6 +1,6 @@
 -- What is told of a refusal tells it in either form.
 use Rattle.std.proofs.Common.{◌≡◌, ℕ, List, Result, inl, sym, subst}
-use Rattle.std.specs.Prelude.{IfOk, string_bytes}
+use Rattle.std.specs.Prelude.{IfOk}
 use Rattle.std.proofs.lemmas.Result.{IfOk-weaker}
 use Rattle.pair_judge.specs.Ends.{ShownEnds}
 use Rattle.why.specs.declared.why_text.Refusal.{Refusal}

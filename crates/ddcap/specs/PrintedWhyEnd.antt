@@ -1,5 +1,5 @@
 -- What `why` prints of an answer of the judge of one end, byte by byte, and with which status it ends.
-use Rattle.std.specs.Prelude.{◌≡◌, ℕ, ◌⊎◌, List, ◌++◌, Option, Some, Result, Ok, Err, IfOk, codes, IfSome}
+use Rattle.std.specs.Prelude.{◌≡◌, ℕ, ◌⊎◌, List, ◌++◌, Some, Result, Ok, Err, IfOk, codes}
 use Rattle.capture.specs.Entries.{record_with}
 use Rattle.capture.specs.Faulty.{CountsReads, is_failed_read}
 use Rattle.capture.specs.declared.fault.CaptureFault.{CaptureFault}

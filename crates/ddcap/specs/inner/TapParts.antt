@@ -4,7 +4,7 @@ use Rattle.pair_judge.specs.declared.fault.JudgeFault.TheVariants as judge
 use Rattle.wire_tap.specs.declared.tapped.Tapped.{Tapped}
 use Rattle.tap_answer.specs.declared.told.Told.{Told}
 use Rattle.tap_answer.specs.Words.{premise_words}
-use Rattle.ddcap.specs.Printed.{Moved, Stream, Writes, fault_text}
+use Rattle.ddcap.specs.Printed.{Moved, Writes, fault_text}
 use Rattle.ddcap.specs.PrintedTap.{Streams, TellsAs}
 
 -- what both streams show, before and after a call
