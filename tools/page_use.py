@@ -221,6 +221,26 @@ def by_keys_alone(use):
     use.expect('from the verdict to what explains it: %s' % met, met[-2:] == ['tab-0', 'panel'])
 
 
+# What a browser may lack, as a script that takes it away, and what is said then.
+LACKING = [
+    ('delete globalThis.WebAssembly', 'This browser has no WebAssembly'),
+    ('delete globalThis.DecompressionStream', 'This browser has no DecompressionStream'),
+    ('WebAssembly.compile = async () => { throw new Error("no SIMD"); }', 'could not be started: no SIMD'),
+]
+
+
+def lacking(use):
+    """A browser without what the page needs says so when it is opened, and again when something is dropped."""
+    for script, words in LACKING:
+        added = use.browser.send('Page.addScriptToEvaluateOnNewDocument', source=script)['identifier']
+        use.browser.open('about:blank')
+        use.browser.open('file://' + use.page)
+        use.expect('%s: at once' % script, words in use.said())
+        use.expect('%s: when a pair is dropped' % script, words in use.drop(example('wrong_response.a'), example('wrong_response.b')))
+        use.expect('%s: what to do' % script, 'A browser of 2023 or later' in use.text('#note'))
+        use.browser.send('Page.removeScriptToEvaluateOnNewDocument', identifier=added)
+
+
 def opened(use):
     """The page from nothing: how soon it answers, and that it connects to nothing."""
     taken = []
@@ -246,7 +266,7 @@ def expectations(browser, page, folder):
     """How many things were expected of the page, and those that did not hold."""
     use = Use(browser, page, folder)
     opened(use)
-    for part in several_drops, causes, strange_files, tabs_and_keys, by_keys_alone:
+    for part in several_drops, causes, strange_files, tabs_and_keys, by_keys_alone, lacking:
         part(use)
     for error in browser.errors:
         use.expect('an error of the page: ' + error, False)

@@ -19,30 +19,30 @@ async function unpacked() {
   return WebAssembly.compile(await new Response(stream).arrayBuffer());
 }
 
+// Starts the judge; where it can't be, answers why not and what to do, and nothing else.
 async function begin() {
   const missing = [['WebAssembly', globalThis.WebAssembly], ['workers', globalThis.Worker], ['DecompressionStream', globalThis.DecompressionStream]]
     .filter(([, has]) => !has).map(([name]) => name);
   if (missing.length) {
-    return note(`This browser has no ${missing.join(' and no ')}, so nothing can be judged in it.`, 'A browser of 2023 or later has it.');
+    return [`This browser has no ${missing.join(' and no ')}, so nothing can be judged in it.`, 'A browser of 2023 or later has it.'];
   }
   try {
     judge = new Judge(await unpacked(), $('#worker').textContent);
     const help = printed(await judge.ask(['help'], {}));
     $('#version').textContent = help.split(':')[0].replace(/^ddcap /, '');
-    return true;
+    return [];
   } catch (error) {
-    return note(`The judge in this page could not be started: ${error.message}.`,
-      'A browser of 2023 or later, with SIMD in WebAssembly, can run it.');
+    return [`The judge in this page could not be started: ${error.message}.`, 'A browser of 2023 or later, with SIMD in WebAssembly, can run it.'];
   }
 }
 const ready = begin();
+ready.then(lacks => lacks.length && note(...lacks));
 
 // ---- what is given
 
 function note(...paragraphs) {
   $('#note').replaceChildren(...paragraphs.map(part => typeof part === 'string' ? make('p', {}, part) : part));
   $('#note').hidden = paragraphs.length === 0;
-  return false;
 }
 
 function put(side, file) {
@@ -123,7 +123,11 @@ async function judgeGiven(notes = []) {
     strange(odd.side, ends[odd.side], odd.seems);
     return;
   }
-  if (!await ready) return;
+  const lacks = await ready;
+  if (lacks.length) {
+    note(...lacks);
+    return;
+  }
   if (judge.isBusy) judge.stop();
   const session = new Session(judge, given.map(it => ({...it, kind: it.seems.kind})), $('#line').checked), begun = performance.now();
   between('busy');
