@@ -41,7 +41,9 @@ const JSON: &str = "{\"what\": \"refused\", \"side\": \"a\", \"record\": 8, \"li
      {\"what\": \"record\", \"kind\": \"s\", \"bytes\": \"810100000301e2e105c003\", \
      \"ddcmp\": \"data  NUM 3  RESP 0  COUNT 1\", \"routing\": \"control packet, 1 byte, not read further\"}\n\
      {\"what\": \"check\", \"check\": \"NumIsNext\", \"seen\": \"NUM 3\", \
-     \"allowed\": \"NUM 2 (again, as first sent)\", \"page\": \"docs/REASONS.md#7-wrongnumber\"}\n\
+     \"allowed\": \"NUM 2 (again, as first sent)\", \"rule\": \"NUM of a data message is T, the number that is next to send, \
+     and NUM of a REP is N, the highest number given\", \"page\": \"docs/REASONS.md#7-wrongnumber\", \
+     \"table\": \"docs/PROTOCOL.md#what-may-be-sent\"}\n\
      {\"what\": \"state\", \"side\": \"a\", \"records\": 8, \"station\": \"RUNNING\", \"start\": 1, \"goes_with\": 1, \
      \"r\": 0, \"a\": 1, \"n\": 3, \"t\": 2, \"open_causes\": {}, \"sent\": 5, \"front\": 2}\n\
      {\"what\": \"state\", \"side\": \"b\", \"records\": 7, \"station\": \"RUNNING\", \"start\": 1, \"goes_with\": 1, \
@@ -55,8 +57,10 @@ const ROWS: &str = "2-not-set-back.a:10: sent\n  \
      \n  \
      seen     NUM 3\n  \
      allowed  NUM 2 (again, as first sent)\n  \
-     rule     NUM of a data message is T, the number that is next to send (docs/PROTOCOL.md#what-may-be-sent)\n  \
-     page     docs/REASONS.md#7-wrongnumber\n\
+     rule     NUM of a data message is T, the number that is next to send, and NUM\n           \
+     of a REP is N, the highest number given\n  \
+     page     docs/REASONS.md#7-wrongnumber\n           \
+     docs/PROTOCOL.md#what-may-be-sent\n\
      \n\
      a before it (8 records, to line 9)\n  \
      station  RUNNING, start 1, goes with start 1 of b\n  \

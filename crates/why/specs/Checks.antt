@@ -1,14 +1,10 @@
--- The check that the refused record does not pass, over both layers and the line: its name, what is seen there, what is allowed, the rule, and
--- the page of its reason; as a JSON object and in rows.
+-- The check that the refused record does not pass, over both layers and the line: its name, what is seen there, what is allowed, the rule
+-- and the page of its reason; as a JSON object and in rows.
 use Rattle.std.specs.Prelude.{ℕ, ◌==◌, if◌then◌else◌, List, [], ◌++◌, codes}
 use Rattle.std.specs.Fmt.{decimal}
 use Rattle.wire_base.specs.Side.{other_side, side_letter}
 use Rattle.wire_base.specs.declared.side.Side.{Side}
 use Rattle.ddcmp_msg.specs.Reading.{ReadingValue, reading_view}
-use Rattle.ddcmp_station.specs.declared.failed.FailedArrival.{FailedArrival}
-use Rattle.ddcmp_station.specs.declared.failed.FailedArrival.TheVariants.{Period, Keep}
-use Rattle.ddcmp_station.specs.declared.failed.FailedSending.{FailedSending}
-use Rattle.ddcmp_station.specs.declared.failed.FailedSending.TheVariants as sending
 use Rattle.pair_judge.specs.declared.reason.Reason.{Reason}
 use Rattle.pair_judge.specs.declared.failed_check.Awaited.{Awaited}
 use Rattle.pair_judge.specs.declared.failed_check.FailedCheck.{FailedCheck}
@@ -23,7 +19,7 @@ use Rattle.why.specs.LinkChecks.{link_arrival_allowed, link_event_check, link_ev
 use Rattle.why.specs.Digits.{Fronts, fronts_told}
 use Rattle.why.specs.Undetected.{of_which, came_byte, sent_byte}
 use Rattle.why.specs.Words.{plural}
-use Rattle.why.specs.Pages.{page}
+use Rattle.why.specs.Rules.{rule_keys, rule_rows}
 use Rattle.why.specs.declared.checks.Check.{Check}
 use Rattle.why.specs.declared.form.Form.{Form}
 use Rattle.why.specs.declared.form.Form.TheVariants.{Object, Rows}
@@ -100,35 +96,6 @@ allowed side (check.LinkArrival failed) reading fronts = link_arrival_allowed si
 allowed side (check.LinkEvent failed) reading fronts = link_event_allowed failed fronts.due
 allowed side check.Noise reading fronts = codes "bytes that read as header bad or data bad"
 
--- ---- the rule of a check of the station
-
-abbrev pub sending_rule : FailedSending → List ℕ
-sending_rule (sending.State state) =
-    codes "  rule     A message that is sent has a row in the table of the station's state (docs/PROTOCOL.md#what-may-be-sent)\n"
-sending_rule (sending.RespIsLast x y) =
-    codes "  rule     RESP of an ACK, a NAK or a data message is R, " ++
-    (codes "the number of the last data message that the station received in order" ++ codes " (docs/PROTOCOL.md#what-may-be-sent)\n")
-sending_rule (sending.NumIsNext x y again) =
-    codes "  rule     NUM of a data message is T, the number that is next to send (docs/PROTOCOL.md#what-may-be-sent)\n"
-sending_rule (sending.NumIsHighest x y) = codes "  rule     NUM of a REP is N, the highest number given (docs/PROTOCOL.md#what-may-be-sent)\n"
-sending_rule sending.SomeOutstanding = codes "  rule     A REP is sent while a packet is not acknowledged (docs/PROTOCOL.md#what-may-be-sent)\n"
-sending_rule (sending.RoomIfNew x y) = codes "  rule     At most 255 packets are not acknowledged (docs/PROTOCOL.md#what-may-be-sent)\n"
-sending_rule (sending.AsFirstGiven number x y) =
-    codes "  rule     A packet that is sent again has the data of its first sending (docs/PROTOCOL.md#sending-again)\n"
-sending_rule (sending.CauseIsOpen x causes) =
-    codes "  rule     A NAK of reason 1, 2, 3 or 8 answers what came, and each such thing once (docs/PROTOCOL.md#causes-of-a-nak)\n"
-
-abbrev pub arrival_rule : FailedArrival → List ℕ
-arrival_rule (Period needs tag own) =
-    codes "  rule     A message that is acted on belongs to this pair of starts (docs/PROTOCOL.md#the-rule-on-periods)\n"
-arrival_rule Keep =
-    codes "  rule     A packet is kept where the row of its message takes it (docs/PROTOCOL.md#what-an-arrival-does)\n"
-
-abbrev pub rule_row : FailedCheck → List ℕ
-rule_row (check.StationSending failed) = sending_rule failed
-rule_row (check.StationArrival failed) = arrival_rule failed
-rule_row failed = []
-
 -- ---- together
 
 -- a check that a record of this side does not pass, with the reason, how its bytes are read, and what is shown of both sides of the check
@@ -152,12 +119,11 @@ allowed_in c = allowed c.side c.failed c.reading c.fronts
 abbrev pub check_line : CheckValue → List ℕ
 check_line c =
     codes "{\"what\": \"check\", \"check\": \"" ++ (check_name c.failed ++ (codes "\", \"seen\": \"" ++ (seen_in c
-    ++ (codes "\", \"allowed\": \"" ++ (allowed_in c ++ (codes "\", \"page\": \"" ++ (page c.reason ++ codes "\"}\n")))))))
+    ++ (codes "\", \"allowed\": \"" ++ (allowed_in c ++ (codes "\", " ++ (rule_keys c.reason ++ codes "}\n")))))))
 
 abbrev pub check_rows : CheckValue → List ℕ
 check_rows c =
-    codes "  seen     " ++ (seen_in c ++ (codes "\n  allowed  " ++ (allowed_in c ++ (codes "\n" ++ (rule_row c.failed
-    ++ (codes "  page     " ++ (page c.reason ++ codes "\n")))))))
+    codes "  seen     " ++ (seen_in c ++ (codes "\n  allowed  " ++ (allowed_in c ++ (codes "\n" ++ rule_rows c.reason))))
 
 abbrev pub check_told : Form → CheckValue → List ℕ
 check_told Object c = check_line c

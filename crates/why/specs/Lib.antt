@@ -17,6 +17,7 @@ pub mod StationChecks
 pub mod Undetected
 pub mod LinkChecks
 pub mod Pages
+pub mod Rules
 pub mod Checks
 pub mod Refused
 pub mod Edits

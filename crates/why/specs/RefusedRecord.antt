@@ -9,7 +9,7 @@ use Rattle.why.specs.RecordTold.{record_line, record_text}
 use Rattle.why.specs.Checks as checks
 use Rattle.why.specs.Digits.{fronts}
 use Rattle.why.specs.Ends.{live_by}
-use Rattle.why.specs.Pages.{page}
+use Rattle.why.specs.Rules.{rule_rows}
 use Rattle.why.specs.Sides.{side_lines, side_text}
 use Rattle.why.specs.declared.form.Form.{Form}
 use Rattle.why.specs.declared.form.Form.TheVariants.{Object, Rows}
@@ -17,14 +17,14 @@ use Rattle.why.specs.declared.refused_record.RefusedRecord.{RefusedRecord}
 use Rattle.why.specs.declared.state_line.StateLine.{StateLine}
 use Rattle.why.specs.declared.subject.Addresses.{Addresses}
 
--- where no check is named: no object, and a row of the page
-abbrev pub page_alone : Form → Reason → List ℕ
-page_alone Object reason = []
-page_alone Rows reason = codes "  page     " ++ (page reason ++ codes "\n")
+-- where no check is named: no object, and the rows of the rule
+abbrev pub rule_alone : Form → Reason → List ℕ
+rule_alone Object reason = []
+rule_alone Rows reason = rule_rows reason
 
 -- the check at this end, beside the unit that the record names
 unfoldable pub check_told : Form → RefusedRecord → ShownEnd → Option FailedCheck → List ℕ
-check_told form r end None = page_alone form r.line.reason
+check_told form r end None = rule_alone form r.line.reason
 check_told form r end (Some failed) = checks.check_told form (record {
   side = r.line.side;
   reason = r.line.reason;

@@ -11,8 +11,7 @@ use crate::form::Form;
 use crate::link_arrival_checks::link_arrival_check;
 use crate::link_event_checks::link_event_check;
 use crate::link_sending_checks::link_sending_check;
-use crate::pages::page;
-use crate::rules::rule_row;
+use crate::rules::RuleTold;
 use crate::station_checks::sending_check;
 use ddcmp_msg::Reading;
 use pair_judge::{FailedCheck, Reason};
@@ -30,8 +29,7 @@ pub struct Check<'a, 't> {
     pub fronts: Fronts<'t>,
 }
 
-/// A check that is not passed: as one JSON object with its LF, or in rows: what is seen and what is allowed, the rule, if it is one of the
-/// station, and the page of the reason.
+/// A check that is not passed: as one JSON object with its LF, or in rows: what is seen and what is allowed, and the rule with its pages.
 #[derive(Clone, Copy)]
 pub struct CheckTold<'a, 't> {
     pub form: Form,
@@ -58,10 +56,13 @@ fn write_object<W: Write>(f: &mut Formatter<W>, check: Check<'_, '_>) -> fmt::Re
     let name = check_name(check.failed);
     let seen = Seen { check };
     let allowed = Allowed { check };
-    let page = page(check.reason);
+    let rule = RuleTold {
+        form: Form::Object,
+        reason: check.reason,
+    };
     write!(
         f,
-        "{{\"what\": \"check\", \"check\": \"{name}\", \"seen\": \"{seen}\", \"allowed\": \"{allowed}\", \"page\": \"{page}\"}}\n"
+        "{{\"what\": \"check\", \"check\": \"{name}\", \"seen\": \"{seen}\", \"allowed\": \"{allowed}\", {rule}}}\n"
     )
 }
 
@@ -70,12 +71,11 @@ fn write_rows<W: Write>(f: &mut Formatter<W>, check: Check<'_, '_>) -> fmt::Resu
 {
     let seen = Seen { check };
     let allowed = Allowed { check };
-    let rule = rule_row(check.failed);
-    let page = page(check.reason);
-    write!(
-        f,
-        "  seen     {seen}\n  allowed  {allowed}\n{rule}  page     {page}\n"
-    )
+    let rule = RuleTold {
+        form: Form::Rows,
+        reason: check.reason,
+    };
+    write!(f, "  seen     {seen}\n  allowed  {allowed}\n{rule}")
 }
 
 // The name of the check: of the station that in its tables.

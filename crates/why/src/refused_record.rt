@@ -7,9 +7,9 @@ use crate::checks::{Check, CheckTold};
 use crate::ends::live_links;
 use crate::form::Form;
 use crate::front_texts::FrontTexts;
-use crate::pages::page;
 use crate::record::{record_json, record_text};
 use crate::refused_line::RefusedLine;
+use crate::rules::RuleTold;
 use crate::sides::{side_json, side_text};
 use crate::state_line::StateLine;
 use crate::subject::Addresses;
@@ -48,8 +48,8 @@ pub fn record_objects(
     format!(in alloc; "{line}{object}{check}")
 }
 
-/// The rows of the record, which stands in the capture of this name, with the row of the unit that its hint names; and of the check, or the page of
-/// the reason alone; behind each an empty one. Fails for want of memory alone.
+/// The rows of the record, which stands in the capture of this name, with the row of the unit that its hint names; and of the check, or the rule
+/// of the reason alone; behind each an empty one. Fails for want of memory alone.
 #[tactic(auto, unfolding(crate::specs::RefusedRecord::record_rows))]
 pub fn record_rows(
     alloc: Global,
@@ -77,7 +77,7 @@ fn check_told(
     ensures { IfOk result (λ text. string_bytes text ≡ spec.check_told form refused.entry end.now refused.entry.failed) }
 {
     let Some(failed) = refused.failed else {
-        return page_alone(alloc, form, refused.line.reason);
+        return rule_alone(alloc, form, refused.line.reason);
     };
     let fronts = FrontTexts::of(alloc, end, refused.says, refused.bytes, refused.unit)?;
     let check = Check {
@@ -90,13 +90,13 @@ fn check_told(
     format!(in alloc; "{}", CheckTold { form, check })
 }
 
-// Where no check is named: no object, and a row of the page.
-fn page_alone(alloc: Global, form: Form, reason: Reason) -> Result<String, AllocError>
-    ensures { IfOk result (λ text. string_bytes text ≡ spec.page_alone form reason) }
+// Where no check is named: no object, and the rows of the rule.
+fn rule_alone(alloc: Global, form: Form, reason: Reason) -> Result<String, AllocError>
+    ensures { IfOk result (λ text. string_bytes text ≡ spec.rule_alone form reason) }
 {
     match form {
         Form::Object => Ok(String::new(alloc)),
-        Form::Rows => format!(in alloc; "  page     {}\n", page(reason)),
+        Form::Rows => format!(in alloc; "{}", RuleTold { form, reason }),
     }
 }
 
