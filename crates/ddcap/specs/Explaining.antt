@@ -6,12 +6,18 @@ use Rattle.pair_judge.specs.declared.fault.JudgeFault.TheVariants as judge
 use Rattle.ddcap.specs.declared.explanations.Explanation.{Explanation}
 use Rattle.ddcap.specs.Printed.{Moved, Writes, fault_text}
 
--- `6 WrongState`, and the parts with their headings
+-- `6 WrongState`, what was seen, the rule, what is allowed, and by whose fault it is
+abbrev pub explanation_head : Explanation → List ℕ
+explanation_head row =
+    decimal (reason_number row.reason) ++ (codes " " ++ (reason_name row.reason ++ (codes "\n\nSeen: " ++ (row.seen.now
+    ++ (codes "\n\nRule: " ++ (row.rule.now ++ (codes "\n\nAllowed: " ++ (row.allowed.now
+    ++ (codes "\n\nBy whose fault: " ++ (row.fault.now ++ codes ".\n\n"))))))))))
+
+-- with the usual causes, and what to do first
 abbrev pub explanation_text : Explanation → List ℕ
 explanation_text row =
-    decimal (reason_number row.reason) ++ (codes " " ++ (reason_name row.reason ++ (codes "\n\n" ++ (row.rule.now
-    ++ (codes "\n\nAllowed: " ++ (row.allowed.now ++ (codes "\n\nBy whose fault: " ++ (row.fault.now
-    ++ (codes ".\n\nLook for:\n\n" ++ (row.look_for.now ++ codes "\n\nA pair that is refused for it: docs/REASONS.md\n"))))))))))
+    explanation_head row ++ (codes "Look for:\n\n" ++ (row.look_for.now
+    ++ (codes "\n\nFirst: " ++ (row.first.now ++ codes "\n\nA pair that is refused for it: docs/REASONS.md\n"))))
 
 -- the text is written to standard output, with status 0; or `out of memory` to standard error, with status 3. The other stream stays as it is
 abbrev pub Explains : Explanation → (out err : Moved) → ℕ → Type 0

@@ -1,7 +1,7 @@
 //! `explain`: what a reason means.
 
 ghost use Rattle.std.specs.Prelude.{◌≡◌, IfOk, string_bytes};
-ghost use Rattle.ddcap.specs.Explaining.{Explains, explanation_text};
+ghost use Rattle.ddcap.specs.Explaining.{Explains, explanation_head, explanation_text};
 ghost use Rattle.ddcap.specs.Printed.{moved};
 
 use crate::check::{print, print_out_of_memory};
@@ -34,16 +34,31 @@ pub fn explain_to<O: Write, E: Write>(
 fn text_of(alloc: Global, explanation: &Explanation) -> Result<String, AllocError>
     ensures { IfOk result (λ text. string_bytes text ≡ explanation_text explanation.now) }
 {
+    let head = head_of(alloc, explanation)?;
+    let Explanation {
+        look_for,
+        first,
+        ..
+    } = *explanation;
+    format!(in alloc;
+        "{head}Look for:\n\n{look_for}\n\nFirst: {first}\n\nA pair that is refused for it: docs/REASONS.md\n"
+    )
+}
+
+// What comes before the usual causes. Fails for want of memory alone.
+fn head_of(alloc: Global, explanation: &Explanation) -> Result<String, AllocError>
+    ensures { IfOk result (λ text. string_bytes text ≡ explanation_head explanation.now) }
+{
     let Explanation {
         reason,
+        seen,
         rule,
         allowed,
         fault,
-        look_for,
+        ..
     } = *explanation;
     let number = reason.number();
     format!(in alloc;
-        "{number} {reason}\n\n{rule}\n\nAllowed: {allowed}\n\nBy whose fault: {fault}.\n\n\
-         Look for:\n\n{look_for}\n\nA pair that is refused for it: docs/REASONS.md\n"
+        "{number} {reason}\n\nSeen: {seen}\n\nRule: {rule}\n\nAllowed: {allowed}\n\nBy whose fault: {fault}.\n\n"
     )
 }

@@ -16,14 +16,18 @@ mod units;
 pub struct Explanation {
     /// The reason, with its number and name.
     pub reason: Reason,
-    /// The rule that the record breaks.
+    /// What was seen, as it goes on after `Seen: `.
+    pub seen: &'static str,
+    /// The rule that the record breaks, after `Rule: `.
     pub rule: &'static str,
-    /// What would have been allowed, as it goes on behind `Allowed: `.
+    /// What would have been allowed, after `Allowed: `.
     pub allowed: &'static str,
     /// By whose fault it is.
     pub fault: &'static str,
-    /// What may be wrong, a point a line and `- ` in front of each.
+    /// What usually causes it, one line for each point, with `- ` before it: mistakes of a recorder, then, with `- node`, bugs of a node.
     pub look_for: &'static str,
+    /// What to do first, after `First: `.
+    pub first: &'static str,
 }
 
 /// All reasons, in the order of their numbers.

@@ -55,7 +55,7 @@ pub fn help_to<W: Write>(stream: &mut Tally<W>, topic: Topic) -> u8
     }
 }
 
-// Prints name and version, and the page of the whole behind them.
+// Prints name and version, and the page of the whole after them.
 fn print_program<W: Write>(stream: &mut Tally<W>) -> u8
     ensures { Writes (stream_of W.contents stream.old) (stream_of W.contents stream.new) (help_text Topic.Program) 0 result }
 {
@@ -65,7 +65,7 @@ fn print_program<W: Write>(stream: &mut Tally<W>) -> u8
     }
 }
 
-// Writes two texts, one behind the other, and answers the status: the given one, or 3 where a write failed.
+// Writes two texts, one after the other, and answers the status: the given one, or 3 where a write failed.
 fn print_both<W: Write>(stream: &mut Tally<W>, first: &[u8], second: &[u8], status: u8) -> u8
     ensures { Writes (stream_of W.contents stream.old) (stream_of W.contents stream.new) (first.now ++ second.now) status result }
 {

@@ -1,39 +1,39 @@
 //! The pages that `help` prints. Lines have at most 79 columns.
 
-/// The page of the whole, behind the version.
+/// The page of the whole, after the version.
 pub const PROGRAM: &str = "\
 : checks recordings of a DDCMP line between two DECnet nodes
 
   ddcap check A B         judge the captures of both ends of a line
   ddcap alone A           judge the capture of one end, without the other
-  ddcap why A [B]         tell what was seen and allowed at a refusal
-  ddcap cover A B         count which rows of the rules a pair went through
+  ddcap why A [B]         say what was seen and allowed at a refusal
+  ddcap cover A B         count which rows of the rules a pair goes through
   ddcap draw A B          draw what passed between both ends
-  ddcap show A            print what a capture says, a line a record
+  ddcap show A            print what a capture says, one line per record
   ddcap play SCRIPT A B   write both captures of a script
   ddcap convert N IN OUT  write a capture in format N: 1 or 2
-  ddcap tap WIRE A B      find and judge the captures of what passed on a line
-  ddcap help [WORD]       print this page, or one on check, show, ..
-  ddcap explain N         tell what reason N of a refusal means: 1 to 27
+  ddcap tap WIRE A B      make both captures from what passed on a line
+  ddcap help [WORD]       print this page, or the page of one word
+  ddcap explain N         say what reason N of a refusal means: 1 to 27
 
 Status:
-  0  it was done; of check, alone, why, cover, draw: accepted, passed
-  1  of check, alone, why, cover, draw: refused
-  2  the words, or a line of a file, are faulty
+  0  done; from check, alone, why, cover, draw, tap: accepted or passed
+  1  from check, alone, why, cover, draw: refused; from tap: unexplained
+  2  the words of the command, or a line of a file, are faulty
   3  a file, the memory or a stream failed
 
-Faults are printed to standard error, all else to standard output.
+Faults go to standard error, everything else to standard output.
 
 Begin with: ddcap help check, or ddcap help alone
-Read on in the folder docs: CAPTURES.md (how to record, and the format),
-REASONS.md (why a pair is refused), SCRIPTS.md (what play reads).
+More is in docs: CAPTURES.md (how to record, the format), WIRE.md (what tap
+reads), SCRIPTS.md (what play reads), REASONS.md (refusals), WORDS.md.
 ";
 
 pub const SHOW: &str = "\
 ddcap show A
 
 Prints a line for each record of a capture: its number, counted from 0, and
-what it says. Units are told by name, with their numbers.
+what it says. Units are printed by name, with their numbers.
 
 Example, in the top folder of the sources:
 
@@ -47,7 +47,7 @@ It ends with status 0 and prints:
   3 received 0 stack flags c0
   4 sent ack flags 00 resp 0
 
-The number behind received or kept is the hint: which unit of the other end
+The number after received or kept is the hint: which unit of the other end
 this was, counted from 0.
 
 Status:
@@ -90,7 +90,7 @@ ddcap convert N IN OUT
 Writes the capture in the file IN into the file OUT, in format N: 1 or 2. They
 differ in the hints: in format 1 a hint is the number of a unit, in format 2
 its distance to the one that is due. IN may be in either format. The file OUT
-is created, or emptied first; where it is IN too, nothing is changed.
+is created, or emptied first; if it is the same file as IN, nothing changes.
 
 Example, in the top folder of the sources:
 
@@ -112,7 +112,7 @@ ddcap help [WORD]
 
 Prints what the program is and all its words; or, with a word, what that one
 does, an example and the statuses. WORD is check, alone, why, cover, draw,
-show, play, convert, help or explain.
+show, play, convert, tap, help or explain.
 
 Example, in the top folder of the sources:
 
@@ -124,16 +124,16 @@ It ends with status 0 and prints a text that begins:
 
 Status:
   0  the page was printed
-  2  bad words: no such page, or a word too many
+  2  bad words: there is no such page, or a word too many
   3  out of memory, or a failed write
 ";
 
 pub const EXPLAIN: &str = "\
 ddcap explain N
 
-Tells what reason N of a refusal means: the rule, what would have been allowed,
-by whose fault it is, and what to look for. N is 1 to 27, the number in
-front of the name in what check prints.
+Says what reason N of a refusal means: what was seen, the rule, what would have
+been allowed, by whose fault it is, what usually causes it, and what to do
+first. N is 1 to 27, the number before the name in what check prints.
 
 Example, in the top folder of the sources:
 
@@ -143,23 +143,23 @@ It ends with status 0 and prints a text that begins:
 
   6 WrongState
 
-A record is as often recorded wrongly as sent wrongly: docs/REASONS.md begins
-with what mistakes of a recorder look like.
+Suspect the recording as much as the node: docs/REASONS.md begins with what
+mistakes of a recorder look like.
 
 Status:
   0  the reason was printed
-  2  bad words: no such reason, another spelling as 06, or a word too many
+  2  bad words: no such reason, another spelling such as 06, or a word too many
   3  out of memory, or a failed write
 ";
 
 pub const TAP: &str = "\
 ddcap tap WIRE A B
 
-Reads what passed on a line in both directions, finds what both nodes did,
+Reads what passed on a line in both directions, works out what both nodes did,
 writes it into the captures A and B, and judges these. WIRE has a head, and a
 line for each piece of bytes, from a or from b, in the order in which they
-passed; a piece may be cut anywhere. Each unit that was sent has to have
-passed, from before the first start. Name three different files.
+passed; a piece may be cut anywhere. This works only if every unit that was
+sent passed there, from before the first start. Name three different files.
 
 Example, in the top folder of the sources:
 
@@ -171,21 +171,21 @@ It ends with status 0 and prints a text that begins:
   a records 25 sent 11 received 9 damaged 0 kept 8 periods 1 links 2 up 0
   b records 27 sent 10 received 11 damaged 0 kept 9 periods 1 links 2 up 0
 
-Where no placing is found for a unit it prints, as for unit 7 of a (counted
-from 0) whose first byte is on line 16 of WIRE:
+If it finds nothing that explains a unit, it names that unit. Unit 7 of a
+(counted from 0), whose first byte is on line 16 of WIRE, would be:
 
   unexplained a unit 7 line 16: 7 WrongNumber
   no placing was found, which accuses nobody
 
-The captures end with it. Then: ddcap why A B
+Both captures then end with that unit. Then: ddcap why A B
 
-With --line stations and line are judged alone: a packet is any bytes.
+With --line only stations and line are judged: a packet may be any bytes.
 
 Status:
   0  accepted
   1  unexplained
   2  a faulty line, as wire: line 3: syntax (or too long, too many), or a unit
-     with too wide a choice before it
+     with too many possibilities before it: too wide a choice
   3  wire: cannot open: PATH (or a: or b:), b: same file as a, wire: read
      failed, a: write failed (or b:), out of memory, or a failed write to
      standard output or error

@@ -3,8 +3,8 @@
 pub const CHECK: &str = "\
 ddcap check A B
 
-Judges two captures of one DDCMP line, of the same time: A is the file of one
-end, B that of the other. An end's capture has what that end sent and received.
+Judges two captures of one DDCMP line, recorded at the same time: A is the file
+of one end, B that of the other. Each has what its end sent and received.
 
 Example, in the top folder of the sources:
 
@@ -14,18 +14,19 @@ It ends with status 1 and prints:
 
   refused b 6 line 8: 13 CrossedPeriod
 
-Record 6 of b, on line 8, can't be made, for reason 13. Side a is the first
+Record 6 of b, on line 8, breaks a rule, for reason 13. Side a is the first
 file, b the second; records are counted from 0. Then: ./ddcap explain 13
 
-A pair without a fault is accepted: that word, and a line of counts a side.
+For a pair without a fault it prints accepted, and a line of counts per side.
 
-With --line, before or behind the files, stations and line are judged alone: a
-packet is any bytes and is not read, and events of links are not judged. Use it
-for a line that joins routers, or that carries what is no DECnet.
+With --line, before or after the files, only stations and line are judged: a
+packet may be any bytes and is not read, and events of links are not judged.
+Use it for a line that joins routers, or that carries something else than
+DECnet.
 
 Status:
-  0  accepted: some order of all records keeps to the protocols
-  1  refused: no order does
+  0  accepted: some order of all records obeys the protocols
+  1  refused: no such order exists
   2  a faulty line, as a: line 3: syntax (or too long, too many)
   3  a: cannot open, a: read failed, out of memory, or a failed write
 ";
@@ -33,8 +34,8 @@ Status:
 pub const ALONE: &str = "\
 ddcap alone A
 
-Judges the capture of one end without that of the other: what came is taken as
-what the other end sent. Begin with it where you can record at one end only.
+Judges the capture of one end without that of the other: what was received is
+taken as what the other end sent. Begin with it if you can record only one end.
 
 Example, in the top folder of the sources:
 
@@ -44,14 +45,14 @@ It ends with status 1 and prints:
 
   refused a 3 line 5: 8 WrongResponse
 
-No capture of the other end, whatever it is, goes with this one: record 3, on
-line 5, breaks a rule. With ' by the other end' behind it, what came there is
-what no right end can have sent. Then: ./ddcap explain 8
+Whatever the other end's capture is, it can't go with this one: record 3, on
+line 5, breaks a rule. If ' by the other end' follows, no correct end can have
+sent what was received there. Then: ./ddcap explain 8
 
 passed, and a line of counts: this end kept its rules, as far as one end shows.
 
 A recorder that counts no units writes each receipt as r 0 BYTES in format 2.
-With --line station and line are judged alone, as ddcap help check says.
+With --line only station and line are judged, as ddcap help check says.
 
 Status:
   0  passed
@@ -63,9 +64,9 @@ Status:
 pub const WHY: &str = "\
 ddcap why A [B]
 
-Judges two captures as check does, and tells of a refused record what was seen
-there and what was allowed, and how both ends stood before it. With A alone it
-judges that end as alone does, and tells of this end what it tells of both.
+Judges two captures as check does. If a record is refused, it says what was
+seen there, what was allowed, by which rule, and how both ends were before it.
+With A alone it judges that end as alone does, and says the same of this end.
 
 Example, in the top folder of the sources:
 
@@ -76,14 +77,14 @@ It ends with status 1 and prints a text that begins:
   refused a 3 line 5: 8 WrongResponse
 
 The first line is that of check. Then come the record, layer by layer; what was
-seen and allowed, with the rule and its page; both stations and their links as
-they were before it; the last ten rows, a on the left and b on the right; who
-is accused; and whether a small change of a recording makes the pair a run:
-then rather the recording is wrong than a node, if one wrong unit of the node
-would not tell the same, which is no proof.
+seen and allowed, the rule and its pages; both stations and their links as they
+were before it; the last ten rows, a on the left and b on the right; who is
+accused; and whether a small change of a recording would make the pair
+acceptable. If so, the recording is more likely at fault than a node, unless
+one wrong unit of the node would explain it as well. This is no proof.
 
-With --json, before or behind the files, each of these is an object on a line
-of its own. A pair that is not refused is told as by check.
+With --json, before or after the files, each of these is an object on a line of
+its own. For a pair that is not refused, the answer is that of check.
 
 Status:
   0  accepted, passed
@@ -96,7 +97,7 @@ pub const COVER: &str = "\
 ddcap cover A B
 
 Judges a pair as check does, and counts which of the 80 rows of the rules each
-side went through. A pair that met few of them says little.
+side went through. A pair that goes through few of them says little.
 
 Example, in the top folder of the sources:
 
@@ -116,15 +117,15 @@ It ends with status 0 and prints:
   ISTRT gets STACK                        1      .
   ASTRT gets ACK RESP 0                   .      1
 
-Each record that was made counts once for its station, by the state before it,
-and again for the links, where it is theirs. A dot is a count of 0; rows that
-neither side met are left out. More pairs may follow, as A B A B: then there is
-a first line for each, and counts add up; a fault is followed by a line that
-tells which pair it was.
+Each accepted record counts once for its station, by the state before it, and
+again for the links if it is one of theirs. A dot is a count of 0; rows that
+neither side went through are left out. More pairs may follow, as A B A B: then
+there is a first line for each, and counts add up; a fault is followed by a
+line that says which pair it was.
 
 Status:
   0  accepted
-  1  refused: what was made before the refused record is counted
+  1  refused: what came before the refused record is counted
   2  a faulty line, as a: line 3: syntax (or too long, too many)
   3  a: cannot open: PATH, a: read failed, out of memory, or a failed write
 ";
@@ -134,8 +135,8 @@ pub const DRAW: &str = "\
 ddcap draw A B
 
 Draws two captures of one line, a on the left and b on the right: a row for a
-record, or for a unit and its receipt. Of a pair that is refused there are the
-40 rows up to the refused record, of another the first 40.
+record, or for a unit and its receipt. For a refused pair these are the 40 rows
+up to the refused record, for any other pair the first 40.
 
 Example, in the top folder of the sources:
 
@@ -150,15 +151,15 @@ It ends with status 0 and prints:
        5                |<------------- STACK -------------|                4
        6                |------------ ACK /0 ------------->|                5
 
-The arrow ends with > or < where the unit comes in this row, with . where it
-comes in another one, and with x where it never comes. ~ is before what came
+An arrow ends with > or < if the unit arrives in this row, with . if it arrives
+in another one, and with x if it never arrives. ~ comes before what arrived
 damaged or with other bytes, and .. after words that are cut.
 
-With --from a:9 the rows begin with the record in line 9 of A (b:9: of B).
+With --from a:9 the rows begin with the record on line 9 of A (b:9: of B).
 With --rows 80 there are up to 80 of them; 200 is the most. With --svg FILE
 they are drawn into FILE, which is created, or emptied first: a picture for any
-browser. With --line stations and line are judged alone, as by check. These
-words stand before or behind A and B.
+browser. With --line only stations and line are judged, as by check. These
+words go before or after A and B.
 
 Status:
   0  accepted, and drawn

@@ -5,12 +5,14 @@ use pair_judge::Reason;
 
 pub const WRONG_SEGMENT: Explanation = Explanation {
     reason: Reason::WrongSegment,
+    seen: "\
+a segment was sent that is neither the next piece nor a true repeat.",
     rule: "\
-A new segment has the number after the highest given, and is the next piece of
-the messages handed in: the next bytes of the current one, with bit 5 exactly
-at its beginning and bit 6 exactly at its end. A piece is empty only for an
-empty message. Any other segment repeats one of the last 2,047 given. While
-that one is unacknowledged, the repeat has its flag byte and data.",
+a new segment has the number after the highest given, and the next bytes
+of the message handed in, with bit 5 exactly at its beginning and bit 6 exactly
+at its end. Only an empty message has an empty piece. Any other segment repeats
+one of the last 2,047 given, with its flag byte and data as long as that one is
+unacknowledged.",
     allowed: "\
 the next piece of what `u in` lines handed in; or one of those
 segments again, unchanged.",
@@ -22,46 +24,59 @@ segments again, unchanged.",
 - node: a message cut into other pieces when it is sent again
 - node: numbers that do not begin at 1
 - node: a begin or end bit that is missing or too early
-- node, not at fault: a segment that was lost before its first sending, for
+- node, not a bug: a segment that was lost before its first sending, for
   example with a queue that was flushed: the next one is refused",
+    first: "\
+see in `ddcap why` what differs: the number, the bits or the bytes.",
 };
 
 pub const WRONG_ACK: Explanation = Explanation {
     reason: Reason::WrongAck,
+    seen: "\
+an acknowledgement word names a segment that is not due.",
     rule: "\
-An acknowledgement word of the data subchannel (ACK or NAK) names a number from
-the last one sent on this link through the highest received without a gap. In a
-segment that is sent again it may also be an older one, down to 2,047 below the
-last. Words of the other subchannel are not judged.",
+an acknowledgement word of the data subchannel (ACK or NAK) names a
+number from the last one sent on this link through the highest received without
+a gap; in a segment that is sent again also an older one, down to 2,047 below
+the last. Words of the other subchannel are not judged.",
     allowed: "\
 a number in that range.",
     fault: "the sender",
     look_for: "\
 - too high: a `k` line that is missing, is written as `r`, or comes after this
   unit
-- too high, node: a segment acknowledged over a gap, for example one that was
+- node, too high: a segment acknowledged over a gap, for example one that was
   lost with a restart of the line
-- too low, node, not at fault: an acknowledgement that waited in a queue while
-  a later one was sent",
+- node, too low, not a bug: an acknowledgement that waited in a queue while a
+  later one was sent",
+    first: "\
+if the number is too high, find the `k` line of the segment that it
+names.",
 };
 
 pub const SEGMENT_TOO_LONG: Explanation = Explanation {
     reason: Reason::SegmentTooLong,
+    seen: "\
+a new segment was sent with more data bytes than the other end takes.",
     rule: "\
-A new segment has at most as many data bytes as the SEGSIZE that the other end
-gave in the CI or CC that was acted on.",
+a new segment has at most as many data bytes as the SEGSIZE that the
+other end gave in the CI or CC that was acted on.",
     allowed: "\
 that many data bytes, or fewer.",
     fault: "the sender",
     look_for: "\
 - node: it goes by its own SEGSIZE
 - node: it goes by the SEGSIZE of a repeated CI, which is ignored",
+    first: "\
+compare SEGSIZE in `ddcap why` with the CI or CC that came first.",
 };
 
 pub const LINK_WINDOW_FULL: Explanation = Explanation {
     reason: Reason::LinkWindowFull,
+    seen: "\
+a new segment was sent while 2,047 of its link are unacknowledged.",
     rule: "\
-At most 2,047 segments of a link may be unacknowledged.",
+at most 2,047 segments of a link may be unacknowledged.",
     allowed: "\
 one of them again; or the new one, after an acknowledgement has
 arrived.",
@@ -69,18 +84,20 @@ arrived.",
     look_for: "\
 - the `k` line of a data acknowledgement, or of a segment with a word, which is
   missing or comes after this unit
-- words of the other subchannel, which acknowledge no segment",
+- node: words of the other subchannel, which acknowledge no segment",
+    first: "\
+find the last `k` line that acknowledged anything on this link.",
 };
 
 pub const WRONG_DELIVERY: Explanation = Explanation {
     reason: Reason::WrongDelivery,
+    seen: "\
+a `u up` line has another message than the next whole one of its link.",
     rule: "\
-What is delivered on a link is its next whole message. Messages are delivered
-in the order of their segments, each once. None is delivered before all its
-segments, and all segments before those, were kept. Only this claim is refused:
-the sender is not accused.",
+messages are delivered in the order of their segments, each once. None is
+delivered before all its segments, and all segments before those, were kept.",
     allowed: "\
-that message.",
+the next whole message.",
     fault: "the receiver's own claim",
     look_for: "\
 - a `k` line that is missing, is written as `r`, or comes after this line
@@ -90,30 +107,38 @@ that message.",
 - node: a message delivered again when it arrives again
 - node: a message delivered although a segment was lost and is not sent again
   yet",
+    first: "\
+find the message in the other side's `u in` lines.",
 };
 
 pub const CROSSED_LINK: Explanation = Explanation {
     reason: Reason::CrossedLink,
+    seen: "\
+a link acted on a message that another link sent, under the same
+addresses.",
     rule: "\
-A CC that is acted on must come from a link that goes with the receiver's link.
-So must each message that is acted on in Confirming or RUN, except a DI or DC,
-which ends whichever link has the addresses. The protocol can't tell such
-messages apart, so neither node broke a rule.",
+a CC that is acted on must come from a link that goes with the receiver's
+link. So must each message that is acted on in Confirming or RUN, except a DI
+or DC. The protocol can't tell such messages apart, so neither node broke a
+rule.",
     allowed: "\
 a message of the link that goes with this one.",
     fault: "nobody",
     look_for: "\
-- an address used again soon after its link ended, while messages of that link
-  are under way: then neither capture is wrong
 - a hint that points to an earlier unit with the same bytes
-- a missing CI",
+- a missing CI
+- node, not a bug: an address used again soon after its link ended, while
+  messages of that link are under way: then neither capture is wrong",
+    first: "\
+see whether an earlier link had this address, and when it ended.",
 };
 
 pub const ADDRESS_IN_USE: Explanation = Explanation {
     reason: Reason::AddressInUse,
+    seen: "\
+`u open`, `u accept` or `u reject` gives an own address that is in use.",
     rule: "\
-An own address that `u open`, `u accept` or `u reject` gives must belong to no
-live link of the node.",
+an own address that is given must belong to no live link of the node.",
     allowed: "\
 another address; the same one once its link is over.",
     fault: "the user, or the node where it chose the address",
@@ -123,4 +148,6 @@ another address; the same one once its link is over.",
 - a recorder that mixes up the two ends of a link: in `u accept M L` the
   address of the other end comes first
 - node: an address given again while its link is live",
+    first: "\
+find what should have ended the earlier link with this address.",
 };

@@ -5,8 +5,10 @@ use pair_judge::Reason;
 
 pub const WRONG_STATE: Explanation = Explanation {
     reason: Reason::WrongState,
+    seen: "\
+a message was sent that the station's state does not allow.",
     rule: "\
-The message may not be sent in the station's state.",
+each state allows certain messages, and HALTED none.",
     allowed: "\
 STRT in ISTRT; STACK in ASTRT; ACK, NAK and data in RUNNING; REP in
 RUNNING while a packet is unacknowledged.",
@@ -18,13 +20,17 @@ RUNNING while a packet is unacknowledged.",
 - a STRT that arrived in RUNNING, which halts the station
 - for a REP, the acknowledgement that arrived just before it
 - node: data sent before the start is complete",
+    first: "\
+compare the state in `ddcap why` with what the node did last.",
 };
 
 pub const WRONG_NUMBER: Explanation = Explanation {
     reason: Reason::WrongNumber,
+    seen: "\
+a data message or a REP was sent with a NUM that is not due.",
     rule: "\
-NUM of a data message is the number that is next to send: 1 after a start, then
-one more each time. After a NAK has arrived it is again the first
+NUM of a data message is the number that is next to send: 1 after a
+start, then one more each time. After a NAK has arrived it is again the first
 unacknowledged one. It is never one that is acknowledged already. NUM of a REP
 is the highest number given.",
     allowed: "\
@@ -36,13 +42,18 @@ that number.",
 - a missing `u start`, if the number is 1
 - node: data sent again after a timer alone, where DDCMP has it send a REP
 - node: a REP with the next number instead of the highest",
+    first: "\
+if NUM is too high, look for a missing `s` line before it. If it is too
+low, look for the NAK that made the station go back.",
 };
 
 pub const WRONG_RESPONSE: Explanation = Explanation {
     reason: Reason::WrongResponse,
+    seen: "\
+an ACK, a NAK or a data message was sent with a RESP that is not due.",
     rule: "\
-RESP of an ACK, a NAK or a data message is the number of the last data message
-that the station received in order, 0 at first.",
+RESP is the number of the last data message that the station received in
+order, 0 at first.",
     allowed: "\
 that number.",
     fault: "the sender",
@@ -54,44 +65,60 @@ that number.",
 - RESP too low: an `s` line written when the last bit left, not when the unit
   was decided on
 - node: a frame kept whole and sent again with its old RESP
+- node: a RESP that counts a message which has not arrived
 - node: numbers that go on after a restart",
+    first: "\
+find the `k` lines of the message that RESP names and of the next one.
+This record belongs between them.",
 };
 
 pub const WINDOW_FULL: Explanation = Explanation {
     reason: Reason::WindowFull,
+    seen: "\
+a new packet was sent while 255 are unacknowledged.",
     rule: "\
-At most 255 packets may be unacknowledged.",
+at most 255 packets may be unacknowledged.",
     allowed: "\
 one of them again, after a NAK; a REP; or the new packet, after an
 acknowledgement.",
     fault: "the sender",
     look_for: "\
 - the receipt of an ACK, a NAK or data with a RESP, which is missing or comes
-  after this unit",
+  after this unit
+- node: no limit on what is under way",
+    first: "\
+find the last receipt that acknowledged anything.",
 };
 
 pub const CHANGED: Explanation = Explanation {
     reason: Reason::Changed,
+    seen: "\
+a packet was sent again with other data than the first time.",
     rule: "\
-A packet that is sent again has the data of its first sending.",
+a packet that is sent again has the data of its first sending.",
     allowed: "\
 the same data.",
     fault: "the sender",
     look_for: "\
 - a restart without its `u start`, after which the numbers mean other packets
-- a recorder that takes the bytes from a buffer which was used again
+- bytes taken from a buffer which was used again
 - node: a packet changed between two sendings, for example by counting hops in
   place",
+    first: "\
+look up the byte that `ddcap why` names in both sendings.",
 };
 
 pub const NO_CAUSE: Explanation = Explanation {
     reason: Reason::NoCause,
+    seen: "\
+a NAK of reason 1, 2, 3 or 8 was sent, and nothing is left that it could
+answer.",
     rule: "\
-A NAK of reason 1, 2, 3 or 8 answers something that arrived in RUNNING in this
-period, and each such thing once. Reason 1: a unit or noise with a bad header.
-Reason 2: one with bad data. Reason 3: a REP that asked for another number than
-that of the last packet received. Reason 8: the next packet, if there was no
-buffer for it; also if its message has just ended the start.",
+such a NAK answers something that arrived in RUNNING since the start, and
+each such thing once. Reason 1: a unit or noise with a bad header. Reason 2:
+one with bad data. Reason 3: a REP with another number than that of the last
+packet received. Reason 8: the next packet, without a buffer for it, also if
+its message has just ended the start.",
     allowed: "\
 an ACK; a NAK of reason 9, 16 or 17, which need no cause.",
     fault: "the sender",
@@ -101,15 +128,19 @@ an ACK; a NAK of reason 9, 16 or 17, which need no cause.",
 - noise between two units, without its `n` line
 - node: a second NAK for the same unit
 - node: a NAK for data out of order, for which a station has to wait for a REP",
+    first: "\
+find what the node answered: a damaged unit, a REP, or a packet without
+a buffer.",
 };
 
 pub const WRONG_KEEP: Explanation = Explanation {
     reason: Reason::WrongKeep,
+    seen: "\
+a `k` line says that a packet was taken, and the station could not take
+it.",
     rule: "\
-A `k` line says that the packet was taken. That is possible only for an
-undamaged data message with the number after the last one received, in RUNNING
-or, with RESP 0, in ASTRT. Only this claim is refused: the sender is not
-accused.",
+a packet is taken only from an undamaged data message with the number
+after the last one received, in RUNNING or, with RESP 0, in ASTRT.",
     allowed: "\
 an `r` line; also for the next packet, if there was no buffer for it.",
     fault: "the receiver's own claim",
@@ -117,14 +148,18 @@ an `r` line; also for the next packet, if there was no buffer for it.",
 - an earlier `k` line that is missing or written as `r`
 - a recorder that writes `k` for every data message, also for repeats
 - node: a packet taken out of order, or a repeat kept again",
+    first: "\
+compare NUM of the unit with R in `ddcap why`. If NUM is above R + 1,
+look for a missing `k` line before it.",
 };
 
 pub const CROSSED_PERIOD: Explanation = Explanation {
     reason: Reason::CrossedPeriod,
+    seen: "\
+a station acted on a message of another pair of starts.",
     rule: "\
-A message that is acted on must belong to this pair of starts. A STACK that
-ends a start must answer the receiver's present start. Anything else, except a
-STRT, must be sent in the period that the receiver's present one goes with, by
+a STACK that ends a start must answer that start. Anything else, except a
+STRT, must be sent in the period that goes with the receiver's present one, by
 a station that took the two for a pair too. The protocol can't tell such
 messages apart, so neither station broke a rule.",
     allowed: "\
@@ -132,17 +167,22 @@ the STACK that answers the present start; a message of the period that
 goes with the present one.",
     fault: "nobody",
     look_for: "\
-- a stale message that was under way while its receiver started again: then
-  neither capture is wrong. It happens when both ends restart at once
 - a hint that points to an earlier start, if units with the same bytes were
   sent in both
-- an extra `u start` here, or a missing one on the other side",
+- an extra `u start` here, or a missing one on the other side
+- node, not a bug: a stale message that was under way while its receiver
+  started again. It happens when both ends restart at once",
+    first: "\
+see whether a station started again just before. Then neither capture is
+wrong.",
 };
 
 pub const WRONG_USER_EVENT: Explanation = Explanation {
     reason: Reason::WrongUserEvent,
+    seen: "\
+a `u start` comes while the station is not halted.",
     rule: "\
-A station can start only in HALTED.",
+a station can start only in HALTED.",
     allowed: "\
 a halt first, which is possible in every state.",
     fault: "the user, or the node where it started by itself",
@@ -150,5 +190,8 @@ a halt first, which is possible in every state.",
 - a missing `u halt`, for example where the station started again by itself
 - the missing receipt of the STRT that halted it
 - two sessions in one file
-- a recorder that writes `u start` for every STRT sent",
+- a recorder that writes `u start` for every STRT sent
+- node: a station that starts again without a halt",
+    first: "\
+find out why the station started again.",
 };

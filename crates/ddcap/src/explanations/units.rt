@@ -5,26 +5,30 @@ use pair_judge::Reason;
 
 pub const NOT_A_MESSAGE: Explanation = Explanation {
     reason: Reason::NotAMessage,
+    seen: "\
+bytes were sent that are no sound DDCMP message.",
     rule: "\
-A unit that was sent must be a sound DDCMP message.",
+a unit that is sent has one of the formats in docs/PROTOCOL.md, with the
+right block checks.",
     allowed: "\
-any message of the tables of units in docs/PROTOCOL.md, with the right
-checks.",
+any message in one of these formats.",
     fault: "the sender",
     look_for: "\
 - SYN or pad bytes left in the unit, or a unit that was cut
 - checks left out because the line's hardware adds them
-- what `ddcap show` prints of this record: it says how the bytes are read
-- node: a check computed wrongly, or its two bytes swapped
+- node: a block check computed wrongly, or its two bytes swapped
 - node: a maintenance message, which is not supported",
+    first: "\
+see how `ddcap show` reads the bytes of this record.",
 };
 
 pub const HINT_ORDER: Explanation = Explanation {
     reason: Reason::HintOrder,
+    seen: "\
+a receipt has a hint that is not above the hints of all earlier receipts.",
     rule: "\
-The hint of a receipt must be above the hints of all earlier receipts: nothing
-is received twice or out of order. The hint is the number that `ddcap show`
-prints, in either format.",
+a line neither repeats nor reorders units, so hints only rise. The hint
+is the number that `ddcap show` prints, in either format.",
     allowed: "\
 the hint of a later unit.",
     fault: "the hints",
@@ -34,13 +38,18 @@ the hint of a later unit.",
 - receipts written out of order
 - hints matched with the undamaged receipts first, so that a damaged one found
   no unit left (docs/CAPTURES.md, \"An alignment\")",
+    first: "\
+find the earlier receipt with this hint or a higher one.",
 };
 
 pub const NO_SUCH_UNIT: Explanation = Explanation {
     reason: Reason::NoSuchUnit,
+    seen: "\
+a receipt has the hint of a unit that the other side never sends. All
+records of the other side could be made, and it has too few `s` lines.",
     rule: "\
-The hint names a unit that the other side never sends. All records of the other
-side could be made, and it has too few `s` lines.",
+what is received was sent, so a hint is below the number of the other
+side's `s` lines.",
     allowed: "\
 the hint of a unit that the other capture has.",
     fault: "the hints, or captures that do not pair",
@@ -49,50 +58,60 @@ the hint of a unit that the other capture has.",
 - `s` lines that are missing there
 - hints that are too high, because they count from 1 or count lines
 - captures of two sessions, or heads that do not pair",
+    first: "\
+compare the ends of both captures. If the other one only ends earlier,
+cut this one there.",
 };
 
 pub const NO_ORDER: Explanation = Explanation {
     reason: Reason::NoOrder,
+    seen: "\
+the next record of each side is the receipt of a unit that the other one
+has not sent yet. Side a's record is named, but b's may equally be the wrong
+one.",
     rule: "\
-On both sides the next record is the receipt of a unit that the other side has
-not sent yet, so no order of the records can go on. Side a's record is named,
-but b's may equally be the wrong one.",
+a unit is received after it was sent, so the records of both sides must
+have an order.",
     allowed: "\
 the receipt of a unit that the other side can send before it.",
     fault: "the hints, or captures that do not pair",
     look_for: "\
-- the record at which b waits: its first receipt whose hint is not below the
-  number of `s` lines before a's named record
 - hints that are all shifted
 - a missing `s` line on either side, or one after the receipt of its answer
 - captures of two sessions",
+    first: "\
+look also at the record at which b waits: its first receipt whose hint
+is not below the number of `s` lines before a's named record.",
 };
 
 pub const UNDETECTED: Explanation = Explanation {
     reason: Reason::Undetected,
+    seen: "\
+the received bytes are not those of the unit that the hint names, yet no
+block check shows damage: they read as sound, or as malformed.",
     rule: "\
-The received bytes are not those of the unit that the hint names, yet no block
-check shows damage: they read as sound, or as malformed.",
+bytes arrive as they were sent, or a block check shows the damage.",
     allowed: "\
 the unit's own bytes, or bytes that read as header bad or data bad.",
     fault: "the line, or captures that do not pair",
     look_for: "\
-- the same bytes in a nearby `s` line of the other side: the hint should point
-  there
 - hints that are shifted from some record on
 - a missing `s` line in the other capture
 - captures of two sessions or of two lines, or the same one twice
 - damage that both block checks miss, which is rare: one damaged unit in some
   65,536",
+    first: "\
+find the same bytes in a nearby `s` line of the other side: the hint
+should point there.",
 };
 
 pub const NOT_NOISE: Explanation = Explanation {
     reason: Reason::NotNoise,
+    seen: "\
+an `n` line has bytes that show no damage.",
     rule: "\
-An `n` line says that bytes were received that are no unit of the peer, and
-that a block check showed it: they read as header bad or data bad. Bytes that
-read as a message, or as malformed after good checks, are no noise. Only this
-claim is refused: the sender is not accused.",
+an `n` line has bytes that are no unit of the peer, and that a block
+check shows to be none: they read as header bad or data bad.",
     allowed: "\
 `n -`, since fewer than 8 bytes read as a bad header; or, if a unit of
 the other side has these bytes, an `r` line with its hint.",
@@ -102,4 +121,6 @@ the other side has these bytes, an `r` line with its hint.",
   missing in the other capture, or the alignment is wrong
 - a framer that takes a unit of another station, or a maintenance message, for
   one of this line",
+    first: "\
+find these bytes in the `s` lines of the other side.",
 };
