@@ -136,16 +136,16 @@ LIKE = r'with the bytes of line (?P<like>\d+) of (?P<other>[ab])'
 EDITS = [
     (LINE + r' is `(?P<verb>[rk])`, not `[rk]`', Pair.says),
     (r'an `s` line is missing ' + HERE + r': unit \d+, ' + LIKE, put_sent),
-    (r'a `(?P<verb>[rk])` line is missing ' + HERE + r': unit (?P<unit>\d+) of [ab], ' + LIKE, put_receipt),
+    (r'an? `(?P<verb>[rk])` line is missing ' + HERE + r': unit (?P<unit>\d+) of [ab], ' + LIKE, put_receipt),
     (r'the `r` line of a damaged unit is missing ' + HERE + r': unit (?P<unit>\d+) of [ab], sent in line (?P<like>\d+) of (?P<other>[ab])',
      put_damaged),
     (r'an `n` line is missing ' + HERE, put_noise),
     (r'`u up (?P<link>\d+)` with the message is missing ' + HERE, put_delivery),
     (r'`u (?P<words>start|halt|(?:open|close) \d+|(?:accept|reject) \d+ \d+)` is missing ' + HERE, put_user),
     (r'`u in (?P<link>\d+)` with the message is missing ' + HERE, put_message),
-    (LINE + r' stands too late: it belongs before line (?P<before>\d+)', Pair.move),
-    (LINE + r' stands too early: it belongs behind line (?P<behind>\d+)', move_behind),
-    (LINE + r' alone has a wrong hint: it is unit (?P<unit>\d+) of [ab]', Pair.names),
+    (LINE + r' is too late: it belongs before line (?P<before>\d+)', Pair.move),
+    (LINE + r' is too early: it belongs after line (?P<behind>\d+)', move_behind),
+    (r'only ' + LINE + r' has a wrong hint: it is unit (?P<unit>\d+) of [ab]', Pair.names),
     (r'from ' + LINE + r' on the hints are shifted: it is unit (?P<unit>\d+) of [ab]', lambda pair, **words: pair.names(to_end=True, **words)),
 ]
 

@@ -14,7 +14,7 @@ UP = [('a', STRT), ('b', STACK), ('a', ack_of(0))]
 # The first line of the answer to tools/tap/NAME.wire, or its beginning.
 ANSWERS = (
     ('lossless', 'accepted\na records 175 sent 87 received 87 damaged 0 kept 40'),
-    ('skipped_number', 'unexplained a unit 7 line 16: 7 WrongNumber\nno placing was found, which accuses nobody\n'),
+    ('skipped_number', 'unexplained a unit 7 line 16: 7 WrongNumber\nno consistent explanation was found; this alone accuses neither node\n'),
     # the unit begins in the line that is named, and ends in the next one
     ('number_skipped_in_two_pieces', 'unexplained a unit 7 line 16: 7 WrongNumber\n'),
     # 255 packets are outstanding
@@ -40,7 +40,7 @@ ANSWERS = (
 )
 
 NO_UNIT = 'wire: no unit\n'
-MOSTLY = 'more bytes were skipped than read: these may be no two directions of a DDCMP line\n'
+MOSTLY = 'more bytes were skipped than read: these may not be two directions of a DDCMP line\n'
 
 
 def data_of(num, resp, packet='05'):

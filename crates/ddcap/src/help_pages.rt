@@ -175,7 +175,7 @@ If it finds nothing that explains a unit, it names that unit. Unit 7 of a
 (counted from 0), whose first byte is on line 16 of WIRE, would be:
 
   unexplained a unit 7 line 16: 7 WrongNumber
-  no placing was found, which accuses nobody
+  no consistent explanation was found; this alone accuses neither node
 
 Both captures then end with that unit. Then: ddcap why A B
 

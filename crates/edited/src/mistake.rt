@@ -12,13 +12,13 @@ pub enum Mistake {
         line: u64,
         kept: bool,
     },
-    /// The `s` line of a unit is missing, whose bytes stand in that line of the other side.
+    /// The `s` line of a unit is missing, whose bytes are in that line of the other side.
     SentMissing {
         before: u64,
         unit: u64,
         like: u64,
     },
-    /// The receipt of a unit is missing, whose bytes stand in that line of the other side.
+    /// The receipt of a unit is missing, whose bytes are in that line of the other side.
     ReceiptMissing {
         before: u64,
         kept: bool,
@@ -40,12 +40,12 @@ pub enum Mistake {
         before: u64,
         entry: Entry,
     },
-    /// A line stands behind that one, in front of which it belongs.
+    /// A line comes after that one, before which it belongs.
     TooLate {
         line: u64,
         before: u64,
     },
-    /// A line stands in front of that one, behind which it belongs.
+    /// A line comes before that one, after which it belongs.
     TooEarly {
         line: u64,
         behind: u64,
@@ -55,7 +55,7 @@ pub enum Mistake {
         line: u64,
         unit: u64,
     },
-    /// From a receipt on all hints are shifted; that one should name this unit. Where they begin again behind it, they go on from the last one.
+    /// From a receipt on all hints are shifted; that one should name this unit. Where they begin again after it, they go on from the last one.
     WrongHints {
         line: u64,
         unit: u64,
@@ -63,7 +63,7 @@ pub enum Mistake {
 }
 
 impl Mistake {
-    // The first one of two lines that stand one behind the other and change places; `None` of another mistake.
+    // The first one of two neighbouring lines that change places; `None` of another mistake.
     pub(crate) fn exchanged(&self) -> Option<u64> {
         let (first, second) = match *self {
             Mistake::TooLate { line, before } => (before, line),
@@ -109,10 +109,10 @@ impl fmt::Display for MistakeOf {
                 f, side, line, "late", "before", before,
             ),
             Mistake::TooEarly { line, behind } => {
-                write_moved(f, side, line, "early", "behind", behind)
+                write_moved(f, side, line, "early", "after", behind)
             }
             Mistake::WrongHint { line, unit } => {
-                write!(f, "line {line} of {side} alone has a wrong hint: ")?;
+                write!(f, "only line {line} of {side} has a wrong hint: ")?;
                 write_unit(f, side, unit)
             }
             Mistake::WrongHints { line, unit } => {
@@ -187,7 +187,7 @@ fn write_receipt<W: fmt::Write>(
 }
 
 fn receipt_line(kept: bool) -> &'static str {
-    if kept { "a `k` line" } else { "a `r` line" }
+    if kept { "a `k` line" } else { "an `r` line" }
 }
 
 fn write_damaged<W: fmt::Write>(f: &mut fmt::Formatter<W>, missing: Missing) -> fmt::Result {
@@ -244,7 +244,7 @@ fn write_of_links<W: fmt::Write>(
     write!(f, "`u {event} {partner} {link}`")
 }
 
-// That a line stands too late or too early, and where it belongs.
+// That a line is too late or too early, and where it belongs.
 fn write_moved<W: fmt::Write>(
     f: &mut fmt::Formatter<W>,
     side: Side,
@@ -255,7 +255,7 @@ fn write_moved<W: fmt::Write>(
 ) -> fmt::Result {
     write!(
         f,
-        "line {line} of {side} stands too {when}: it belongs {belongs} line {to}"
+        "line {line} of {side} is too {when}: it belongs {belongs} line {to}"
     )
 }
 

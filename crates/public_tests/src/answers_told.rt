@@ -75,7 +75,7 @@ const ROWS: &str = "2-not-set-back.a:10: sent\n  \
      the rows before it\n\
      \n\
      accused  the sender, a\n\
-     recorder small edits were not tried: too few records follow (2; at least 20 are needed)\n";
+     recorder small edits were not tried: only 2 records follow (20 are needed)\n";
 
 // The bytes of these digits.
 fn bytes_of(alloc: Global, digits: &str) -> Vec<u8> {
@@ -221,7 +221,8 @@ fn edits_are_told_with_what_they_tell(rt: HostRuntime) -> Result<(), AllocError>
     let told = format!(in alloc; "{row}{edit}")?;
     assert_eq!(rt;
         told.as_str(),
-        "recorder 1 of 37 small edits near by makes the pair a run (135 records stand behind it):\n           \
+        "recorder 1 of 37 small edits nearby would make the pair acceptable\n         \
+         (135 records follow):\n           \
          line 36 of b is `k`, not `r`\n"
     );
     Ok(())

@@ -18,20 +18,20 @@ unit_words passed =
 -- `7 WrongNumber` and, on a line of its own, that no placing was found
 abbrev pub reason_words : Reason → List ℕ
 reason_words reason =
-    decimal (reason_number reason) ++ (codes " " ++ (reason_name reason ++ codes "\nno placing was found, which accuses nobody"))
+    decimal (reason_number reason) ++ (codes " " ++ (reason_name reason ++ codes "\nno consistent explanation was found; this alone accuses neither node"))
 
 -- what the answer of `why` rests on
 abbrev pub rests_words : List ℕ
-rests_words = codes "ddcap why shows the unit; what it says, and whom it accuses, rests on the placing"
+rests_words = codes "ddcap why shows the unit, but whom it accuses depends on what tap assumed"
 
 -- `unexplained a unit 7 line 16: 7 WrongNumber`
 abbrev pub unexplained_words : Passed → Reason → List ℕ
 unexplained_words passed reason =
     codes "unexplained " ++ (unit_words passed ++ (codes ": " ++ (reason_words reason ++ (codes "\n" ++ (rests_words ++ codes "\n")))))
 
--- `unexplained behind the last unit: 14 WrongUserEvent`
+-- `unexplained after the last unit: 14 WrongUserEvent`
 abbrev pub unexplained_end_words : Reason → List ℕ
-unexplained_end_words reason = codes "unexplained behind the last unit: " ++ (reason_words reason ++ (codes "\n" ++ (rests_words ++ codes "\n")))
+unexplained_end_words reason = codes "unexplained after the last unit: " ++ (reason_words reason ++ (codes "\n" ++ (rests_words ++ codes "\n")))
 
 -- `a unit 7 line 16: too wide a choice`
 abbrev pub too_wide_words : Passed → List ℕ
@@ -46,7 +46,7 @@ skipped_words side skipped =
 -- a line where so many more bytes were skipped than the units have
 abbrev pub mostly_words : ℕ → List ℕ
 mostly_words more =
-    if more == 0 then [] else codes "more bytes were skipped than read: these may be no two directions of a DDCMP line\n"
+    if more == 0 then [] else codes "more bytes were skipped than read: these may not be two directions of a DDCMP line\n"
 
 abbrev pub skipped_more : Tapped → ℕ
 skipped_more tapped = (tapped.skipped_a.bytes + tapped.skipped_b.bytes) - (tapped.units_a.bytes + tapped.units_b.bytes)
@@ -54,5 +54,5 @@ skipped_more tapped = (tapped.skipped_a.bytes + tapped.skipped_b.bytes) - (tappe
 -- what an answer rests on, and what was skipped
 abbrev pub premise_words : Tapped → List ℕ
 premise_words tapped =
-    mostly_words (skipped_more tapped) ++ (codes "each unit that was sent has to have passed here, from before the first start\n"
+    mostly_words (skipped_more tapped) ++ (codes "this holds only if every unit sent passed this point, starting before the first STRT\n"
     ++ (skipped_words A tapped.skipped_a ++ (codes "\n" ++ (skipped_words B tapped.skipped_b ++ codes "\n"))))

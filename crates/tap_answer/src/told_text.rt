@@ -44,7 +44,7 @@ impl fmt::Display for ReasonWords {
         let number = reason.number();
         write!(
             f,
-            "{number} {reason}\nno placing was found, which accuses nobody"
+            "{number} {reason}\nno consistent explanation was found; this alone accuses neither node"
         )
     }
 }
@@ -61,7 +61,7 @@ impl fmt::Display for RestsWords {
 
     fn fmt<W: fmt::Write>(&self, f: &mut fmt::Formatter<W>) -> fmt::Result {
         f.write_str(
-            "ddcap why shows the unit; what it says, and whom it accuses, rests on the placing",
+            "ddcap why shows the unit, but whom it accuses depends on what tap assumed",
         )
     }
 }
@@ -83,7 +83,7 @@ impl fmt::Display for MostlyWords {
             return Ok(());
         }
         f.write_str(
-            "more bytes were skipped than read: these may be no two directions of a DDCMP line\n",
+            "more bytes were skipped than read: these may not be two directions of a DDCMP line\n",
         )
     }
 }
@@ -122,14 +122,14 @@ pub fn unexplained_text(alloc: Global, passed: Passed, reason: Reason) -> Result
     format!(in alloc; "unexplained {unit}: {why}\n{rests}\n")
 }
 
-/// `unexplained behind the last unit: 14 WrongUserEvent`, and the same lines after it: captures of all that passed are refused there. Fails for want
+/// `unexplained after the last unit: 14 WrongUserEvent`, and the same lines after it: captures of all that passed are refused there. Fails for want
 /// of memory alone.
 pub fn unexplained_end_text(alloc: Global, reason: Reason) -> Result<String, AllocError>
     ensures { IfOk result (λ text. string_bytes text ≡ unexplained_end_words reason) }
 {
     let why = ReasonWords { reason };
     let rests = RestsWords {};
-    format!(in alloc; "unexplained behind the last unit: {why}\n{rests}\n")
+    format!(in alloc; "unexplained after the last unit: {why}\n{rests}\n")
 }
 
 /// `a unit 7 line 16: too wide a choice`, with its LF. Fails for want of memory alone.
@@ -158,6 +158,6 @@ pub fn premise_text(alloc: Global, tapped: Tapped) -> Result<String, AllocError>
         more: skipped.saturating_sub(read),
     };
     format!(in alloc;
-        "{mostly}each unit that was sent has to have passed here, from before the first start\n{line_a}\n{line_b}\n"
+        "{mostly}this holds only if every unit sent passed this point, starting before the first STRT\n{line_a}\n{line_b}\n"
     )
 }

@@ -38,8 +38,8 @@ fn an_unplaced_unit_is_named_with_the_reason(rt: HostRuntime) -> Result<(), Allo
     assert_eq!(rt;
         text.as_str(),
         "unexplained a unit 7 line 16: 7 WrongNumber
-no placing was found, which accuses nobody
-ddcap why shows the unit; what it says, and whom it accuses, rests on the placing
+no consistent explanation was found; this alone accuses neither node
+ddcap why shows the unit, but whom it accuses depends on what tap assumed
 "
     );
     let text = too_wide_text(rt.alloc(), passed)?;
@@ -73,8 +73,8 @@ fn what_was_skipped_stands_behind_the_premise(rt: HostRuntime) -> Result<(), All
     let text = premise_text(rt.alloc(), tapped)?;
     assert_eq!(rt;
         text.as_str(),
-        "more bytes were skipped than read: these may be no two directions of a DDCMP line
-each unit that was sent has to have passed here, from before the first start
+        "more bytes were skipped than read: these may not be two directions of a DDCMP line
+this holds only if every unit sent passed this point, starting before the first STRT
 a skipped maintenance messages 1 bytes between units 12
 b skipped maintenance messages 0 bytes between units 0
 "
@@ -82,9 +82,9 @@ b skipped maintenance messages 0 bytes between units 0
     let text = unexplained_end_text(rt.alloc(), Reason::WrongUserEvent)?;
     assert_eq!(rt;
         text.as_str(),
-        "unexplained behind the last unit: 14 WrongUserEvent
-no placing was found, which accuses nobody
-ddcap why shows the unit; what it says, and whom it accuses, rests on the placing
+        "unexplained after the last unit: 14 WrongUserEvent
+no consistent explanation was found; this alone accuses neither node
+ddcap why shows the unit, but whom it accuses depends on what tap assumed
 "
     );
     Ok(())

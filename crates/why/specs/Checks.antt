@@ -62,7 +62,7 @@ seen side (check.Nsp fault) reading fronts = nsp_fault_words fault
 seen side (check.LinkSending failed) reading fronts = link_sending_seen failed fronts.seen
 seen side (check.LinkArrival failed) reading fronts = link_arrival_seen side failed
 seen side (check.LinkEvent failed) reading fronts = link_event_seen failed fronts.seen
-seen side check.Noise reading fronts = reading_name reading ++ codes ", which shows no damage"
+seen side check.Noise reading fronts = reading_name reading ++ codes ", and no block check shows damage"
 
 -- units are counted from 0, so a hint lies below their number; where none was sent, no receipt is right
 abbrev pub below_words : Side → (sent : ℕ) → List ℕ
@@ -90,7 +90,7 @@ allowed side (check.StationSending failed) reading fronts = sending_allowed fail
 allowed side (check.StationArrival failed) reading fronts = arrival_allowed side failed reading
 allowed side (check.StationEvent state) reading fronts = codes "start in HALTED"
 allowed side (check.Packet fault) reading fronts = codes "a routing control packet, or a short data packet of at least six bytes"
-allowed side (check.Nsp fault) reading fronts = codes "a message of NSP with all its fields, and nothing behind its end"
+allowed side (check.Nsp fault) reading fronts = codes "a message of NSP with all its fields, and nothing after its end"
 allowed side (check.LinkSending failed) reading fronts = link_sending_allowed failed fronts.due
 allowed side (check.LinkArrival failed) reading fronts = link_arrival_allowed side failed
 allowed side (check.LinkEvent failed) reading fronts = link_event_allowed failed fronts.due

@@ -19,30 +19,31 @@ edits_line e =
 abbrev pub edit_row : (words : List ℕ) → List ℕ
 edit_row words = codes "           " ++ (words ++ codes "\n")
 
--- `1 record stands`, `2 records stand`
-abbrev pub stand_words : (records : ℕ) → List ℕ
-stand_words records = if records == 1 then codes "1 record stands" else decimal records ++ codes " records stand"
+-- `1 record follows`, `2 records follow`
+abbrev pub follow_words : (records : ℕ) → List ℕ
+follow_words records = if records == 1 then codes "1 record follows" else decimal records ++ codes " records follow"
 
-abbrev pub make_words : (accepted : ℕ) → List ℕ
-make_words accepted = if accepted == 1 then codes "makes" else codes "make"
+-- how many records follow, in a row of its own
+abbrev pub follow_row : (records : ℕ) → List ℕ → List ℕ
+follow_row records end = codes "         (" ++ (follow_words records ++ (codes ")" ++ end))
 
--- with how many records behind the refusal edits were tried and make the pair a run
+-- how many edits were tried and make the pair a run, and how many records follow the refused one
 abbrev pub tried_words : (tried accepted records : ℕ) → List ℕ
 tried_words tried accepted records =
-    if tried == 0 then codes "recorder no small edits were tried (" ++ (stand_words records ++ codes " behind it)\n")
+    if tried == 0 then codes "recorder no small edits were tried\n" ++ follow_row records (codes "\n")
     else if accepted == 0
-    then codes "recorder none of " ++ (decimal tried ++ (codes " small edits near by makes the pair a run ("
-    ++ (stand_words records ++ codes " behind it)\n")))
-    else codes "recorder " ++ (decimal accepted ++ (codes " of " ++ (decimal tried ++ (codes " small edits near by "
-    ++ (make_words accepted ++ (codes " the pair a run (" ++ (stand_words records ++ codes " behind it):\n")))))))
+    then codes "recorder none of " ++ (decimal tried ++ (codes " small edits nearby would make the pair acceptable\n"
+    ++ follow_row records (codes "\n")))
+    else codes "recorder " ++ (decimal accepted ++ (codes " of " ++ (decimal tried
+    ++ (codes " small edits nearby would make the pair acceptable\n" ++ follow_row records (codes ":\n")))))
 
--- with fewer records behind it than are needed
+-- with fewer records after it than are needed
 abbrev pub too_few : (records : ℕ) → List ℕ
 too_few records =
-    codes "recorder small edits were not tried: too few records follow (" ++ (decimal records ++ (codes "; at least " ++ (decimal FEW_RECORDS
+    codes "recorder small edits were not tried: only " ++ (follow_words records ++ (codes " (" ++ (decimal FEW_RECORDS
     ++ codes " are needed)\n")))
 
--- where few records stand behind it, any edit may make the pair a run
+-- where few records follow, any edit may make the pair a run
 abbrev pub recorder_words : (tried accepted : ℕ) → (records : Option ℕ) → List ℕ
 recorder_words tried accepted None = codes "recorder no small edits were tried, since a capture can't be read again\n"
 recorder_words tried accepted (Some records) =
@@ -53,10 +54,10 @@ recorder_words tried accepted (Some records) =
 abbrev pub recorder_row : EditsTried → List ℕ
 recorder_row e = recorder_words e.tried e.accepted e.records_behind
 
--- below the rows of edits that make the pair a run: that rather the recording is wrong than a node, or that one unit which the node sent wrongly
+-- below the rows of edits that make the pair a run: that the recording is more likely wrong than a node, or that one unit which the node sent wrongly
 -- explains the record as well
 abbrev pub so_row : (accepted : ℕ) → (unit_as_well : Bool) → List ℕ
 so_row accepted unit_as_well =
     if accepted == 0 then []
-    else if unit_as_well then codes "         So either the recording is wrong, or the node in this one unit.\n"
-    else codes "         So rather the recording is wrong than a node.\n"
+    else if unit_as_well then codes "         So either the recording is wrong, or the node sent one unit wrongly.\n"
+    else codes "         So the recording is more likely at fault than a node.\n"

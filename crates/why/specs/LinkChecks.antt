@@ -87,7 +87,7 @@ next_words length None front = codes "no new segment: nothing is left of what wa
 next_words length (Some next) front = piece_words length next front
 
 abbrev pub otherwise_words : (number : ℕ) → PieceShape → (front : List ℕ) → List ℕ
-otherwise_words number x front = codes "segment " ++ (decimal number ++ (codes " again, otherwise: " ++ shape_words x front))
+otherwise_words number x front = codes "segment " ++ (decimal number ++ (codes " again, but changed: " ++ shape_words x front))
 
 -- ---- a message that is sent, and the digits of the first bytes that are compared
 
@@ -126,7 +126,7 @@ link_sending_allowed (sending.Length x y) front = codes "at most " ++ (byte_coun
 link_sending_allowed (sending.NextPiece x y) front = next_words x.length y front
 link_sending_allowed (sending.Number x y) front = codes "segment " ++ number_words y
 link_sending_allowed (sending.AsFirstGiven number x y) front =
-    codes "segment " ++ (decimal number ++ (codes " again, as at first: " ++ shape_words y front))
+    codes "segment " ++ (decimal number ++ (codes " again, as first sent: " ++ shape_words y front))
 
 -- ---- a message that comes to this side; links are counted from 0 in the order in which they began
 

@@ -82,7 +82,7 @@ nsp_fault_words UnknownFlag = codes "no message of NSP: the flag byte of none"
 nsp_fault_words MissingField = codes "no message of NSP: a field is missing or cut"
 nsp_fault_words BadAckWord = codes "no message of NSP: a wrong acknowledgement word"
 nsp_fault_words BadSegnum = codes "no message of NSP: a wrong segment number"
-nsp_fault_words TrailingBytes = codes "no message of NSP: bytes behind its end"
+nsp_fault_words TrailingBytes = codes "no message of NSP: bytes after its end"
 nsp_fault_words NonzeroDstaddr = codes "no message of NSP: DSTADDR of a CI is not 0"
 
 -- what a message was read as

@@ -35,7 +35,7 @@ packet_words (Data rtflg dst src forward nsp) =
 packet_words (Control bytes) = codes "control packet, " ++ (byte_count (length bytes) ++ codes ", not read further")
 
 abbrev pub packet_fault_words : PacketFault → List ℕ
-packet_fault_words Padded = codes "no packet of this circuit: padding stands in front of it"
+packet_fault_words Padded = codes "no packet of this circuit: padding comes before it"
 packet_fault_words LongFormat = codes "no packet of this circuit: a long format data packet"
 packet_fault_words Short = codes "no packet of this circuit: a field of its header is missing or cut"
 packet_fault_words UnknownFlags = codes "no packet of this circuit: unknown routing flags"

@@ -100,13 +100,13 @@ accused_words side OtherSender =
 accused_words side Hints = codes "the hints, or captures that do not pair\n"
 accused_words side Line = codes "the line, or captures that do not pair\n"
 accused_words side Claim =
-    codes "what " ++ (side_letter side ++ (codes " says of itself; nothing is said against " ++ (side_letter (other_side side) ++ codes "\n")))
+    side_letter side ++ (codes " (its node or its recorder); " ++ (side_letter (other_side side) ++ codes " is not to blame\n"))
 accused_words side Nobody = codes "nobody: the protocol cannot tell the two apart\n"
 accused_words side User = codes "the user of " ++ (side_letter side ++ codes "\n")
 accused_words side Starter =
-    codes "the user of " ++ (side_letter side ++ codes ", or the node, where it started by itself\n")
+    codes "the user of " ++ (side_letter side ++ codes ", or the node if it started by itself\n")
 accused_words side Chooser =
-    codes "the user of " ++ (side_letter side ++ codes ", or the node, where it chose the address\n")
+    codes "the user of " ++ (side_letter side ++ codes ", or the node if it chose the address\n")
 accused_words side OtherEnd = codes "the other end\n"
 
 abbrev pub accused_row : Side → Accusation → List ℕ

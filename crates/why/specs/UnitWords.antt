@@ -44,7 +44,7 @@ message_words (Stack flags) = codes "STACK" ++ flag_words flags
 abbrev pub departure_words : Departure → List ℕ
 departure_words UnknownStart = codes "malformed 1: the first byte starts no message"
 departure_words Maintenance = codes "malformed 2: a maintenance message, not read further"
-departure_words WrongLength = codes "malformed 3: a COUNT of 0, or bytes behind the end"
+departure_words WrongLength = codes "malformed 3: a COUNT of 0, or bytes after the end"
 departure_words UnknownType = codes "malformed 4: no control message has this TYPE and SUBTYPE"
 departure_words WrongField = codes "malformed 5: a byte that has to be 0 is not 0, or the address is not 1"
 

@@ -27,9 +27,9 @@ pub enum Accusation {
     Nobody,
     /// The node's user.
     User,
-    /// The node's user, or the node, where it started by itself.
+    /// The node's user, or the node if it started by itself.
     Starter,
-    /// The node's user, or the node, where it chose the address of the link.
+    /// The node's user, or the node if it chose the address of the link.
     Chooser,
     /// Of one end alone: the other end, in what came of it.
     OtherEnd,
@@ -140,7 +140,7 @@ impl fmt::Display for AccusedRow {
             Accusation::Line => f.write_str("accused  the line, or captures that do not pair\n"),
             Accusation::Claim => write!(
                 f,
-                "accused  what {side} says of itself; nothing is said against {other}\n"
+                "accused  {side} (its node or its recorder); {other} is not to blame\n"
             ),
             Accusation::Nobody => {
                 f.write_str("accused  nobody: the protocol cannot tell the two apart\n")
@@ -148,11 +148,11 @@ impl fmt::Display for AccusedRow {
             Accusation::User => write!(f, "accused  the user of {side}\n"),
             Accusation::Starter => write!(
                 f,
-                "accused  the user of {side}, or the node, where it started by itself\n"
+                "accused  the user of {side}, or the node if it started by itself\n"
             ),
             Accusation::Chooser => write!(
                 f,
-                "accused  the user of {side}, or the node, where it chose the address\n"
+                "accused  the user of {side}, or the node if it chose the address\n"
             ),
             Accusation::OtherEnd => f.write_str("accused  the other end\n"),
         }

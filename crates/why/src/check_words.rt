@@ -55,7 +55,7 @@ impl fmt::Display for Seen<'_, '_> {
             FailedCheck::LinkEvent(failed) => write_link_event_seen(f, failed, front),
             FailedCheck::Noise => {
                 let name = ReadingName { reading };
-                write!(f, "{name}, which shows no damage")
+                write!(f, "{name}, and no block check shows damage")
             }
         }
     }
@@ -112,7 +112,7 @@ impl fmt::Display for Allowed<'_, '_> {
                 "a routing control packet, or a short data packet of at least six bytes",
             ),
             FailedCheck::Nsp(_) => {
-                f.write_str("a message of NSP with all its fields, and nothing behind its end")
+                f.write_str("a message of NSP with all its fields, and nothing after its end")
             }
             FailedCheck::LinkSending(failed) => write_link_sending_allowed(f, failed, front),
             FailedCheck::LinkArrival(failed) => write_link_arrival_allowed(f, side, failed),

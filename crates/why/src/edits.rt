@@ -7,7 +7,7 @@ ghost use Rattle.why.specs.Edits as spec;
 use crate::words::NumberOr;
 use std::fmt::{self, Formatter, Write};
 
-/// With fewer records than this behind the refusal, small edits tell nothing: most of them make the pair a run.
+/// With fewer records than this after the refusal, small edits tell nothing: most of them make the pair a run.
 pub const FEW_RECORDS: u64 = 20;
 
 /// How many small edits near the refusal were judged, and how many of them make the pair a run. Printed as one JSON object with its LF.
@@ -17,7 +17,7 @@ pub struct EditsTried {
     pub tried: u64,
     /// How many of them make the pair a run.
     pub accepted: u64,
-    /// How many records of both captures stand behind the refused one: those that are not made, without it. `None` where a capture can't be
+    /// How many records of both captures follow the refused one: those that are not made, without it. `None` where a capture can't be
     /// read again, so that nobody knows.
     pub records_behind: Option<u64>,
 }
@@ -79,9 +79,10 @@ impl fmt::Display for RecorderRow {
 fn write_too_few<W: Write>(f: &mut Formatter<W>, records: u64) -> fmt::Result
     ensures { WritesOnOk W.write_str_gives f.old result (spec.too_few records) f.new }
 {
+    let follow = FollowWords { records };
     write!(
         f,
-        "recorder small edits were not tried: too few records follow ({records}; at least {FEW_RECORDS} are needed)\n"
+        "recorder small edits were not tried: only {follow} ({FEW_RECORDS} are needed)\n"
     )
 }
 
@@ -94,62 +95,42 @@ fn write_tried<W: Write>(
 ) -> fmt::Result
     ensures { WritesOnOk W.write_str_gives f.old result (spec.tried_words tried accepted records) f.new }
 {
-    let stand = StandWords { records };
+    let follow = FollowWords { records };
     if tried == 0 {
         return write!(
             f,
-            "recorder no small edits were tried ({stand} behind it)\n"
+            "recorder no small edits were tried\n         ({follow})\n"
         );
     }
     if accepted == 0 {
         return write!(
             f,
-            "recorder none of {tried} small edits near by makes the pair a run ({stand} behind it)\n"
+            "recorder none of {tried} small edits nearby would make the pair acceptable\n         ({follow})\n"
         );
     }
-    let make = MakeWord { accepted };
     write!(
         f,
-        "recorder {accepted} of {tried} small edits near by {make} the pair a run ({stand} behind it):\n"
+        "recorder {accepted} of {tried} small edits nearby would make the pair acceptable\n         ({follow}):\n"
     )
 }
 
-// How many records stand there.
+// How many records follow.
 #[derive(Clone, Copy)]
-struct StandWords {
+struct FollowWords {
     records: u64,
 }
 
-impl fmt::Display for StandWords {
+impl fmt::Display for FollowWords {
     ghost use Rattle.std.specs.Prelude.{Some};
 
-    ghost output = { λ words. Some (spec.stand_words words.records) };
+    ghost output = { λ words. Some (spec.follow_words words.records) };
 
     fn fmt<W: Write>(&self, f: &mut Formatter<W>) -> fmt::Result {
         let records = self.records;
         if records == 1 {
-            return f.write_str("1 record stands");
+            return f.write_str("1 record follows");
         }
-        write!(f, "{records} records stand")
-    }
-}
-
-// One edit makes the pair a run, or several make it one.
-#[derive(Clone, Copy)]
-struct MakeWord {
-    accepted: u64,
-}
-
-impl fmt::Display for MakeWord {
-    ghost use Rattle.std.specs.Prelude.{Some};
-
-    ghost output = { λ word. Some (spec.make_words word.accepted) };
-
-    fn fmt<W: Write>(&self, f: &mut Formatter<W>) -> fmt::Result {
-        if self.accepted == 1 {
-            return f.write_str("makes");
-        }
-        f.write_str("make")
+        write!(f, "{records} records follow")
     }
 }
 
@@ -193,8 +174,8 @@ impl fmt::Display for EditRow<'_> {
     }
 }
 
-/// What edits that make the pair a run tell, below their rows; nothing where there are none. That rather the recording is wrong than a node is
-/// said only where the node is not explained as well by one unit that it sent wrongly (`unit_as_well`).
+/// What edits that make the pair a run tell, below their rows; nothing where there are none. That the recording is more likely wrong than a
+/// node is said only where the node is not explained as well by one unit that it sent wrongly (`unit_as_well`).
 pub fn so_row(accepted: u64, unit_as_well: bool) -> &'static str
     ensures { result.now ≡ spec.so_row accepted unit_as_well }
 {
@@ -202,7 +183,7 @@ pub fn so_row(accepted: u64, unit_as_well: bool) -> &'static str
         return "";
     }
     if unit_as_well {
-        return "         So either the recording is wrong, or the node in this one unit.\n";
+        return "         So either the recording is wrong, or the node sent one unit wrongly.\n";
     }
-    "         So rather the recording is wrong than a node.\n"
+    "         So the recording is more likely at fault than a node.\n"
 }

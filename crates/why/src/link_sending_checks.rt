@@ -54,7 +54,7 @@ pub fn write_link_sending_seen<W: Write>(
         FailedLinkSending::Number { seen, .. } => write!(f, "segment {seen}"),
         FailedLinkSending::AsFirstGiven { number, seen, .. } => {
             let shape = ShapeWords { shape: seen, front };
-            write!(f, "segment {number} again, otherwise: {shape}")
+            write!(f, "segment {number} again, but changed: {shape}")
         }
     }
 }
@@ -102,7 +102,7 @@ pub fn write_link_sending_allowed<W: Write>(
                 shape: allowed,
                 front,
             };
-            write!(f, "segment {number} again, as at first: {shape}")
+            write!(f, "segment {number} again, as first sent: {shape}")
         }
     }
 }

@@ -225,7 +225,7 @@ pub fn nsp_fault_words(fault: NspFault) -> &'static str
         NspFault::MissingField => "no message of NSP: a field is missing or cut",
         NspFault::BadAckWord => "no message of NSP: a wrong acknowledgement word",
         NspFault::BadSegnum => "no message of NSP: a wrong segment number",
-        NspFault::TrailingBytes => "no message of NSP: bytes behind its end",
+        NspFault::TrailingBytes => "no message of NSP: bytes after its end",
         NspFault::NonzeroDstaddr => "no message of NSP: DSTADDR of a CI is not 0",
     }
 }

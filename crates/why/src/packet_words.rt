@@ -134,7 +134,7 @@ pub fn packet_fault_words(fault: PacketFault) -> &'static str
     ensures { result.now ≡ spec.packet_fault_words fault }
 {
     match fault {
-        PacketFault::Padded => "no packet of this circuit: padding stands in front of it",
+        PacketFault::Padded => "no packet of this circuit: padding comes before it",
         PacketFault::LongFormat => "no packet of this circuit: a long format data packet",
         PacketFault::Short => {
             "no packet of this circuit: a field of its header is missing or cut"

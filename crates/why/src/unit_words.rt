@@ -98,7 +98,7 @@ fn departure_words(departure: Departure) -> &'static str
     match departure {
         Departure::UnknownStart => "malformed 1: the first byte starts no message",
         Departure::Maintenance => "malformed 2: a maintenance message, not read further",
-        Departure::WrongLength => "malformed 3: a COUNT of 0, or bytes behind the end",
+        Departure::WrongLength => "malformed 3: a COUNT of 0, or bytes after the end",
         Departure::UnknownType => "malformed 4: no control message has this TYPE and SUBTYPE",
         Departure::WrongField => {
             "malformed 5: a byte that has to be 0 is not 0, or the address is not 1"

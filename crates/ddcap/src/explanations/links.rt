@@ -141,7 +141,7 @@ pub const ADDRESS_IN_USE: Explanation = Explanation {
 an own address that is given must belong to no live link of the node.",
     allowed: "\
 another address; the same one once its link is over.",
-    fault: "the user, or the node where it chose the address",
+    fault: "the user, or the node if it chose the address",
     look_for: "\
 - the missing `k` line of a DI or DC, without which the earlier link never
   ended here

@@ -185,7 +185,7 @@ a `u start` comes while the station is not halted.",
 a station can start only in HALTED.",
     allowed: "\
 a halt first, which is possible in every state.",
-    fault: "the user, or the node where it started by itself",
+    fault: "the user, or the node if it started by itself",
     look_for: "\
 - a missing `u halt`, for example where the station started again by itself
 - the missing receipt of the STRT that halted it
