@@ -67,7 +67,7 @@ def segment_check(links, message):
     if not flow.one_of_the_last(row, number):
         return None
     again = 'segment %d again, ' % message.segnum
-    return 'as first given', again + 'otherwise: ' + seen, again + 'as at first: ' + piece_words(*flow.pieces[number])
+    return 'as first given', again + 'but changed: ' + seen, again + 'as first sent: ' + piece_words(*flow.pieces[number])
 
 
 def next_words(flow, length):
