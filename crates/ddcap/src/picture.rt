@@ -113,6 +113,7 @@ fn check_words(
         side,
         reason,
         failed,
+        bytes,
         reading: read_unit(bytes),
         fronts: fronts.lent(),
     };

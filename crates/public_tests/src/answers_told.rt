@@ -299,6 +299,7 @@ fn compared_bytes_are_told(rt: HostRuntime) -> Result<(), AllocError> {
         side: Side::A,
         reason: Reason::WrongSegment,
         failed: FailedCheck::LinkSending(FailedLinkSending::NextPiece { seen, allowed }),
+        bytes: &[],
         reading: Reading::HeaderBad,
         fronts: Fronts {
             seen: "05",
@@ -312,7 +313,9 @@ fn compared_bytes_are_told(rt: HostRuntime) -> Result<(), AllocError> {
     assert_eq!(rt;
         told.as_str(),
         "{\"what\": \"check\", \"check\": \"next piece\", \"seen\": \"1 byte 05, begins and ends\", \"allowed\": \"the next of 20 bytes \
-         of the message: 0506.., begins it\", \"page\": \"docs/REASONS.md#20-wrongsegment\"}\n"
+         of the message: 0506.., begins it\", \"rule\": \"A new segment has the next number and the next piece of what the user handed in, \
+         and any other repeats an earlier one unchanged\", \"page\": \"docs/REASONS.md#20-wrongsegment\", \
+         \"table\": \"docs/LINKS.md#messages-in-pieces\"}\n"
     );
     Ok(())
 }
@@ -332,6 +335,7 @@ fn bytes_that_read_alike_are_told_by_a_byte(rt: HostRuntime) -> Result<(), Alloc
         side: Side::A,
         reason: Reason::Undetected,
         failed: FailedCheck::Undetected { unit: 1 },
+        bytes: &[],
         reading: Reading::Sound(Message::Strt {
             flags: Flags::from_byte(0x80),
         }),
@@ -351,7 +355,8 @@ fn bytes_that_read_alike_are_told_by_a_byte(rt: HostRuntime) -> Result<(), Alloc
         told.as_str(),
         "{\"what\": \"check\", \"check\": \"the line\", \"seen\": \"STRT, of which byte 2 is 80, and it has 8 bytes\", \"allowed\": \
          \"STRT, the bytes of unit 1 of b, of which byte 2 is c0, and it has 8 bytes; or damaged bytes\", \
-         \"page\": \"docs/REASONS.md#5-undetected\"}\n"
+         \"rule\": \"The bytes that are received are those of the unit that was sent, or a block check shows that they are damaged\", \
+         \"page\": \"docs/REASONS.md#5-undetected\", \"table\": \"docs/PROTOCOL.md#the-line\"}\n"
     );
     Ok(())
 }

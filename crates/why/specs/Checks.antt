@@ -48,21 +48,21 @@ both_wait side own other =
     ++ (codes " unit" ++ (plural own.sent ++ (codes " and waits for hint " ++ (decimal other.hint ++ (codes " of " ++ side_letter side))))))))))
 
 -- of a record of this side, whose bytes are read so, and of what is shown of it
-abbrev pub seen : Side → FailedCheck → ReadingValue → Fronts → List ℕ
-seen side (check.Message departure) reading fronts = reading_words reading
-seen side (check.HintOrder x lowest) reading fronts = codes "hint " ++ decimal x
-seen side (check.NoSuchUnit awaited) reading fronts = codes "hint " ++ decimal awaited.hint
-seen side (check.NoOrder own other) reading fronts = both_wait side own other
-seen side (check.Undetected unit) reading fronts = reading_name reading ++ of_which (came_byte fronts.differs)
-seen side (check.StationSending failed) reading fronts = sending_seen failed reading
-seen side (check.StationArrival failed) reading fronts = arrival_seen side failed reading
-seen side (check.StationEvent state) reading fronts = codes "start in " ++ state_name state
-seen side (check.Packet fault) reading fronts = packet_fault_words fault
-seen side (check.Nsp fault) reading fronts = nsp_fault_words fault
-seen side (check.LinkSending failed) reading fronts = link_sending_seen failed fronts.seen
-seen side (check.LinkArrival failed) reading fronts = link_arrival_seen side failed
-seen side (check.LinkEvent failed) reading fronts = link_event_seen failed fronts.seen
-seen side check.Noise reading fronts = reading_name reading ++ codes ", and no block check shows damage"
+abbrev pub seen : Side → FailedCheck → (bytes : List ℕ) → ReadingValue → Fronts → List ℕ
+seen side (check.Message departure) bytes reading fronts = reading_words bytes reading
+seen side (check.HintOrder x lowest) bytes reading fronts = codes "hint " ++ decimal x
+seen side (check.NoSuchUnit awaited) bytes reading fronts = codes "hint " ++ decimal awaited.hint
+seen side (check.NoOrder own other) bytes reading fronts = both_wait side own other
+seen side (check.Undetected unit) bytes reading fronts = reading_name reading ++ of_which (came_byte fronts.differs)
+seen side (check.StationSending failed) bytes reading fronts = sending_seen failed reading
+seen side (check.StationArrival failed) bytes reading fronts = arrival_seen side failed reading
+seen side (check.StationEvent state) bytes reading fronts = codes "start in " ++ state_name state
+seen side (check.Packet fault) bytes reading fronts = packet_fault_words fault
+seen side (check.Nsp fault) bytes reading fronts = nsp_fault_words fault
+seen side (check.LinkSending failed) bytes reading fronts = link_sending_seen failed fronts.seen
+seen side (check.LinkArrival failed) bytes reading fronts = link_arrival_seen side failed
+seen side (check.LinkEvent failed) bytes reading fronts = link_event_seen failed fronts.seen
+seen side check.Noise bytes reading fronts = reading_name reading ++ codes ", and no block check shows damage"
 
 -- units are counted from 0, so a hint lies below their number; where none was sent, no receipt is right
 abbrev pub below_words : Side → (sent : ℕ) → List ℕ
@@ -98,20 +98,27 @@ allowed side check.Noise reading fronts = codes "bytes that read as header bad o
 
 -- ---- together
 
--- a check that a record of this side does not pass, with the reason, how its bytes are read, and what is shown of both sides of the check
+-- a check that a record of this side does not pass, with the reason, its bytes and how they are read, and what is shown of both sides of the check
 pub record CheckValue : Type 0 where
   pub side : Side
   pub reason : Reason
   pub failed : FailedCheck
+  pub bytes : List ℕ
   pub reading : ReadingValue
   pub fronts : Fronts
 
 abbrev pub check_value : Check → CheckValue
-check_value c =
-    record { side = c.side; reason = c.reason; failed = c.failed; reading = reading_view c.reading; fronts = fronts_told c.fronts }
+check_value c = record {
+  side = c.side;
+  reason = c.reason;
+  failed = c.failed;
+  bytes = c.bytes.now;
+  reading = reading_view c.reading;
+  fronts = fronts_told c.fronts;
+}
 
 abbrev pub seen_in : CheckValue → List ℕ
-seen_in c = seen c.side c.failed c.reading c.fronts
+seen_in c = seen c.side c.failed c.bytes c.reading c.fronts
 
 abbrev pub allowed_in : CheckValue → List ℕ
 allowed_in c = allowed c.side c.failed c.reading c.fronts

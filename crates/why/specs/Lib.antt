@@ -1,7 +1,8 @@
 -- What is said of a refused record, byte by byte
 pub mod Words
-pub mod UnitWords
 pub mod PacketWords
+pub mod DamageWords
+pub mod UnitWords
 pub mod NspWords
 pub mod Layers
 pub mod EventWords

@@ -59,9 +59,9 @@ packet_layers form (Some packet) =
     head form Routing ++ (routing_words (packet_at packet) ++ (text_end form ++ message_layer form (message_of (packet_at packet))))
 
 -- the bytes of a unit and what they say: `"bytes": "8101..", "ddcmp": "data  NUM 2  RESP 1  COUNT 14", "routing": .., "nsp": ..`, or a row each
-abbrev pub unit_layers : Form → (digits : List ℕ) → ReadingValue → List ℕ
-unit_layers form digits reading =
-    head form Bytes ++ (digits ++ (text_end form ++ (head form Unit ++ (reading_words reading ++ (text_end form
+abbrev pub unit_layers : Form → (digits bytes : List ℕ) → ReadingValue → List ℕ
+unit_layers form digits bytes reading =
+    head form Bytes ++ (digits ++ (text_end form ++ (head form Unit ++ (reading_words bytes reading ++ (text_end form
     ++ packet_layers form (packet_in reading))))))
 
 -- a receipt by its hint
@@ -69,21 +69,21 @@ abbrev pub receipt_told : Form → Part → (hint : ℕ) → (layers : List ℕ)
 receipt_told form part hint layers = head form part ++ (decimal hint ++ (hint_end form ++ layers))
 
 -- the kind and what belongs to it: of a user's record its words, else what its bytes are read as
-abbrev pub record_told : Form → Entry → (digits : List ℕ) → ReadingValue → List ℕ
-record_told form entries.Sent digits reading = head form Sent ++ unit_layers form digits reading
-record_told form (entries.Received true hint) digits reading = receipt_told form Kept hint (unit_layers form digits reading)
-record_told form (entries.Received false hint) digits reading = receipt_told form Received hint (unit_layers form digits reading)
-record_told form entries.Noise digits reading = head form Noise ++ unit_layers form digits reading
-record_told form entry digits reading = head form User ++ (event_words entry digits ++ text_end form)
+abbrev pub record_told : Form → Entry → (digits bytes : List ℕ) → ReadingValue → List ℕ
+record_told form entries.Sent digits bytes reading = head form Sent ++ unit_layers form digits bytes reading
+record_told form (entries.Received true hint) digits bytes reading = receipt_told form Kept hint (unit_layers form digits bytes reading)
+record_told form (entries.Received false hint) digits bytes reading = receipt_told form Received hint (unit_layers form digits bytes reading)
+record_told form entries.Noise digits bytes reading = head form Noise ++ unit_layers form digits bytes reading
+record_told form entry digits bytes reading = head form User ++ (event_words entry digits ++ text_end form)
 
 -- ---- of the record of this entry and these bytes
 
 -- the object, and an LF
 abbrev pub record_line : Entry → (bytes : List ℕ) → List ℕ
 record_line entry bytes =
-    codes "{\"what\": \"record\", \"kind\": " ++ (record_told Object entry (bytes_text bytes) (reading bytes) ++ codes "}\n")
+    codes "{\"what\": \"record\", \"kind\": " ++ (record_told Object entry (bytes_text bytes) bytes (reading bytes) ++ codes "}\n")
 
 -- the rows, behind the name of its capture and its line there
 abbrev pub record_text : (name : List ℕ) (line : ℕ) → Entry → (bytes : List ℕ) → List ℕ
 record_text name line entry bytes =
-    name ++ (codes ":" ++ (decimal line ++ (codes ": " ++ record_told Rows entry (bytes_text bytes) (reading bytes))))
+    name ++ (codes ":" ++ (decimal line ++ (codes ": " ++ record_told Rows entry (bytes_text bytes) bytes (reading bytes))))

@@ -29,6 +29,7 @@ check_told form r end (Some failed) = checks.check_told form (record {
   side = r.line.side;
   reason = r.line.reason;
   failed = failed;
+  bytes = r.bytes.now;
   reading = reading r.bytes.now;
   fronts = fronts end.links r.says r.bytes.now (option_map (λ unit. unit.now) r.unit);
 })

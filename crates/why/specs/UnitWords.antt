@@ -9,6 +9,7 @@ use Rattle.ddcmp_msg.specs.declared.departure.Departure.{Departure}
 use Rattle.ddcmp_msg.specs.declared.departure.Departure.TheVariants.{UnknownStart, Maintenance, WrongLength, UnknownType, WrongField}
 use Rattle.ddcmp_msg.specs.Message.{MessageValue, Data, Ack, Nak, Rep, Strt, Stack, reason_number}
 use Rattle.ddcmp_msg.specs.Reading.{ReadingValue, Sound, HeaderBad, DataBad, Malformed}
+use Rattle.why.specs.DamageWords.{header_fault, data_fault}
 
 -- the flags, where there are any
 abbrev pub flag_words_by : (quick_sync select : Bool) → List ℕ
@@ -48,11 +49,12 @@ departure_words WrongLength = codes "malformed 3: a COUNT of 0, or bytes after t
 departure_words UnknownType = codes "malformed 4: no control message has this TYPE and SUBTYPE"
 departure_words WrongField = codes "malformed 5: a byte that has to be 0 is not 0, or the address is not 1"
 
-abbrev pub reading_words : ReadingValue → List ℕ
-reading_words (Sound message) = message_words message
-reading_words HeaderBad = codes "header bad: fewer than 8 bytes, or the block check of the header is wrong"
-reading_words DataBad = codes "data bad: the data are cut, or their block check is wrong"
-reading_words (Malformed departure) = departure_words departure
+-- what these bytes are read as
+abbrev pub reading_words : (bytes : List ℕ) → ReadingValue → List ℕ
+reading_words bytes (Sound message) = message_words message
+reading_words bytes HeaderBad = header_fault bytes
+reading_words bytes DataBad = data_fault bytes
+reading_words bytes (Malformed departure) = departure_words departure
 
 -- ---- the same in a few letters, as a picture has it
 

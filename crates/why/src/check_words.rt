@@ -34,10 +34,11 @@ impl fmt::Display for Seen<'_, '_> {
 
     fn fmt<W: Write>(&self, f: &mut Formatter<W>) -> fmt::Result {
         let side = self.check.side;
+        let bytes = self.check.bytes;
         let reading = self.check.reading;
         let front = self.check.fronts.seen;
         match self.check.failed {
-            FailedCheck::Message(_) => write!(f, "{}", ReadingWords { reading }),
+            FailedCheck::Message(_) => write!(f, "{}", ReadingWords { bytes, reading }),
             FailedCheck::HintOrder { seen, .. } => write!(f, "hint {seen}"),
             FailedCheck::NoSuchUnit(awaited) => write!(f, "hint {}", awaited.hint),
             FailedCheck::NoOrder { own, other } => write_both_wait(f, side, own, other),

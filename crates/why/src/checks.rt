@@ -18,13 +18,14 @@ use pair_judge::{FailedCheck, Reason};
 use std::fmt::{self, Formatter, Write};
 use wire_base::Side;
 
-/// The check that a record of this side does not pass, with the reason for which it is refused, how its bytes are read (`HeaderBad` of a
+/// The check that a record of this side does not pass, with the reason for which it is refused, its bytes and how they are read (`HeaderBad` of a
 /// user's record, which has none), and what is shown of both sides of it ([`Fronts`]).
 #[derive(Clone, Copy)]
 pub struct Check<'a, 't> {
     pub side: Side,
     pub reason: Reason,
     pub failed: FailedCheck,
+    pub bytes: &'a [u8],
     pub reading: Reading<'a>,
     pub fronts: Fronts<'t>,
 }

@@ -8,6 +8,7 @@ mod arrival_checks;
 mod causes;
 mod check_words;
 mod checks;
+mod damage_words;
 mod data_bytes;
 mod digits;
 mod edits;

@@ -20,6 +20,7 @@ pub fn record_json(alloc: Global, entry: Entry, bytes: &[u8]) -> Result<String, 
         form: Form::Object,
         entry,
         digits: spelled.as_str(),
+        bytes,
         reading: read_unit(bytes),
     };
     format!(in alloc; "{{\"what\": \"record\", \"kind\": {keys}}}\n")
@@ -48,6 +49,7 @@ pub fn record_text(
         form: Form::Rows,
         entry,
         digits: spelled.as_str(),
+        bytes,
         reading: read_unit(bytes),
     };
     format!(in alloc; "{name}:{line}: {rows}")

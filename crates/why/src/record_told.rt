@@ -37,24 +37,27 @@ pub struct RecordTold<'d, 'a> {
     pub form: Form,
     pub entry: Entry,
     pub digits: &'d str,
+    pub bytes: &'a [u8],
     pub reading: Reading<'a>,
 }
 
 impl fmt::Display for RecordTold<'_, '_> {
     ghost use Rattle.std.specs.Prelude.{Some};
 
-    ghost output = { λ told. Some (spec.record_told told.form told.entry told.digits.now (reading_view told.reading)) };
+    ghost output = { λ told. Some (spec.record_told told.form told.entry told.digits.now told.bytes.now (reading_view told.reading)) };
 
     fn fmt<W: Write>(&self, f: &mut Formatter<W>) -> fmt::Result {
         let RecordTold {
             form,
             entry,
             digits,
+            bytes,
             reading,
         } = *self;
         let layers = UnitLayers {
             form,
             digits,
+            bytes,
             reading,
         };
         let end = hint_end(form);
@@ -87,22 +90,24 @@ impl fmt::Display for RecordTold<'_, '_> {
 struct UnitLayers<'d, 'a> {
     form: Form,
     digits: &'d str,
+    bytes: &'a [u8],
     reading: Reading<'a>,
 }
 
 impl fmt::Display for UnitLayers<'_, '_> {
     ghost use Rattle.std.specs.Prelude.{Some};
 
-    ghost output = { λ layers. Some (spec.unit_layers layers.form layers.digits.now (reading_view layers.reading)) };
+    ghost output = { λ layers. Some (spec.unit_layers layers.form layers.digits.now layers.bytes.now (reading_view layers.reading)) };
 
     fn fmt<W: Write>(&self, f: &mut Formatter<W>) -> fmt::Result {
         let UnitLayers {
             form,
             digits,
+            bytes,
             reading,
         } = *self;
         let end = text_end(form);
-        let words = ReadingWords { reading };
+        let words = ReadingWords { bytes, reading };
         write!(f, "{}{digits}{end}", head(form, Part::Bytes))?;
         write!(f, "{}{words}{end}", head(form, Part::Unit))?;
         write_packet(f, form, reading)

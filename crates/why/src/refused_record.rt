@@ -84,6 +84,7 @@ fn check_told(
         side: refused.line.side,
         reason: refused.line.reason,
         failed,
+        bytes: refused.bytes,
         reading: read_unit(refused.bytes),
         fronts: fronts.lent(),
     };

@@ -5,12 +5,14 @@ ghost use Rattle.std.specs.Fmt.{WritesOnOk};
 ghost use Rattle.ddcmp_msg.specs.Message.{view};
 ghost use Rattle.why.specs.UnitWords as spec;
 
+use crate::damage_words::{write_data_fault, write_header_fault};
 use ddcmp_msg::{Departure, Flags, Message, NakReason, Reading};
 use std::fmt::{self, Formatter, Write};
 
-/// What the bytes of a unit say: the message with its fields, or how they depart from one. Printed as `data  NUM 2  RESP 1  COUNT 14`.
+/// What these bytes of a unit say: the message with its fields, or how they depart from one. Printed as `data  NUM 2  RESP 1  COUNT 14`.
 #[derive(Clone, Copy)]
 pub struct ReadingWords<'a> {
+    pub bytes: &'a [u8],
     pub reading: Reading<'a>,
 }
 
@@ -18,17 +20,13 @@ impl fmt::Display for ReadingWords<'_> {
     ghost use Rattle.std.specs.Prelude.{Some};
     ghost use Rattle.ddcmp_msg.specs.Reading.{reading_view};
 
-    ghost output = { λ words. Some (spec.reading_words (reading_view words.reading)) };
+    ghost output = { λ words. Some (spec.reading_words words.bytes.now (reading_view words.reading)) };
 
     fn fmt<W: Write>(&self, f: &mut Formatter<W>) -> fmt::Result {
         match self.reading {
             Reading::Sound(message) => write_message(f, message),
-            Reading::HeaderBad => f.write_str(
-                "header bad: fewer than 8 bytes, or the block check of the header is wrong",
-            ),
-            Reading::DataBad => {
-                f.write_str("data bad: the data are cut, or their block check is wrong")
-            }
+            Reading::HeaderBad => write_header_fault(f, self.bytes),
+            Reading::DataBad => write_data_fault(f, self.bytes),
             Reading::Malformed(departure) => f.write_str(departure_words(departure)),
         }
     }

@@ -1,0 +1,69 @@
+//! What is wrong with bytes that show damage, in words (DDCMP 4.1, message formats).
+
+ghost use Rattle.std.specs.Fmt.{WritesOnOk};
+ghost use Rattle.why.specs.DamageWords as spec;
+
+use crate::packet_words::ByteDigits;
+use crate::words::ByteCount;
+use std::fmt::{self, Formatter, Write};
+use wire_base::block_check;
+
+/// Writes what is wrong with a bad header: it is cut, or its block check is wrong, as `header bad: block check 7596 instead of 7595`.
+pub fn write_header_fault<W: Write>(f: &mut Formatter<W>, bytes: &[u8]) -> fmt::Result
+    ensures { WritesOnOk W.write_str_gives f.old result (spec.header_fault bytes.now) f.new }
+{
+    let length = bytes.len();
+    if length < 8 {
+        return write_cut(f, "header bad: ", length, 8);
+    }
+    f.write_str("header bad: ")?;
+    write_check(f, &bytes[..6], bytes[6], bytes[7])
+}
+
+/// Writes what is wrong with bad data behind a good header: they are cut, or their block check is wrong.
+pub fn write_data_fault<W: Write>(f: &mut Formatter<W>, bytes: &[u8]) -> fmt::Result
+    ensures { WritesOnOk W.write_str_gives f.old result (spec.data_fault bytes.now) f.new }
+{
+    let length = bytes.len();
+    if length < 8 {
+        return f.write_str("data bad");
+    }
+    let end = 8 + (usize::from(bytes[1]) + 256 * usize::from(bytes[2] % 64));
+    if length < end + 2 {
+        return write_cut(f, "data bad: ", length, end + 2);
+    }
+    f.write_str("data bad: ")?;
+    write_check(f, &bytes[8..end], bytes[end], bytes[end + 1])
+}
+
+// Writes how many bytes there are, and how many there should be.
+fn write_cut<W: Write>(
+    f: &mut Formatter<W>,
+    lead: &str,
+    length: usize,
+    due: usize,
+) -> fmt::Result
+    ensures { WritesOnOk W.write_str_gives f.old result (spec.cut_words lead.now length due) f.new }
+{
+    let count = ByteCount { count: length };
+    write!(f, "{lead}{count} instead of {due}")
+}
+
+// Writes the block check that came with a field, and the one that it should have, both as they are sent.
+fn write_check<W: Write>(
+    f: &mut Formatter<W>,
+    field: &[u8],
+    first: u8,
+    second: u8,
+) -> fmt::Result
+    ensures { WritesOnOk W.write_str_gives f.old result (spec.check_fault field.now first second) f.new }
+{
+    let check = block_check(field);
+    let first = ByteDigits { byte: first };
+    let second = ByteDigits { byte: second };
+    let low = ByteDigits { byte: check as u8 };
+    let high = ByteDigits {
+        byte: (check / 256) as u8,
+    };
+    write!(f, "block check {first}{second} instead of {low}{high}")
+}
