@@ -23,6 +23,7 @@ pub mod Checks
 pub mod Refused
 pub mod Edits
 pub mod Ends
+pub mod OtherEnd
 pub mod RefusedRecord
 pub mod Whole
 pub mod WholeEnd

@@ -1,15 +1,14 @@
 -- What is said of a refused record beside the end of its side, of a pair or of one end alone, as JSON objects and in rows.
-use Rattle.std.specs.Prelude.{ℕ, ◌+◌, List, [], ◌++◌, Option, Some, None, option_map, codes}
+use Rattle.std.specs.Prelude.{ℕ, ◌+◌, List, ◌++◌, Option, Some, None, option_map, codes}
 use Rattle.ddcmp_msg.specs.Reading.{reading}
 use Rattle.pair_judge.specs.Ends.{ShownEnd}
 use Rattle.pair_judge.specs.declared.failed_check.FailedCheck.{FailedCheck}
-use Rattle.pair_judge.specs.declared.reason.Reason.{Reason}
 use Rattle.why.specs.Refused.{refused_line}
 use Rattle.why.specs.RecordTold.{record_line, record_text}
 use Rattle.why.specs.Checks as checks
 use Rattle.why.specs.Digits.{fronts}
 use Rattle.why.specs.Ends.{live_by}
-use Rattle.why.specs.Rules.{rule_rows}
+use Rattle.why.specs.OtherEnd.{other_end_told}
 use Rattle.why.specs.Sides.{side_lines, side_text}
 use Rattle.why.specs.declared.form.Form.{Form}
 use Rattle.why.specs.declared.form.Form.TheVariants.{Object, Rows}
@@ -17,14 +16,9 @@ use Rattle.why.specs.declared.refused_record.RefusedRecord.{RefusedRecord}
 use Rattle.why.specs.declared.state_line.StateLine.{StateLine}
 use Rattle.why.specs.declared.subject.Addresses.{Addresses}
 
--- where no check is named: no object, and the rows of the rule
-abbrev pub rule_alone : Form → Reason → List ℕ
-rule_alone Object reason = []
-rule_alone Rows reason = rule_rows reason
-
--- the check at this end, beside the unit that the record names
+-- the check at this end, beside the unit that the record names; where none is named, what no right other end can have sent
 unfoldable pub check_told : Form → RefusedRecord → ShownEnd → Option FailedCheck → List ℕ
-check_told form r end None = rule_alone form r.line.reason
+check_told form r end None = other_end_told form r.line.reason r.bytes.now end.station
 check_told form r end (Some failed) = checks.check_told form (record {
   side = r.line.side;
   reason = r.line.reason;

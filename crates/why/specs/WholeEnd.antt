@@ -33,11 +33,11 @@ state_alone end = record (state_by A end) { station = unpaired end.station }
 abbrev pub named_by : EndRefusal → Addresses
 named_by r = addresses_of r.says r.bytes.now
 
--- the refusal, the record, the check, if one is named, and the end
+-- the refusal, the record, the check, and the end
 abbrev pub end_lines : EndRefusal → ShownEnd → List ℕ
 end_lines r end = record_objects (record_of r) end ++ end_told Object (state_alone end) (named_by r) end
 
--- the record, the check, or the page of the reason alone, the end, the rows before it between two empty ones, and who is accused
+-- the record, the check, the end, the rows before it between two empty ones, and who is accused
 abbrev pub end_rows : EndRefusal → ShownEnd → (name ladder : List ℕ) → List ℕ
 end_rows r end name ladder =
     record_rows (record_of r) end name []

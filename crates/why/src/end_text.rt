@@ -33,8 +33,7 @@ pub struct EndRefusal<'r> {
     pub bytes: &'r [u8],
 }
 
-/// All JSON objects of a refused record of one end, each with its LF: the refusal, the record, the check, if one is named, and the end with its live
-/// links. Fails for want of memory alone.
+/// All JSON objects of a refused record of one end, each with its LF: the refusal, the record, the check, and the end with its live links. Fails for want of memory alone.
 pub fn why_end_json(
     alloc: Global,
     refusal: EndRefusal<'_>,
@@ -48,8 +47,8 @@ pub fn why_end_json(
     format!(in alloc; "{record}{told}")
 }
 
-/// All rows of a refused record of one end, which stands in the capture of this name, behind the line of the verdict: the record; the check, or the
-/// page of the reason alone; the end with its live links; the rows before it, which are put together already; and who is accused. Fails for want
+/// All rows of a refused record of one end, which stands in the capture of this name, after the line of the verdict: the record; the check; the
+/// end with its live links; the rows before it, which are put together already; and who is accused. Fails for want
 /// of memory alone.
 pub fn why_end_rows(
     alloc: Global,

@@ -24,6 +24,7 @@ mod link_event_checks;
 mod link_line;
 mod link_sending_checks;
 mod nsp_words;
+mod other_end;
 mod packet_words;
 mod pages;
 mod piece_fields;

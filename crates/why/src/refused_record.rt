@@ -7,15 +7,15 @@ use crate::checks::{Check, CheckTold};
 use crate::ends::live_links;
 use crate::form::Form;
 use crate::front_texts::FrontTexts;
+use crate::other_end::OtherEndTold;
 use crate::record::{record_json, record_text};
 use crate::refused_line::RefusedLine;
-use crate::rules::RuleTold;
 use crate::sides::{side_json, side_text};
 use crate::state_line::StateLine;
 use crate::subject::Addresses;
 use capture::Entry;
 use ddcmp_msg::read_unit;
-use pair_judge::{FailedCheck, Reason, SideEnd};
+use pair_judge::{FailedCheck, SideEnd};
 use std::alloc::{AllocError, Global};
 
 /// A refused record, of a pair or of one end alone.
@@ -23,7 +23,7 @@ use std::alloc::{AllocError, Global};
 pub struct RefusedRecord<'r> {
     /// Where it stands, why it is refused, and who is accused.
     pub line: RefusedLine,
-    /// Which check it does not pass; `None` where none is named.
+    /// Which check it does not pass; `None` where none is named, since the other end is accused.
     pub failed: Option<FailedCheck>,
     /// What its line says beside its bytes.
     pub says: Entry,
@@ -33,7 +33,7 @@ pub struct RefusedRecord<'r> {
     pub unit: Option<&'r [u8]>,
 }
 
-/// The JSON objects of the refusal, of the record and of the check, if one is named. Fails for want of memory alone.
+/// The JSON objects of the refusal, of the record and of the check. Fails for want of memory alone.
 #[tactic(auto, unfolding(crate::specs::RefusedRecord::record_objects))]
 pub fn record_objects(
     alloc: Global,
@@ -48,8 +48,7 @@ pub fn record_objects(
     format!(in alloc; "{line}{object}{check}")
 }
 
-/// The rows of the record, which stands in the capture of this name, with the row of the unit that its hint names; and of the check, or the rule
-/// of the reason alone; behind each an empty one. Fails for want of memory alone.
+/// The rows of the record, which stands in the capture of this name, with the row of the unit that its hint names; and of the check; behind each an empty one. Fails for want of memory alone.
 #[tactic(auto, unfolding(crate::specs::RefusedRecord::record_rows))]
 pub fn record_rows(
     alloc: Global,
@@ -66,7 +65,7 @@ pub fn record_rows(
     format!(in alloc; "{rows}{unit}\n{check}\n")
 }
 
-// The check at this end.
+// The check at this end; where none is named, what no right other end can have sent.
 #[tactic(auto, unfolding(crate::specs::RefusedRecord::check_told))]
 fn check_told(
     alloc: Global,
@@ -77,7 +76,13 @@ fn check_told(
     ensures { IfOk result (λ text. string_bytes text ≡ spec.check_told form refused.entry end.now refused.entry.failed) }
 {
     let Some(failed) = refused.failed else {
-        return rule_alone(alloc, form, refused.line.reason);
+        let told = OtherEndTold {
+            form,
+            reason: refused.line.reason,
+            bytes: refused.bytes,
+            station: end.station(),
+        };
+        return format!(in alloc; "{told}");
     };
     let fronts = FrontTexts::of(alloc, end, refused.says, refused.bytes, refused.unit)?;
     let check = Check {
@@ -89,16 +94,6 @@ fn check_told(
         fronts: fronts.lent(),
     };
     format!(in alloc; "{}", CheckTold { form, check })
-}
-
-// Where no check is named: no object, and the rows of the rule.
-fn rule_alone(alloc: Global, form: Form, reason: Reason) -> Result<String, AllocError>
-    ensures { IfOk result (λ text. string_bytes text ≡ spec.rule_alone form reason) }
-{
-    match form {
-        Form::Object => Ok(String::new(alloc)),
-        Form::Rows => format!(in alloc; "{}", RuleTold { form, reason }),
-    }
 }
 
 /// The end in this state, and its live links. Fails for want of memory alone.
