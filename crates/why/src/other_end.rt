@@ -41,13 +41,20 @@ impl fmt::Display for OtherEndTold<'_> {
         } = *self;
         let seen = SeenThere { reason, bytes };
         let allowed = AllowedThere { reason, station };
-        let rule = RuleTold { form, reason };
         match form {
-            Form::Object => write!(
-                f,
-                "{{\"what\": \"check\", \"check\": \"other end\", \"seen\": \"{seen}\", \"allowed\": \"{allowed}\", {rule}}}\n"
-            ),
-            Form::Rows => write!(f, "  seen     {seen}\n  allowed  {allowed}\n{rule}"),
+            Form::Object => {
+                let form = Form::Object;
+                let rule = RuleTold { form, reason };
+                write!(
+                    f,
+                    "{{\"what\": \"check\", \"check\": \"other end\", \"seen\": \"{seen}\", \"allowed\": \"{allowed}\", {rule}}}\n"
+                )
+            }
+            Form::Rows => {
+                let form = Form::Rows;
+                let rule = RuleTold { form, reason };
+                write!(f, "  seen     {seen}\n  allowed  {allowed}\n{rule}")
+            }
         }
     }
 }
