@@ -93,7 +93,7 @@ def delivery_check(links, own, message):
     seen = 'a message of %s%s' % (counted(len(message)), front(': ', message))
     whole = flow.whole()
     if not whole:
-        return 'delivery', seen, 'the next whole message, of which there is none yet'
+        return 'delivery', seen, 'the next whole message: each that is whole was delivered before'
     due = whole[0][1]
     first = flow.held[min(number for number in flow.held if number > flow.delivered)][1]
     return 'delivery', seen, 'the next whole message, which has %s%s' % (counted(len(due)), front(': ', first, len(due)))

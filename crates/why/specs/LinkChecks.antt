@@ -177,7 +177,7 @@ link_event_seen (event.IsConnected link phase) front = codes "a close of a link 
 link_event_seen (event.Delivery link x y) front = codes "a message of " ++ (byte_count x ++ front_behind (codes ": ") front x)
 
 abbrev pub delivery_words : Option ℕ → (front : List ℕ) → List ℕ
-delivery_words None front = codes "the next whole message, of which there is none yet"
+delivery_words None front = codes "the next whole message: each that is whole was delivered before"
 delivery_words (Some length) front =
     codes "the next whole message, which has " ++ (byte_count length ++ front_behind (codes ": ") front length)
 

@@ -91,6 +91,6 @@ fn write_delivery<W: Write>(f: &mut Formatter<W>, length: Option<usize>, front: 
             let count = ByteCount { count: length };
             write!(f, "the next whole message, which has {count}{bytes}")
         }
-        None => f.write_str("the next whole message, of which there is none yet"),
+        None => f.write_str("the next whole message: each that is whole was delivered before"),
     }
 }
