@@ -60,9 +60,7 @@ impl fmt::Display for RestsWords {
     ghost output = { λ _. Some rests_words };
 
     fn fmt<W: fmt::Write>(&self, f: &mut fmt::Formatter<W>) -> fmt::Result {
-        f.write_str(
-            "ddcap why shows the unit, but whom it accuses depends on what tap assumed",
-        )
+        f.write_str("ddcap why shows the unit, but whom it accuses depends on what tap assumed")
     }
 }
 

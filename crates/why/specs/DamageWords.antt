@@ -22,14 +22,17 @@ header_fault bytes =
     if nat_lt (length bytes) 8 then cut_words (codes "header bad: ") (length bytes) 8
     else codes "header bad: " ++ check_fault (take 6 bytes) (slice_index bytes 6) (slice_index bytes 7)
 
--- where data that begin behind the header end by COUNT, and their check begins
+-- where data that begin after the header end by COUNT, and their check begins
 abbrev pub data_end : (bytes : List ℕ) → ℕ
 data_end bytes = 8 + count_of bytes
 
--- of bad data behind a good header
+-- the block check of data that end there
+abbrev pub data_check_fault : (bytes : List ℕ) → (end : ℕ) → List ℕ
+data_check_fault bytes end = check_fault (slice_range bytes 8 end) (slice_index bytes end) (slice_index bytes (end + 1))
+
+-- of bad data after a good header
 abbrev pub data_fault : (bytes : List ℕ) → List ℕ
 data_fault bytes =
     if nat_lt (length bytes) 8 then codes "data bad"
     else if nat_lt (length bytes) (data_end bytes + 2) then cut_words (codes "data bad: ") (length bytes) (data_end bytes + 2)
-    else codes "data bad: " ++ check_fault (slice_range bytes 8 (data_end bytes)) (slice_index bytes (data_end bytes))
-      (slice_index bytes (data_end bytes + 1))
+    else codes "data bad: " ++ data_check_fault bytes (data_end bytes)

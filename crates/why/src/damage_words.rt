@@ -20,7 +20,7 @@ pub fn write_header_fault<W: Write>(f: &mut Formatter<W>, bytes: &[u8]) -> fmt::
     write_check(f, &bytes[..6], bytes[6], bytes[7])
 }
 
-/// Writes what is wrong with bad data behind a good header: they are cut, or their block check is wrong.
+/// Writes what is wrong with bad data after a good header: they are cut, or their block check is wrong.
 pub fn write_data_fault<W: Write>(f: &mut Formatter<W>, bytes: &[u8]) -> fmt::Result
     ensures { WritesOnOk W.write_str_gives f.old result (spec.data_fault bytes.now) f.new }
 {
@@ -37,12 +37,7 @@ pub fn write_data_fault<W: Write>(f: &mut Formatter<W>, bytes: &[u8]) -> fmt::Re
 }
 
 // Writes how many bytes there are, and how many there should be.
-fn write_cut<W: Write>(
-    f: &mut Formatter<W>,
-    lead: &str,
-    length: usize,
-    due: usize,
-) -> fmt::Result
+fn write_cut<W: Write>(f: &mut Formatter<W>, lead: &str, length: usize, due: usize) -> fmt::Result
     ensures { WritesOnOk W.write_str_gives f.old result (spec.cut_words lead.now length due) f.new }
 {
     let count = ByteCount { count: length };
@@ -50,12 +45,7 @@ fn write_cut<W: Write>(
 }
 
 // Writes the block check that came with a field, and the one that it should have, both as they are sent.
-fn write_check<W: Write>(
-    f: &mut Formatter<W>,
-    field: &[u8],
-    first: u8,
-    second: u8,
-) -> fmt::Result
+fn write_check<W: Write>(f: &mut Formatter<W>, field: &[u8], first: u8, second: u8) -> fmt::Result
     ensures { WritesOnOk W.write_str_gives f.old result (spec.check_fault field.now first second) f.new }
 {
     let check = block_check(field);

@@ -61,20 +61,25 @@ fn rule_begin(reason: Reason) -> &'static str
     ensures { result.now ≡ spec.rule_begin reason }
 {
     match reason {
-        Reason::NotAMessage => "A unit that is sent is a DDCMP message in one of the formats of the",
+        Reason::NotAMessage =>
+            "A unit that is sent is a DDCMP message in one of the formats of the",
         Reason::HintOrder => "The hint of a receipt is above the hints of all earlier receipts,",
         Reason::NoSuchUnit => "The hint of a receipt names a unit that the other side sends, so it",
         Reason::NoOrder => "A unit is received after it was sent, so the two sides never both",
         Reason::Undetected => "The bytes that are received are those of the unit that was sent, or",
-        Reason::WrongState => "STRT is sent in ISTRT, STACK in ASTRT, ACK, NAK and data in RUNNING,",
-        Reason::WrongNumber => "NUM of a data message is T, the number that is next to send, and NUM",
-        Reason::WrongResponse => "RESP of an ACK, a NAK or a data message is R, the number of the last",
+        Reason::WrongState =>
+            "STRT is sent in ISTRT, STACK in ASTRT, ACK, NAK and data in RUNNING,",
+        Reason::WrongNumber =>
+            "NUM of a data message is T, the number that is next to send, and NUM",
+        Reason::WrongResponse =>
+            "RESP of an ACK, a NAK or a data message is R, the number of the last",
         Reason::WindowFull => "At most 255 packets may be unacknowledged, so a new one waits until",
         Reason::Changed => "A packet that is sent again, under a number given before, has the",
         Reason::NoCause => "A NAK of reason 1, 2, 3 or 8 needs something that caused it since",
         Reason::WrongKeep => "A packet is kept only from an undamaged data message with NUM R + 1,",
         Reason::CrossedPeriod => "A message that a station acts on belongs to the present pair of",
-        Reason::WrongUserEvent => "A station is started only in HALTED, so in any other state it is",
+        Reason::WrongUserEvent =>
+            "A station is started only in HALTED, so in any other state it is",
         Reason::BadPacket => "A packet is one that a DDCMP circuit carries: a routing control",
         Reason::WrongNode => "A packet of a link goes from one to the other of the two nodes that",
         Reason::BadNsp => "A data packet holds an NSP message with all its fields and nothing",
@@ -82,8 +87,10 @@ fn rule_begin(reason: Reason) -> &'static str
         Reason::LinkState => "A message or an event is allowed only in certain phases of its link:",
         Reason::WrongSegment => "A new segment has the next number and the next piece of what the",
         Reason::WrongAck => "An ACK or NAK of segments names a number from the last one sent",
-        Reason::SegmentTooLong => "A new segment has no more data bytes than the SEGSIZE that the other",
-        Reason::LinkWindowFull => "At most 2,047 segments of a link may be unacknowledged, so a new one",
+        Reason::SegmentTooLong =>
+            "A new segment has no more data bytes than the SEGSIZE that the other",
+        Reason::LinkWindowFull =>
+            "At most 2,047 segments of a link may be unacknowledged, so a new one",
         Reason::WrongDelivery => "What is delivered on a link is its next whole message: in order,",
         Reason::CrossedLink => "A message that a link acts on was sent by the link that it goes",
         Reason::AddressInUse => "The own address in u open, u accept or u reject is not that of a",
