@@ -23,19 +23,15 @@ edit_row words = codes "           " ++ (words ++ codes "\n")
 abbrev pub follow_words : (records : ℕ) → List ℕ
 follow_words records = if records == 1 then codes "1 record follows" else decimal records ++ codes " records follow"
 
--- how many records follow, in a row of its own
-abbrev pub follow_row : (records : ℕ) → List ℕ → List ℕ
-follow_row records end = codes "         (" ++ (follow_words records ++ (codes ")" ++ end))
-
--- how many edits were tried and make the pair a run, and how many records follow the refused one
+-- how many edits were tried and make the pair a run, and in a row below how many records follow the refused one
 abbrev pub tried_words : (tried accepted records : ℕ) → List ℕ
 tried_words tried accepted records =
-    if tried == 0 then codes "recorder no small edits were tried\n" ++ follow_row records (codes "\n")
+    if tried == 0 then codes "recorder no small edits were tried\n         (" ++ (follow_words records ++ codes ")\n")
     else if accepted == 0
-    then codes "recorder none of " ++ (decimal tried ++ (codes " small edits nearby would make the pair acceptable\n"
-    ++ follow_row records (codes "\n")))
+    then codes "recorder none of " ++ (decimal tried ++ (codes " small edits nearby would make the pair acceptable\n         ("
+    ++ (follow_words records ++ codes ")\n")))
     else codes "recorder " ++ (decimal accepted ++ (codes " of " ++ (decimal tried
-    ++ (codes " small edits nearby would make the pair acceptable\n" ++ follow_row records (codes ":\n")))))
+    ++ (codes " small edits nearby would make the pair acceptable\n         (" ++ (follow_words records ++ codes "):\n")))))
 
 -- with fewer records after it than are needed
 abbrev pub too_few : (records : ℕ) → List ℕ
