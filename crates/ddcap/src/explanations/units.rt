@@ -19,7 +19,8 @@ any message in one of these formats.",
 - node: a block check computed wrongly, or its two bytes swapped
 - node: a maintenance message, which is not supported",
     first: "\
-see how `ddcap show` reads the bytes of this record.",
+see what `ddcap why` finds wrong: the number of bytes, a block check, or
+the format.",
 };
 
 pub const HINT_ORDER: Explanation = Explanation {
