@@ -1,0 +1,34 @@
+"""The rules of tools/why/rules.txt, and the rows in which `ddcap why` prints a check with its rule."""
+import os
+import re
+import textwrap
+from functools import lru_cache
+
+from program import TOP
+
+RULE_COLUMNS = 68  # of a row of the rule, without what stands before it
+
+
+@lru_cache(None)
+def rules():
+    """Of each reason, by its number: the rule that is printed, and the page of its table."""
+    with open(os.path.join(TOP, 'tools', 'why', 'rules.txt')) as text:
+        lines = [line.split(' | ') for line in text.read().splitlines() if line and not line.startswith('#')]
+    return {int(number): tuple(words) for number, *words in lines}
+
+
+def rows_of_check(check):
+    """The rows that have the words of the line; the rule is in as many rows as it takes, and both pages are below each other."""
+    words = [('seen', [check['seen']]), ('allowed', [check['allowed']]), ('rule', textwrap.wrap(check['rule'], RULE_COLUMNS)),
+             ('page', [check['page'], check['table']])]
+    return ['  %-8s %s' % ('' if at else key, row) for key, rows in words for at, row in enumerate(rows)]
+
+
+def faults_of_rules():
+    """Whether each reason has a rule, and each page that an answer can name is in the documents."""
+    yield None if list(rules()) == list(range(1, 28)) else 'tools/why/rules.txt has the numbers %r' % list(rules())
+    for page in sorted({table for _, table in rules().values()}):
+        path, heading = page.split('#')
+        with open(os.path.join(TOP, path)) as document:
+            headings = re.findall(r'^#+ (.*)$', document.read(), re.MULTILINE)
+        yield None if heading in [words.lower().replace(' ', '-') for words in headings] else 'no heading %s' % page
