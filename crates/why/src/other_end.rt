@@ -109,7 +109,7 @@ fn response_of(message: Message<'_>) -> Option<u16>
 }
 
 fn write_packet<W: Write>(f: &mut Formatter<W>, packet: Option<&[u8]>) -> fmt::Result
-    ensures { WritesOnOk W.write_str_gives f.old result (spec.packet_there (option_map (λ bytes. bytes.now) packet)) f.new }
+    ensures { WritesOnOk W.write_str_gives f.old result (spec.packet_there (option_map (λ bytes. bytes.now) packet.entry)) f.new }
 {
     match packet {
         Some(bytes) => write!(f, "{}", RoutingWords { bytes }),
@@ -118,7 +118,7 @@ fn write_packet<W: Write>(f: &mut Formatter<W>, packet: Option<&[u8]>) -> fmt::R
 }
 
 fn write_message<W: Write>(f: &mut Formatter<W>, message: Option<&[u8]>) -> fmt::Result
-    ensures { WritesOnOk W.write_str_gives f.old result (spec.message_there (option_map (λ bytes. bytes.now) message)) f.new }
+    ensures { WritesOnOk W.write_str_gives f.old result (spec.message_there (option_map (λ bytes. bytes.now) message.entry)) f.new }
 {
     match message {
         Some(bytes) => write!(f, "{}", MessageWords { bytes }),
