@@ -46,7 +46,7 @@ export function refusedIn(text) {
   return {refused: {side, record: Number(record), line: Number(line), number: Number(number), name, accuses}, state: [], link: [], edit: []};
 }
 
-// The rows of `why` with these names, as rule, accused or recorder: of each name a list of texts.
+// The rows of `why` with these names, as accused or recorder: of each name a list of texts.
 export function rowsOf(text, ...names) {
   const found = Object.fromEntries(names.map(name => [name, []]));
   for (const line of text.split('\n')) {

@@ -71,7 +71,7 @@ export function faultView(fault, session) {
 // The cause of a refusal, at once: what happened, in a sentence; what was seen and is allowed; the refused line beside the one that it
 // contradicts; the rule, who is accused, and the change of a recording that would mend it. `first` is the program's first line.
 export function causeView({refusal, text, meaning}, session, first) {
-  const {refused, check, edit} = refusal, told = rowsOf(text, 'accused', 'rule', 'unit'), {texts, source} = session;
+  const {refused, check, edit} = refusal, told = rowsOf(text, 'accused', 'unit'), {texts, source} = session;
   const isWire = source && source.kind === 'wire', meant = explanationOf(meaning).find(part => part.text).text;
   const said = sentence(refused, session.names.length === 1) || meant;
   const boxed = (name, title, words) => make('div', {className: name}, make('small', {}, title), make('b', {}, words));
@@ -79,7 +79,7 @@ export function causeView({refusal, text, meaning}, session, first) {
   if (check) parts.push(make('div', {className: 'pair'}, boxed('seen', 'Seen', check.seen), boxed('allowed', 'Allowed there', check.allowed)));
   const columns = sideBySide(refusal, texts, told.unit[0]).map(column => columnView(column, session.nameOf(column.side)));
   parts.push(make('div', {className: 'pair lines'}, ...columns));
-  const rule = told.rule.join(' ').replace(/ \(docs\/[^)]*\)/, '') || meant;
+  const rule = (check && check.rule) || meant;
   const likely = edit.map(({words}) => words).join('; or ');
   const place = first.match(/^unexplained ([ab]) unit (\d+) line (\d+)/);
   const where = place && `unit ${place[2]} of ${place[1]} (counted from 0), whose first byte is on line ${place[3]} of ${source.name}`;
