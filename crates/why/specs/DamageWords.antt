@@ -14,7 +14,7 @@ cut_words lead count due = lead ++ (byte_count count ++ (codes " instead of " ++
 abbrev pub check_fault : (field : List ℕ) → (first second : ℕ) → List ℕ
 check_fault field first second =
     codes "block check " ++ (byte_digits first ++ (byte_digits second ++ (codes " instead of " ++ (byte_digits (check_of field % 256)
-    ++ byte_digits (check_of field / 256 % 256)))))
+    ++ byte_digits (check_of field / 256)))))
 
 -- of a header that is bad: six bytes and their check
 abbrev pub header_fault : (bytes : List ℕ) → List ℕ

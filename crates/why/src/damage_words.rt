@@ -51,7 +51,9 @@ fn write_check<W: Write>(f: &mut Formatter<W>, field: &[u8], first: u8, second: 
     let check = block_check(field);
     let first = ByteDigits { byte: first };
     let second = ByteDigits { byte: second };
-    let low = ByteDigits { byte: check as u8 };
+    let low = ByteDigits {
+        byte: (check % 256) as u8,
+    };
     let high = ByteDigits {
         byte: (check / 256) as u8,
     };
