@@ -181,6 +181,8 @@ The captures end with it. Then: ddcap why A B
 
 With --line stations and line are judged alone: a packet is any bytes.
 
+With --json the answer is one JSON object; docs/KEYS.md has its keys.
+
 Status:
   0  accepted
   1  unexplained

@@ -23,6 +23,11 @@ With --line, before or behind the files, stations and line are judged alone: a
 packet is any bytes and is not read, and events of links are not judged. Use it
 for a line that joins routers, or that carries what is no DECnet.
 
+With --json the answer is one JSON object; docs/KEYS.md has its keys.
+
+More pairs may follow, as A B C D: each is answered in turn, with the name of
+its first file before the answer, and the status is the greatest.
+
 Status:
   0  accepted: some order of all records keeps to the protocols
   1  refused: no order does
@@ -52,6 +57,8 @@ passed, and a line of counts: this end kept its rules, as far as one end shows.
 
 A recorder that counts no units writes each receipt as r 0 BYTES in format 2.
 With --line station and line are judged alone, as ddcap help check says.
+
+With --json the answer is one JSON object; docs/KEYS.md has its keys.
 
 Status:
   0  passed
@@ -84,6 +91,9 @@ would not tell the same, which is no proof.
 
 With --json, before or behind the files, each of these is an object on a line
 of its own. A pair that is not refused is told as by check.
+
+docs/KEYS.md has the keys of these objects. With --line only stations and line
+of a pair are judged, as by check.
 
 Status:
   0  accepted, passed
@@ -121,6 +131,10 @@ and again for the links, where it is theirs. A dot is a count of 0; rows that
 neither side met are left out. More pairs may follow, as A B A B: then there is
 a first line for each, and counts add up; a fault is followed by a line that
 tells which pair it was.
+
+With --line only stations and line are judged, and rows of links are not
+counted. With --json the answer is one JSON object, with all 80 rows;
+docs/KEYS.md has its keys.
 
 Status:
   0  accepted
