@@ -106,20 +106,23 @@ pub fn put_string(alloc: Global, object: &mut Vec<u8>, text: &str) -> Result<(),
     for byte in bytes {
         put_byte(alloc, object, *byte)?;
     }
-    object.push(b'"')
+    object.push(b'"')?;
+    Ok(())
 }
 
 // A quote and a backslash have a backslash before them, and a control character is told by its number.
 fn put_byte(alloc: Global, object: &mut Vec<u8>, byte: u8) -> Result<(), AllocError> {
     if byte == b'"' || byte == b'\\' {
         object.push(b'\\')?;
-        return object.push(byte);
+        object.push(byte)?;
+        return Ok(());
     }
     if byte < b' ' || byte == 127 {
         let escaped = format!(in alloc; "\\u00{}{}", digit(byte / 16), digit(byte % 16))?;
         return put(object, escaped.as_str());
     }
-    object.push(byte)
+    object.push(byte)?;
+    Ok(())
 }
 
 fn digit(value: u8) -> char {
