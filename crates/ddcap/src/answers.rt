@@ -18,8 +18,8 @@ use std::alloc::{AllocError, Global};
 use std::io::{Read, Write};
 use wire_base::{Side, Tally, write_whole};
 
-/// Judges a pair as `check_to` does, and prints the verdict or the fault as one JSON object. A fault is told to `err` too. Status and order of reading
-/// are those of `check_to`. No contract tells the object.
+/// Judges a pair as `check_to` does, and prints the verdict or the fault as one JSON object. A fault is told to `err` too. Status and order of
+/// reading are those of `check_to`. No contract tells the object.
 pub fn check_json_to<A: Read, B: Read, O: Write, E: Write>(
     alloc: Global,
     layers: Layers,

@@ -80,8 +80,8 @@ pub fn cover_object<A: Read, B: Read, E: Write>(
     }
 }
 
-/// Prints what was found of all pairs as one object, and answers the status: 0 where all are accepted, 1 where one is refused, and 3 where there is no
-/// memory for it or a write failed. No contract tells the object.
+/// Prints what was found of all pairs as one object, and answers the status: 0 where all are accepted, 1 where one is refused, and 3 where there is
+/// no memory for it or a write failed. No contract tells the object.
 pub fn print_covered_object<O: Write, E: Write>(
     alloc: Global,
     covered: &CoveredObjects,

@@ -95,8 +95,8 @@ impl Tried {
     }
 }
 
-/// Judges the pair again, over these layers, under small edits of a recorder's mistakes near the refused record of this side, the likeliest first: at most
-/// 64, and none is begun once 500,000,000 bytes were read. Where one makes it a run, it is judged with one field of the refused unit changed too.
+/// Judges the pair again, over these layers, under small edits of a recorder's mistakes near the refused record of this side, the likeliest first:
+/// at most 64, and none is begun once 500,000,000 bytes were read. Where one makes it a run, it is judged with one field of the refused unit changed too.
 /// Nothing is tried where a file can't be read again from its beginning, nor where fewer than [`FEW_RECORDS`] records stand behind the refused one;
 /// and nothing more once a read failed. `AllocError` where there is no memory for an edit.
 pub fn try_edits<A: Read + Seek, B: Read + Seek>(

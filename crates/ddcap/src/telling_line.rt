@@ -14,8 +14,8 @@ use std::alloc::Global;
 use std::io::{Read, Seek, Write};
 use wire_base::Tally;
 
-/// Judges stations and line alone of the captures that two files give, prints what is answered and why, as `why_to` does, and answers the status. The
-/// first line is that of `check_line_to`. No contract tells the rest.
+/// Judges stations and line alone of the captures that two files give, prints what is answered and why, as `why_to` does, and answers the status.
+/// The first line is that of `check_line_to`. No contract tells the rest.
 pub fn why_line_to<A: Read + Seek, B: Read + Seek, O: Write, E: Write>(
     alloc: Global,
     printout: Printout<'_>,
