@@ -2,6 +2,7 @@ mod Listing
 mod NotOpened
 pub mod Pictures
 pub mod Answering
+pub mod Ended
 pub mod AnsweringAlone
 pub mod AcceptLaws
 mod PlayedBehind

@@ -1,4 +1,5 @@
 pub mod Printed
+pub mod Statuses
 pub mod Covering
 pub mod Shown
 pub mod Showing

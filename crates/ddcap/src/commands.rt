@@ -22,44 +22,55 @@ pub fn program<'a>(alloc: Global) -> Result<Command<'a>, AllocError> {
         .subcommand(explain(alloc)?)
 }
 
-// `check [--line] A B`
+// `check [--line] [--json] A B [A B ..]`
 fn check<'a>(alloc: Global) -> Result<Command<'a>, AllocError> {
-    Command::new(alloc, "check")
-        .arg(Arg::new(alloc, "A").required(true))?
-        .arg(Arg::new(alloc, "B").required(true))?
-        .arg(line_alone(alloc))
+    of_pairs(alloc, "check")
 }
 
-// `alone [--line] A`
+// `alone [--line] [--json] A`
 fn alone<'a>(alloc: Global) -> Result<Command<'a>, AllocError> {
     Command::new(alloc, "alone")
         .arg(Arg::new(alloc, "A").required(true))?
-        .arg(line_alone(alloc))
+        .arg(line_alone(alloc))?
+        .arg(as_json(alloc))
 }
 
-// `why [--json] A [B]`
+// `why [--line] [--json] A [B]`
 fn why<'a>(alloc: Global) -> Result<Command<'a>, AllocError> {
     Command::new(alloc, "why")
         .arg(Arg::new(alloc, "A").required(true))?
         .arg(Arg::new(alloc, "B"))?
-        .arg(
-            Arg::new(alloc, "json")
-                .long("json")
-                .action(ArgAction::SetTrue),
-        )
+        .arg(line_alone(alloc))?
+        .arg(as_json(alloc))
 }
 
-/// `--line`, before or behind the files
+// `--json`, before or after the files
+fn as_json<'a>(alloc: Global) -> Arg<'a> {
+    Arg::new(alloc, "json")
+        .long("json")
+        .action(ArgAction::SetTrue)
+}
+
+/// `--line`, before or after the files
 pub fn line_alone<'a>(alloc: Global) -> Arg<'a> {
     Arg::new(alloc, "line")
         .long("line")
         .action(ArgAction::SetTrue)
 }
 
-// `cover A B [A B ..]`
+// `cover [--line] [--json] A B [A B ..]`
 fn cover<'a>(alloc: Global) -> Result<Command<'a>, AllocError> {
-    let files = Arg::new(alloc, "FILE").required(true).num_args(2..);
-    Command::new(alloc, "cover").arg(files)
+    of_pairs(alloc, "cover")
+}
+
+// A word that takes the files of one pair or more. How many more there are is not asked here.
+fn of_pairs<'a>(alloc: Global, word: &'a str) -> Result<Command<'a>, AllocError> {
+    Command::new(alloc, word)
+        .arg(Arg::new(alloc, "A").required(true))?
+        .arg(Arg::new(alloc, "B").required(true))?
+        .arg(Arg::new(alloc, "MORE").num_args(1..))?
+        .arg(line_alone(alloc))?
+        .arg(as_json(alloc))
 }
 
 // `show A`
@@ -83,13 +94,14 @@ fn convert<'a>(alloc: Global) -> Result<Command<'a>, AllocError> {
         .arg(Arg::new(alloc, "OUT").required(true))
 }
 
-// `tap [--line] WIRE A B`
+// `tap [--line] [--json] WIRE A B`
 fn tap<'a>(alloc: Global) -> Result<Command<'a>, AllocError> {
     Command::new(alloc, "tap")
         .arg(Arg::new(alloc, "WIRE").required(true))?
         .arg(Arg::new(alloc, "A").required(true))?
         .arg(Arg::new(alloc, "B").required(true))?
-        .arg(line_alone(alloc))
+        .arg(line_alone(alloc))?
+        .arg(as_json(alloc))
 }
 
 // `help [WORD]`

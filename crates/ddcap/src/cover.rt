@@ -7,8 +7,10 @@ ghost use Rattle.ddcap.specs.inner.NotOpened as names;
 ghost use Rattle.ddcap.specs.Printed.{moved, stream_of};
 
 use crate::check::{print, print_fault, print_out_of_memory};
+use crate::layers::Layers;
 use crate::path_text::put_path;
 use crate::text::{verdict_line, verdict_status};
+use crate::went::{Went, judge_went};
 use coverage::{Counts, Cover, judge_covered, table};
 use pair_judge::Verdict;
 use std::alloc::{AllocError, Global};
@@ -62,6 +64,16 @@ impl Covered {
         self.status = self.status.max(verdict_status(verdict));
         Ok(())
     }
+
+    // One pair more, of stations alone. `AllocError` as above.
+    fn add_went(&mut self, alloc: Global, went: Went) -> Result<(), AllocError> {
+        let line = verdict_line(alloc, went.verdict)?;
+        self.lines.push_str(line.as_str())?;
+        self.a.add(&went.a);
+        self.b.add(&went.b);
+        self.status = self.status.max(verdict_status(went.verdict));
+        Ok(())
+    }
 }
 
 /// Judges one more pair, and counts which rows each side went through.
@@ -82,6 +94,25 @@ pub fn cover_pair<A: Read, B: Read, E: Write>(
         Err(fault) => return Err(print_fault(alloc, fault, err)),
     };
     match covered.add(alloc, watched.ends.verdict(), &watched.observer) {
+        Ok(()) => Ok(()),
+        Err(_) => Err(print_out_of_memory(err)),
+    }
+}
+
+/// Judges stations and line alone of one more pair, and counts which rows of stations each side went through. `Err` as for `cover_pair`. No contract
+/// tells the counts.
+pub fn cover_line_pair<A: Read, B: Read, E: Write>(
+    alloc: Global,
+    a: &mut Tally<A>,
+    b: &mut Tally<B>,
+    covered: &mut Covered,
+    err: &mut Tally<E>,
+) -> Result<(), u8> {
+    let went = match judge_went(alloc, Layers::Station, a, b) {
+        Ok(went) => went,
+        Err(fault) => return Err(print_fault(alloc, fault, err)),
+    };
+    match covered.add_went(alloc, went) {
         Ok(()) => Ok(()),
         Err(_) => Err(print_out_of_memory(err)),
     }

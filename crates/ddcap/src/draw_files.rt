@@ -5,6 +5,7 @@ ghost use Rattle.drawing.specs.declared.range.TheConstants.{MAX_ROWS};
 
 use crate::check::{print, print_fault, print_out_of_memory};
 use crate::draw::draw_rows_to;
+use crate::fault_told::FaultTold;
 use crate::files::{Named, Wanted, opened_plain};
 use crate::picture::picture_of;
 use crate::text::verdict_status;
@@ -26,13 +27,13 @@ pub struct Asked<'a> {
     ghost high: { range.rows ≤ MAX_ROWS },
 }
 
-/// Opens the two files, a's first, and draws what they hold. `Err`: the status of a file that can't be opened or created, which was told.
+/// Opens the two files, a's first, and draws what they hold. `Err`: a file can't be opened or created, which was told.
 pub fn draw_files<R: Files + AllocGlobal, O: Write, E: Write>(
     rt: &R,
     asked: Asked<'_>,
     out: &mut Tally<O>,
     err: &mut Tally<E>,
-) -> Result<u8, u8> {
+) -> Result<u8, FaultTold> {
     let mut a = opened_plain(rt, Wanted::by_path(Named::A, asked.a), err)?;
     let mut b = opened_plain(rt, Wanted::by_path(Named::B, asked.b), err)?;
     let Some(path) = asked.svg else {

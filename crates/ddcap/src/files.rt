@@ -7,6 +7,7 @@ ghost use Rattle.ddcap.specs.inner.NotOpened.{IsPathNotOpened, path_not_opened_t
 ghost use Rattle.ddcap.specs.Printed.{Writes, fault_text, moved, not_opened_says, not_opened_text, stream_of};
 
 use crate::check::{print, print_out_of_memory};
+use crate::fault_told::{FaultKind, FaultTold};
 use crate::path_text::put_path;
 use crate::text::FAILED;
 use std::alloc::{AllocError, Global};
@@ -81,12 +82,12 @@ impl<'p> Wanted<'p> {
     }
 }
 
-/// Opens a file to be read. `Err`: it can't be opened, which was told, with this status.
+/// Opens a file to be read. `Err`: it can't be opened, which was told.
 pub fn opened<R: Files + AllocGlobal, E: Write>(
     rt: &R,
     wanted: Wanted<'_>,
     err: &mut Tally<E>,
-) -> Result<Tally<R::File>, u8> {
+) -> Result<Tally<R::File>, FaultTold> {
     let file = opened_plain(rt, wanted, err)?;
     Ok(Tally::new(file))
 }
@@ -96,13 +97,18 @@ pub fn opened_plain<R: Files + AllocGlobal, E: Write>(
     rt: &R,
     wanted: Wanted<'_>,
     err: &mut Tally<E>,
-) -> Result<R::File, u8> {
+) -> Result<R::File, FaultTold> {
+    match open_to_read(rt, wanted.path) {
+        Ok(file) => Ok(file),
+        Err(error) => Err(told_fault_of(rt.alloc(), err, wanted, &error)),
+    }
+}
+
+/// Opens a file to be read, and tells nothing.
+pub fn open_to_read<R: Files>(rt: &R, path: &str) -> io::Result<R::File> {
     let mut how = OpenOptions::new();
     how.read(true);
-    match open_above_streams(rt, &how, wanted.path) {
-        Ok(file) => Ok(file),
-        Err(error) => Err(print_fault_of(rt.alloc(), err, wanted, &error)),
-    }
+    open_above_streams(rt, &how, path)
 }
 
 /// Opens a file to be written, which is created where there is none, and keeps what it has. `Err` as for `opened`.
@@ -110,12 +116,12 @@ pub fn opened_to_write<R: Files + AllocGlobal, E: Write>(
     rt: &R,
     wanted: Wanted<'_>,
     err: &mut Tally<E>,
-) -> Result<R::File, u8> {
+) -> Result<R::File, FaultTold> {
     let mut how = OpenOptions::new();
     how.write(true).create(true);
     match open_above_streams(rt, &how, wanted.path) {
         Ok(file) => Ok(file),
-        Err(error) => Err(print_fault_of(rt.alloc(), err, wanted, &error)),
+        Err(error) => Err(told_fault_of(rt.alloc(), err, wanted, &error)),
     }
 }
 
@@ -126,8 +132,22 @@ fn open_above_streams<R: Files>(rt: &R, how: &OpenOptions, path: &str) -> io::Re
     file.try_clone()
 }
 
-/// Prints that a file can't be opened, or that memory was wanting for it, and answers the status.
-pub fn print_fault_of<W: Write>(
+/// Tells that a file can't be opened, or that memory was wanting for it.
+pub fn told_fault_of<W: Write>(
+    alloc: Global,
+    err: &mut Tally<W>,
+    wanted: Wanted<'_>,
+    error: &io::Error,
+) -> FaultTold {
+    let status = print_fault_of(alloc, err, wanted, error);
+    if error.kind() == ErrorKind::OutOfMemory {
+        return FaultTold::out_of_memory(status);
+    }
+    FaultTold::of(wanted.named, FaultKind::NotOpened, status)
+}
+
+// Prints that a file can't be opened, or that memory was wanting for it, and answers the status.
+fn print_fault_of<W: Write>(
     alloc: Global,
     err: &mut Tally<W>,
     wanted: Wanted<'_>,

@@ -181,6 +181,8 @@ Both captures then end with that unit. Then: ddcap why A B
 
 With --line only stations and line are judged: a packet may be any bytes.
 
+With --json the answer is one JSON object; docs/KEYS.md has its keys.
+
 Status:
   0  accepted
   1  unexplained

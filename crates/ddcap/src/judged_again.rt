@@ -1,11 +1,12 @@
 //! A pair that is judged again under changes of its captures.
 
-ghost use Rattle.dna_node.specs.Kind.{both_layers};
 ghost use Rattle.pair_judge.specs.Judged.{IsAnswer};
 ghost use Rattle.ddcap.specs.inner.Edits.{with_changes};
+ghost use Rattle.ddcap.specs.inner.Layers.{nodes_of};
 
+use crate::layers::{Layers, judge_over};
 use edited::{Change, EditedReader};
-use pair_judge::{JudgeFault, TextFault, Verdict, judge};
+use pair_judge::{JudgeFault, TextFault, Verdict};
 use std::alloc::Global;
 use std::io::{Read, Seek};
 use wire_base::{Side, Tally};
@@ -30,6 +31,7 @@ impl PairChanges {
 /// Whether the pair is a run under these changes; `None` where a file can't be read again. `Err`: want of memory, or a read that failed.
 pub fn is_run_again<A: Read + Seek, B: Read + Seek>(
     alloc: Global,
+    layers: Layers,
     a: &mut A,
     b: &mut B,
     changes: PairChanges,
@@ -37,7 +39,7 @@ pub fn is_run_again<A: Read + Seek, B: Read + Seek>(
     if a.rewind().is_err() || b.rewind().is_err() {
         return Ok(None);
     }
-    match judge_edited(alloc, &mut *a, &mut *b, changes) {
+    match judge_edited(alloc, layers, &mut *a, &mut *b, changes) {
         Ok(Verdict::Accepted(_)) => Ok(Some(true)),
         Ok(Verdict::Refused { .. }) => Ok(Some(false)),
         Err(
@@ -50,14 +52,15 @@ pub fn is_run_again<A: Read + Seek, B: Read + Seek>(
     }
 }
 
-/// Judges the captures that two readers give with these changes of their lines, as `judge` judges the edited texts.
+/// Judges the captures that two readers give with these changes of their lines, as the edited texts are judged.
 pub fn judge_edited<A: Read, B: Read>(
     alloc: Global,
+    layers: Layers,
     a: &mut A,
     b: &mut B,
     changes: PairChanges,
 ) -> Result<Verdict, JudgeFault>
-    ensures { IsAnswer both_layers (with_changes changes.a.items (A.remaining a.old)) (with_changes changes.b.items (B.remaining b.old)) result }
+    ensures { IsAnswer (nodes_of layers) (with_changes changes.a.items (A.remaining a.old)) (with_changes changes.b.items (B.remaining b.old)) result }
 {
     let PairChanges {
         a: changes_a,
@@ -69,5 +72,10 @@ pub fn judge_edited<A: Read, B: Read>(
     let Ok(edited_b) = EditedReader::new(alloc, changes_b, &mut *b) else {
         return Err(JudgeFault::OutOfMemory);
     };
-    judge(alloc, &mut Tally::new(edited_a), &mut Tally::new(edited_b))
+    judge_over(
+        alloc,
+        layers,
+        &mut Tally::new(edited_a),
+        &mut Tally::new(edited_b),
+    )
 }

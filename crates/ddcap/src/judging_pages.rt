@@ -24,6 +24,11 @@ packet may be any bytes and is not read, and events of links are not judged.
 Use it for a line that joins routers, or that carries something else than
 DECnet.
 
+With --json the answer is one JSON object; docs/KEYS.md has its keys.
+
+More pairs may follow, as A B C D: each is answered in turn, with the name of
+its first file before the answer, and the status is the greatest.
+
 Status:
   0  accepted: some order of all records obeys the protocols
   1  refused: no such order exists
@@ -53,6 +58,8 @@ passed, and a line of counts: this end kept its rules, as far as one end shows.
 
 A recorder that counts no units writes each receipt as r 0 BYTES in format 2.
 With --line only station and line are judged, as ddcap help check says.
+
+With --json the answer is one JSON object; docs/KEYS.md has its keys.
 
 Status:
   0  passed
@@ -85,6 +92,9 @@ one wrong unit of the node would explain it as well. This is no proof.
 
 With --json, before or after the files, each of these is an object on a line of
 its own. For a pair that is not refused, the answer is that of check.
+
+docs/KEYS.md has the keys of these objects. With --line only stations and line
+of a pair are judged, as by check.
 
 Status:
   0  accepted, passed
@@ -122,6 +132,10 @@ again for the links if it is one of theirs. A dot is a count of 0; rows that
 neither side went through are left out. More pairs may follow, as A B A B: then
 there is a first line for each, and counts add up; a fault is followed by a
 line that says which pair it was.
+
+With --line only stations and line are judged, and rows of links are not
+counted. With --json the answer is one JSON object, with all 80 rows;
+docs/KEYS.md has its keys.
 
 Status:
   0  accepted

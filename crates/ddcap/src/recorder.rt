@@ -3,6 +3,7 @@
 
 use crate::due::{damage_of, due_near};
 use crate::judged_again::{PairChanges, is_run_again};
+use crate::layers::Layers;
 use crate::near::{Near, near_of, what_is_asked};
 use crate::unit_changes::{is_sent_at_another_time, unit_changes};
 use capture::{CaptureFault, Entry};
@@ -94,12 +95,13 @@ impl Tried {
     }
 }
 
-/// Judges the pair again under small edits of a recorder's mistakes near the refused record of this side, the likeliest first: at most
-/// 64, and none is begun once 500,000,000 bytes were read. Where one makes it a run, it is judged with one field of the refused unit changed too.
+/// Judges the pair again, over these layers, under small edits of a recorder's mistakes near the refused record of this side, the likeliest first:
+/// at most 64, and none is begun once 500,000,000 bytes were read. Where one makes it a run, it is judged with one field of the refused unit changed too.
 /// Nothing is tried where a file can't be read again from its beginning, nor where fewer than [`FEW_RECORDS`] records stand behind the refused one;
 /// and nothing more once a read failed. `AllocError` where there is no memory for an edit.
 pub fn try_edits<A: Read + Seek, B: Read + Seek>(
     alloc: Global,
+    layers: Layers,
     a: &mut A,
     b: &mut B,
     ends: &JudgedEnds,
@@ -134,9 +136,9 @@ pub fn try_edits<A: Read + Seek, B: Read + Seek>(
     if records < FEW_RECORDS {
         return Ok(tried);
     }
-    let tried = try_each(alloc, a, b, ends, edits, tried)?;
+    let tried = try_each(alloc, layers, a, b, ends, edits, tried)?;
     if tried.failed.is_none() && tried.counts.accepted > 0 && !tried.unit_as_well {
-        return try_units(alloc, a, b, units, tried);
+        return try_units(alloc, layers, a, b, units, tried);
     }
     Ok(tried)
 }
@@ -144,13 +146,14 @@ pub fn try_edits<A: Read + Seek, B: Read + Seek>(
 // Whether the pair is a run under one of these changes of a unit. Where a file can't be read again, nobody knows, and it may be.
 fn try_units<A: Read + Seek, B: Read + Seek>(
     alloc: Global,
+    layers: Layers,
     a: &mut A,
     b: &mut B,
     units: Vec<PairChanges>,
     mut tried: Tried,
 ) -> Result<Tried, AllocError> {
     for changes in units {
-        match is_run_again(alloc, a, b, changes) {
+        match is_run_again(alloc, layers, a, b, changes) {
             Ok(Some(false)) => {}
             Ok(Some(true)) | Ok(None) => {
                 tried.unit_as_well = true;
@@ -179,6 +182,7 @@ fn stopped(mut tried: Tried, fault: JudgeFault) -> Result<Tried, AllocError> {
 // Judges the pair under one edit after another.
 fn try_each<A: Read + Seek, B: Read + Seek>(
     alloc: Global,
+    layers: Layers,
     a: &mut A,
     b: &mut B,
     ends: &JudgedEnds,
@@ -192,7 +196,7 @@ fn try_each<A: Read + Seek, B: Read + Seek>(
         }
         let Edit { of, changes } = edit;
         let changes = PairChanges::of(of.side, changes, Vec::new(alloc));
-        let is_run = match is_run_again(alloc, a, b, changes) {
+        let is_run = match is_run_again(alloc, layers, a, b, changes) {
             Ok(Some(is_run)) => is_run,
             Ok(None) => return Ok(tried),
             Err(fault) => return stopped(tried, fault),

@@ -1,21 +1,26 @@
 //! The program between its words and its status.
 
 ghost use Rattle.ddcap.specs.Printed.{Writes, stream_of, words_fault_status, words_fault_text};
+ghost use Rattle.ddcap.specs.Statuses.{EndsWith};
 
-use crate::alone::{alone_line_to, alone_to};
-use crate::check::{check_line_to, check_to, print, print_out_of_memory};
+use crate::check::{print, print_out_of_memory};
+use crate::check_files::{How, alone_file, check_files};
 use crate::convert::convert_to;
-use crate::cover::{Covered, cover_pair, print_covered, print_pair};
+use crate::cover_files::cover_files;
 use crate::draw_files::draw_files;
 use crate::end_telling::{EndPrintout, why_end_to};
 use crate::explain::explain_to;
 use crate::explanations::explanation_of;
+use crate::fault_told::FaultTold;
 use crate::files::{Named, Wanted, opened, opened_plain};
 use crate::help::help_to;
+use crate::layers::Layers;
 use crate::play::play_to;
 use crate::show::show_to;
 use crate::tap_files::tap_files;
 use crate::telling::{Form, Printout, why_to};
+use crate::telling_line::why_line_to;
+use crate::usages::advice_on;
 use crate::words::{Task, WordsFault, task_of};
 use crate::written::{Beside, written, written_pair};
 use capture::Format;
@@ -40,12 +45,12 @@ pub fn run<R: Env + Files + AllocGlobal, O: Write, E: Write>(
     };
     let task = match task_of(rt.alloc(), words.as_slice()) {
         Ok(task) => task,
-        Err(fault) => return print_words_fault(err, fault),
+        Err(fault) => return print_slip(err, fault, advice_on(words.as_slice())),
     };
     let mut program = Program { rt, out, err };
     match program.do_task(task) {
         Ok(status) => status,
-        Err(status) => status,
+        Err(told) => told.status,
     }
 }
 
@@ -57,105 +62,74 @@ struct Program<'r, 'o, 'e, R: Files + AllocGlobal, O: Write, E: Write> {
     err: &'e mut Tally<E>,
 }
 
-// Each answers the status of its task. `Err`: that of a file which can't be opened or created, which was told.
+// Each answers the status of its task. `Err`: a file can't be opened or created, which was told.
 impl<R: Files + AllocGlobal, O: Write, E: Write> Program<'_, '_, '_, R, O, E> {
-    fn do_task(&mut self, task: Task<'_>) -> Result<u8, u8> {
+    fn do_task(&mut self, task: Task<'_>) -> Result<u8, FaultTold> {
         match task {
-            Task::Check { a, b } => self.check(a, b),
-            Task::CheckLine { a, b } => self.check_line(a, b),
-            Task::Alone { a } => {
-                let mut a = self.open(Wanted::by_path(Named::A, a))?;
-                Ok(alone_to(self.rt.alloc(), &mut a, self.out, self.err))
+            Task::Check {
+                form,
+                layers,
+                files,
+            } => {
+                let how = How { form, layers };
+                Ok(check_files(self.rt, how, files.as_slice(), self.out, self.err))
             }
-            Task::AloneLine { a } => {
-                let mut a = self.open(Wanted::by_path(Named::A, a))?;
-                Ok(alone_line_to(self.rt.alloc(), &mut a, self.out, self.err))
+            Task::Alone { form, layers, a } => {
+                Ok(alone_file(self.rt, How { form, layers }, a, self.out, self.err))
             }
-            Task::Why { form, a, b } => self.why(form, a, b),
+            Task::Why { form, layers, a, b } => self.why(How { form, layers }, a, b),
             Task::WhyAlone { form, a } => self.why_alone(form, a),
-            Task::Cover { files } => self.cover(files.as_slice()),
+            Task::Cover {
+                form,
+                layers,
+                files,
+            } => {
+                let how = How { form, layers };
+                Ok(cover_files(self.rt, how, files.as_slice(), self.out, self.err))
+            }
             Task::Draw(asked) => draw_files(self.rt, asked, self.out, self.err),
             Task::Show { a } => self.show(a),
             Task::Play { script, a, b } => self.play(script, a, b),
             Task::Convert { to, a, b } => self.convert(to, a, b),
-            Task::Tap { paths } => tap_files(self.rt, paths, self.out, self.err),
+            Task::Tap { form, paths } => Ok(tap_files(self.rt, form, paths, self.out, self.err)),
             Task::Help { topic } => Ok(help_to(self.out, topic)),
             Task::Explain { reason } => self.explain(reason),
         }
     }
 
     // A file to be read.
-    fn open(&mut self, wanted: Wanted<'_>) -> Result<Tally<R::File>, u8> {
+    fn open(&mut self, wanted: Wanted<'_>) -> Result<Tally<R::File>, FaultTold> {
         opened(self.rt, wanted, self.err)
     }
 
-    fn check(&mut self, path_a: &str, path_b: &str) -> Result<u8, u8> {
-        let mut a = self.open(Wanted::by_name(Named::A, path_a))?;
-        let mut b = self.open(Wanted::by_name(Named::B, path_b))?;
-        Ok(check_to(self.rt.alloc(), &mut a, &mut b, self.out, self.err))
-    }
-
-    fn check_line(&mut self, path_a: &str, path_b: &str) -> Result<u8, u8> {
-        let mut a = self.open(Wanted::by_name(Named::A, path_a))?;
-        let mut b = self.open(Wanted::by_name(Named::B, path_b))?;
-        Ok(check_line_to(self.rt.alloc(), &mut a, &mut b, self.out, self.err))
-    }
-
-    fn why(&mut self, form: Form, path_a: &str, path_b: &str) -> Result<u8, u8> {
+    fn why(&mut self, how: How, path_a: &str, path_b: &str) -> Result<u8, FaultTold> {
         let mut a = opened_plain(self.rt, Wanted::by_path(Named::A, path_a), self.err)?;
         let mut b = opened_plain(self.rt, Wanted::by_path(Named::B, path_b), self.err)?;
         let printout = Printout {
-            form,
+            form: how.form,
             name_a: path_a,
             name_b: path_b,
         };
-        Ok(why_to(
-            self.rt.alloc(),
-            printout,
-            &mut a,
-            &mut b,
-            self.out,
-            self.err,
-        ))
+        let alloc = self.rt.alloc();
+        Ok(match how.layers {
+            Layers::Both => why_to(alloc, printout, &mut a, &mut b, self.out, self.err),
+            Layers::Station => why_line_to(alloc, printout, &mut a, &mut b, self.out, self.err),
+        })
     }
 
-    fn why_alone(&mut self, form: Form, path: &str) -> Result<u8, u8> {
+    fn why_alone(&mut self, form: Form, path: &str) -> Result<u8, FaultTold> {
         let mut a = self.open(Wanted::by_path(Named::A, path))?;
         let printout = EndPrintout { form, name: path };
         Ok(why_end_to(self.rt.alloc(), printout, &mut a, self.out, self.err))
     }
 
-    // The files of each pair, a's first, pair by pair.
-    fn cover(&mut self, files: &[&str]) -> Result<u8, u8> {
-        let mut covered = Covered::new(self.rt.alloc());
-        let mut number = 0u64;
-        for pair in files.chunks_exact(2) {
-            number = number.saturating_add(1);
-            let Err(status) = self.cover_files(pair[0], pair[1], &mut covered) else {
-                continue;
-            };
-            if files.len() == 2 {
-                return Err(status);
-            }
-            return Err(print_pair(self.rt.alloc(), self.err, number, pair[0], pair[1], status));
-        }
-        Ok(print_covered(self.rt.alloc(), &covered, self.out, self.err))
-    }
-
-    // One pair more.
-    fn cover_files(&mut self, path_a: &str, path_b: &str, covered: &mut Covered) -> Result<(), u8> {
-        let mut a = self.open(Wanted::by_path(Named::A, path_a))?;
-        let mut b = self.open(Wanted::by_path(Named::B, path_b))?;
-        cover_pair(self.rt.alloc(), &mut a, &mut b, covered, self.err)
-    }
-
-    fn show(&mut self, path: &str) -> Result<u8, u8> {
+    fn show(&mut self, path: &str) -> Result<u8, FaultTold> {
         let mut a = self.open(Wanted::by_name(Named::A, path))?;
         Ok(show_to(self.rt.alloc(), &mut a, self.out, self.err))
     }
 
     // Writes into the second file what the first one holds, in this format.
-    fn convert(&mut self, to: Format, path_a: &str, path_b: &str) -> Result<u8, u8> {
+    fn convert(&mut self, to: Format, path_a: &str, path_b: &str) -> Result<u8, FaultTold> {
         let src = opened_plain(self.rt, Wanted::by_name(Named::A, path_a), self.err)?;
         let beside = Beside {
             named: Named::A,
@@ -174,7 +148,7 @@ impl<R: Files + AllocGlobal, O: Write, E: Write> Program<'_, '_, '_, R, O, E> {
     }
 
     // Plays the script into both captures.
-    fn play(&mut self, path: &str, path_a: &str, path_b: &str) -> Result<u8, u8> {
+    fn play(&mut self, path: &str, path_a: &str, path_b: &str) -> Result<u8, FaultTold> {
         let script = opened_plain(self.rt, Wanted::by_name(Named::Script, path), self.err)?;
         let beside = Beside {
             named: Named::Script,
@@ -195,7 +169,7 @@ impl<R: Files + AllocGlobal, O: Write, E: Write> Program<'_, '_, '_, R, O, E> {
         ))
     }
 
-    fn explain(&mut self, reason: Reason) -> Result<u8, u8> {
+    fn explain(&mut self, reason: Reason) -> Result<u8, FaultTold> {
         let explanation = explanation_of(reason);
         Ok(explain_to(self.rt.alloc(), &explanation, self.out, self.err))
     }
@@ -213,6 +187,20 @@ fn words_given<R: Env + AllocGlobal>(rt: &R) -> Result<Vec<String>, WordsFault> 
             _ => Err(WordsFault::BadWords),
         },
     }
+}
+
+// Prints why the words are no task and, after `bad words`, the line that is told of them; and answers the status.
+fn print_slip<W: Write>(err: &mut Tally<W>, fault: WordsFault, advice: Option<&str>) -> u8
+    ensures { EndsWith (words_fault_status fault) result }
+{
+    let status = print_words_fault(err, fault);
+    let Some(advice) = advice else {
+        return status;
+    };
+    if status != BAD_WORDS {
+        return status;
+    }
+    print(err, advice.as_bytes(), status)
 }
 
 // Prints `bad words`, or `out of memory`, and answers the status.

@@ -28,10 +28,10 @@ use wire_base::{Side, Tally};
 use wire_tap::{Ending, TapFault, Tapped};
 
 /// The status where the captures are accepted.
-const ACCEPTED: u8 = 0;
+pub const ACCEPTED: u8 = 0;
 
 /// The status where they are not.
-const UNEXPLAINED: u8 = 1;
+pub const UNEXPLAINED: u8 = 1;
 
 /// A refused record of captures that are to be cut there, before anything is printed.
 #[derive(Clone, Copy, Debug, PartialEq, Eq)]
@@ -105,8 +105,8 @@ fn tap_over<A: Read, B: Read, O: Write, E: Write>(
     }
 }
 
-// The refused record, where the captures are still to be cut there. Where there were too many states to try, what is refused says nothing.
-fn to_be_cut(ending: Ending, verdict: Verdict, is_cut: bool) -> Option<RefusedAt>
+/// The refused record, where the captures are still to be cut there. Where there were too many states to try, what is refused says nothing.
+pub fn to_be_cut(ending: Ending, verdict: Verdict, is_cut: bool) -> Option<RefusedAt>
     ensures refused { IfSome result (IsRefusedAt verdict) }
     ensures cut { is_cut ≡ true → result ≡ None }
 {

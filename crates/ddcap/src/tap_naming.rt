@@ -2,8 +2,9 @@
 //! unit before it are accepted.
 
 use crate::check::{print_failed_read, print_fault, print_out_of_memory};
+use crate::fault_told::FaultTold;
 use crate::files::{Named, Wanted, opened};
-use crate::layers::{Layers, judge_over};
+use crate::layers::judge_over;
 use crate::tap::{RefusedAt, refused_at};
 use crate::tap_files::{TapPaths, write_captures};
 use capture::CaptureFault;
@@ -42,14 +43,14 @@ impl Reach {
 }
 
 /// The unit that is named, where this record of the captures of all that passed is refused, of which `tapped` was told. For that the captures are
-/// written again, and judged. `Err`: the status of a fault, which was told.
+/// written again, and judged. `Err`: a fault, which was told.
 pub fn named_unit<R: Files + AllocGlobal, E: Write>(
     rt: &R,
     paths: TapPaths<'_>,
     tapped: Tapped,
     refused: RefusedAt,
     err: &mut Tally<E>,
-) -> Result<Unit, u8> {
+) -> Result<Unit, FaultTold> {
     let mut high = Reach::of(tapped);
     let mut unit = unit_of(rt, paths, refused, err)?;
     for _ in 0..MOST_CUTS {
@@ -75,7 +76,7 @@ fn unit_between<R: Files + AllocGlobal, E: Write>(
     mut low: Reach,
     mut high: Reach,
     err: &mut Tally<E>,
-) -> Result<Unit, u8> {
+) -> Result<Unit, FaultTold> {
     for _ in 0..MOST_CUTS {
         let (of_a, of_b) = high.beyond(low);
         if of_a.saturating_add(of_b) <= 1 {
@@ -119,18 +120,16 @@ fn judge_cut<R: Files + AllocGlobal, E: Write>(
     paths: TapPaths<'_>,
     unit: Unit,
     err: &mut Tally<E>,
-) -> Result<(Reach, Option<RefusedAt>), u8> {
+) -> Result<(Reach, Option<RefusedAt>), FaultTold> {
     let tapped = write_captures(rt, paths, Some(unit), err)?;
     let mut a = opened(rt, Wanted::by_path(Named::A, paths.a), err)?;
     let mut b = opened(rt, Wanted::by_path(Named::B, paths.b), err)?;
-    let layers = if paths.line_alone {
-        Layers::Station
-    } else {
-        Layers::Both
-    };
-    match judge_over(rt.alloc(), layers, &mut a, &mut b) {
+    match judge_over(rt.alloc(), paths.layers(), &mut a, &mut b) {
         Ok(verdict) => Ok((Reach::of(tapped), refused_at(verdict))),
-        Err(fault) => Err(print_fault(rt.alloc(), fault, err)),
+        Err(fault) => {
+            let status = print_fault(rt.alloc(), fault, err);
+            Err(FaultTold::of_judge(fault, status))
+        }
     }
 }
 
@@ -140,7 +139,7 @@ fn unit_of<R: Files + AllocGlobal, E: Write>(
     paths: TapPaths<'_>,
     refused: RefusedAt,
     err: &mut Tally<E>,
-) -> Result<Unit, u8> {
+) -> Result<Unit, FaultTold> {
     let (path, named) = match refused.side {
         Side::A => (paths.a, Named::A),
         Side::B => (paths.b, Named::B),
@@ -148,7 +147,12 @@ fn unit_of<R: Files + AllocGlobal, E: Write>(
     let mut capture = opened(rt, Wanted::by_path(named, path), err)?;
     match units_before(rt.alloc(), &mut capture, refused.place) {
         Ok(unit) => Ok((refused.side, unit)),
-        Err(CaptureFault::OutOfMemory) => Err(print_out_of_memory(err)),
-        Err(_) => Err(print_failed_read(err, refused.side)),
+        Err(CaptureFault::OutOfMemory) => {
+            Err(FaultTold::out_of_memory(print_out_of_memory(err)))
+        }
+        Err(_) => {
+            let status = print_failed_read(err, refused.side);
+            Err(FaultTold::of_capture(refused.side, CaptureFault::Read, status))
+        }
     }
 }

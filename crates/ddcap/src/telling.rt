@@ -82,7 +82,7 @@ pub fn why_to<A: Read + Seek, B: Read + Seek, O: Write, E: Write>(
                 place,
                 reason,
             };
-            let tried = match try_edits(alloc, a, b, &watched.ends, side) {
+            let tried = match try_edits(alloc, Layers::Both, a, b, &watched.ends, side) {
                 Ok(tried) => tried,
                 Err(_) => return print_out_of_memory(err),
             };
@@ -114,8 +114,8 @@ fn print_accepted<O: Write, E: Write>(
     }
 }
 
-// Prints what is said of a refusal, and of which side a read failed meanwhile, and answers the status.
-fn print_refusal<O: Write, E: Write>(
+/// Prints what is said of a refusal, and of which side a read failed meanwhile, and answers the status.
+pub fn print_refusal<O: Write, E: Write>(
     text: &[u8],
     failed: Option<Side>,
     out: &mut Tally<O>,
@@ -132,8 +132,8 @@ fn print_refusal<O: Write, E: Write>(
     }
 }
 
-// What is said of a refusal. `AllocError` where there is no memory for it.
-fn refused_text(
+/// What is said of a refusal. `AllocError` where there is no memory for it.
+pub fn refused_text(
     alloc: Global,
     printout: Printout<'_>,
     refused: Refused,

@@ -5,6 +5,8 @@ use crate::draw_files::Asked;
 use crate::draw_words::drawing_asked;
 use crate::explanations::reason_spelled;
 use crate::help::Topic;
+use crate::judging_words::{checked_of, covered_of, explained_of, judged_alone_of, tapped_of};
+use crate::layers::Layers;
 use crate::tap_files::TapPaths;
 use crate::telling::Form;
 use capture::Format;
@@ -17,27 +19,22 @@ use std::convert::AsStr;
 /// What the program is asked to do.
 #[derive(Debug, Drop, PartialEq, Eq)]
 pub enum Task<'a> {
-    /// To judge the captures in two files.
+    /// To judge pairs of captures, over these layers: a file of side a, and one of side b, and so on.
     Check {
-        a: &'a str,
-        b: &'a str,
-    },
-    /// To judge stations and line alone of the captures in two files.
-    CheckLine {
-        a: &'a str,
-        b: &'a str,
+        form: Form,
+        layers: Layers,
+        files: Vec<&'a str>,
     },
     /// To judge the capture in a file without that of the other end.
     Alone {
-        a: &'a str,
-    },
-    /// To judge station and line alone of it.
-    AloneLine {
+        form: Form,
+        layers: Layers,
         a: &'a str,
     },
     /// To tell why the captures in two files are refused, in this form.
     Why {
         form: Form,
+        layers: Layers,
         a: &'a str,
         b: &'a str,
     },
@@ -48,6 +45,8 @@ pub enum Task<'a> {
     },
     /// To count which rows the pairs of captures in these files went through: a file of side a, and one of side b, and so on.
     Cover {
+        form: Form,
+        layers: Layers,
         files: Vec<&'a str>,
     },
     /// To draw the captures in two files.
@@ -64,6 +63,7 @@ pub enum Task<'a> {
     },
     /// To find the captures of what passed on a line, to write them into files, and to judge them, or stations and line alone.
     Tap {
+        form: Form,
         paths: TapPaths<'a>,
     },
     /// To write the capture in the file `a` in this format, into the file `b`.
@@ -98,7 +98,7 @@ pub fn task_of<'a, S: AsStr>(alloc: Global, words: &'a [S]) -> Result<Task<'a>, 
     };
     match program.try_get_matches_from(words) {
         Ok(matches) => match matches.subcommand() {
-            Some(("check", found)) => checked_of(found),
+            Some(("check", found)) => checked_of(alloc, found),
             Some(("alone", found)) => judged_alone_of(found),
             Some(("why", found)) => explained_of(found),
             Some(("cover", found)) => covered_of(alloc, found),
@@ -118,57 +118,6 @@ pub fn task_of<'a, S: AsStr>(alloc: Global, words: &'a [S]) -> Result<Task<'a>, 
             ErrorKind::OutOfMemory => Err(WordsFault::OutOfMemory),
             _ => Err(WordsFault::BadWords),
         },
-    }
-}
-
-// The captures that the words behind `check` name, and whether the line alone is judged.
-fn checked_of<'a>(found: &ArgMatches<'a>) -> Result<Task<'a>, WordsFault> {
-    let (Some(a), Some(b)) = (found.get_str("A"), found.get_str("B")) else {
-        return Err(WordsFault::BadWords);
-    };
-    if found.get_flag("line") {
-        return Ok(Task::CheckLine { a, b });
-    }
-    Ok(Task::Check { a, b })
-}
-
-// The capture that the words behind `alone` name, and whether the line alone is judged.
-fn judged_alone_of<'a>(found: &ArgMatches<'a>) -> Result<Task<'a>, WordsFault> {
-    let Some(a) = found.get_str("A") else {
-        return Err(WordsFault::BadWords);
-    };
-    if found.get_flag("line") {
-        return Ok(Task::AloneLine { a });
-    }
-    Ok(Task::Alone { a })
-}
-
-// The captures that the words behind `why` name, or the one, and in which form the answer is printed.
-fn explained_of<'a>(found: &ArgMatches<'a>) -> Result<Task<'a>, WordsFault> {
-    let Some(a) = found.get_str("A") else {
-        return Err(WordsFault::BadWords);
-    };
-    let form = match found.get_flag("json") {
-        true => Form::Json,
-        false => Form::Rows,
-    };
-    match found.get_str("B") {
-        Some(b) => Ok(Task::Why { form, a, b }),
-        None => Ok(Task::WhyAlone { form, a }),
-    }
-}
-
-// The files that the words behind `cover` name, two of each pair.
-fn covered_of<'a>(alloc: Global, found: &ArgMatches<'a>) -> Result<Task<'a>, WordsFault> {
-    let Some(named) = found.get_strs("FILE") else {
-        return Err(WordsFault::BadWords);
-    };
-    if named.len() % 2 != 0 {
-        return Err(WordsFault::BadWords);
-    }
-    match Vec::from_slice(alloc, named) {
-        Ok(files) => Ok(Task::Cover { files }),
-        Err(_) => Err(WordsFault::OutOfMemory),
     }
 }
 
@@ -212,27 +161,6 @@ fn played_of<'a>(found: &ArgMatches<'a>) -> Result<Task<'a>, WordsFault> {
         found.get_str("B"),
     ) {
         (Some(script), Some(a), Some(b)) => Ok(Task::Play { script, a, b }),
-        _ => Err(WordsFault::BadWords),
-    }
-}
-
-// The text and the captures that the words behind `tap` name, and whether the line alone is judged.
-fn tapped_of<'a>(found: &ArgMatches<'a>) -> Result<Task<'a>, WordsFault> {
-    match (
-        found.get_str("WIRE"),
-        found.get_str("A"),
-        found.get_str("B"),
-    ) {
-        (Some(wire), Some(a), Some(b)) => {
-            let line_alone = found.get_flag("line");
-            let paths = TapPaths {
-                wire,
-                a,
-                b,
-                line_alone,
-            };
-            Ok(Task::Tap { paths })
-        }
         _ => Err(WordsFault::BadWords),
     }
 }

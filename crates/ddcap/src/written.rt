@@ -6,7 +6,8 @@ ghost use Rattle.ddcap.specs.inner.NotOpened.{same_file_text};
 ghost use Rattle.ddcap.specs.Printed.{Writes, fault_text, stream_of};
 
 use crate::check::{print, print_out_of_memory};
-use crate::files::{Named, Wanted, opened_to_write, print_fault_of};
+use crate::fault_told::{FaultKind, FaultTold};
+use crate::files::{Named, Wanted, opened_to_write, told_fault_of};
 use crate::text::FAILED;
 use std::alloc::Global;
 use std::fs::OpenFile;
@@ -30,27 +31,27 @@ struct Node {
 }
 
 /// Opens a file to be written, beside one that is read, and empties it. `Err`: it can't be opened, or is the other one, and keeps what it has. That
-/// was told, with this status.
+/// was told.
 pub fn written<R: Files + AllocGlobal, E: Write>(
     rt: &R,
     read: &Beside<'_, R::File>,
     wanted: Wanted<'_>,
     err: &mut Tally<E>,
-) -> Result<Tally<R::File>, u8> {
+) -> Result<Tally<R::File>, FaultTold> {
     let file = opened_to_write(rt, wanted, err)?;
     keep_apart(rt, read, wanted, &file, err)?;
     emptied(rt, wanted, file, err)
 }
 
 /// Opens two files to be written, beside one that is read, the first one first, and empties them. `Err`: one of them can't be opened, or is another
-/// one of the three, and both keep what they have. That was told, with this status.
+/// one of the three, and both keep what they have. That was told.
 pub fn written_pair<R: Files + AllocGlobal, E: Write>(
     rt: &R,
     read: &Beside<'_, R::File>,
     wanted_a: Wanted<'_>,
     wanted_b: Wanted<'_>,
     err: &mut Tally<E>,
-) -> Result<(Tally<R::File>, Tally<R::File>), u8> {
+) -> Result<(Tally<R::File>, Tally<R::File>), FaultTold> {
     let a = opened_to_write(rt, wanted_a, err)?;
     keep_apart(rt, read, wanted_a, &a, err)?;
     let b = opened_to_write(rt, wanted_b, err)?;
@@ -72,7 +73,7 @@ pub fn written_beside_pair<R: Files + AllocGlobal, E: Write>(
     b: &R::File,
     wanted: Wanted<'_>,
     err: &mut Tally<E>,
-) -> Result<Tally<R::File>, u8> {
+) -> Result<Tally<R::File>, FaultTold> {
     let file = opened_to_write(rt, wanted, err)?;
     for (named, other) in [(Named::A, a), (Named::B, b)] {
         let other = Beside { named, file: other };
@@ -81,18 +82,21 @@ pub fn written_beside_pair<R: Files + AllocGlobal, E: Write>(
     emptied(rt, wanted, file, err)
 }
 
-// `Err`: the file is the other one, or the system doesn't tell. That was told, with this status.
+// `Err`: the file is the other one, or the system doesn't tell. That was told.
 fn keep_apart<R: Files + AllocGlobal, E: Write>(
     rt: &R,
     other: &Beside<'_, R::File>,
     wanted: Wanted<'_>,
     file: &R::File,
     err: &mut Tally<E>,
-) -> Result<(), u8> {
+) -> Result<(), FaultTold> {
     match is_same(other.file, file) {
         Ok(false) => Ok(()),
-        Ok(true) => Err(print_same_file(rt.alloc(), err, wanted.named, other.named)),
-        Err(error) => Err(print_fault_of(rt.alloc(), err, wanted, &error)),
+        Ok(true) => {
+            let status = print_same_file(rt.alloc(), err, wanted.named, other.named);
+            Err(FaultTold::of(wanted.named, FaultKind::SameFile(other.named), status))
+        }
+        Err(error) => Err(told_fault_of(rt.alloc(), err, wanted, &error)),
     }
 }
 
@@ -123,10 +127,10 @@ fn emptied<R: Files + AllocGlobal, E: Write>(
     wanted: Wanted<'_>,
     file: R::File,
     err: &mut Tally<E>,
-) -> Result<Tally<R::File>, u8> {
+) -> Result<Tally<R::File>, FaultTold> {
     match empty(&file) {
         Ok(()) => Ok(Tally::new(file)),
-        Err(error) => Err(print_fault_of(rt.alloc(), err, wanted, &error)),
+        Err(error) => Err(told_fault_of(rt.alloc(), err, wanted, &error)),
     }
 }
 

@@ -1,0 +1,132 @@
+//! The answer of `cover` as a JSON object.
+
+ghost use Rattle.ddcap.specs.Statuses.{EndsWith};
+
+use crate::answers::print_object;
+use crate::check::{print_fault, print_out_of_memory};
+use crate::fault_told::FaultTold;
+use crate::layers::Layers;
+use crate::objects::{ended, put, verdict_object};
+use crate::rows::ROWS_IN_ORDER;
+use crate::text::verdict_status;
+use crate::went::{Went, judge_went};
+use coverage::{Counts, ROWS, Row};
+use std::alloc::{AllocError, Global};
+use std::io::{Read, Write};
+use wire_base::{Side, Tally};
+
+/// What was found of the pairs so far: the object of each verdict, how often each side went through each row in all of them, and whether one was
+/// refused.
+#[derive(Drop)]
+pub struct CoveredObjects {
+    pairs: Vec<u8>,
+    a: Counts,
+    b: Counts,
+    status: u8,
+}
+
+impl CoveredObjects {
+    /// No pair yet. Takes no memory.
+    pub fn new(alloc: Global) -> CoveredObjects {
+        CoveredObjects {
+            pairs: Vec::new(alloc),
+            a: Counts::new(),
+            b: Counts::new(),
+            status: 0,
+        }
+    }
+
+    // One pair more, whose first file has this name.
+    fn add(
+        &mut self,
+        alloc: Global,
+        layers: Layers,
+        name: &str,
+        went: Went,
+    ) -> Result<(), AllocError> {
+        let object = verdict_object(alloc, layers, name, went.verdict)?;
+        if !self.pairs.is_empty() {
+            put(&mut self.pairs, ", ")?;
+        }
+        self.pairs.extend_from_slice(object.as_slice())?;
+        self.a.add(&went.a);
+        self.b.add(&went.b);
+        self.status = self.status.max(verdict_status(went.verdict));
+        Ok(())
+    }
+}
+
+/// Judges one more pair, and counts which rows each side went through. `Err`: there is no verdict, or no memory for it. That was told to `err` as
+/// `check` tells it.
+pub fn cover_object<A: Read, B: Read, E: Write>(
+    alloc: Global,
+    layers: Layers,
+    name: &str,
+    a: &mut Tally<A>,
+    b: &mut Tally<B>,
+    covered: &mut CoveredObjects,
+    err: &mut Tally<E>,
+) -> Result<(), FaultTold> {
+    let went = match judge_went(alloc, layers, a, b) {
+        Ok(went) => went,
+        Err(fault) => {
+            let status = print_fault(alloc, fault, err);
+            return Err(FaultTold::of_judge(fault, status));
+        }
+    };
+    match covered.add(alloc, layers, name, went) {
+        Ok(()) => Ok(()),
+        Err(_) => Err(FaultTold::out_of_memory(print_out_of_memory(err))),
+    }
+}
+
+/// Prints what was found of all pairs as one object, and answers the status: 0 where all are accepted, 1 where one is refused, and 3 where there is
+/// no memory for it or a write failed. No contract tells the object.
+pub fn print_covered_object<O: Write, E: Write>(
+    alloc: Global,
+    covered: &CoveredObjects,
+    out: &mut Tally<O>,
+    err: &mut Tally<E>,
+) -> u8
+    ensures { EndsWith covered.now.status result }
+{
+    print_object(covered_object(alloc, covered), covered.status, out, err)
+}
+
+// The pairs, how many rows each side went through, and how often through each.
+fn covered_object(alloc: Global, covered: &CoveredObjects) -> Result<Vec<u8>, AllocError> {
+    let mut object = Vec::new(alloc);
+    put(&mut object, "{\"what\": \"cover\", \"pairs\": [")?;
+    object.extend_from_slice(covered.pairs.as_slice())?;
+    put_met(alloc, &mut object, covered)?;
+    for place in 0..ROWS {
+        if place > 0 {
+            put(&mut object, ", ")?;
+        }
+        put_row(alloc, &mut object, covered, ROWS_IN_ORDER[place])?;
+    }
+    put(&mut object, "]")?;
+    ended(object)
+}
+
+fn put_met(
+    alloc: Global,
+    object: &mut Vec<u8>,
+    covered: &CoveredObjects,
+) -> Result<(), AllocError> {
+    let (of_a, of_b) = (covered.a.met_rows(), covered.b.met_rows());
+    let part = format!(in alloc; "], \"met\": {{\"a\": {of_a}, \"b\": {of_b}}}, \"rows\": [")?;
+    put(object, part.as_str())
+}
+
+// A row, with how often each side went through it.
+fn put_row(
+    alloc: Global,
+    object: &mut Vec<u8>,
+    covered: &CoveredObjects,
+    row: Row,
+) -> Result<(), AllocError> {
+    let (of_a, of_b) = (covered.a.of(row), covered.b.of(row));
+    let part = format!(in alloc; "{{\"row\": \"{row}\", \"a\": {of_a}, \"b\": {of_b}}}")?;
+    put(object, part.as_str())
+}

@@ -1,0 +1,127 @@
+//! The words after those that judge captures.
+
+use crate::layers::Layers;
+use crate::tap_files::TapPaths;
+use crate::telling::Form;
+use crate::words::{Task, WordsFault};
+use clap::ArgMatches;
+use std::alloc::{AllocError, Global};
+
+/// The pairs of captures that the words after `check` name.
+pub fn checked_of<'a>(alloc: Global, found: &ArgMatches<'a>) -> Result<Task<'a>, WordsFault> {
+    match pairs_named(alloc, found) {
+        Ok(files) => Ok(Task::Check {
+            form: form_of(found),
+            layers: layers_of(found),
+            files,
+        }),
+        Err(fault) => Err(fault),
+    }
+}
+
+/// The capture that the words after `alone` name.
+pub fn judged_alone_of<'a>(found: &ArgMatches<'a>) -> Result<Task<'a>, WordsFault> {
+    match found.get_str("A") {
+        Some(a) => Ok(Task::Alone {
+            form: form_of(found),
+            layers: layers_of(found),
+            a,
+        }),
+        None => Err(WordsFault::BadWords),
+    }
+}
+
+/// The captures that the words after `why` name, or the one. Of one, stations alone are not asked for.
+pub fn explained_of<'a>(found: &ArgMatches<'a>) -> Result<Task<'a>, WordsFault> {
+    let Some(a) = found.get_str("A") else {
+        return Err(WordsFault::BadWords);
+    };
+    let form = form_of(found);
+    let layers = layers_of(found);
+    match found.get_str("B") {
+        Some(b) => Ok(Task::Why { form, layers, a, b }),
+        None => match layers {
+            Layers::Both => Ok(Task::WhyAlone { form, a }),
+            Layers::Station => Err(WordsFault::BadWords),
+        },
+    }
+}
+
+/// The pairs of captures that the words after `cover` name.
+pub fn covered_of<'a>(alloc: Global, found: &ArgMatches<'a>) -> Result<Task<'a>, WordsFault> {
+    match pairs_named(alloc, found) {
+        Ok(files) => Ok(Task::Cover {
+            form: form_of(found),
+            layers: layers_of(found),
+            files,
+        }),
+        Err(fault) => Err(fault),
+    }
+}
+
+/// The text and the captures that the words after `tap` name.
+pub fn tapped_of<'a>(found: &ArgMatches<'a>) -> Result<Task<'a>, WordsFault> {
+    match (
+        found.get_str("WIRE"),
+        found.get_str("A"),
+        found.get_str("B"),
+    ) {
+        (Some(wire), Some(a), Some(b)) => {
+            let line_alone = found.get_flag("line");
+            let paths = TapPaths {
+                wire,
+                a,
+                b,
+                line_alone,
+            };
+            Ok(Task::Tap {
+                form: form_of(found),
+                paths,
+            })
+        }
+        _ => Err(WordsFault::BadWords),
+    }
+}
+
+// How the answer is printed.
+fn form_of(found: &ArgMatches<'_>) -> Form {
+    match found.get_flag("json") {
+        true => Form::Json,
+        false => Form::Rows,
+    }
+}
+
+// What is judged.
+fn layers_of(found: &ArgMatches<'_>) -> Layers {
+    match found.get_flag("line") {
+        true => Layers::Station,
+        false => Layers::Both,
+    }
+}
+
+// The files that the words name, two of each pair.
+fn pairs_named<'a>(alloc: Global, found: &ArgMatches<'a>) -> Result<Vec<&'a str>, WordsFault> {
+    let (Some(a), Some(b)) = (found.get_str("A"), found.get_str("B")) else {
+        return Err(WordsFault::BadWords);
+    };
+    let Ok(mut files) = one_pair(alloc, a, b) else {
+        return Err(WordsFault::OutOfMemory);
+    };
+    let Some(more) = found.get_strs("MORE") else {
+        return Ok(files);
+    };
+    if more.len() % 2 != 0 {
+        return Err(WordsFault::BadWords);
+    }
+    match files.extend_from_slice(more) {
+        Ok(()) => Ok(files),
+        Err(_) => Err(WordsFault::OutOfMemory),
+    }
+}
+
+fn one_pair<'a>(alloc: Global, a: &'a str, b: &'a str) -> Result<Vec<&'a str>, AllocError> {
+    let mut files = Vec::new(alloc);
+    files.push(a)?;
+    files.push(b)?;
+    Ok(files)
+}
