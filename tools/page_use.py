@@ -65,8 +65,7 @@ class Use:
         return self.said()
 
     def drop(self, *paths, on='h1'):
-        """Drops files somewhere on the empty page, and waits likewise."""
-        self.clear()
+        """Drops files somewhere on the page, whatever it shows, and waits likewise."""
         self.browser.value('globalThis.shown = null; document.querySelector("#note").hidden = true')
         self.browser.drop(on, *paths)
         said = self.said()
@@ -126,7 +125,7 @@ CAUSES = [
 
 
 def causes(use):
-    """A pair that is dropped by the mouse shows the cause at once: in a sentence, by both lines side by side, the rule and the accused."""
+    """Pairs that are dropped by the mouse, one after another, show the cause at once: a sentence, both lines side by side, the rule, the accused."""
     for path, sentence, line, other, what in CAUSES:
         pair = [os.path.join(TOP, *path) + '.' + side for side in 'ab']
         use.expect('%s is refused' % path[-1], use.drop(*pair) == 'Refused')
@@ -143,6 +142,7 @@ def causes(use):
     use.expect('what was seen and allowed', 'DATA 5/1' in use.text('#verdict .seen') and 'ACK /2' in use.text('#verdict .allowed'))
     use.expect('the recording', 'is missing before line 19 of b' in use.text('#verdict dl'))
     for box in '#end-a', '#end-b':
+        use.clear()
         use.expect('one end on %s' % box, use.drop(example('one_end.a'), on=box) == 'Refused')
         use.expect('the other end did it', use.text('#verdict .cause').startswith('The other end acknowledged'))
         use.expect('its file', 'line 6 of one_end.a' in use.text('#verdict .column'))
