@@ -12,13 +12,13 @@ class Padded(Node):
         return b'\x81' + super().packet(message)
 
 
-@bug(15, 'packets have the long format of an Ethernet', at.quiet)
+@bug(15, 'packets have the long format', at.quiet)
 class LongFormat(Node):
     def packet(self, message):
         return bytes([6, 0, 0]) + b'\xaa\0\4\0' + word(self.peer) + bytes(2) + b'\xaa\0\4\0' + word(self.address) + bytes(4) + message
 
 
-@bug(15, 'the length goes before the packet, as on an Ethernet', at.quiet)
+@bug(15, 'a length goes before the packet', at.quiet)
 class LengthInFront(Node):
     def packet(self, message):
         packet = super().packet(message)
@@ -79,14 +79,14 @@ class AckWithSource(Node):
         return super().connect_ack(link) + word(0)
 
 
-@bug(17, 'a data acknowledgement has three acknowledgement words', at.quiet)
+@bug(17, 'there are three acknowledgement words', at.quiet)
 class ThreeWords(Node):
     def data_ack(self, link):
         message = super().data_ack(link)
         return message + 2 * message[-2:]
 
 
-@bug(17, 'messages of another protocol are sent in data packets', at.quiet)
+@bug(17, 'messages of another protocol are sent', at.quiet)
 class OtherProtocol(Node):
     def hello(self):
         return self.packet(b'\xff\0\0')
@@ -105,12 +105,12 @@ class Turned(Node):
         return next(own for own in range(101, 65536) if not self.live(own))
 
 
-@bug(18, 'DSTADDR and SRCADDR of a CC are exchanged', at.quiet)
+@bug(18, 'the addresses of a CC are exchanged', at.quiet)
 class ConfirmTurned(Turned):
     def connect_confirm(self, link):
         return self.turned(super().connect_confirm(link))
 
-@bug(18, 'DSTADDR and SRCADDR of data are exchanged', at.quiet)
+@bug(18, 'the addresses of a segment are exchanged', at.quiet)
 class DataTurned(Turned):
     def segment(self, link, number):
         return self.turned(super().segment(link, number))
@@ -124,7 +124,7 @@ class DataBeforeConfirm(Node):
         yield from super().messages()
 
 
-@bug(18, 'a connect acknowledgement names the link\'s own address', at.quiet)
+@bug(18, 'a connect acknowledgement names the own address', at.quiet)
 class AckOfOwn(Node):
     def connect_ack(self, link):
         return super().connect_ack(link)[:1] + word(link.own)

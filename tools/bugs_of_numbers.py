@@ -80,13 +80,13 @@ class NakAcknowledgesNothing(Node):
         self.next = self.acknowledged + 1
 
 
-@bug(7, 'REP asks for the number after the highest', at.lossy)
+@bug(7, 'REP asks for the next number', at.lossy)
 class RepAsksNext(Node):
     def say_rep(self):
         self.say(self.control(REP, 0, 0, (self.given + 1) % 256))
 
 
-@bug(7, 'REP asks for the first unacknowledged number', at.lossy)
+@bug(7, 'REP asks for the first unacknowledged one', at.lossy)
 class RepAsksFirst(Node):
     def say_rep(self):
         self.say(self.control(REP, 0, 0, (self.acknowledged + 1) % 256))
@@ -119,7 +119,7 @@ class RespOnlyInAcks(Node):
         return bytes([SOH, count & 255, count >> 8, 0, num % 256, 1])
 
 
-@bug(8, 'RESP counts a message that arrived after a gap', at.lossy)
+@bug(8, 'RESP counts a message after a gap', at.lossy)
 class RespOverGap(Node):
     def come_out_of_order(self, num):
         ahead = (num - self.received) % 256
@@ -127,7 +127,7 @@ class RespOverGap(Node):
             self.say(self.control(ACK, 0, num))
 
 
-@bug(8, 'RESP counts a message for which there was no buffer', at.lossy)
+@bug(8, 'RESP counts a message that found no buffer', at.lossy)
 class RespUnbuffered(Node):
     def come_unbuffered(self):
         self.say(self.control(NAK, NO_BUFFER, (self.received + 1) % 256))

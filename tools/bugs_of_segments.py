@@ -39,7 +39,7 @@ class CountedTogether(Numbered):
         return word(sum(each.given for each in self.links) % 4096)
 
 
-@bug(20, 'a reused address goes on with the old segment numbers', at.links_again)
+@bug(20, 'a reused address keeps its segment numbers', at.links_again)
 class SegmentsGoOn(Numbered):
     def number(self, link, number):
         return word(number + sum(each.given for each in self.links if each is not link and each.own == link.own))
@@ -87,7 +87,7 @@ class BothBits(Flagged):
         return BEGINS | ENDS
 
 
-@bug(20, 'an empty piece follows a last piece that is full', at.quiet)
+@bug(20, 'an empty piece follows a full last piece', at.quiet)
 class EmptyPiece(Node):
     def piece(self, link):
         if getattr(link, 'is_to_end', False):
@@ -100,7 +100,7 @@ class EmptyPiece(Node):
         return piece
 
 
-@bug(20, 'a message is cut into other pieces when it is sent again', at.restarted)
+@bug(20, 'other pieces are cut when a message is sent again', at.restarted)
 class CutAnew(Node):
     def segment(self, link, number):
         if number < link.given:
@@ -109,7 +109,7 @@ class CutAnew(Node):
         return super().segment(link, number)
 
 
-@bug(20, 'a segment has other data when it is sent again', at.restarted)
+@bug(20, 'a segment that is sent again has other data', at.restarted)
 class DataChanged(Node):
     def segment(self, link, number):
         if number < link.given:
@@ -135,7 +135,7 @@ class AcknowledgesNext(Acknowledging):
         return link.received + 1
 
 
-@bug(21, 'the highest number is acknowledged despite a gap', at.restarted)
+@bug(21, 'a number after a gap is acknowledged', at.restarted)
 class AcknowledgesOverGap(Acknowledging):
     def acknowledges(self, link):
         return max([link.received, *link.held])
@@ -153,7 +153,7 @@ class AcknowledgesOwn(Acknowledging):
         return link.given
 
 
-@bug(21, 'a reused address goes on with the old acknowledgement numbers', at.links_again)
+@bug(21, 'a reused address keeps its acknowledgement numbers', at.links_again)
 class AcknowledgesOn(Acknowledging):
     def acknowledges(self, link):
         return sum(each.received for each in self.links if each.own == link.own)
@@ -182,7 +182,7 @@ class SizeTurned(Node):
         return (link.size & 255) << 8 | link.size >> 8
 
 
-@bug(23, 'the number of unacknowledged segments has no limit', at.silent)
+@bug(23, 'unacknowledged segments have no limit', at.silent)
 class NoSegmentWindow(Node):
     def may_give_segment(self, link):
         return True
@@ -242,7 +242,7 @@ class GivenEarly(Node):
         return next(own for own in range(1, 65536) if own not in taken)
 
 
-@bug(26, 'opened and called links have separate address counters', at.quiet)
+@bug(26, 'opened and called links count addresses apart', at.quiet)
 class CountedApart(Node):
     def free_address(self, is_opened):
         taken = [link.own for link in self.links if link.phase != 'Ended' and link.is_opened == is_opened]

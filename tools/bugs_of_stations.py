@@ -27,7 +27,7 @@ class AckForStrt(Node):
         self.say_ack()
 
 
-@bug(6, 'STRT is repeated after the other end\'s STRT has arrived', at.starts)
+@bug(6, 'STRT is repeated after a STRT has arrived', at.starts)
 class StrtGoesOn(Node):
     def say_stack(self):
         self.say_strt()
@@ -41,14 +41,14 @@ class StartTimerRuns(Node):
         return super().send()
 
 
-@bug(6, 'a STRT that arrives in RUNNING is ignored', at.one_restarts)
+@bug(6, 'a STRT in RUNNING is ignored', at.one_restarts)
 class StrtPassedOver(Node):
     def come_strt(self):
         if self.state != 'RUNNING':
             super().come_strt()
 
 
-@bug(6, 'a STRT that arrives in RUNNING is answered with a STACK at once', at.one_restarts)
+@bug(6, 'a STRT in RUNNING is answered with a STACK', at.one_restarts)
 class StackInRunning(Node):
     def come_strt(self):
         if self.state == 'RUNNING':
@@ -58,7 +58,7 @@ class StackInRunning(Node):
             super().come_strt()
 
 
-@bug(6, 'the REP timer still runs when everything is acknowledged', at.many_hellos)
+@bug(6, 'the REP timer still runs when all is acknowledged', at.many_hellos)
 class RepTimerRuns(Node):
     def respond(self, resp):
         super().respond(resp)
@@ -69,7 +69,7 @@ class RepTimerRuns(Node):
 # ---- packets that are unacknowledged, and packets that are sent again
 
 
-@bug(9, 'the number of unacknowledged packets has no limit', at.burst)
+@bug(9, 'unacknowledged packets have no limit', at.burst)
 class NoWindow(Node):
     def may_give(self):
         return True
@@ -90,13 +90,13 @@ class Changing(Node):
         return super().data(num)
 
 
-@bug(10, 'FORWARD, the count of nodes passed, is counted up again', at.lossy)
+@bug(10, 'FORWARD is counted up again', at.lossy)
 class ForwardRises(Changing):
     def changed(self, packet):
         return packet[:5] + bytes([packet[5] + 1]) + packet[6:] if packet[0] == 2 else packet
 
 
-@bug(10, 'a packet is composed again with the newest acknowledgement number', at.lossy)
+@bug(10, 'a packet is composed again with a newer acknowledgement number', at.lossy)
 class ComposedAnew(Changing):
     def changed(self, packet):
         if packet[0] != 2 or packet[6] != 4:
@@ -111,7 +111,7 @@ class BufferReused(Changing):
         return self.packets[self.given]
 
 
-@bug(10, 'an urgent packet takes the number of one that is sent again', at.lossy)
+@bug(10, 'an urgent packet takes over a number', at.lossy)
 class MoreUrgent(Changing):
     def changed(self, packet):
         return self.hello()
@@ -187,7 +187,7 @@ class DamagedKept(Node):
         return None if damage == 2 else damage
 
 
-@bug(12, 'a packet is kept while the station is not RUNNING', at.one_restarts)
+@bug(12, 'a packet is kept before RUNNING', at.one_restarts)
 class HaltedKeeps(Node):
     def come_data(self, number, unit):
         if self.can_take(unit[3]):
@@ -199,7 +199,7 @@ class HaltedKeeps(Node):
 # ---- its user
 
 
-@bug(14, 'a station that gets no answer starts again without a halt', at.lossy)
+@bug(14, 'a station without an answer starts again without a halt', at.lossy)
 class StartsInRunning(Node):
     def say_rep(self):
         self.start()
@@ -217,7 +217,7 @@ class StartsAnew(Node):
 # ---- noise
 
 
-@bug(27, 'a sound unit that was not expected is recorded as noise', at.lossy)
+@bug(27, 'an unexpected unit is recorded as noise', at.lossy)
 class ThrownAway(Node):
     def come(self, number, unit):
         if unit[1] in (REP, STACK, STRT) and unit[0] == ENQ and self.state == 'RUNNING' and not self.damage_of(unit):

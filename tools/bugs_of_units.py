@@ -87,7 +87,7 @@ class SentTwice(Node):
             super().transmit(number, unit)
 
 
-@bug(2, 'the driver sends an ACK or a NAK before data that waits', at.many_hellos, at_peer=True)
+@bug(2, 'the driver sends an ACK before data that waits', at.many_hellos, at_peer=True)
 class Overtaken(Node):
     def transmit(self, number, unit):
         at_end = unit[0] == SOH or not self.out or self.out[-1][1][0] != SOH
