@@ -87,6 +87,19 @@ class Browser:
         node = self.send('DOM.querySelector', nodeId=root['nodeId'], selector=selector)
         self.send('DOM.setFileInputFiles', nodeId=node['nodeId'], files=[os.path.abspath(path) for path in paths])
 
+    def drop(self, selector, *paths):
+        """Drops files on the middle of an element, as a mouse does."""
+        at = self.value('(it => (it.scrollIntoView({block: "center"}), it = it.getBoundingClientRect(), [it.x + it.width / 2, it.y + it.height / 2]))'
+                        '(document.querySelector(%s))' % json.dumps(selector))
+        data = {'items': [], 'files': [os.path.abspath(path) for path in paths], 'dragOperationsMask': 1}
+        for kind in 'dragEnter', 'dragOver', 'drop':
+            self.send('Input.dispatchDragEvent', type=kind, x=at[0], y=at[1], data=data)
+
+    def key(self, key, code=0, **more):
+        """Presses a key and lets it go."""
+        for kind in 'keyDown', 'keyUp':
+            self.send('Input.dispatchKeyEvent', type=kind, key=key, code=key, windowsVirtualKeyCode=code, **more)
+
     def picture(self, path, width=1200, height=1000, is_dark=False, is_whole=True):
         """Writes a picture of the page."""
         self.send('Emulation.setDeviceMetricsOverride', width=width, height=height, deviceScaleFactor=1, mobile=False)

@@ -91,6 +91,23 @@ link_assembly() {
 # Makes a program of dist/ for a machine: MACHINE PROGRAM [COMPILER..]
 link_program() { (set -o pipefail; assembly "$1" | link_assembly "${@:2}"); }
 
+# Whether the assembly for a machine was made of a module before; that assembly, which is made where it was not: MACHINE MODULE
+has_made() { [ -f "$top/out/$1.s" ] && [ "$(cat "$top/out/$1.of" 2> /dev/null)" = "$(sum_of_making "$2")" ]; }
+of_module() {
+  has_made "$1" "$2" ||
+    { "$top/tools/for_machine" "$2" "$1" "$top/out/$1.s" && sum_of_making "$2" > "$top/out/$1.of"; } >&2 || return
+  known_to_gnu < "$top/out/$1.s"
+}
+sum_of_making() { cat "$1" "$top"/tools/{for_machine,retarget} "$top/dist/names" | checksum; }
+
+# An LLVM module as text; one that is text already stays: MODULE TEXT
+as_text() {
+  case $1 in
+    *.ll) ln -sf "$1" "$2" ;;
+    *) "$(kit)/toolchain/bin/clang" -S -emit-llvm -O0 -Xclang -disable-llvm-passes -Wno-override-module -x ir "$1" -o "$2" ;;
+  esac
+}
+
 # The folder of the toolchain that is on the path.
 kit() { dirname "$(rt doc)"; }
 

@@ -1,6 +1,7 @@
 """The built programs, ddcap run as a person does, and libraries to preload into it. These settings say how it is tried:
 - DDCAP_PROGRAM: the program. Without it, the one that ./ddcap makes and runs.
-- DDCAP_EMULATED: an emulator that runs it for another machine. Its libraries are then made by the compiler CC, and it preloads them.
+- DDCAP_EMULATED: what runs it for another machine: `qemu`, whose libraries are made by the compiler CC, and which preloads them; or `wine`, which
+  preloads none, and has no devices.
 - DDCAP_QUICK: nothing that takes the toolchain."""
 import os
 import shutil
@@ -9,7 +10,9 @@ import subprocess
 TOP = os.path.dirname(os.path.dirname(os.path.realpath(__file__)))
 CRATES = os.path.join(TOP, 'crates')
 PROVED = os.path.join(CRATES, 'ddcap', 'out', 'ddcap')
-EMULATED = 'DDCAP_EMULATED' in os.environ
+EMULATED = os.environ.get('DDCAP_EMULATED')
+IS_WINDOWS = EMULATED == 'wine'
+ONE_IN = 10 if EMULATED else 1  # so many of the longest lists are tried, since an emulator takes long to start
 HAS_TOOLCHAIN = 'DDCAP_QUICK' not in os.environ and shutil.which('rt') is not None
 
 
@@ -54,6 +57,16 @@ def library(folder, name):
     return path
 
 
+def by(*counts):
+    """By how many bytes a call something is tried, where None is all: these counts, or all alone where calls can't be cut short."""
+    return (None,) if IS_WINDOWS else counts
+
+
+def can_be_given(words):
+    """Whether the program's system can have these words: Windows has no devices by these names, opens no folder, and takes words as text."""
+    return not IS_WINDOWS or not any(isinstance(word, bytes) or word == '.' or word.startswith('/dev/') for word in words)
+
+
 def preloading(path):
     """The setting by which the program preloads this library."""
     return {'QEMU_SET_ENV': 'LD_PRELOAD=' + path} if EMULATED else {'LD_PRELOAD': path}
@@ -64,7 +77,7 @@ class Program:
 
     def __init__(self, folder):
         self.folder = folder
-        self.calls = library(folder, 'calls')
+        self.calls = None if IS_WINDOWS else library(folder, 'calls')
 
     def run(self, *words, few=None, **calls):
         """What it prints to both streams, and its status."""

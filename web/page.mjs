@@ -3,10 +3,11 @@ import {Judge} from './judge.mjs';
 import {MOST_BYTES, cured, seeming} from './seeming.mjs';
 import {Session} from './session.mjs';
 import {faultOf, printed, rowsOf} from './telling.mjs';
-import {countsView, coverView, faultView, keyView, link, make, pictureView, refusalView, textView, whyView} from './views.mjs';
+import {brokenView, causeView, countsView, coverView, faultView, keyView, link, make, pictureView, textView, whyView} from './views.mjs';
 
 const $ = selector => document.querySelector(selector);
 const EMPTY = {a: 'Drop its capture here, or choose it', b: 'Its capture, if you have it'};
+const TITLES = {a: 'One end', b: 'The other end', wire: 'What passed on the line, of both ends', script: 'A script of both ends'};
 const ends = {a: null, b: null}; // {name, bytes}
 let judge = null, round = 0, current = null;
 
@@ -49,6 +50,8 @@ function put(side, file) {
   const box = $('#end-' + side);
   box.classList.toggle('full', file !== null);
   box.classList.remove('good', 'bad');
+  const whole = file && TITLES[seeming(file.bytes).kind];
+  box.querySelector('.title').textContent = whole || TITLES[side];
   box.querySelector('.what').textContent = file ? `${file.name}, ${file.bytes.length.toLocaleString('en')} bytes` : EMPTY[side];
   const begin = new TextDecoder().decode((file ? file.bytes : new Uint8Array()).subarray(0, 400)).replace(/[^\x20-\x7e\n]/g, '·');
   box.querySelector('.head').textContent = begin.split('\n').slice(0, 3).map(line => line.slice(0, 48)).join('\n');
@@ -154,12 +157,12 @@ function show(session, verdict, why, took) {
   box.querySelector('h2').textContent = verdict.title;
   box.querySelector('.first').textContent = verdict.first === verdict.title.toLowerCase() ? '' : verdict.first;
   box.querySelector('.meaning').textContent = verdict.meaning;
-  const file = refused && !session.source ? ends[refused.side] : null;
-  box.querySelector('dl').replaceChildren(...(refused ? refusalView(refused, accused, file, verdict.first) : []));
+  const broken = fault ? [brokenView(fault, session)] : [];
+  box.querySelector('.parts').replaceChildren(...(refused ? causeView(why, session, verdict.first) : broken));
   between(verdict.kind);
   for (const {side} of session.given) {
     $('#end-' + side).classList.toggle('good', verdict.kind === 'good');
-    $('#end-' + side).classList.toggle('bad', Boolean(at && at.side === side));
+    $('#end-' + side).classList.toggle('bad', Boolean(at && (session.isOneEnd || at.side === side)));
   }
   $('#saved').replaceChildren(...Object.entries(session.made).map(([side, bytes]) => link(`Save the capture of ${side}`, `line.${side}`, bytes)));
   $('#status').textContent = `${verdict.title}. ${verdict.first}${accused ? `. Accused: ${accused}` : ''}`;
@@ -167,19 +170,18 @@ function show(session, verdict, why, took) {
   $('#took').textContent = `${size.toLocaleString('en')} bytes, judged in ${took.toFixed(0)} ms.`;
   $('#result').hidden = false;
   showTabs(session, verdict, why);
-  const isStill = matchMedia('(prefers-reduced-motion: reduce)').matches;
-  if (box.getBoundingClientRect().top > innerHeight * 0.8) box.scrollIntoView({behavior: isStill ? 'auto' : 'smooth'});
+  const isStill = matchMedia('(prefers-reduced-motion: reduce)').matches, {top, bottom} = box.getBoundingClientRect();
+  if (bottom > innerHeight && top > innerHeight / 4) box.scrollIntoView({behavior: isStill ? 'auto' : 'smooth'});
   globalThis.shown = {status: session.answer.status, out: session.answer.out, err: session.answer.err, verdict, took};
 }
 
 function tabsOf(session, verdict, why) {
   const {names, line} = session, isPair = names.length === 2, tabs = [], fault = faultOf(session.answer);
   const text = async (isHere, ...words) => [textView(printed(await session.ask(...words)), isHere)];
-  if (why) tabs.push(['Why', async () => whyView(why, session.texts, Boolean(session.source))]);
+  if (why) tabs.push(['Why', async () => whyView(why)]);
   else if (verdict.kind === 'good') tabs.push(['Counts', async () => countsView(printed(session.answer))]);
   else if (fault) {
-    const bytes = session.source ? session.source.bytes : session.texts[fault.side] || new Uint8Array();
-    tabs.push(['What is wrong', async () => faultView(fault, bytes)]);
+    tabs.push(['What is wrong', async () => faultView(fault, session)]);
   }
   if (verdict.kind !== 'fault') {
     const isRefused = row => row.includes('<== refused'), at = why && why.refusal ? why.refusal.refused : {};
@@ -192,7 +194,10 @@ function tabsOf(session, verdict, why) {
       tabs.push(['Ladder', async () => [...await text(isRefused, 'draw', ...names, ...line), keyView()]]);
       tabs.push(['Rules met', async () => coverView(printed(await session.ask('cover', ...names)))]);
     }
-    for (const side of names) tabs.push([`Records of ${side}`, () => text(row => side === at.side && row.startsWith(at.record + ' '), 'show', side)]);
+    for (const side of names) {
+      const isIt = row => side === at.side && row.startsWith(at.record + ' ');
+      tabs.push([isPair ? `Records of ${side}` : 'Records', () => text(isIt, 'show', side)]);
+    }
   }
   tabs.push(['As printed', async () => [textView((why && why.text) || printed(session.answer))]]);
   return tabs;
@@ -279,4 +284,4 @@ $('#examples').append(...Object.entries(examples).map(([name, given]) =>
 const wanted = decodeURIComponent(location.hash.slice(1));
 if (examples[wanted]) example(wanted, examples[wanted]);
 
-globalThis.ddcap = {ready, put, judgeGiven, ask: (words, texts) => judge.ask(words, texts)}; // for tools/test_page
+globalThis.ddcap = {ready, ask: (words, texts) => judge.ask(words, texts), texts: () => current.texts}; // for tools/test_page

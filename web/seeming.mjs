@@ -69,6 +69,17 @@ export function linesOf(bytes, from, to) {
   return found;
 }
 
+// The number of the last line that a pattern fits, from one number to another; 0 where there is none.
+export function lastLine(bytes, pattern, to, from = 1) {
+  let found = 0;
+  for (let number = 1, at = 0; at < bytes.length && number <= to; number++) {
+    const end = bytes.indexOf(10, at), stop = end < 0 ? bytes.length : end;
+    if (number >= from && pattern.test(ascii(bytes.subarray(at, Math.min(stop, at + 80))))) found = number;
+    at = stop + 1;
+  }
+  return found;
+}
+
 // What may be wrong with a line that was called faulty, in words.
 export function wrongWith({text, ends}) {
   const rows = [

@@ -9,13 +9,24 @@ export class Session {
     this.line = isLine ? ['--line'] : [];
     this.asked = new Map();
     this.made = {};
-    this.names = given.map(({side}) => side);
-    this.texts = Object.fromEntries(given.map(({side, bytes}) => [side, bytes]));
+    this.names = given.length === 1 ? ['a'] : given.map(({side}) => side);  // the program calls one end a, wherever it was dropped
+    this.texts = Object.fromEntries(given.map(({bytes}, i) => [this.names[i], bytes]));
     this.source = given.find(({kind}) => kind !== 'capture');
   }
 
   get isOneEnd() {
     return this.names.length === 1;
+  }
+
+  // What the text is called that the program calls so.
+  nameOf(text) {
+    if (!this.source) return this.given[this.names.indexOf(text)].name;
+    return text in this.texts ? `the capture made of ${text}` : this.source.name;
+  }
+
+  // Its bytes.
+  bytesOf(text) {
+    return this.texts[text] || (this.source ? this.source.bytes : new Uint8Array());
   }
 
   // The answer to these words over the captures.

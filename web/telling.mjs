@@ -9,13 +9,13 @@ export const printed = answer => decode(answer.out) + decode(answer.err);
 export function verdictOf(answer, isOneEnd) {
   const [first] = printed(answer).split('\n'), word = first.split(' ')[0];
   const rows = {
-    accepted: ['good', 'Accepted', 'Some order of all records of both captures obeys the protocol.'],
-    passed: ['good', 'Passed', 'This end kept its rules, as far as one end shows.'],
-    refused: ['bad', 'Refused', isOneEnd ? 'No capture of the other end, whatever it is, goes with this one.'
-      : 'No order of the records obeys the protocol, whatever follows what was read.'],
-    unexplained: ['bad', 'Unexplained', 'No consistent explanation was found. This alone accuses neither node.'],
+    accepted: ['good', 'Accepted', 'All records of both captures fit together, and obey the protocol.'],
+    passed: ['good', 'Passed', 'This end kept to the rules, as far as one end shows.'],
+    refused: ['bad', 'Refused', isOneEnd ? 'No capture of the other end would make this one right.'
+      : 'The records of both captures can’t be put in any order that obeys the protocol.'],
+    unexplained: ['bad', 'Unexplained', 'No way was found in which two right nodes would send this. This alone accuses neither node.'],
   };
-  const fault = answer.status === 2 ? 'A text can’t be read to its end.' : 'Something failed that is no fault of the texts.';
+  const fault = answer.status === 2 ? 'Mend that line, and drop the file again.' : 'Something failed that is no fault of the texts.';
   const [kind, title, meaning] = rows[answer.status < 2 ? word : ''] || ['fault', 'Not judged', fault];
   return {kind, title, meaning, first};
 }
@@ -40,10 +40,10 @@ export function refusalOf(answer) {
 
 // The same of the first line of a refusal, where `why` tells nothing of it; or null.
 export function refusedIn(text) {
-  const found = text.match(/^refused ([ab]) (\d+) line (\d+): (\d+) (\w+)/);
+  const found = text.match(/^refused ([ab]) (\d+) line (\d+): (\d+) (\w+)( by the other end)?/);
   if (!found) return null;
-  const [, side, record, line, number, name] = found;
-  return {refused: {side, record: Number(record), line: Number(line), number: Number(number), name}, state: [], link: [], edit: []};
+  const [, side, record, line, number, name, byOther] = found, accuses = byOther ? 'other end' : '';
+  return {refused: {side, record: Number(record), line: Number(line), number: Number(number), name, accuses}, state: [], link: [], edit: []};
 }
 
 // The rows of `why` with these names, as rule, accused or recorder: of each name a list of texts.

@@ -1,5 +1,6 @@
 // The parts of the page that show an answer. Each makes an element, or several, of what the program said.
 import {countsOf, coverOf, explanationOf, rowsOf} from './telling.mjs';
+import {sentence, sideBySide} from './cause.mjs';
 import {linesOf, wrongWith} from './seeming.mjs';
 
 const MOST_SHOWN = 400_000;
@@ -19,7 +20,7 @@ export function link(text, name, bytes, type = 'text/plain') {
   return make('a', {className: 'button', href: URL.createObjectURL(new Blob([bytes], {type})), download: name}, text);
 }
 
-const rows = pairs => pairs.flatMap(([name, value]) => [make('dt', {}, name), make('dd', {}, value)]);
+const rows = pairs => pairs.flatMap(([name, value]) => [make('dt', {}, name), make('dd', {}, ...[value].flat())]);
 
 // Lines of a text, those that `isHere` picks marked.
 export function textView(text, isHere = () => false) {
@@ -37,34 +38,64 @@ export function textView(text, isHere = () => false) {
   return box;
 }
 
-// The lines around one of a capture, with their numbers.
-export function excerptView(bytes, line) {
-  const box = make('div', {className: 'excerpt mono'});
-  for (const {number, text, cut} of linesOf(bytes, Math.max(1, line - 4), line + 2)) {
+// Lines of a capture with their numbers, one of them marked: as the wrong one, or as one to look at.
+function excerptView(lines, line, mark = 'here') {
+  const box = make('div', {className: 'excerpt mono', tabIndex: 0, role: 'group', 'aria-label': `lines near ${line}`});
+  for (const {number, text, cut} of lines) {
     const shown = text.replaceAll('\r', '␍') + (cut ? '..' : '');
-    box.append(make('div', {className: number === line ? 'here' : ''}, make('span', {}, String(number)), shown));
+    box.append(make('div', {className: number === line ? mark : ''}, make('span', {}, String(number)), shown));
   }
   return box;
 }
 
+const around = (bytes, line) => linesOf(bytes, Math.max(1, line - 4), line + 2);
+
+const mistakes = (fault, bytes) => linesOf(bytes, fault.line, fault.line).flatMap(wrongWith);
+
+// A fault of a text in a sentence.
+export function brokenView(fault, session) {
+  const [first = fault.fault] = mistakes(fault, session.bytesOf(fault.side));
+  return make('p', {className: 'cause'}, `Line ${fault.line} of ${session.nameOf(fault.side)} can’t be read: ${first}.`);
+}
+
 // A fault of a text: the line, and what may be wrong with it.
-export function faultView(fault, bytes) {
-  const [line] = linesOf(bytes, fault.line, fault.line);
-  const found = line ? wrongWith(line) : [];
+export function faultView(fault, session) {
+  const bytes = session.bytesOf(fault.side), found = mistakes(fault, bytes);
   const words = fault.line === 1 ? 'The first line has to be the head: “ddcap 1 1.1 1.2”, the format, this node’s address and its peer’s.'
     : 'A record is a line as “u start”, “s BYTES”, “r NUMBER BYTES”, “k NUMBER BYTES” or “n BYTES”, in small hexadecimal digits.';
-  return [make('h3', {}, `Line ${fault.line} of ${fault.side} can’t be read: ${fault.fault}`), excerptView(bytes, fault.line),
+  return [make('h3', {}, `Line ${fault.line} of ${session.nameOf(fault.side)}: ${fault.fault}`), excerptView(around(bytes, fault.line), fault.line),
     ...(found.length ? [make('ul', {}, ...found.map(text => make('li', {}, text[0].toUpperCase() + text.slice(1) + '.')))] : []),
     make('p', {className: 'soft'}, words + ' docs/CAPTURES.md has all kinds of lines.')];
 }
 
-// Of a refusal where it is, the rule, and who is accused; `file` is the capture where it was given, and not made. Of what passed on a line the place
-// there, as the program's first line has it; that accuses nobody.
-export function refusalView({side, line, record, number, name}, accused, file, first) {
+// The cause of a refusal, at once: what happened, in a sentence; what was seen and is allowed; the refused line beside the one that it
+// contradicts; the rule, who is accused, and the change of a recording that would mend it. `first` is the program's first line.
+export function causeView({refusal, text, meaning}, session, first) {
+  const {refused, check, edit} = refusal, told = rowsOf(text, 'accused', 'rule', 'unit'), {texts, source} = session;
+  const isWire = source && source.kind === 'wire', meant = explanationOf(meaning).find(part => part.text).text;
+  const said = sentence(refused, session.names.length === 1) || meant;
+  const boxed = (name, title, words) => make('div', {className: name}, make('small', {}, title), make('b', {}, words));
+  const parts = [make('p', {className: 'cause'}, isWire ? `As far as it could be placed, ${lowered(said)}` : said)];
+  if (check) parts.push(make('div', {className: 'pair'}, boxed('seen', 'Seen', check.seen), boxed('allowed', 'Allowed there', check.allowed)));
+  const columns = sideBySide(refusal, texts, told.unit[0]).map(column => columnView(column, session.nameOf(column.side)));
+  parts.push(make('div', {className: 'pair lines'}, ...columns));
+  const rule = told.rule.join(' ').replace(/ \(docs\/[^)]*\)/, '') || meant;
+  const likely = edit.map(({words}) => words).join('; or ');
   const place = first.match(/^unexplained ([ab]) unit (\d+) line (\d+)/);
-  const where = place ? `unit ${place[2]} of ${place[1]} (counted from 0), whose first byte is on line ${place[3]}`
-    : `${side}, line ${line}${file ? ` of ${file.name}` : ''} (record ${record}, counted from 0)`;
-  return rows([['Where', where], ['Broken rule', `${number} ${name}`], ...(accused ? [['Accused', accused]] : [])]);
+  const where = place && `unit ${place[2]} of ${place[1]} (counted from 0), whose first byte is on line ${place[3]} of ${source.name}`;
+  const known = [['On the wire', where], ['The rule', rule], ['Accused', isWire ? '' : told.accused[0]],
+    ['The recording', likely && `likely at fault: ${likely}`]];
+  parts.push(make('dl', {}, ...rows(known.filter(([, value]) => value).map(([name, value]) => [name, codes(value)]))));
+  return parts;
+}
+
+const lowered = text => text[0].toLowerCase() + text.slice(1);
+
+// A line among its neighbours, with what it is.
+function columnView({title, words, side, line, lines, isRefused}, name) {
+  const head = make('p', {}, make('b', {}, title), make('span', {className: 'soft'}, `line ${line} of ${name}`));
+  if (words) head.append(make('span', {className: 'words'}, words));
+  return make('div', {className: 'column'}, head, excerptView(lines, line, isRefused ? 'here' : 'other'));
 }
 
 // The counts of an accepted pair, or of an end that passed.
@@ -103,28 +134,23 @@ function recordRows({kind, hint, bytes, words, ddcmp, routing, nsp}) {
   return rows(known.filter(([, value]) => value));
 }
 
-// The cause of a refusal: what was seen, what is allowed, the rule, where it is, how both ends were, and what to look for.
-export function whyView({refusal, text, meaning}, texts, isMade) {
+// More of a refusal: what to look for, whether it is the recording, what the line says, and how both ends were.
+export function whyView({refusal, text, meaning}) {
   if (!refusal) return [textView(text)];
-  const {refused, record, check, state, link, edit, edits} = refusal, told = rowsOf(text, 'rule', 'recorder');
-  const parts = [];
-  const boxed = (name, title, text) => make('div', {className: name}, make('small', {}, title), make('b', {}, text));
-  if (check) parts.push(make('div', {className: 'pair'}, boxed('seen', 'Seen', check.seen), boxed('allowed', 'Allowed there', check.allowed)));
-  if (told.rule.length) parts.push(make('p', {className: 'rule'}, told.rule.join(' ')));
-  const whose = isMade ? `the capture that was made of ${refused.side}` : refused.side;
-  parts.push(make('h3', {}, `Line ${refused.line} of ${whose}`), excerptView(texts[refused.side], refused.line));
-  if (record) parts.push(make('dl', {className: 'record'}, ...recordRows(record)));
-  const bySide = [...state].sort((one, other) => one.side < other.side ? -1 : 1);
-  const title = state.length > 1 ? 'How both ends were just before' : 'How it was just before';
-  if (state.length) parts.push(make('h3', {}, title), statesView(bySide, link));
+  const {refused, record, state, link, edit, edits} = refusal, told = rowsOf(text, 'recorder');
+  const isHere = ({text: words = ''}) => !/^(By whose fault|A pair that is refused)/.test(words);
+  const parts = [make('h3', {}, `Reason ${refused.number}, ${refused.name}`), ...explanationOf(meaning).filter(isHere).map(part =>
+    part.items ? make('ul', {}, ...part.items.map(item => make('li', {}, ...codes(item)))) : make('p', {}, ...codes(part.text)))];
   if (edits) {
-    const found = [make('p', {}, 'Likely. Each of these small changes makes the pair a run:'),
-      make('ul', {}, ...edit.map(({words}) => make('li', {}, words)))];
+    const found = [make('p', {}, 'Likely. Each of these small changes would make the pair acceptable:'),
+      make('ul', {}, ...edit.map(({words}) => make('li', {}, ...codes(words))))];
     const none = make('p', {}, told.recorder.join(' ') || 'No small change was found that helps.');
     parts.push(make('h3', {}, 'Is it the recording?'), ...(edit.length ? found : [none]));
   }
-  parts.push(make('h3', {}, `Reason ${refused.number}, ${refused.name}`), ...explanationOf(meaning).map(part =>
-    part.items ? make('ul', {}, ...part.items.map(item => make('li', {}, ...codes(item)))) : make('p', {}, ...codes(part.text))));
+  if (record) parts.push(make('h3', {}, 'What the line says'), make('dl', {className: 'record'}, ...recordRows(record)));
+  const bySide = [...state].sort((one, other) => one.side < other.side ? -1 : 1);
+  const title = state.length > 1 ? 'How both ends were just before' : 'How it was just before';
+  if (state.length) parts.push(make('h3', {}, title), statesView(bySide, link));
   return parts;
 }
 

@@ -1,13 +1,14 @@
 //! What is kept of a station to tell the rows of its records.
 
-ghost use Rattle.std.specs.Prelude.{◌≡◌};
+ghost use Rattle.std.specs.Prelude.{◌≡◌, fold};
 ghost use Rattle.ddcmp_msg.specs.Message.{view};
+ghost use Rattle.dna_station.specs.ArrivalRows.{row_view};
 ghost use Rattle.dna_station.specs.Station.{wire};
 ghost use Rattle.dna_station.specs.declared.state.State.TheVariants.{Halted};
 ghost use Rattle.coverage.specs.inner.Tracked as spec;
 
 use ddcmp_msg::Message;
-use dna_station::{State, StationEvent};
+use dna_station::{ArrivalRow, State, StationEvent, num_of, resp_of};
 
 /// A station's state and numbers, as they are in a run: R, the last number received in order; A, the highest acknowledged; of the packets
 /// that are not acknowledged, 255 at most, how many there are, and how many of them come before the next to send. So N is A and as many as are
@@ -48,7 +49,7 @@ impl Tracker {
         self.ahead == self.outstanding
     }
 
-    /// Whether this is the number behind the last received.
+    /// Whether this is the number after the last received.
     pub(crate) fn is_next(&self, num: u8) -> bool
         ensures { result ≡ spec.is_next self.now num }
     {
@@ -82,31 +83,30 @@ impl Tracker {
     pub(crate) fn arrived(&mut self, message: &Message, kept: bool)
         ensures { self.new ≡ spec.after_arrival self.old (view message.now) kept }
     {
-        match self.state {
-            State::Halted => {}
-            State::Istrt => match message {
-                Message::Strt { .. } => self.state = State::Astrt,
-                Message::Stack { .. } => self.state = State::Running,
-                _ => {}
-            },
-            State::Astrt => match message {
-                Message::Stack { .. } | Message::Ack { resp: 0, .. } => self.state = State::Running,
-                Message::Data { resp: 0, num, .. } => {
-                    self.state = State::Running;
-                    self.receive_data(0, *num, kept);
-                }
-                _ => {}
-            },
-            State::Running => match message {
-                Message::Strt { .. } => self.state = State::Halted,
-                Message::Ack { resp, .. } => self.respond(*resp),
-                Message::Nak { resp, .. } => {
-                    self.respond(*resp);
-                    self.ahead = 0;
-                }
-                Message::Data { resp, num, .. } => self.receive_data(*resp, *num, kept),
-                Message::Stack { .. } | Message::Rep { .. } => {}
-            },
+        self.take_step(ArrivalRow::of(self.state, message), message, kept);
+    }
+
+    // The effects of a sound unit, by its row.
+    #[inline(always)]
+    fn take_step(&mut self, row: ArrivalRow, message: &Message, kept: bool)
+        ensures { self.new ≡ fold (spec.does (view message.now) kept) self.old (row_view row).effects }
+    {
+        match row {
+            ArrivalRow::Ignored | ArrivalRow::StartAgain => {}
+            ArrivalRow::Noted | ArrivalRow::Asked => {}
+            ArrivalRow::StartMet => self.state = State::Astrt,
+            ArrivalRow::StartAnswered | ArrivalRow::StartConfirmed => self.state = State::Running,
+            ArrivalRow::FirstData => {
+                self.state = State::Running;
+                self.receive_data(resp_of(message), num_of(message), kept);
+            }
+            ArrivalRow::Restarted => self.state = State::Halted,
+            ArrivalRow::Acknowledged => self.respond(resp_of(message)),
+            ArrivalRow::SetBack => {
+                self.respond(resp_of(message));
+                self.ahead = 0;
+            }
+            ArrivalRow::Delivered => self.receive_data(resp_of(message), num_of(message), kept),
         }
     }
 

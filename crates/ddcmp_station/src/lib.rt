@@ -5,6 +5,7 @@
 
 mod arrival;
 mod causes;
+mod check;
 mod failed;
 mod laws;
 mod permit;

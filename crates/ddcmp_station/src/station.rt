@@ -8,6 +8,7 @@ ghost use Rattle.dna_station.specs.WireStation.{new_wire_station, wire_after_eve
 mod arriving;
 mod failing;
 mod sending;
+mod telling;
 mod viewing;
 
 use crate::causes::Causes;

@@ -34,8 +34,8 @@ pub fn num_of(message: &Message) -> u8
 
 /// The data of a message, and none where it has none.
 #[inline(always)]
-pub fn body_of<'a>(message: Message<'a>) -> &'a [u8]
-    ensures { result.now ≡ fields.body_of (view message.entry) }
+pub fn body_of<'a>(message: &Message<'a>) -> &'a [u8]
+    ensures { result.now ≡ fields.body_of (view message.now) }
 {
     match message {
         Message::Data { body, .. } => body,

@@ -14,7 +14,7 @@ use Rattle.ladder.specs.Given.{after_other, after_sending, is_again}
 use Rattle.ladder.specs.Reading.{said_of}
 use Rattle.ladder.specs.Rows.{Kept, passed_in, with_made, with_refused}
 use Rattle.ladder.specs.Said.{brief}
-use Rattle.ladder.specs.State.{behind, behind_arrival, behind_user}
+use Rattle.ladder.specs.State.{after, after_arrival, after_user}
 use Rattle.ladder.specs.UnderWay.{passed, sending_of, sent_units, skipped, with_unit}
 
 -- both sides, the rows, and whether no record is left
@@ -41,10 +41,10 @@ told_by own other side entry bytes = record {
   side = side;
   line = own.line;
   what = what_of own other entry bytes;
-  state = behind own.state (what_of own other entry bytes);
+  state = after own.state (what_of own other entry bytes);
 }
 
--- ---- what the sides are behind it
+-- ---- what the sides are after it
 
 abbrev pub next_line : Half → ℕ
 next_line own = min (own.line + 1) (2 ^ 64 - 1)
@@ -57,7 +57,7 @@ own_by own line _ entry = record own { line = next_line own; given = after_other
 abbrev pub own_after : Half → Told → Entry → Half
 own_after own told entry = record (own_by own told.line told.what entry) { state = told.state }
 
--- behind a record that is not drawn, nor its unit where that comes: in which line the next one stands, the state, which data were sent before, and
+-- after a record that is not drawn, nor its unit where that comes: in which line the next one stands, the state, which data were sent before, and
 -- the number of the next unit
 abbrev pub knowing : Half → Entry → List ℕ → Half
 knowing own Sent bytes = record own {
@@ -68,9 +68,9 @@ knowing own Sent bytes = record own {
 knowing own (Received kept hint) bytes = record own {
   line = next_line own;
   given = after_other own.given (Received kept hint);
-  state = behind_arrival own.state (brief (said_of (reading bytes)));
+  state = after_arrival own.state (brief (said_of (reading bytes)));
 }
-knowing own entry bytes = record own { line = next_line own; given = after_other own.given entry; state = behind_user own.state entry }
+knowing own entry bytes = record own { line = next_line own; given = after_other own.given entry; state = after_user own.state entry }
 
 -- the units that the other side sent are passed by a receipt
 abbrev pub other_after : Half → Entry → Half

@@ -1,33 +1,44 @@
--- The state of a side's station behind a record.
-use Rattle.std.specs.Prelude.{ℕ, ◌==◌, if◌then◌else◌}
+-- The state of a side's station after a record, by the table of the station.
+use Rattle.std.specs.Prelude.{Option, Some, None, false, []}
 use Rattle.capture.specs.declared.entry.Entry.{Entry}
 use Rattle.capture.specs.declared.entry.Entry.TheVariants as entry
+use Rattle.ddcmp_msg.specs.Message.{MessageValue, Data, Ack, Nak, Rep, Strt, Stack}
+use Rattle.ddcmp_msg.specs.declared.flags.Flags.{Flags}
+use Rattle.dna_station.specs.declared.state.State.{State}
+use Rattle.dna_station.specs.declared.state.StationEvent.TheVariants.{Start, Halt}
+use Rattle.dna_station.specs.ArrivalRows.{leads_to}
+use Rattle.dna_station.specs.Table.{row, state_after}
 use Rattle.ladder.specs.declared.said.Said.{Said}
 use Rattle.ladder.specs.declared.said.Said.TheVariants as said
-use Rattle.ladder.specs.declared.state.State.{State}
-use Rattle.ladder.specs.declared.state.State.TheVariants.{Halted, Istrt, Astrt, Running}
 use Rattle.ladder.specs.declared.told.What.{What}
 use Rattle.ladder.specs.declared.told.What.TheVariants as what
 
-abbrev pub behind_user : State → Entry → State
-behind_user state entry.Start = Istrt
-behind_user state entry.Halt = Halted
-behind_user state other = state
+abbrev pub after_user : State → Entry → State
+after_user state entry.Start = state_after Start
+after_user state entry.Halt = state_after Halt
+after_user state other = state
 
--- in ASTRT an acknowledgement of number 0 tells that the other side is ready
-abbrev pub ready : ℕ → State
-ready resp = if resp == 0 then Running else Astrt
+abbrev no_flags : Flags
+no_flags = record { quick_sync = false; select = false }
 
-abbrev pub behind_arrival : State → Said → State
-behind_arrival Istrt said.Strt = Astrt
-behind_arrival Istrt said.Stack = Running
-behind_arrival Astrt said.Stack = Running
-behind_arrival Astrt (said.Ack resp) = ready resp
-behind_arrival Astrt (said.Data num resp content) = ready resp
-behind_arrival Running said.Strt = Halted
-behind_arrival state other = state
+-- a message that says so, as far as the state goes by it; none of what shows damage
+abbrev pub message_of : Said → Option MessageValue
+message_of (said.Data num resp content) = Some (Data no_flags resp num [])
+message_of (said.Ack resp) = Some (Ack no_flags resp)
+message_of (said.Nak reason resp) = Some (Nak no_flags reason resp)
+message_of (said.Rep num) = Some (Rep no_flags num)
+message_of said.Strt = Some (Strt no_flags)
+message_of said.Stack = Some (Stack no_flags)
+message_of other = None
 
-abbrev pub behind : State → What → State
-behind state (what.User entry bytes) = behind_user state entry
-behind state (what.Came hint kept said sent) = behind_arrival state said
-behind state other = state
+abbrev pub led_to : State → Option MessageValue → State
+led_to state None = state
+led_to state (Some m) = leads_to state (row state m).effects
+
+abbrev pub after_arrival : State → Said → State
+after_arrival state said = led_to state (message_of said)
+
+abbrev pub after : State → What → State
+after state (what.User entry bytes) = after_user state entry
+after state (what.Came hint kept said sent) = after_arrival state said
+after state other = state

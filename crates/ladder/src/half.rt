@@ -7,10 +7,11 @@ ghost use Rattle.ladder.specs.Ladder as spec;
 use crate::given::Given;
 use crate::reading::{said_briefly, said_by};
 use crate::said::Said;
-use crate::state::State;
+use crate::state::{after, after_arrival, after_user};
 use crate::told::{Sending, Told, What};
 use crate::under_way::UnderWay;
 use capture::Entry;
+use dna_station::State;
 use std::alloc::{AllocError, Global};
 use wire_base::Side;
 
@@ -56,7 +57,7 @@ impl Half {
             side,
             line: self.line,
             what,
-            state: self.state.behind(what),
+            state: after(self.state, what),
         }
     }
 
@@ -130,11 +131,11 @@ impl Half {
             }
             Entry::Received { .. } => {
                 self.given = self.given.after_other(entry);
-                self.state = self.state.behind_arrival(said_briefly(bytes, sound));
+                self.state = after_arrival(self.state, said_briefly(bytes, sound));
             }
             _ => {
                 self.given = self.given.after_other(entry);
-                self.state = self.state.behind_user(entry);
+                self.state = after_user(self.state, entry);
             }
         }
         self.line = self.line.saturating_add(1);

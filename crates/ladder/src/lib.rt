@@ -42,6 +42,6 @@ pub use reading::said_by;
 pub use row::{Fate, Receipt, Row};
 pub use rows::Keep;
 pub use said::{Content, Link, Said};
-pub use state::State;
+pub use dna_station::State;
 pub use svg::Caption;
 pub use told::{Sending, Told, What};

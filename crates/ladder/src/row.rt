@@ -5,8 +5,8 @@ ghost use Rattle.ladder.specs.Row as spec;
 
 use crate::said::Said;
 use crate::sides::faces;
-use crate::state::State;
 use crate::told::{Told, What};
+use dna_station::State;
 use wire_base::Side;
 
 /// A row: one record, or the sending of a unit and its receipt, where that is the next record.

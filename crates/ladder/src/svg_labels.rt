@@ -6,6 +6,7 @@ use crate::sides::is_side;
 use crate::svg_arrivals::{Ending, arrival_of};
 use crate::svg_arrows::{is_from_outside, kind_of};
 use crate::svg_columns::{Columns, label_room};
+use crate::state::name_of;
 use crate::svg_marks::new_state;
 use crate::svg_parts::{MARGIN, WIDTH, with_text, y_of};
 use crate::svg_places::Places;
@@ -170,7 +171,7 @@ fn state_words(
     side: Side,
 ) -> Result<String, AllocError> {
     match new_state(drawn, places, index, side) {
-        Some(state) => format!(in alloc; "[{state}]"),
+        Some(state) => format!(in alloc; "[{}]", name_of(state)),
         None => Ok(String::new(alloc)),
     }
 }

@@ -3,7 +3,7 @@
 use crate::drawn::Drawn;
 use crate::row::{Fate, Row};
 use crate::sides::is_side;
-use crate::state::State;
+use crate::state::name_of;
 use crate::svg::Caption;
 use crate::svg_columns::Columns;
 use crate::svg_parts::{MARGIN, WIDTH, with_dot, with_rect, with_text, y_of};
@@ -11,6 +11,7 @@ use crate::svg_places::Places;
 use crate::text::fitted;
 use crate::told::What;
 use crate::xml::Content;
+use dna_station::State;
 use std::alloc::{AllocError, Global};
 use wire_base::Side;
 
@@ -87,11 +88,10 @@ fn with_band(
         return Ok(svg);
     };
     let y = y_of(level);
-    let class = format!(in alloc; "{state}")?;
     with_rect(
         svg,
         alloc,
-        class.as_str(),
+        name_of(state),
         (x, y),
         (6, bottom.saturating_sub(y)),
     )

@@ -1,8 +1,8 @@
 //! A record, as a row tells it.
 
 use crate::said::Said;
-use crate::state::State;
 use capture::Entry;
+use dna_station::State;
 use wire_base::Side;
 
 /// A record of one side, as it was told.

@@ -1,6 +1,6 @@
 //! What a unit says, as far as a station goes by it.
 
-use ddcmp_msg::{Message, NakReason, Reading, read_unit};
+use ddcmp_msg::{Flags, Message, NakReason, Reading, read_unit};
 
 /// What a unit says without its packet (DDCMP 4.1, message formats).
 #[derive(Clone, Copy, Debug, PartialEq, Eq)]
@@ -37,6 +37,29 @@ impl Said {
                 } => Said::Data { resp, num },
             },
             Reading::HeaderBad | Reading::DataBad | Reading::Malformed(_) => Said::Nothing,
+        }
+    }
+
+    /// A message that says the same, as far as a station goes by it.
+    pub(crate) fn message<'a>(self) -> Option<Message<'a>> {
+        let flags = Flags::from_byte(0);
+        match self {
+            Said::Strt => Some(Message::Strt { flags }),
+            Said::Stack => Some(Message::Stack { flags }),
+            Said::Ack { resp } => Some(Message::Ack { flags, resp }),
+            Said::Nak { reason, resp } => Some(Message::Nak {
+                flags,
+                reason,
+                resp,
+            }),
+            Said::Rep { num } => Some(Message::Rep { flags, num }),
+            Said::Data { resp, num } => Some(Message::Data {
+                flags,
+                resp,
+                num,
+                body: &[],
+            }),
+            Said::Nothing => None,
         }
     }
 

@@ -3,7 +3,8 @@
 ghost use Rattle.std.specs.Prelude.{◌≡◌, ◌+◌, ◌<◌, ◌≤◌, ◌==◌, ◌&&◌, ◌++◌, ◌∷◌, [], true, false, not, nat_lt, nat_le, length, slice_get};
 ghost use Rattle.std.specs.Prelude.{option_and_then, option_copied, IfOk, OnOk, OnErr};
 ghost use Rattle.ddcmp_msg.specs.Message.{view};
-ghost use Rattle.dna_station.specs.Book.{has_packet, num_of};
+ghost use Rattle.dna_station.specs.Book.{has_packet};
+ghost use Rattle.dna_station.specs.Book as fields;
 ghost use Rattle.dna_station.specs.Station.{wire};
 ghost use Rattle.dna_station.specs.Table.{WINDOW, row};
 ghost use Rattle.dna_station.specs.WireStation.{no_numbers, with_label};
@@ -14,7 +15,7 @@ mod shown;
 
 use crate::{HeldPacket, PacketBytes};
 use ddcmp_msg::Message;
-use dna_station::State;
+use dna_station::{ArrivalRow, State, num_of};
 use std::alloc::{AllocError, Global};
 use std::marker::{Model, PhantomData};
 use wire_base::{PushFault, Seq, Window};
@@ -194,19 +195,9 @@ impl<T: Copy, B: PacketBytes, W: Window<HeldPacket<T, B>, 256>> StationVariables
     /// with RESP 0.
     #[inline(always)]
     pub fn can_take(&self, message: &Message) -> bool
-        ensures { result ≡ (has_packet (row self.now.state (view message.now)).effects && wire_is_next self.now (num_of (view message.now))) }
+        ensures { result ≡ (has_packet (row self.now.state (view message.now)).effects && wire_is_next self.now (fields.num_of (view message.now))) }
     {
-        match self.state {
-            State::Halted | State::Istrt => false,
-            State::Astrt => match message {
-                Message::Data { resp: 0, num, .. } => self.is_next(*num),
-                _ => false,
-            },
-            State::Running => match message {
-                Message::Data { num, .. } => self.is_next(*num),
-                _ => false,
-            },
-        }
+        ArrivalRow::of(self.state, message).takes_packet() && self.is_next(num_of(message))
     }
 
     /// Whether a RESP that comes is among A to N: what a right other station answers in RUNNING, since it was acknowledged last, or given since.

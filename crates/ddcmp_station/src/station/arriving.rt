@@ -1,6 +1,6 @@
 //! What an arrival does to a station.
 
-ghost use Rattle.std.specs.Prelude.{false, ◌≡◌, ◌+◌, ◌^◌, ◌<◌, ◌≤◌, ◌==◌, ◌&&◌, not, None, Some, if◌then◌else◌, fold, IfOk, OnOk, IfErr};
+ghost use Rattle.std.specs.Prelude.{false, ◌≡◌, ◌+◌, ◌^◌, ◌<◌, ◌≤◌, ◌==◌, ◌&&◌, not, None, Some, if◌then◌else◌, fold, IfOk, OnOk, IfErr, OnErr};
 ghost use Rattle.std.specs.Option.{option_copied};
 ghost use Rattle.ddcmp_msg.specs.Message.{view};
 ghost use Rattle.ddcmp_msg.specs.declared.nak_reason.NakReason.TheVariants as nak;
@@ -16,10 +16,12 @@ ghost use Rattle.dna_station.specs.WireBook.{wire_arrival_refusal, wire_tag, wir
 ghost use Rattle.dna_station.specs.WireBook.{wire_after_arrival, wire_taken};
 ghost use Rattle.ddcmp_station.specs.Arrival.{arrival_view};
 ghost use Rattle.ddcmp_station.specs.Failed.{failed_arrival, failed_keep, refusal_of_arrival};
+ghost use Rattle.ddcmp_station.specs.inner.Told.{told_arrival};
 ghost use Rattle.ddcmp_station.specs.Permit.{IsRow};
 ghost use Rattle.ddcmp_station.specs.PeriodRules.{period_rule};
 
 use super::{HeldPacket, Station};
+use crate::check::ArrivalCheck;
 use crate::{Arrival, ArrivalPermit, FailedArrival};
 use ddcmp_msg::{Message, NakReason};
 use dna_station::{ArrivalRow, PeriodNeed, State, Tag, body_of, num_of, resp_of};
@@ -47,45 +49,67 @@ impl<T: Copy, W: Window<HeldPacket<T>, 256>> Station<T, W> {
         ensures refused { IfErr result (λ failed.
             wire_arrival_refusal (period_rule OF_PAIR) self.now (arrival_view arrival.entry) kept ≡ Some (refusal_of_arrival failed)) }
     {
+        match self.look::<OF_PAIR>(arrival, kept) {
+            Ok(permit) => Ok(permit),
+            Err(check) => Err(self.told_arrival(&arrival, check)),
+        }
+    }
+
+    // The same by the name of the check.
+    #[inline(always)]
+    fn look<'a, const OF_PAIR: bool>(
+        &self,
+        arrival: Arrival<'a>,
+        kept: bool,
+    ) -> Result<ArrivalPermit<'a>, ArrivalCheck>
+        ensures allowed { OnOk result (wire_arrival_refusal (period_rule OF_PAIR) self.now (arrival_view arrival.entry) kept ≡ None) }
+        ensures row { IfOk result (λ permit. IsRow self.now (arrival_view arrival.entry) permit.row) }
+        ensures taken { IfOk result (λ permit. option_copied permit.packet ≡ wire_taken self.now (arrival_view arrival.entry) kept) }
+        ensures passes { OnOk result (failed_arrival (period_rule OF_PAIR) self.now (arrival_view arrival.entry) kept ≡ None) }
+        ensures named { IfErr result (λ check. failed_arrival (period_rule OF_PAIR) self.now (arrival_view arrival.entry) kept
+            ≡ Some (told_arrival self.now (arrival_view arrival.entry) check)) }
+        ensures refused { IfErr result (λ check. wire_arrival_refusal (period_rule OF_PAIR) self.now (arrival_view arrival.entry) kept
+            ≡ Some (refusal_of_arrival (told_arrival self.now (arrival_view arrival.entry) check))) }
+    {
         match arrival {
-            Arrival::Sound(message, tag) => self.ask_sound::<OF_PAIR>(message, tag, kept),
-            Arrival::HeaderBad => ask_damage(kept),
-            Arrival::DataBad => ask_damage(kept),
+            Arrival::Sound(message, tag) => self.look_sound::<OF_PAIR>(message, tag, kept),
+            Arrival::HeaderBad => look_damage(kept),
+            Arrival::DataBad => look_damage(kept),
         }
     }
 
     // A sound message that comes.
     #[inline(always)]
-    fn ask_sound<'a, const OF_PAIR: bool>(
+    fn look_sound<'a, const OF_PAIR: bool>(
         &self,
         message: Message<'a>,
         tag: Tag,
         kept: bool,
-    ) -> Result<ArrivalPermit<'a>, FailedArrival>
+    ) -> Result<ArrivalPermit<'a>, ArrivalCheck>
         ensures allowed { OnOk result (wire_arrival_refusal (period_rule OF_PAIR) self.now (arriving.Sound (view message.entry) tag) kept ≡ None) }
         ensures row { IfOk result (λ permit. row_view permit.row ≡ row self.now.variables.state (view message.entry)) }
         ensures taken { IfOk result (λ permit. option_copied permit.packet ≡ wire_taken self.now (arriving.Sound (view message.entry) tag) kept) }
         ensures passes { OnOk result (failed_arrival (period_rule OF_PAIR) self.now (arriving.Sound (view message.entry) tag) kept ≡ None) }
-        ensures named { IfErr result (λ failed.
-            failed_arrival (period_rule OF_PAIR) self.now (arriving.Sound (view message.entry) tag) kept ≡ Some failed) }
-        ensures refused { IfErr result (λ failed.
-            wire_arrival_refusal (period_rule OF_PAIR) self.now (arriving.Sound (view message.entry) tag) kept ≡ Some (refusal_of_arrival failed)) }
+        ensures named { IfErr result (λ check. failed_arrival (period_rule OF_PAIR) self.now (arriving.Sound (view message.entry) tag) kept
+            ≡ Some (told_arrival self.now (arriving.Sound (view message.entry) tag) check)) }
+        ensures refused { IfErr result (λ check. wire_arrival_refusal (period_rule OF_PAIR) self.now (arriving.Sound (view message.entry) tag) kept
+            ≡ Some (refusal_of_arrival (told_arrival self.now (arriving.Sound (view message.entry) tag) check))) }
     {
         let row = ArrivalRow::of(self.variables.state(), &message);
         if OF_PAIR {
             if !self.meets(row.needs(), tag) {
-                return Err(self.crossed(row.needs(), tag));
+                return Err(ArrivalCheck::Period);
             }
         }
         if !kept {
             return Ok(ArrivalPermit { row, packet: None });
         }
         if !self.takes(row, &message) {
-            return Err(FailedArrival::Keep);
+            return Err(ArrivalCheck::Keep);
         }
         Ok(ArrivalPermit {
             row,
-            packet: Some(body_of(message)),
+            packet: Some(body_of(&message)),
         })
     }
 
@@ -101,21 +125,6 @@ impl<T: Copy, W: Window<HeldPacket<T>, 256>> Station<T, W> {
                 let fresh = is_period(tag.partner, self.period);
                 is_period(self.partner, tag.period) && fresh
             }
-        }
-    }
-
-    // They are not.
-    #[inline(never)]
-    fn crossed(&self, needs: PeriodNeed, seen: Tag) -> FailedArrival
-        ensures { result ≡ FailedArrival.Period needs seen (wire_tag self.now) }
-    {
-        FailedArrival::Period {
-            needs,
-            seen,
-            own: Tag {
-                period: self.period,
-                partner: self.partner,
-            },
         }
     }
 
@@ -251,15 +260,17 @@ impl<T: Copy, W: Window<HeldPacket<T>, 256>> Station<T, W> {
 }
 
 // A unit, or noise, that shows damage: nothing of it is kept.
-fn ask_damage<'a>(kept: bool) -> Result<ArrivalPermit<'a>, FailedArrival>
+#[inline(always)]
+fn look_damage<'a>(kept: bool) -> Result<ArrivalPermit<'a>, ArrivalCheck>
     ensures allowed { OnOk result (arriving.keep_refusal false kept ≡ None) }
     ensures permit { IfOk result (λ permit. option_copied permit.packet ≡ None) }
     ensures passes { OnOk result (failed_keep false kept ≡ None) }
-    ensures named { IfErr result (λ failed. failed_keep false kept ≡ Some failed) }
-    ensures refused { IfErr result (λ failed. arriving.keep_refusal false kept ≡ Some (refusal_of_arrival failed)) }
+    ensures keep { IfErr result (λ check. check ≡ ArrivalCheck.Keep) }
+    ensures named { OnErr result (failed_keep false kept ≡ Some FailedArrival.Keep) }
+    ensures refused { OnErr result (arriving.keep_refusal false kept ≡ Some (refusal_of_arrival FailedArrival.Keep)) }
 {
     if kept {
-        return Err(FailedArrival::Keep);
+        return Err(ArrivalCheck::Keep);
     }
     Ok(ArrivalPermit {
         row: ArrivalRow::Ignored,

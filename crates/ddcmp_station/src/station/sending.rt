@@ -43,7 +43,7 @@ impl<T: Copy, W: Window<HeldPacket<T>, 256>> Station<T, W> {
         ensures refused { IfErr result (λ failed. wire_sending_refusal self.now (view message.now) ≡ Some (refusal_of_failed failed)) }
     {
         match self.failing(message) {
-            Some(failed) => Err(failed),
+            Some(check) => Err(self.told(message, check)),
             None => Ok(self.permit(message)),
         }
     }

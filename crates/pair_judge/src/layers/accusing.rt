@@ -9,12 +9,11 @@ ghost use Rattle.dna_node.specs.Accusing as spec;
 ghost use Rattle.dna_node.specs.Content as read;
 ghost use Rattle.pair_judge.specs.inner.Tops.{line_end};
 
-use super::sending::packet_of;
 use super::{Layers, Links, Station};
 use crate::packet::content;
 use ddcmp_msg::Message;
 use dna_packet::{AckWord, Nsp, read_nsp};
-use dna_station::{LinkRefusal, State, StationRefusal, StepRefusal};
+use dna_station::{LinkRefusal, State, StationRefusal, StepRefusal, body_of};
 
 impl Layers {
     /// Why no right other end sends this message now, whether its packet is taken or not: `WrongResponse`; `BadPacket`, `BadNsp`. Takes no
@@ -55,7 +54,7 @@ impl Layers {
     pub fn wrong_taken(&self, message: &Message) -> Option<StepRefusal>
         ensures { result ≡ spec.wrong_taken self.now (view message.now) }
     {
-        match content(packet_of(message)) {
+        match content(body_of(message)) {
             Ok(Some(carried)) => match &read_nsp(carried.message) {
                 Ok(message) => wrong_message(&self.links, message),
                 Err(_) => None,

@@ -16,7 +16,6 @@ ghost use Rattle.pair_judge.specs.inner.Steps.{with_link};
 
 use super::Layers;
 use super::arriving::tag_of;
-use super::sending::packet_of;
 use crate::carried::carried;
 use crate::failed_check::FailedCheck;
 use crate::held_link::HeldLink;
@@ -24,6 +23,7 @@ use crate::packet::Carried;
 use ddcmp_msg::Message;
 use ddcmp_station::{Arrival, SendPermit, State};
 use dna_packet::read_nsp;
+use dna_station::body_of;
 use nsp_link::LinkEvent;
 
 impl Layers {
@@ -32,7 +32,7 @@ impl Layers {
         ensures { result ≡ spec.failed_message self.now (view message.now) }
     {
         match self.station.ask_to_send(message) {
-            Ok(SendPermit::FirstSending) => self.failed_first(packet_of(message)),
+            Ok(SendPermit::FirstSending) => self.failed_first(body_of(message)),
             Ok(SendPermit::Control | SendPermit::Repeat) => None,
             Err(failed) => Some(FailedCheck::StationSending(failed)),
         }
@@ -81,7 +81,7 @@ impl Layers {
             return None;
         }
         match arrival {
-            Arrival::Sound(message, _) => self.failed_kept(packet_of(&message), link),
+            Arrival::Sound(message, _) => self.failed_kept(body_of(&message), link),
             Arrival::HeaderBad | Arrival::DataBad => None,
         }
     }

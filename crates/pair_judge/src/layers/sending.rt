@@ -3,7 +3,6 @@
 ghost use Rattle.std.specs.Prelude.{◌≡◌, ◌≤◌, Ok, Err, None, false, true, OnOk, OnErr, IfOk, IfErr};
 ghost use Rattle.ddcmp_msg.specs.Message.{view};
 ghost use Rattle.dna_station.specs.declared.tag.Tag.{Tag};
-ghost use Rattle.dna_station.specs.Book.{body_of};
 ghost use Rattle.dna_node.specs.Content as spec;
 ghost use Rattle.dna_station.specs.WireStation.{WireStation, load};
 ghost use Rattle.dna_node.specs.WireLayers.{WireLayers, first_tagged, wire_sends_first};
@@ -23,7 +22,7 @@ use ddcmp_msg::Message;
 use ddcmp_station::SendPermit;
 use dna_links::LinkTag;
 use dna_packet::read_nsp;
-use dna_station::StepRefusal;
+use dna_station::{StepRefusal, body_of};
 use nsp_link::LinkFault;
 use std::alloc::AllocError;
 
@@ -64,7 +63,7 @@ impl Layers {
         ensures still { IfErr result (IfRefused (λ refusal. self.new ≡ self.old)) }
         ensures load { load self.new.station ≤ load self.old.station }
     {
-        let link = match content(packet_of(message)) {
+        let link = match content(body_of(message)) {
             Ok(Some(carried)) => match self.send(carried) {
                 Ok(link) => link,
                 Err(fault) => return Err(fault),
@@ -123,15 +122,5 @@ impl Layers {
             },
             Err(_) => Err(StepFault::Refused(StepRefusal::BadNsp)),
         }
-    }
-}
-
-// The packet of a data message; of another one no byte.
-pub(super) fn packet_of<'a>(message: &Message<'a>) -> &'a [u8]
-    ensures { result.now ≡ body_of (view message.now) }
-{
-    match message {
-        Message::Data { body, .. } => body,
-        _ => &[],
     }
 }

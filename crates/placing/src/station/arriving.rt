@@ -2,63 +2,51 @@
 
 use super::Station;
 use crate::said::Said;
-use dna_station::{State, Tag};
+use dna_station::{ArrivalRow, PeriodNeed, State, Tag, num_of, resp_of};
 
 impl Station {
     /// Whether the periods of what came are those that it acts on (the rule on periods).
     pub(crate) fn meets(self, said: Said, tag: Tag) -> bool {
+        let Some(message) = said.message() else {
+            return true;
+        };
         let fresh = tag.partner == Some(self.period);
-        let of_pair = fresh && self.partner == Some(tag.period);
-        match self.state {
-            State::Halted => true,
-            State::Istrt => match said {
-                Said::Stack => fresh,
-                _ => true,
-            },
-            State::Astrt => match said {
-                Said::Stack => fresh,
-                Said::Ack { resp: 0 } | Said::Data { resp: 0, num: _ } => of_pair,
-                _ => true,
-            },
-            State::Running => match said {
-                Said::Strt | Said::Nothing => true,
-                _ => of_pair,
-            },
+        match ArrivalRow::of(self.state, &message).needs() {
+            PeriodNeed::Anything => true,
+            PeriodNeed::Fresh => fresh,
+            PeriodNeed::OfPair => fresh && self.partner == Some(tag.period),
         }
     }
 
     /// Whether it can take the packet in this.
     pub(crate) fn can_take(self, said: Said) -> bool {
-        let Said::Data { resp, num } = said else {
+        let Some(message) = said.message() else {
             return false;
         };
-        if num != self.received.wrapping_add(1) {
-            return false;
-        }
-        match self.state {
-            State::Running => true,
-            State::Astrt => resp == 0,
-            State::Halted | State::Istrt => false,
-        }
+        ArrivalRow::of(self.state, &message).takes_packet()
+            && num_of(&message) == self.received.wrapping_add(1)
     }
 
     /// This came, and its packet was kept or not.
     pub(crate) fn arrived(self, said: Said, tag: Tag, kept: bool) -> Station {
-        match self.state {
-            State::Halted => self,
-            State::Istrt => match said {
-                Said::Strt => self.joined(tag, State::Astrt),
-                Said::Stack => self.joined(tag, State::Running),
-                _ => self,
-            },
-            State::Astrt => match said {
-                Said::Strt => self.joined(tag, State::Astrt),
-                Said::Stack => self.joined(tag, State::Running),
-                Said::Ack { resp: 0 } => self.running(),
-                Said::Data { resp: 0, num } => self.running().got_data(0, num, kept),
-                _ => self,
-            },
-            State::Running => self.arrived_running(said, kept),
+        let Some(message) = said.message() else {
+            return self;
+        };
+        let resp = resp_of(&message);
+        let num = num_of(&message);
+        let row = ArrivalRow::of(self.state, &message);
+        match row {
+            ArrivalRow::Ignored | ArrivalRow::Noted => self,
+            ArrivalRow::StartMet | ArrivalRow::StartAnswered | ArrivalRow::StartAgain => {
+                self.joined(tag, row.leads_to(self.state))
+            }
+            ArrivalRow::StartConfirmed => self.running(),
+            ArrivalRow::FirstData => self.running().got_data(resp, num, kept),
+            ArrivalRow::Restarted => self.halted(),
+            ArrivalRow::Acknowledged => self.responded(resp),
+            ArrivalRow::SetBack => self.set_back(resp),
+            ArrivalRow::Asked => self.asked(num),
+            ArrivalRow::Delivered => self.got_data(resp, num, kept),
         }
     }
 
@@ -77,22 +65,14 @@ impl Station {
         }
     }
 
-    fn arrived_running(self, said: Said, kept: bool) -> Station {
-        match said {
-            Said::Strt => self.halted(),
-            Said::Ack { resp } => self.responded(resp),
-            Said::Nak { reason: _, resp } => self.set_back(resp),
-            Said::Rep { num } => {
-                if num == self.received {
-                    return self;
-                }
-                Station {
-                    answers: self.answers.saturating_add(1),
-                    ..self
-                }
-            }
-            Said::Data { resp, num } => self.got_data(resp, num, kept),
-            Said::Stack | Said::Nothing => self,
+    // A REP of another number than the last received is answered with a NAK.
+    fn asked(self, num: u8) -> Station {
+        if num == self.received {
+            return self;
+        }
+        Station {
+            answers: self.answers.saturating_add(1),
+            ..self
         }
     }
 

@@ -7,7 +7,6 @@ ghost use Rattle.ddcmp_msg.specs.Message.{view};
 ghost use Rattle.ddcmp_msg.specs.Reading.{reading, reading_view};
 ghost use Rattle.dna_packet.specs.Packet as packets;
 ghost use Rattle.dna_packet.specs.Nsp as nsp;
-ghost use Rattle.dna_station.specs.Book as book;
 ghost use Rattle.dna_node.specs.Content as contents;
 ghost use Rattle.dna_play.specs.StoredPlay as steps;
 ghost use Rattle.dna_play.specs.Receipt as receipts;
@@ -22,8 +21,9 @@ use crate::given_piece::GivenPiece;
 use crate::held_packet::HeldPacket;
 use crate::link_ends::LinkEnds;
 use capture::{Entry, MAX_HINT, MAX_UNIT};
-use ddcmp_msg::{Message, Reading, read_unit};
+use ddcmp_msg::{Reading, read_unit};
 use dna_packet::{Nsp, Packet, read_nsp, read_packet};
+use dna_station::body_of;
 use wire_base::Window;
 
 impl<W: Window<HeldPacket, 256> + Drop, V: Window<GivenPiece, 4096> + Drop> End<W, V> {
@@ -152,18 +152,4 @@ fn is_returned(rtflg: u8) -> bool
     ensures { result ≡ contents.is_returned rtflg }
 {
     rtflg / 16 % 2 == 1
-}
-
-// The data of a message, and none where it has none.
-fn body_of<'a>(message: &Message<'a>) -> &'a [u8]
-    ensures { result.now ≡ book.body_of (view message.now) }
-{
-    match message {
-        Message::Data { body, .. } => body,
-        Message::Ack { .. }
-        | Message::Nak { .. }
-        | Message::Rep { .. }
-        | Message::Strt { .. }
-        | Message::Stack { .. } => &[],
-    }
 }

@@ -1,10 +1,11 @@
 //! What comes to a station: whether it is taken, what it makes the station owe, and what its row does.
 
-ghost use Rattle.std.specs.Prelude.{◌≡◌, ◌&&◌};
+ghost use Rattle.std.specs.Prelude.{◌≡◌, ◌&&◌, fold};
 ghost use Rattle.std.specs.Option.{option_map};
 ghost use Rattle.ddcmp_msg.specs.Message.{view};
 ghost use Rattle.ddcmp_msg.specs.Reading.{reading_view};
-ghost use Rattle.dna_station.specs.WireBook.{with_next, wire_is_next, wire_responded};
+ghost use Rattle.dna_station.specs.ArrivalRows.{row_view};
+ghost use Rattle.dna_station.specs.WireBook.{variables_after, with_next, wire_is_next, wire_responded};
 ghost use Rattle.dna_play.specs.Owed as owing;
 ghost use Rattle.dna_play.specs.StoredStation.{after_arrival};
 ghost use Rattle.dna_play.specs.StoredStation as stored_station;
@@ -14,7 +15,7 @@ use super::{StationEnd, settle};
 use crate::debt::Debt;
 use crate::held_packet::HeldPacket;
 use ddcmp_msg::{Message, NakReason, Reading};
-use dna_station::State;
+use dna_station::{ArrivalRow, State, num_of, resp_of};
 use wire_base::Window;
 
 impl<W: Window<HeldPacket, 256> + Drop> StationEnd<W> {
@@ -110,33 +111,35 @@ impl<W: Window<HeldPacket, 256> + Drop> StationEnd<W> {
     fn take(&mut self, message: &Message<'_>, kept: bool)
         ensures { self.new ≡ record self.old { variables = stored_station.message_came (view message.now) kept self.old.variables } }
     {
-        match self.variables.state() {
-            State::Halted => {}
-            State::Istrt => match message {
-                Message::Strt { .. } => self.variables.go_to(State::Astrt),
-                Message::Stack { .. } => self.variables.go_to(State::Running),
-                _ => {}
-            },
-            State::Astrt => match message {
-                Message::Stack { .. } => self.variables.go_to(State::Running),
-                Message::Ack { resp: 0, .. } => self.variables.go_to(State::Running),
-                Message::Data { resp: 0, num, .. } => {
-                    self.variables.go_to(State::Running);
-                    self.receive_data(0, *num, kept);
-                }
-                _ => {}
-            },
-            State::Running => match message {
-                Message::Strt { .. } => self.variables.go_to(State::Halted),
-                Message::Stack { .. } => {}
-                Message::Ack { resp, .. } => self.variables.respond(*resp),
-                Message::Nak { resp, .. } => {
-                    self.variables.respond(*resp);
-                    self.variables.set_back();
-                }
-                Message::Rep { .. } => {}
-                Message::Data { resp, num, .. } => self.receive_data(*resp, *num, kept),
-            },
+        let row = ArrivalRow::of(self.variables.state(), message);
+        self.take_step(row, message, kept);
+    }
+
+    // The effects of a sound message, by its row.
+    fn take_step(&mut self, row: ArrivalRow, message: &Message<'_>, kept: bool)
+        ensures { self.new ≡ record self.old {
+          variables = fold (variables_after (view message.now) kept) self.old.variables (row_view row).effects;
+        } }
+    {
+        match row {
+            ArrivalRow::Ignored | ArrivalRow::StartAgain => {}
+            ArrivalRow::Noted | ArrivalRow::Asked => {}
+            ArrivalRow::StartMet => self.variables.go_to(State::Astrt),
+            ArrivalRow::StartAnswered => self.variables.go_to(State::Running),
+            ArrivalRow::StartConfirmed => self.variables.go_to(State::Running),
+            ArrivalRow::FirstData => {
+                self.variables.go_to(State::Running);
+                self.receive_data(resp_of(message), num_of(message), kept);
+            }
+            ArrivalRow::Restarted => self.variables.go_to(State::Halted),
+            ArrivalRow::Acknowledged => self.variables.respond(resp_of(message)),
+            ArrivalRow::SetBack => {
+                self.variables.respond(resp_of(message));
+                self.variables.set_back();
+            }
+            ArrivalRow::Delivered => {
+                self.receive_data(resp_of(message), num_of(message), kept)
+            }
         }
     }
 

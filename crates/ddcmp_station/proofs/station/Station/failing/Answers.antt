@@ -13,7 +13,7 @@ pub returns-in-Running-clause-refuses : goal.returns-in-Running-clause-refuses
 returns-in-Running-clause-refuses g c =
     let w = c.args.self.now in
     let m = view c.args.message.now in
-    ap (option_map refusal_of_failed) c.failed_in_running.ensures
+    ap (option_map refusal_of_failed) c.failing_in_running.ensures
     ∙ by_list w m (checks Running m)
     ∙ ap (λ (s : State). failed (wire_passes w m) (checks s m))
-    (sym c.in-Running.is ∙ c.state-seen.ensures ∙ ap (λ w. w.variables.state) c.self.view_is)
+    (sym c.in-Running.is ∙ c.state.ensures ∙ ap (λ w. w.variables.state) c.self.view_is)

@@ -1,6 +1,6 @@
 use Rattle.std.proofs.Common.{◌≡◌, ◌+◌, drop, eqb}
 use Rattle.std.specs.List.{common_prefix_len}
-use Rattle.ddcmp_station.proofs.station.failing.first_difference.Given as goal
+use Rattle.ddcmp_station.proofs.station.telling.first_difference.Given as goal
 
 abbrev pub invariant-loop-place : goal.invariant-loop-place
 invariant-loop-place l =

@@ -1,6 +1,6 @@
 use Rattle.std.proofs.Common.{arith, drop, eqb, length-drop}
 use Rattle.std.proofs.lemmas.List.Sums.{common_prefix_len-le}
-use Rattle.ddcmp_station.proofs.station.failing.first_difference.Goals as goal
+use Rattle.ddcmp_station.proofs.station.telling.first_difference.Goals as goal
 
 -- one of the two ends at the shorter's end, so nothing more is common
 pub returns : goal.returns
