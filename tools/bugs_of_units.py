@@ -76,7 +76,7 @@ class Maintenance(Node):
         self.say(self.check(bytes([0x90, 1, 0, 0, 0, 1])) + self.check(b'\x08'))
 
 
-# ---- the driver, which stands below the recorder: the other end's receipt is named
+# ---- the driver, below the recorder: the receipt at the other end is named
 
 
 @bug(2, 'the driver sends a unit twice', at.quiet, at_peer=True)
