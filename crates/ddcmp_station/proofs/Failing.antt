@@ -18,6 +18,9 @@ use Rattle.dna_station.specs.WireStation.{HeldPacket, WireStation}
 use Rattle.dna_station.specs.WireBook.{is_held_packet, wire_is_new, wire_passes, wire_sending_refusal}
 use Rattle.ddcmp_station.specs.Failed.{failing, failed_of, failed_sending, first_failing, has_num, has_resp, is_data, refusal_of_failed}
 use Rattle.ddcmp_station.specs.Failed.{with_body, with_num, with_reason, with_resp}
+use Rattle.ddcmp_station.specs.Told.{refusal_of_sending, told}
+use Rattle.ddcmp_station.specs.declared.check.SendingCheck.{SendingCheck}
+use Rattle.ddcmp_station.specs.declared.check.SendingCheck.TheVariants as checked
 use Rattle.ddcmp_station.specs.declared.failed.FailedSending.{FailedSending}
 
 module _ {L : Type 0} (w : WireStation L) (m : MessageValue) where
@@ -29,6 +32,16 @@ module _ {L : Type 0} (w : WireStation L) (m : MessageValue) where
   refusal_same table.NumIsNext = refl
   refusal_same table.RoomIfNew = refl
   refusal_same table.AsFirstGiven = refl
+
+  pub told_same : (check : SendingCheck) → refusal_of_failed (told w m check) ≡ refusal_of_sending check
+  told_same checked.State = refl
+  told_same checked.RespIsLast = refl
+  told_same checked.NumIsNext = refl
+  told_same checked.NumIsHighest = refl
+  told_same checked.SomeOutstanding = refl
+  told_same checked.RoomIfNew = refl
+  told_same checked.AsFirstGiven = refl
+  told_same checked.CauseIsOpen = refl
 
   first_same : (b : Bool) (check : Check) (o : Option FailedSending) (p : Option StationRefusal) → option_map refusal_of_failed o ≡ p →
       option_map refusal_of_failed (cond b o (Some (failing w m check))) ≡ cond b p (Some (refusal_of check))

@@ -5,4 +5,5 @@ pub mod Permit
 pub mod Sent
 pub mod View
 pub mod Failed
+pub mod Told
 pub mod inner

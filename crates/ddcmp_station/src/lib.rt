@@ -14,6 +14,7 @@ mod station;
 mod view;
 
 pub use arrival::Arrival;
+pub use check::{ArrivalCheck, SendingCheck};
 pub use dna_station::{ArrivalRow, PeriodNeed, State, StationEvent, StationRefusal, Tag};
 pub use failed::{DataByte, FailedArrival, FailedSending};
 pub use laws::{allowed_arrives, allowed_passes, view_shows_truth};

@@ -114,7 +114,7 @@ fn sends<W: Window<HeldPacket<u64>, 256>>(
     };
     let permit = match station.ask_to_send(&message) {
         Ok(permit) => permit,
-        Err(failed) => return Some(Err(Fault::Refused(failed.refusal()))),
+        Err(check) => return Some(Err(Fault::Refused(check.refusal()))),
     };
     let sent = match station.send(&message, permit) {
         Ok(sent) => sent,
@@ -149,7 +149,7 @@ fn takes<W: Window<HeldPacket<u64>, 256>>(
     };
     let permit = match station.ask_arrival::<true>(arrival, kept) {
         Ok(permit) => permit,
-        Err(failed) => return Some(Err(Fault::Refused(failed.refusal()))),
+        Err(check) => return Some(Err(Fault::Refused(check.refusal()))),
     };
     station.arrive(arrival, permit.row, kept);
     match permit.packet {

@@ -15,49 +15,27 @@ ghost use Rattle.dna_station.specs.WireStation.{load};
 ghost use Rattle.dna_station.specs.WireBook.{wire_arrival_refusal, wire_tag, wire_book, wire_is_next, with_next, wire_responded, wire_does};
 ghost use Rattle.dna_station.specs.WireBook.{wire_after_arrival, wire_taken};
 ghost use Rattle.ddcmp_station.specs.Arrival.{arrival_view};
-ghost use Rattle.ddcmp_station.specs.Failed.{failed_arrival, failed_keep, refusal_of_arrival};
-ghost use Rattle.ddcmp_station.specs.inner.Told.{told_arrival};
+ghost use Rattle.ddcmp_station.specs.Failed.{failed_arrival, failed_keep};
+ghost use Rattle.ddcmp_station.specs.Told.{refusal_of_arrival, told_arrival};
 ghost use Rattle.ddcmp_station.specs.Permit.{IsRow};
 ghost use Rattle.ddcmp_station.specs.PeriodRules.{period_rule};
 
 use super::{HeldPacket, Station};
-use crate::check::ArrivalCheck;
-use crate::{Arrival, ArrivalPermit, FailedArrival};
+use crate::{Arrival, ArrivalCheck, ArrivalPermit, FailedArrival};
 use ddcmp_msg::{Message, NakReason};
 use dna_station::{ArrivalRow, PeriodNeed, State, Tag, body_of, num_of, resp_of};
 use wire_base::Window;
 
 impl<T: Copy, W: Window<HeldPacket<T>, 256>> Station<T, W> {
     /// Whether this can come now, where the node kept its packet or did not (DDCMP 4.1, startup state table, data transfer). Nothing changes, and
-    /// no memory is taken. The answer is a permit for [`Station::arrive`], or else the first check that the arrival does not pass, with what is
-    /// seen there and what is allowed: with that it is passed (`allowed_arrives`). In this order:
+    /// no memory is taken. The answer is a permit for [`Station::arrive`], or else the first check that the arrival does not pass, by its name
+    /// ([`Station::tell_arrival`] tells more). In this order:
     ///
     /// - `Period`: a message that is acted on belongs to another pair of starts. Only where `OF_PAIR`, as a judge of two captures asks it:
     ///   `ask_arrival::<true>`. Who has one end alone knows no period of what comes, and `ask_arrival::<false>` takes any.
     /// - `Keep`: nothing is taken, and `kept` says that something was.
     #[inline(always)]
     pub fn ask_arrival<'a, const OF_PAIR: bool>(
-        &self,
-        arrival: Arrival<'a>,
-        kept: bool,
-    ) -> Result<ArrivalPermit<'a>, FailedArrival>
-        ensures allowed { OnOk result (wire_arrival_refusal (period_rule OF_PAIR) self.now (arrival_view arrival.entry) kept ≡ None) }
-        ensures row { IfOk result (λ permit. IsRow self.now (arrival_view arrival.entry) permit.row) }
-        ensures taken { IfOk result (λ permit. option_copied permit.packet ≡ wire_taken self.now (arrival_view arrival.entry) kept) }
-        ensures passes { OnOk result (failed_arrival (period_rule OF_PAIR) self.now (arrival_view arrival.entry) kept ≡ None) }
-        ensures named { IfErr result (λ failed. failed_arrival (period_rule OF_PAIR) self.now (arrival_view arrival.entry) kept ≡ Some failed) }
-        ensures refused { IfErr result (λ failed.
-            wire_arrival_refusal (period_rule OF_PAIR) self.now (arrival_view arrival.entry) kept ≡ Some (refusal_of_arrival failed)) }
-    {
-        match self.look::<OF_PAIR>(arrival, kept) {
-            Ok(permit) => Ok(permit),
-            Err(check) => Err(self.told_arrival(&arrival, check)),
-        }
-    }
-
-    // The same by the name of the check.
-    #[inline(always)]
-    fn look<'a, const OF_PAIR: bool>(
         &self,
         arrival: Arrival<'a>,
         kept: bool,
@@ -69,18 +47,18 @@ impl<T: Copy, W: Window<HeldPacket<T>, 256>> Station<T, W> {
         ensures named { IfErr result (λ check. failed_arrival (period_rule OF_PAIR) self.now (arrival_view arrival.entry) kept
             ≡ Some (told_arrival self.now (arrival_view arrival.entry) check)) }
         ensures refused { IfErr result (λ check. wire_arrival_refusal (period_rule OF_PAIR) self.now (arrival_view arrival.entry) kept
-            ≡ Some (refusal_of_arrival (told_arrival self.now (arrival_view arrival.entry) check))) }
+            ≡ Some (refusal_of_arrival check)) }
     {
         match arrival {
-            Arrival::Sound(message, tag) => self.look_sound::<OF_PAIR>(message, tag, kept),
-            Arrival::HeaderBad => look_damage(kept),
-            Arrival::DataBad => look_damage(kept),
+            Arrival::Sound(message, tag) => self.ask_sound::<OF_PAIR>(message, tag, kept),
+            Arrival::HeaderBad => ask_damage(kept),
+            Arrival::DataBad => ask_damage(kept),
         }
     }
 
     // A sound message that comes.
     #[inline(always)]
-    fn look_sound<'a, const OF_PAIR: bool>(
+    fn ask_sound<'a, const OF_PAIR: bool>(
         &self,
         message: Message<'a>,
         tag: Tag,
@@ -93,7 +71,7 @@ impl<T: Copy, W: Window<HeldPacket<T>, 256>> Station<T, W> {
         ensures named { IfErr result (λ check. failed_arrival (period_rule OF_PAIR) self.now (arriving.Sound (view message.entry) tag) kept
             ≡ Some (told_arrival self.now (arriving.Sound (view message.entry) tag) check)) }
         ensures refused { IfErr result (λ check. wire_arrival_refusal (period_rule OF_PAIR) self.now (arriving.Sound (view message.entry) tag) kept
-            ≡ Some (refusal_of_arrival (told_arrival self.now (arriving.Sound (view message.entry) tag) check))) }
+            ≡ Some (refusal_of_arrival check)) }
     {
         let row = ArrivalRow::of(self.variables.state(), &message);
         if OF_PAIR {
@@ -261,13 +239,13 @@ impl<T: Copy, W: Window<HeldPacket<T>, 256>> Station<T, W> {
 
 // A unit, or noise, that shows damage: nothing of it is kept.
 #[inline(always)]
-fn look_damage<'a>(kept: bool) -> Result<ArrivalPermit<'a>, ArrivalCheck>
+fn ask_damage<'a>(kept: bool) -> Result<ArrivalPermit<'a>, ArrivalCheck>
     ensures allowed { OnOk result (arriving.keep_refusal false kept ≡ None) }
     ensures permit { IfOk result (λ permit. option_copied permit.packet ≡ None) }
     ensures passes { OnOk result (failed_keep false kept ≡ None) }
     ensures keep { IfErr result (λ check. check ≡ ArrivalCheck.Keep) }
     ensures named { OnErr result (failed_keep false kept ≡ Some FailedArrival.Keep) }
-    ensures refused { OnErr result (arriving.keep_refusal false kept ≡ Some (refusal_of_arrival FailedArrival.Keep)) }
+    ensures refused { OnErr result (arriving.keep_refusal false kept ≡ Some (refusal_of_arrival ArrivalCheck.Keep)) }
 {
     if kept {
         return Err(ArrivalCheck::Keep);

@@ -7,7 +7,7 @@ ghost use Rattle.dna_station.specs.Station.{wire};
 ghost use Rattle.dna_station.specs.Table.{WINDOW, checks};
 ghost use Rattle.dna_station.specs.WireBook.{is_held_packet, wire_is_new, wire_sending_refusal};
 ghost use Rattle.ddcmp_station.specs.Failed.{failed_of, failed_sending, first_data, not_as_first, refusal_of_failed};
-ghost use Rattle.ddcmp_station.specs.inner.Told.{told};
+ghost use Rattle.ddcmp_station.specs.Told.{told};
 
 use super::{HeldPacket, Station};
 use crate::check::SendingCheck;

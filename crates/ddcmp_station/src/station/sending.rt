@@ -6,12 +6,13 @@ ghost use Rattle.dna_station.specs.Table.{WINDOW};
 ghost use Rattle.dna_station.specs.WireStation.{load};
 ghost use Rattle.dna_station.specs.WireBook.{wire_is_new, sends_packet, wire_sending_refusal, wire_after_sending};
 ghost use Rattle.dna_station.specs.WireBook.{gives_new};
-ghost use Rattle.ddcmp_station.specs.Failed.{failed_sending, refusal_of_failed};
+ghost use Rattle.ddcmp_station.specs.Failed.{failed_sending};
+ghost use Rattle.ddcmp_station.specs.Told.{refusal_of_sending, told};
 ghost use Rattle.ddcmp_station.specs.Permit.{is_first, send_permit};
 ghost use Rattle.ddcmp_station.specs.Sent.{sent_as};
 
 use super::{HeldPacket, Station};
-use crate::{FailedSending, SendPermit, SentAs};
+use crate::{SendPermit, SendingCheck, SentAs};
 use ddcmp_msg::Message;
 use dna_station::Tag;
 use std::alloc::AllocError;
@@ -19,8 +20,8 @@ use wire_base::{Copied, Window};
 
 impl<T: Copy, W: Window<HeldPacket<T>, 256>> Station<T, W> {
     /// Whether its node may send this message now (DDCMP 4.1, startup state table, data transfer). Nothing changes, and no memory is taken. The
-    /// answer is a permit for [`Station::send`], or else the first check that the message does not pass, with what is seen there and what is
-    /// allowed: with that in the place of what is seen the check is passed (`allowed_passes`).
+    /// answer is a permit for [`Station::send`], or else the first check that the message does not pass, by its name
+    /// ([`Station::tell_sending`] tells more).
     ///
     /// What is tested, in this order; where nothing stands, and in HALTED, the message may not be sent:
     ///
@@ -33,17 +34,18 @@ impl<T: Copy, W: Window<HeldPacket<T>, 256>> Station<T, W> {
     ///  REP                           that a packet is not acknowledged; NUM
     ///  data                          NUM; RESP; of a new packet room in the window, of another one its bytes
     /// ```
+    #[tactic(auto, using(crate::proofs::Failing::told_same))]
     #[inline(always)]
-    pub fn ask_to_send(&self, message: &Message) -> Result<SendPermit, FailedSending>
+    pub fn ask_to_send(&self, message: &Message) -> Result<SendPermit, SendingCheck>
         ensures allowed { OnOk result (wire_sending_refusal self.now (view message.now) ≡ None) }
         ensures permit { IfOk result (λ permit. permit ≡ send_permit self.now (view message.now)) }
         ensures first { IfOk result (λ permit. gives_new self.now (view message.now) ≡ is_first permit) }
         ensures passes { OnOk result (failed_sending self.now (view message.now) ≡ None) }
-        ensures named { IfErr result (λ failed. failed_sending self.now (view message.now) ≡ Some failed) }
-        ensures refused { IfErr result (λ failed. wire_sending_refusal self.now (view message.now) ≡ Some (refusal_of_failed failed)) }
+        ensures named { IfErr result (λ check. failed_sending self.now (view message.now) ≡ Some (told self.now (view message.now) check)) }
+        ensures refused { IfErr result (λ check. wire_sending_refusal self.now (view message.now) ≡ Some (refusal_of_sending check)) }
     {
         match self.failing(message) {
-            Some(check) => Err(self.told(message, check)),
+            Some(check) => Err(check),
             None => Ok(self.permit(message)),
         }
     }

@@ -5,7 +5,7 @@ ghost use Rattle.ddcmp_msg.specs.Message.{view};
 ghost use Rattle.ddcmp_station.specs.Arrival.{arrival_view};
 ghost use Rattle.ddcmp_station.specs.Failed.{first_data, not_as_first, reason_in};
 ghost use Rattle.ddcmp_station.specs.Failed as spec;
-ghost use Rattle.ddcmp_station.specs.inner.Told as inner;
+ghost use Rattle.ddcmp_station.specs.Told as told;
 
 use super::{HeldPacket, Station};
 use crate::arrival::Arrival;
@@ -16,10 +16,10 @@ use dna_station::{ArrivalRow, Tag, body_of, num_of, resp_of};
 use wire_base::Window;
 
 impl<T: Copy, W: Window<HeldPacket<T>, 256>> Station<T, W> {
-    // This check of a message that is to be sent fails.
-    #[inline(never)]
-    pub(super) fn told(&self, message: &Message, check: SendingCheck) -> FailedSending
-        ensures { result ≡ inner.told self.now (view message.now) check }
+    /// What is told of a check that this message does not pass, as [`Station::ask_to_send`] found it: what is seen there, and what is allowed.
+    /// With that in the place of what is seen the check is passed (`allowed_passes`).
+    pub fn tell_sending(&self, message: &Message, check: SendingCheck) -> FailedSending
+        ensures { result ≡ told.told self.now (view message.now) check }
     {
         match check {
             SendingCheck::State => FailedSending::State {
@@ -51,10 +51,10 @@ impl<T: Copy, W: Window<HeldPacket<T>, 256>> Station<T, W> {
         }
     }
 
-    // This check of an arrival fails. Damage has no periods.
-    #[inline(never)]
-    pub(super) fn told_arrival(&self, arrival: &Arrival, check: ArrivalCheck) -> FailedArrival
-        ensures { result ≡ inner.told_arrival self.now (arrival_view arrival.now) check }
+    /// What is told of a check that this arrival does not pass, as [`Station::ask_arrival`] found it: what is seen there, and what is allowed.
+    /// With that it is passed (`allowed_arrives`). Damage has no periods: of it nothing but `Keep` is found.
+    pub fn tell_arrival(&self, arrival: &Arrival, check: ArrivalCheck) -> FailedArrival
+        ensures { result ≡ told.told_arrival self.now (arrival_view arrival.now) check }
     {
         match check {
             ArrivalCheck::Keep => FailedArrival::Keep,

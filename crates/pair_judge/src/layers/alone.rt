@@ -38,7 +38,7 @@ impl Top for NothingOnTop {
     fn sent(layers: &mut Layers, message: &Message) -> Result<UnitTag, StepFault> {
         let permit = match layers.station.ask_to_send(message) {
             Ok(permit) => permit,
-            Err(failed) => return Err(StepFault::Refused(StepRefusal::Station(failed.refusal()))),
+            Err(check) => return Err(StepFault::Refused(StepRefusal::Station(check.refusal()))),
         };
         match layers.station.send(message, permit) {
             Ok(sent) => Ok(UnitTag {
@@ -61,7 +61,7 @@ impl Top for NothingOnTop {
                 layers.station.arrive(arrival, permit.row, kept);
                 Ok(())
             }
-            Err(failed) => Err(StepFault::Refused(StepRefusal::Station(failed.refusal()))),
+            Err(check) => Err(StepFault::Refused(StepRefusal::Station(check.refusal()))),
         }
     }
 
@@ -71,7 +71,7 @@ impl Top for NothingOnTop {
                 layers.station.arrive(arrival, permit.row, kept);
                 Ok(())
             }
-            Err(failed) => Err(StepFault::Refused(StepRefusal::Station(failed.refusal()))),
+            Err(check) => Err(StepFault::Refused(StepRefusal::Station(check.refusal()))),
         }
     }
 
@@ -82,7 +82,7 @@ impl Top for NothingOnTop {
     ) -> Result<(), StepRefusal> {
         match layers.station.ask_arrival::<false>(arrival, kept) {
             Ok(_) => Ok(()),
-            Err(failed) => Err(StepRefusal::Station(failed.refusal())),
+            Err(check) => Err(StepRefusal::Station(check.refusal())),
         }
     }
 

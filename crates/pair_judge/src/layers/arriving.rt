@@ -58,7 +58,7 @@ impl Layers {
                     Ok(())
                 }
             },
-            Err(failed) => Err(StepFault::Refused(StepRefusal::Station(failed.refusal()))),
+            Err(check) => Err(StepFault::Refused(StepRefusal::Station(check.refusal()))),
         }
     }
 

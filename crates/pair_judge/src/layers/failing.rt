@@ -34,7 +34,9 @@ impl Layers {
         match self.station.ask_to_send(message) {
             Ok(SendPermit::FirstSending) => self.failed_first(body_of(message)),
             Ok(SendPermit::Control | SendPermit::Repeat) => None,
-            Err(failed) => Some(FailedCheck::StationSending(failed)),
+            Err(check) => Some(FailedCheck::StationSending(
+                self.station.tell_sending(message, check),
+            )),
         }
     }
 
@@ -74,8 +76,10 @@ impl Layers {
     ) -> Option<FailedCheck>
         ensures { result ≡ spec.failed_arrival self.now (with_link link.now (arrival_view arrival.entry)) kept }
     {
-        if let Err(failed) = self.station.ask_arrival::<true>(arrival, kept) {
-            return Some(FailedCheck::StationArrival(failed));
+        if let Err(check) = self.station.ask_arrival::<true>(arrival, kept) {
+            return Some(FailedCheck::StationArrival(
+                self.station.tell_arrival(&arrival, check),
+            ));
         }
         if !kept {
             return None;

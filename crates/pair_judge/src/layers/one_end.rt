@@ -28,7 +28,7 @@ impl Layers {
                 Some(packet) => self.may_keep_unknown(packet),
                 None => Ok(()),
             },
-            Err(failed) => Err(StepRefusal::Station(failed.refusal())),
+            Err(check) => Err(StepRefusal::Station(check.refusal())),
         }
     }
 

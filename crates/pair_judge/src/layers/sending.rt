@@ -48,7 +48,7 @@ impl Layers {
                 }
                 Ok(self.send_again(message, permit))
             }
-            Err(failed) => Err(StepFault::Refused(StepRefusal::Station(failed.refusal()))),
+            Err(check) => Err(StepFault::Refused(StepRefusal::Station(check.refusal()))),
         }
     }
 

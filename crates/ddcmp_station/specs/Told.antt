@@ -1,5 +1,8 @@
--- What is told of a check that fails, which code finds by its name alone
+-- A check that fails by its name alone, what refuses there, and what is told of it
 use Rattle.ddcmp_msg.specs.Message.{MessageValue}
+use Rattle.dna_station.specs.declared.refusal.StationRefusal.{StationRefusal}
+use Rattle.dna_station.specs.declared.refusal.StationRefusal.TheVariants.{WrongState, WrongKeep, CrossedPeriod}
+use Rattle.dna_station.specs.Table.{refusal_of}
 use Rattle.dna_station.specs.Table as table
 use Rattle.dna_station.specs.declared.tag.Tag.{Tag}
 use Rattle.dna_station.specs.ArrivalRows.{need_of}
@@ -15,6 +18,20 @@ use Rattle.ddcmp_station.specs.declared.failed.FailedSending.{FailedSending}
 use Rattle.ddcmp_station.specs.declared.failed.FailedSending.TheVariants as failed
 use Rattle.ddcmp_station.specs.declared.failed.FailedArrival.{FailedArrival}
 use Rattle.ddcmp_station.specs.declared.failed.FailedArrival.TheVariants.{Period, Keep}
+
+abbrev pub refusal_of_sending : SendingCheck → StationRefusal
+refusal_of_sending checks.State = WrongState
+refusal_of_sending checks.RespIsLast = refusal_of table.RespIsLast
+refusal_of_sending checks.NumIsNext = refusal_of table.NumIsNext
+refusal_of_sending checks.NumIsHighest = refusal_of table.NumIsHighest
+refusal_of_sending checks.SomeOutstanding = refusal_of table.SomeOutstanding
+refusal_of_sending checks.RoomIfNew = refusal_of table.RoomIfNew
+refusal_of_sending checks.AsFirstGiven = refusal_of table.AsFirstGiven
+refusal_of_sending checks.CauseIsOpen = refusal_of table.CauseIsOpen
+
+abbrev pub refusal_of_arrival : ArrivalCheck → StationRefusal
+refusal_of_arrival arrivals.Period = CrossedPeriod
+refusal_of_arrival arrivals.Keep = WrongKeep
 
 module _ {L : Type 0} where
   abbrev pub told : WireStation L → MessageValue → SendingCheck → FailedSending
