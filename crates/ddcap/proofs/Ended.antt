@@ -17,7 +17,7 @@ use Rattle.ddcap.specs.Printed.{Moved, TellsFault, fault_status, verdict_status}
 use Rattle.ddcap.specs.PrintedAlone.{TellsEndFault, end_status}
 use Rattle.ddcap.specs.PrintedWhy.{WritesRefusal}
 use Rattle.ddcap.specs.Showing.{shown_fault_status}
-use Rattle.ddcap.specs.Statuses.{EndsAsJudged, EndsAsJudgedAlone, EndsAsTapped, EndsWith, told_status}
+use Rattle.ddcap.specs.inner.Statuses.{EndsAsJudged, EndsAsJudgedAlone, EndsAsTapped, EndsWith, told_status}
 
 -- a text is written, or a beginning of it
 pub ends_written : {A B C D : Type 0} (meant status : ℕ) → (A × B × (status ≡ meant)) ⊎ (C × D × (status ≡ 3)) → EndsWith meant status

@@ -1,5 +1,4 @@
 pub mod Printed
-pub mod Statuses
 pub mod Covering
 pub mod Shown
 pub mod Showing

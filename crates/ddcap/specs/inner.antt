@@ -4,3 +4,4 @@ pub mod LastRows
 pub mod Layers
 pub mod NotOpened
 pub mod TapParts
+pub mod Statuses

@@ -2,7 +2,7 @@
 
 ghost use Rattle.std.specs.Prelude.{◌≡◌, IfErr};
 ghost use Rattle.wire_base.specs.Tally.{tally_lent};
-ghost use Rattle.ddcap.specs.Statuses.{EndsAsJudged, EndsAsJudgedAlone, EndsWith};
+ghost use Rattle.ddcap.specs.inner.Statuses.{EndsAsJudged, EndsAsJudgedAlone, EndsWith};
 ghost use Rattle.ddcap.specs.inner.Layers.{end_of, nodes_of};
 
 use crate::alone::print_end_fault;

@@ -1,6 +1,6 @@
 //! The answer of `cover` as a JSON object.
 
-ghost use Rattle.ddcap.specs.Statuses.{EndsWith};
+ghost use Rattle.ddcap.specs.inner.Statuses.{EndsWith};
 
 use crate::answers::print_object;
 use crate::check::{print_fault, print_out_of_memory};

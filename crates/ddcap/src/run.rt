@@ -1,7 +1,7 @@
 //! The program between its words and its status.
 
 ghost use Rattle.ddcap.specs.Printed.{Writes, stream_of, words_fault_status, words_fault_text};
-ghost use Rattle.ddcap.specs.Statuses.{EndsWith};
+ghost use Rattle.ddcap.specs.inner.Statuses.{EndsWith};
 
 use crate::check::{print, print_out_of_memory};
 use crate::check_files::{How, alone_file, check_files};

@@ -1,7 +1,7 @@
 //! `why --line`: which record was refused where stations and line alone are judged, and why.
 
 ghost use Rattle.dna_node.specs.Kind.{stations_alone};
-ghost use Rattle.ddcap.specs.Statuses.{EndsAsJudged, EndsWith};
+ghost use Rattle.ddcap.specs.inner.Statuses.{EndsAsJudged, EndsWith};
 
 use crate::check::{print, print_fault, print_out_of_memory};
 use crate::last_rows::LastRows;
