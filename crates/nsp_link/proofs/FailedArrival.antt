@@ -7,7 +7,8 @@ use Rattle.dna_station.specs.declared.link_refusal.LinkRefusal.{LinkRefusal}
 use Rattle.dna_links.specs.declared.port.LinkTest.{LinkTest}
 use Rattle.dna_links.specs.declared.port.LinkTest.TheVariants.{CallingAt, LiveTo, ActedOn}
 use Rattle.dna_links.specs.declared.tag.LinkTag.{LinkTag}
-use Rattle.dna_links.specs.Arriving.{acted_on, called, confirmed, is_for, is_of_pair, message_arrived, of_partner, running}
+use Rattle.dna_links.specs.inner.Forms.{acted_on, called, confirmed, running}
+use Rattle.dna_links.specs.Arriving.{is_for, is_of_pair, message_arrived, of_partner}
 use Rattle.dna_links.specs.Links.{LinkOf, Carried, begun, changed, with_link, at_number, on_link, number_of}
 use Rattle.dna_links.specs.WireSegments.{WireSegments, takes_acks, takes_segment, wire_segments}
 use Rattle.dna_links.specs.WireLinks.{WireLinks, wire_links_arrived}

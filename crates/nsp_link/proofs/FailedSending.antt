@@ -15,7 +15,8 @@ use Rattle.dna_links.specs.declared.port.Phase.TheVariants.{Calling, Confirming,
 use Rattle.dna_links.specs.SegmentBook.{REACH, distance, is_of_data, Sending}
 use Rattle.dna_links.specs.Links.{LinkOf, Carried, check, with_link, at_number, on_link, number_of}
 use Rattle.dna_links.specs.Segmentation.{Piece, piece_of, same_piece, is_next_piece}
-use Rattle.dna_links.specs.Sending.{carries, in_its_phase, in_run, message_sent, segment_of, unchanged}
+use Rattle.dna_links.specs.inner.Forms.{carries, in_its_phase, in_run, segment_of, unchanged}
+use Rattle.dna_links.specs.Sending.{message_sent}
 use Rattle.dna_links.specs.WireSegments.{WireSegments, LastSent, all_named, last_named, after_first, last_of, is_new, highest_given, is_given}
 use Rattle.dna_links.specs.WireSegments.{is_repeat}
 use Rattle.dna_links.specs.WireSegments.{sends_acks, acks_named, sends_new, sends_again, segment_named}

@@ -20,10 +20,14 @@ use Rattle.dna_links.specs.LookUps.{passes, is_connected, takes_messages, is_cal
 use Rattle.dna_links.specs.SegmentBook.{SegmentBook, Sending}
 use Rattle.dna_links.specs.Links.{LinkOf, LinksOf, Carried, LinkTruth, check, number_of, on_link, at_number, with_link, begun, changed, in_phase}
 use Rattle.dna_links.specs.Links.{with_segments, ended, forgotten, freed}
-use Rattle.dna_links.specs.User.{LinkEventValue, Open, Accept, Reject, In, Up, Close, opened, answered, gives, answers, delivered, user_step}
-use Rattle.dna_links.specs.Sending.{Sent, of_no_link, unchanged, ending, in_its_phase, confirms_end, carries, in_run, segment_of, message_sent}
+use Rattle.dna_links.specs.User.{LinkEventValue, Open, Accept, Reject, In, Up, Close}
+use Rattle.dna_links.specs.inner.Forms.{opened, answered, gives, answers, delivered}
+use Rattle.dna_links.specs.LinkBook.{user_step}
+use Rattle.dna_links.specs.Sending.{Sent, message_sent}
+use Rattle.dna_links.specs.inner.Forms.{of_no_link, unchanged, ending, in_its_phase, confirms_end, carries, in_run, segment_of}
 use Rattle.dna_links.specs.Sending.{sent_step}
-use Rattle.dna_links.specs.Arriving.{of_partner, of_anyone, is_for, is_of_pair, called, confirmed, ends_link, running, acted_on, message_arrived}
+use Rattle.dna_links.specs.Arriving.{of_partner, of_anyone, is_for, is_of_pair, message_arrived}
+use Rattle.dna_links.specs.inner.Forms.{called, confirmed, ends_link, running, acted_on}
 use Rattle.dna_links.specs.Arriving.{arrived_step}
 use Rattle.dna_node.specs.WireLayers as layers
 use Rattle.dna_node.specs.Alone.{is_seen_alone}

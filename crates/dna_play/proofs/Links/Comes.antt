@@ -11,7 +11,8 @@ use Rattle.dna_links.specs.declared.port.Phase.TheVariants.{Called, Confirming, 
 use Rattle.dna_links.specs.declared.port.LinkTest.TheVariants.{TheLink, LiveTo, CallingAt, ActedOn}
 use Rattle.dna_links.specs.LookUps.{is_running, is_calling, is_at, is_connected, has_both}
 use Rattle.dna_links.specs.Links.{LinkOf, LinkTruth, check, with_link, begun, changed, in_phase, with_segments, ended}
-use Rattle.dna_links.specs.Arriving.{of_partner, is_for, is_of_pair, called, confirmed, ends_link, running, acted_on, message_arrived}
+use Rattle.dna_links.specs.Arriving.{of_partner, is_for, is_of_pair, message_arrived}
+use Rattle.dna_links.specs.inner.Forms.{called, confirmed, ends_link, running, acted_on}
 use Rattle.dna_links.specs.Segmentation.{SEGSIZE}
 use Rattle.dna_links.specs.TrueSegments.{TrueSegments, Numbers, takes_acks, true_segments}
 use Rattle.dna_links.specs.WireSegments.{LinkVariables, WireSegments, acknowledged_by_all}

@@ -9,7 +9,8 @@ use Rattle.dna_links.specs.declared.port.Phase.TheVariants.{Disconnecting}
 use Rattle.dna_links.specs.declared.port.LinkTest.TheVariants.{LiveAt, CalledBy}
 use Rattle.dna_links.specs.LookUps.{is_live, is_at, is_connected, takes_messages}
 use Rattle.dna_links.specs.Links.{LinkOf, number_of, begun, changed, in_phase, with_segments}
-use Rattle.dna_links.specs.User.{LinkEventValue, Open, Accept, Reject, In, Close, opened, gives, answers}
+use Rattle.dna_links.specs.User.{LinkEventValue, Open, Accept, Reject, In, Close}
+use Rattle.dna_links.specs.inner.Forms.{opened, gives, answers}
 use Rattle.dna_links.specs.User as users
 use Rattle.dna_links.specs.TrueSegments.{TrueSegments, true_segments}
 use Rattle.dna_links.specs.TrueLinks.{Links, links_user}
