@@ -4,9 +4,9 @@ use Rattle.dna_packet.specs.Nsp.{NspValue}
 use Rattle.dna_station.specs.declared.link_refusal.LinkRefusal.{LinkRefusal}
 use Rattle.dna_links.specs.SegmentBook.{SegmentBook}
 use Rattle.dna_links.specs.PacketAddresses.{goes}
-use Rattle.dna_links.specs.Links.{LinksOf, Carried, LinkTruth}
+use Rattle.dna_links.specs.Links.{LinkOf, LinksOf, Carried, LinkTruth}
 use Rattle.dna_links.specs.Table.{Effect, sending_row}
-use Rattle.dna_links.specs.LinkBook.{Worked, plain, after, by_row, of_none}
+use Rattle.dna_links.specs.LinkBook.{plain, after, by_row, of_none}
 
 -- what a message that may be sent makes of the links, and what is true of it
 pub record Sent (D K : Type 0) : Type 0 where
@@ -15,14 +15,14 @@ pub record Sent (D K : Type 0) : Type 0 where
 
 module _ {D K : Type 0} (book : SegmentBook D K) where
   -- of a message of the link with this number, or of none
-  abbrev pub sent_as : LinksOf D → Option ℕ → List Effect → Worked D K → Sent D K
-  sent_as s number effects w = record {
-    links = after (plain book) s number effects w;
-    truth = record { tag = record { link = number; partner = w.link.partner }; known = w.known };
+  abbrev pub sent_as : LinksOf D → List Effect → Option ℕ → LinkOf D → K → Sent D K
+  sent_as s effects number link known = record {
+    links = after (plain book) s effects number link;
+    truth = record { tag = record { link = number; partner = link.partner }; known = known };
   }
 
   abbrev pub message_sent : LinksOf D → NspValue → Result (Sent D K) LinkRefusal
-  message_sent s m = by_row (plain book) (λ (test : Bool). test) (of_none book) s (sent_as s) (sending_row m)
+  message_sent s m = by_row (plain book) (λ test. test) (of_none book) s (sent_as s) (sending_row m)
 
   -- from this node to the other, else 16; then by message
   abbrev pub sent_step : LinksOf D → Carried → Result (Sent D K) LinkRefusal

@@ -13,7 +13,7 @@ use Rattle.dna_links.specs.declared.port.LinkTest.TheVariants.{TheLink, LiveTo, 
 use Rattle.dna_links.specs.LookUps.{is_live, is_calling, is_connected, is_at, has_both, passes}
 use Rattle.dna_links.specs.Links.{LinkOf, LinksOf, Carried, LinkTruth, check, with_link, begun, changed, in_phase, with_segments, ended}
 use Rattle.dna_links.specs.Arriving.{PartnerRule, is_for, is_of_pair, message_arrived}
-use Rattle.dna_links.specs.inner.Forms.{called, confirmed, ends_link, running, acted_on}
+use Rattle.dna_links.specs.inner.Forms.{called, confirmed, ends_by, running, acted_on}
 use Rattle.dna_links.specs.TrueSegments.{TrueSegments, Numbers, takes_acks, takes_segment, true_segments}
 use Rattle.dna_links.specs.WireSegments.{WireSegments, wire_segments}
 use Rattle.dna_links.specs.WireSegments as wire
@@ -37,7 +37,7 @@ module _ (rule : PartnerRule) (s : Links) (ordered : AreOrdered s) where
       cut_links (changed n after s) ≡ changed n after' (cut_links s)
   one_changed n after after' same = changed_same n after s ∙ ap (λ (w : LinkOf WireSegments). changed n w (cut_links s)) same
 
-  ends_same : (own far : ℕ) → cut_result (ends_link true_segments rule own far s) ≡ ends_link wire_segments rule own far (cut_links s)
+  ends_same : (own far : ℕ) → cut_result (ends_by true_segments rule own far s) ≡ ends_by wire_segments rule own far (cut_links s)
   ends_same own far =
       with_link_same cut_result (TheLink own far) s (with_link (CallingAt own) s (Ok s) (λ n l. Ok (changed n (ended true_segments l) s)))
       (with_link (CallingAt own) (cut_links s) (Ok (cut_links s)) (λ n l. Ok (changed n (ended wire_segments l) (cut_links s))))

@@ -24,7 +24,7 @@ use Rattle.dna_links.specs.Sending.{Sent}
 use Rattle.dna_links.specs.inner.Forms.{of_no_link, truth_of, unchanged, ending, confirms_end, carries, in_run, segment_of, in_its_phase}
 use Rattle.dna_links.specs.Sending.{message_sent, sent_step}
 use Rattle.dna_links.specs.Arriving.{PartnerRule, is_for, is_of_pair, message_arrived, arrived_step}
-use Rattle.dna_links.specs.inner.Forms.{called, confirmed, ends_link, running, acted_on}
+use Rattle.dna_links.specs.inner.Forms.{called, confirmed, ends_by, running, acted_on}
 
 -- ---- look-ups
 
@@ -309,7 +309,7 @@ module _ {D K : Type 0} (book : SegmentBook D K) where
         (Ok (changed number (running book rule takes link) s))) (Ok left) e
         (λ missing e. did_arrive m s Ignores e) (λ number link found e. let c = checked _ _ _ left e in did_arrive m _ (d number link found c.0) c.1)
 
-    ends_did : (m : NspValue) (own far : ℕ) → ends_link book rule own far s ≡ Ok left → ArrivedDid rule s m truth left
+    ends_did : (m : NspValue) (own far : ℕ) → ends_by book rule own far s ≡ Ok left → ArrivedDid rule s m truth left
     ends_did m own far e =
         looked (TheLink own far) s (with_link (CallingAt own) s (Ok s) (λ number link. Ok (changed number (ended book link) s)))
         (λ number link. Ok (changed number (ended book link) s)) (Ok left) e

@@ -12,7 +12,7 @@ use Rattle.dna_links.specs.declared.port.LinkTest.TheVariants.{LiveAt, TheLink, 
 use Rattle.dna_links.specs.LookUps.{is_running}
 use Rattle.dna_links.specs.SegmentBook.{SegmentBook, Sending}
 use Rattle.dna_links.specs.Links.{LinkOf, LinksOf, LinkTruth, check, with_link, changed, in_phase, with_segments, ended, freed}
-use Rattle.dna_links.specs.LinkBook.{Worked, plain, on_ok, worked, holding, sent}
+use Rattle.dna_links.specs.LinkBook.{on_ok}
 use Rattle.dna_links.specs.Sending.{Sent}
 use Rattle.dna_links.specs.Arriving.{PartnerRule, is_of_pair}
 
@@ -41,12 +41,9 @@ module _ {D K : Type 0} (book : SegmentBook D K) where
   answers phase far own s =
       with_link (CalledBy far) s (Err NoLink) (λ number link. gives own s (changed number (answered phase own link) (freed book own s)))
 
-  -- what is left of a link under the effects is put in its place
-  abbrev pub placed : ℕ → LinksOf D → Result (Worked D K) LinkRefusal → Result (LinksOf D) LinkRefusal
-  placed number s result = on_ok (on_ok result (λ (w : Worked D K). Ok w)) (λ (w : Worked D K). Ok (changed number w.link s))
-
+  -- a message is delivered if it is the next whole one
   abbrev pub delivered : ℕ → LinkOf D → LinksOf D → Option D → Result (LinksOf D) LinkRefusal
-  delivered number link s left = placed number s (on_ok (ok_or left WrongDelivery) (holding (plain book) (worked (plain book) link)))
+  delivered number link s left = on_ok (ok_or left WrongDelivery) (λ d. Ok (changed number (with_segments d link) s))
 
   -- ---- what is sent
 
@@ -76,13 +73,12 @@ module _ {D K : Type 0} (book : SegmentBook D K) where
   confirms_end s src dst =
       if src == 0 then with_link (CalledBy dst) s (Ok (of_no_link s)) (λ number link. Ok (ending s number link)) else Ok (of_no_link s)
 
-  abbrev pub carried : LinksOf D → ℕ → Worked D K → Sent D K
-  carried s number w = record { links = changed number w.link s; truth = truth_of number w.link w.known }
+  abbrev pub carried : LinksOf D → ℕ → LinkOf D → Sending D K → Sent D K
+  carried s number link sent = record { links = changed number (with_segments sent.segments link) s; truth = truth_of number link sent.known }
 
   -- what a message of a link in RUN makes of its segments
   abbrev pub carries : LinksOf D → ℕ → LinkOf D → Result (Sending D K) LinkRefusal → Result (Sent D K) LinkRefusal
-  carries s number link result =
-      on_ok (on_ok (on_ok result (sent (plain book) (worked (plain book) link))) (λ (w : Worked D K). Ok w)) (λ (w : Worked D K). Ok (carried s number w))
+  carries s number link result = on_ok result (λ sent. Ok (carried s number link sent))
 
   -- a segment, or acknowledgement words alone: the link, else 18; in RUN, else 19; then the rules on numbers
   abbrev pub in_run : (src dst : ℕ) → (LinkOf D → Result (Sending D K) LinkRefusal) → LinksOf D → Result (Sent D K) LinkRefusal
@@ -112,9 +108,14 @@ module _ {D K : Type 0} (book : SegmentBook D K) (rule : PartnerRule) where
     segsize = segsize;
   }
 
-  -- DI, DC: the link, or the one in Calling with the own address, is ended
-  abbrev pub ends_link : (own far : ℕ) → LinksOf D → Result (LinksOf D) LinkRefusal
+  -- DI, DC: the link, or the one in Calling with the own address, is ended; and as an answer
+  abbrev pub ends_link : (own far : ℕ) → LinksOf D → LinksOf D
   ends_link own far s =
+      with_link (TheLink own far) s (with_link (CallingAt own) s s (λ number link. changed number (ended book link) s))
+      (λ number link. changed number (ended book link) s)
+
+  abbrev pub ends_by : (own far : ℕ) → LinksOf D → Result (LinksOf D) LinkRefusal
+  ends_by own far s =
       with_link (TheLink own far) s (with_link (CallingAt own) s (Ok s) (λ number link. Ok (changed number (ended book link) s)))
       (λ number link. Ok (changed number (ended book link) s))
 
