@@ -9,7 +9,7 @@ use Rattle.dna_links.specs.SegmentBook.{SegmentBook}
 use Rattle.dna_links.specs.PacketAddresses.{goes}
 use Rattle.dna_links.specs.Links.{LinksOf, Carried, LinkTruth}
 use Rattle.dna_links.specs.Table.{arrival_row}
-use Rattle.dna_links.specs.LinkBook.{are_same, plain, left, by_row}
+use Rattle.dna_links.specs.LinkBook.{are_same, plain, after, by_row}
 
 -- what to make of the test whether a message that is acted on is of this pair of links: the judge asks for it, a player's node does not
 abbrev pub PartnerRule : Type 0
@@ -31,7 +31,7 @@ is_of_pair number partner tag = are_same partner tag.link && is_at tag.partner n
 
 module _ {D K : Type 0} (book : SegmentBook D K) (rule : PartnerRule) where
   abbrev pub message_arrived : LinksOf D → NspValue → LinkTruth K → Result (LinksOf D) LinkRefusal
-  message_arrived s m truth = by_row (plain book) rule truth s (left book s) (arrival_row m)
+  message_arrived s m truth = by_row (plain book) rule truth s (after book s) (arrival_row m)
 
   -- from the other node to this one, else 16; then by message
   abbrev pub arrived_step : LinksOf D → Carried → LinkTruth K → Result (LinksOf D) LinkRefusal

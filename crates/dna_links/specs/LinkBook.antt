@@ -32,12 +32,8 @@ plain segments = record { segments = segments; in_phase = λ phases link. phases
 module _ {D K : Type 0} (book : LinkBook D K) where
   -- a link that begins
   abbrev pub blank : LinkOf D
-  blank = record {
-    port = record { phase = Called; opened = false; own = None; far = None };
-    partner = None;
-    segsize = 0;
-    segments = book.segments.empty;
-  }
+  blank =
+      record { port = record { phase = Called; opened = false; own = None; far = None }; partner = None; segsize = 0; segments = book.segments.empty }
 
   -- what an effect of a message with this truth makes of the link
   abbrev pub does : LinkTruth K → LinkOf D → Effect → LinkOf D
@@ -51,54 +47,52 @@ module _ {D K : Type 0} (book : LinkBook D K) where
   does truth link (TakeSegment segment) = with_segments (book.segments.takes_segment segment truth.known link.segments) link
   does truth link (TakeAcks acks) = with_segments (book.segments.takes_acks acks truth.known link.segments) link
 
-  -- the other links: an address that is given is forgotten
-  abbrev pub others : List Effect → LinksOf D → LinksOf D
-  others (GiveAddress own ∷ effects) s = freed book.segments own s
-  others effects s = s
-
-  -- all links, with the one with this number, or one that begins, as the effects left it
-  abbrev pub after : LinksOf D → List Effect → Option ℕ → LinkOf D → LinksOf D
-  after s [] number link = s
-  after s (effect ∷ effects) None link = begun link (others (effect ∷ effects) s)
-  after s (effect ∷ effects) (Some number) link = changed number link (others (effect ∷ effects) s)
-
-  -- What is asked in turn, by a rule on partners, and then the answer of a link, if there is one, and what is known of the message's numbers
-  module _ {R : Type 0} (rule : Bool → Bool) (truth : LinkTruth K) (s : LinksOf D) (answer : List Effect → Option ℕ → LinkOf D → K → R) where
+  -- What is asked in turn, by a rule on partners; then the effects, and the answer of a link, if there is one, and what is known of the numbers
+  module _ {R : Type 0} (rule : Bool → Bool) (truth : LinkTruth K) (s : LinksOf D) (answer : List Effect → Option ℕ → LinkOf D → K → R)
+      (effects : List Effect) where
     abbrev pub otherwise : Option LinkRefusal → Result R LinkRefusal
     otherwise None = Ok (answer [] None blank truth.known)
     otherwise (Some refusal) = Err refusal
 
-    abbrev pub asked : List Effect → List Ask → Option ℕ → LinkOf D → K → Result R LinkRefusal
-    asked effects [] number link known = Ok (answer effects number (fold (does truth) link effects) known)
-    asked effects (Finds test refusal ∷ asks) number link known =
-        with_link test s (otherwise refusal) (λ n l. asked effects asks (Some n) l (book.segments.sends_other l.segments))
-    asked effects (FindsEither first second refusal ∷ asks) number link known =
-        with_link first s (with_link second s (otherwise refusal) (λ n l. asked effects asks (Some n) l (book.segments.sends_other l.segments)))
-        (λ n l. asked effects asks (Some n) l (book.segments.sends_other l.segments))
-    asked effects (FindsNone test refusal ∷ asks) number link known = with_link test s (asked effects asks number link known) (λ n l. otherwise refusal)
-    asked effects (Where so refusal ∷ asks) number link known = if so then asked effects asks number link known else otherwise refusal
-    asked effects (InPhase phases refusal ∷ asks) number link known = check (book.in_phase phases link) refusal (asked effects asks number link known)
-    asked effects (ForThisLink refusal ∷ asks) number link known =
-        check (rule (is_some truth.tag.link && are_same number truth.tag.partner)) refusal (asked effects asks number link known)
-    asked effects (OfThisPair refusal ∷ asks) number link known =
-        check (rule (are_same link.partner truth.tag.link && are_same number truth.tag.partner)) refusal (asked effects asks number link known)
-    asked effects (Delivers message refusal ∷ asks) number link known =
-        on_ok (ok_or (book.segments.delivers message link.segments) refusal) (λ d. asked effects asks number (with_segments d link) known)
-    asked effects (SendsSegment segment ∷ asks) number link known = on_ok (book.segments.sends_segment link.segsize segment link.segments)
-        (λ sent. asked effects asks number (with_segments sent.segments link) sent.known)
-    asked effects (SendsAcks acks ∷ asks) number link known = on_ok (book.segments.sends_acks acks link.segments)
-        (λ sent. asked effects asks number (with_segments sent.segments link) sent.known)
+    abbrev pub asked : List Ask → Option ℕ → LinkOf D → K → Result R LinkRefusal
+    asked [] number link known = Ok (answer effects number (fold (does truth) link effects) known)
+    asked (Finds test refusal ∷ asks) number link known =
+        with_link test s (otherwise refusal) (λ n l. asked asks (Some n) l (book.segments.sends_other l.segments))
+    asked (FindsEither first second refusal ∷ asks) number link known =
+        with_link first s (with_link second s (otherwise refusal) (λ n l. asked asks (Some n) l (book.segments.sends_other l.segments)))
+        (λ n l. asked asks (Some n) l (book.segments.sends_other l.segments))
+    asked (FindsNone test refusal ∷ asks) number link known = with_link test s (asked asks number link known) (λ n l. otherwise refusal)
+    asked (Where so refusal ∷ asks) number link known = if so then asked asks number link known else otherwise refusal
+    asked (InPhase phases refusal ∷ asks) number link known = check (book.in_phase phases link) refusal (asked asks number link known)
+    asked (ForThisLink refusal ∷ asks) number link known =
+        check (rule (is_some truth.tag.link && are_same number truth.tag.partner)) refusal (asked asks number link known)
+    asked (OfThisPair refusal ∷ asks) number link known =
+        check (rule (are_same link.partner truth.tag.link && are_same number truth.tag.partner)) refusal (asked asks number link known)
+    asked (Delivers message refusal ∷ asks) number link known =
+        on_ok (ok_or (book.segments.delivers message link.segments) refusal) (λ d. asked asks number (with_segments d link) known)
+    asked (SendsSegment segment ∷ asks) number link known = on_ok (book.segments.sends_segment link.segsize segment link.segments)
+        (λ sent. asked asks number (with_segments sent.segments link) sent.known)
+    asked (SendsAcks acks ∷ asks) number link known =
+        on_ok (book.segments.sends_acks acks link.segments) (λ sent. asked asks number (with_segments sent.segments link) sent.known)
 
-    abbrev pub by_row : Row → Result R LinkRefusal
-    by_row (Asks asks effects) = asked effects asks None blank truth.known
+  abbrev pub by_row : {R : Type 0} → (Bool → Bool) → LinkTruth K → LinksOf D → (List Effect → Option ℕ → LinkOf D → K → R) → Row →
+      Result R LinkRefusal
+  by_row rule truth s answer (Asks asks effects) = asked rule truth s answer effects asks None blank truth.known
 
 module _ {D K : Type 0} (book : SegmentBook D K) where
+  -- the other links: an address that is given is forgotten
+  abbrev pub others : List Effect → LinksOf D → LinksOf D
+  others (GiveAddress own ∷ effects) s = freed book own s
+  others effects s = s
+
+  -- all links, with the one with this number, or one that begins, as the effects left it
+  abbrev pub after : LinksOf D → List Effect → Option ℕ → LinkOf D → K → LinksOf D
+  after s [] number link known = s
+  after s (effect ∷ effects) None link known = begun link (others (effect ∷ effects) s)
+  after s (effect ∷ effects) (Some number) link known = changed number link (others (effect ∷ effects) s)
+
   abbrev pub of_none : LinkTruth K
   of_none = record { tag = record { link = None; partner = None }; known = book.sends_other book.empty }
 
-  -- what becomes of all links
-  abbrev pub left : LinksOf D → List Effect → Option ℕ → LinkOf D → K → LinksOf D
-  left s effects number link known = after (plain book) s effects number link
-
   abbrev pub user_step : LinksOf D → LinkEventValue → Result (LinksOf D) LinkRefusal
-  user_step s event = by_row (plain book) (λ test. test) of_none s (left s) (user_row event)
+  user_step s event = by_row (plain book) (λ test. test) of_none s (after s) (user_row event)

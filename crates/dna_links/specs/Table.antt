@@ -9,10 +9,10 @@ use Rattle.dna_packet.specs.Nsp.{ConnectConfirm, DisconnectInitiate, DisconnectC
 use Rattle.dna_station.specs.declared.link_refusal.LinkRefusal.{LinkRefusal}
 use Rattle.dna_station.specs.declared.link_refusal.LinkRefusal.TheVariants.{NoLink, LinkState, WrongDelivery, AddressInUse, CrossedLink}
 use Rattle.dna_links.specs.declared.port.Phase.{Phase}
-use Rattle.dna_links.specs.declared.port.Phase.TheVariants.{Confirming, Running, Disconnecting}
+use Rattle.dna_links.specs.declared.port.Phase.TheVariants.{Calling, Confirming, Running, Disconnecting}
 use Rattle.dna_links.specs.declared.port.LinkTest.{LinkTest}
 use Rattle.dna_links.specs.declared.port.LinkTest.TheVariants.{HasAddress, LiveAt, TheLink, LiveTo, OpenedAt, CallingAt, CalledBy, BegunBy, ActedOn}
-use Rattle.dna_links.specs.LookUps.{is_calling, is_confirming, is_running, is_disconnecting, is_connected, takes_messages}
+use Rattle.dna_links.specs.LookUps.{is_in, is_connected, takes_messages}
 use Rattle.dna_links.specs.User.{LinkEventValue, Open, Accept, Reject, In, Up, Close}
 
 -- What is asked. Where it is not so this refuses, or at None nothing is done
@@ -47,31 +47,27 @@ pub data Row : Type 0 where
 abbrev pub found_in : LinkTest → (Phase → Bool) → List Ask → List Ask
 found_in test phases next = Finds test (Some NoLink) ∷ InPhase phases LinkState ∷ next
 
--- a call from there, and the address is free
-abbrev pub called_by : (far own : ℕ) → List Ask
-called_by far own = Finds (CalledBy far) (Some NoLink) ∷ FindsNone (LiveAt own) (Some AddressInUse) ∷ []
-
 -- what the user does
 abbrev pub user_row : LinkEventValue → Row
 user_row (Open own) = Asks (FindsNone (LiveAt own) (Some AddressInUse) ∷ []) (GiveAddress own ∷ OpenHere ∷ [])
-user_row (Accept far own) = Asks (called_by far own) (GiveAddress own ∷ GoTo Confirming ∷ [])
-user_row (Reject far own) = Asks (called_by far own) (GiveAddress own ∷ GoTo Disconnecting ∷ [])
+user_row (Accept far own) = Asks (Finds (CalledBy far) (Some NoLink) ∷ FindsNone (LiveAt own) (Some AddressInUse) ∷ []) (GiveAddress own ∷ GoTo Confirming ∷ [])
+user_row (Reject far own) = Asks (Finds (CalledBy far) (Some NoLink) ∷ FindsNone (LiveAt own) (Some AddressInUse) ∷ []) (GiveAddress own ∷ GoTo Disconnecting ∷ [])
 user_row (In own message) = Asks (found_in (LiveAt own) takes_messages []) (HandIn message ∷ [])
 user_row (Up own message) = Asks (Finds (HasAddress own) (Some NoLink) ∷ Delivers message WrongDelivery ∷ []) (Keep ∷ [])
 user_row (Close own) = Asks (found_in (LiveAt own) is_connected []) (GoTo Disconnecting ∷ [])
 
 -- a message that is to be sent
 abbrev pub sending_row : NspValue → Row
-sending_row (ConnectInitiate retransmitted src services info segsize user_data) = Asks (found_in (OpenedAt src) is_calling []) []
+sending_row (ConnectInitiate retransmitted src services info segsize user_data) = Asks (found_in (OpenedAt src) (is_in Calling) []) []
 sending_row (ConnectAck dst) = Asks (Finds (BegunBy dst) (Some NoLink) ∷ []) []
-sending_row (ConnectConfirm dst src services info segsize user_data) = Asks (found_in (TheLink src dst) is_confirming []) []
-sending_row (DisconnectInitiate dst src reason user_data) = Asks (found_in (TheLink src dst) is_disconnecting []) []
+sending_row (ConnectConfirm dst src services info segsize user_data) = Asks (found_in (TheLink src dst) (is_in Confirming) []) []
+sending_row (DisconnectInitiate dst src reason user_data) = Asks (found_in (TheLink src dst) (is_in Disconnecting) []) []
 sending_row (DisconnectConfirm dst src reason) =
     Asks (FindsNone (TheLink src dst) (Some LinkState) ∷ Where (src == 0) None ∷ Finds (CalledBy dst) None ∷ []) (End ∷ [])
-sending_row (DataSegment segment) = Asks (found_in (TheLink segment.srcaddr segment.dstaddr) is_running (SendsSegment segment ∷ [])) (Keep ∷ [])
-sending_row (DataAck dst src acks) = Asks (found_in (TheLink src dst) is_running (SendsAcks acks ∷ [])) (Keep ∷ [])
-sending_row (LinkService interrupt dst src rest) = Asks (found_in (TheLink src dst) is_running []) []
-sending_row (OtherDataAck dst src rest) = Asks (found_in (TheLink src dst) is_running []) []
+sending_row (DataSegment segment) = Asks (found_in (TheLink segment.srcaddr segment.dstaddr) (is_in Running) (SendsSegment segment ∷ [])) (Keep ∷ [])
+sending_row (DataAck dst src acks) = Asks (found_in (TheLink src dst) (is_in Running) (SendsAcks acks ∷ [])) (Keep ∷ [])
+sending_row (LinkService interrupt dst src rest) = Asks (found_in (TheLink src dst) (is_in Running) []) []
+sending_row (OtherDataAck dst src rest) = Asks (found_in (TheLink src dst) (is_in Running) []) []
 sending_row (NoOperation rest) = Asks [] []
 
 -- a segment or acknowledgement words: in Confirming or RUN
@@ -81,7 +77,6 @@ acted_row own far effects = Asks (Finds (ActedOn own far) None ∷ OfThisPair Cr
 -- a message that comes
 abbrev pub arrival_row : NspValue → Row
 arrival_row (ConnectInitiate retransmitted src services info segsize user_data) = Asks (FindsNone (LiveTo src) None ∷ []) (Connect src segsize ∷ [])
-arrival_row (ConnectAck dst) = Asks [] []
 arrival_row (ConnectConfirm dst src services info segsize user_data) =
     Asks (Finds (CallingAt dst) None ∷ ForThisLink CrossedLink ∷ []) (Connect src segsize ∷ GoTo Running ∷ [])
 arrival_row (DisconnectInitiate dst src reason user_data) = Asks (FindsEither (TheLink dst src) (CallingAt dst) None ∷ []) (End ∷ [])
@@ -90,4 +85,4 @@ arrival_row (DataSegment segment) = acted_row segment.dstaddr segment.srcaddr (T
 arrival_row (DataAck dst src acks) = acted_row dst src (TakeAcks acks ∷ [])
 arrival_row (LinkService interrupt dst src rest) = acted_row dst src []
 arrival_row (OtherDataAck dst src rest) = acted_row dst src []
-arrival_row (NoOperation rest) = Asks [] []
+arrival_row m = Asks [] []
