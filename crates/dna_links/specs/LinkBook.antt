@@ -47,37 +47,38 @@ module _ {D K : Type 0} (book : LinkBook D K) where
   does truth link (TakeSegment segment) = with_segments (book.segments.takes_segment segment truth.known link.segments) link
   does truth link (TakeAcks acks) = with_segments (book.segments.takes_acks acks truth.known link.segments) link
 
-  -- What is asked in turn, by a rule on partners; then the effects, and the answer of a link, if there is one, and what is known of the numbers
-  module _ {R : Type 0} (rule : Bool → Bool) (truth : LinkTruth K) (s : LinksOf D) (answer : List Effect → Option ℕ → LinkOf D → K → R)
-      (effects : List Effect) where
-    abbrev pub otherwise : Option LinkRefusal → Result R LinkRefusal
-    otherwise None = Ok (answer [] None blank truth.known)
-    otherwise (Some refusal) = Err refusal
+module _ {D K R : Type 0} (book : LinkBook D K) (rule : Bool → Bool) (truth : LinkTruth K) (s : LinksOf D)
+    (answer : List Effect → Option ℕ → LinkOf D → K → R) (effects : List Effect) where
+  -- `rule` is on partners, `truth` that of the message
+  abbrev pub otherwise : Option LinkRefusal → Result R LinkRefusal
+  otherwise None = Ok (answer [] None (blank book) truth.known)
+  otherwise (Some refusal) = Err refusal
 
-    abbrev pub asked : List Ask → Option ℕ → LinkOf D → K → Result R LinkRefusal
-    asked [] number link known = Ok (answer effects number (fold (does truth) link effects) known)
-    asked (Finds test refusal ∷ asks) number link known =
-        with_link test s (otherwise refusal) (λ n l. asked asks (Some n) l (book.segments.sends_other l.segments))
-    asked (FindsEither first second refusal ∷ asks) number link known =
-        with_link first s (with_link second s (otherwise refusal) (λ n l. asked asks (Some n) l (book.segments.sends_other l.segments)))
-        (λ n l. asked asks (Some n) l (book.segments.sends_other l.segments))
-    asked (FindsNone test refusal ∷ asks) number link known = with_link test s (asked asks number link known) (λ n l. otherwise refusal)
-    asked (Where so refusal ∷ asks) number link known = if so then asked asks number link known else otherwise refusal
-    asked (InPhase phases refusal ∷ asks) number link known = check (book.in_phase phases link) refusal (asked asks number link known)
-    asked (ForThisLink refusal ∷ asks) number link known =
-        check (rule (is_some truth.tag.link && are_same number truth.tag.partner)) refusal (asked asks number link known)
-    asked (OfThisPair refusal ∷ asks) number link known =
-        check (rule (are_same link.partner truth.tag.link && are_same number truth.tag.partner)) refusal (asked asks number link known)
-    asked (Delivers message refusal ∷ asks) number link known =
-        on_ok (ok_or (book.segments.delivers message link.segments) refusal) (λ d. asked asks number (with_segments d link) known)
-    asked (SendsSegment segment ∷ asks) number link known = on_ok (book.segments.sends_segment link.segsize segment link.segments)
-        (λ sent. asked asks number (with_segments sent.segments link) sent.known)
-    asked (SendsAcks acks ∷ asks) number link known =
-        on_ok (book.segments.sends_acks acks link.segments) (λ sent. asked asks number (with_segments sent.segments link) sent.known)
+  -- What is asked in turn; then the effects, and the answer of a link, if there is one, and what is known of the message's numbers
+  abbrev pub asked : List Ask → Option ℕ → LinkOf D → K → Result R LinkRefusal
+  asked [] number link known = Ok (answer effects number (fold (does book truth) link effects) known)
+  asked (Finds test refusal ∷ asks) number link known =
+      with_link test s (otherwise refusal) (λ n l. asked asks (Some n) l (book.segments.sends_other l.segments))
+  asked (FindsEither first second refusal ∷ asks) number link known =
+      with_link first s (with_link second s (otherwise refusal) (λ n l. asked asks (Some n) l (book.segments.sends_other l.segments)))
+      (λ n l. asked asks (Some n) l (book.segments.sends_other l.segments))
+  asked (FindsNone test refusal ∷ asks) number link known = with_link test s (asked asks number link known) (λ n l. otherwise refusal)
+  asked (Where so refusal ∷ asks) number link known = if so then asked asks number link known else otherwise refusal
+  asked (InPhase phases refusal ∷ asks) number link known = check (book.in_phase phases link) refusal (asked asks number link known)
+  asked (ForThisLink refusal ∷ asks) number link known =
+      check (rule (is_some truth.tag.link && are_same number truth.tag.partner)) refusal (asked asks number link known)
+  asked (OfThisPair refusal ∷ asks) number link known =
+      check (rule (are_same link.partner truth.tag.link && are_same number truth.tag.partner)) refusal (asked asks number link known)
+  asked (Delivers message refusal ∷ asks) number link known =
+      on_ok (ok_or (book.segments.delivers message link.segments) refusal) (λ d. asked asks number (with_segments d link) known)
+  asked (SendsSegment segment ∷ asks) number link known = on_ok (book.segments.sends_segment link.segsize segment link.segments)
+      (λ sent. asked asks number (with_segments sent.segments link) sent.known)
+  asked (SendsAcks acks ∷ asks) number link known =
+      on_ok (book.segments.sends_acks acks link.segments) (λ sent. asked asks number (with_segments sent.segments link) sent.known)
 
-  abbrev pub by_row : {R : Type 0} → (Bool → Bool) → LinkTruth K → LinksOf D → (List Effect → Option ℕ → LinkOf D → K → R) → Row →
-      Result R LinkRefusal
-  by_row rule truth s answer (Asks asks effects) = asked rule truth s answer effects asks None blank truth.known
+abbrev pub by_row : {D K R : Type 0} → LinkBook D K → (Bool → Bool) → LinkTruth K → LinksOf D → (List Effect → Option ℕ → LinkOf D → K → R) → Row →
+    Result R LinkRefusal
+by_row book rule truth s answer (Asks asks effects) = asked book rule truth s answer effects asks None (blank book) truth.known
 
 module _ {D K : Type 0} (book : SegmentBook D K) where
   -- the other links: an address that is given is forgotten

@@ -14,10 +14,13 @@ pub record Sent (D K : Type 0) : Type 0 where
   pub truth : LinkTruth K
 
 module _ {D K : Type 0} (book : SegmentBook D K) where
+  abbrev pub truth_as : Option ℕ → LinkOf D → K → LinkTruth K
+  truth_as number link known = record { tag = record { link = number; partner = link.partner }; known = known }
+
   -- of a message of the link with this number, or of none
   abbrev pub sent_as : LinksOf D → List Effect → Option ℕ → LinkOf D → K → Sent D K
   sent_as s effects number link known =
-      record { links = after book s effects number link known; truth = record { tag = record { link = number; partner = link.partner }; known = known } }
+      record { links = after book s effects number link known; truth = truth_as number link known }
 
   abbrev pub message_sent : LinksOf D → NspValue → Result (Sent D K) LinkRefusal
   message_sent s m = by_row (plain book) (λ test. test) (of_none book) s (sent_as s) (sending_row m)

@@ -50,8 +50,10 @@ found_in test phases next = Finds test (Some NoLink) ∷ InPhase phases LinkStat
 -- what the user does
 abbrev pub user_row : LinkEventValue → Row
 user_row (Open own) = Asks (FindsNone (LiveAt own) (Some AddressInUse) ∷ []) (GiveAddress own ∷ OpenHere ∷ [])
-user_row (Accept far own) = Asks (Finds (CalledBy far) (Some NoLink) ∷ FindsNone (LiveAt own) (Some AddressInUse) ∷ []) (GiveAddress own ∷ GoTo Confirming ∷ [])
-user_row (Reject far own) = Asks (Finds (CalledBy far) (Some NoLink) ∷ FindsNone (LiveAt own) (Some AddressInUse) ∷ []) (GiveAddress own ∷ GoTo Disconnecting ∷ [])
+user_row (Accept far own) =
+    Asks (Finds (CalledBy far) (Some NoLink) ∷ FindsNone (LiveAt own) (Some AddressInUse) ∷ []) (GiveAddress own ∷ GoTo Confirming ∷ [])
+user_row (Reject far own) =
+    Asks (Finds (CalledBy far) (Some NoLink) ∷ FindsNone (LiveAt own) (Some AddressInUse) ∷ []) (GiveAddress own ∷ GoTo Disconnecting ∷ [])
 user_row (In own message) = Asks (found_in (LiveAt own) takes_messages []) (HandIn message ∷ [])
 user_row (Up own message) = Asks (Finds (HasAddress own) (Some NoLink) ∷ Delivers message WrongDelivery ∷ []) (Keep ∷ [])
 user_row (Close own) = Asks (found_in (LiveAt own) is_connected []) (GoTo Disconnecting ∷ [])
