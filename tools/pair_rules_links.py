@@ -2,8 +2,8 @@
 Those of the station stand in tools/pair_rules.py. tools/test_turns sees that the pairs tell them from the rules."""
 from pair_rules import words_of
 
-# A row is what the user does, a look-up, what is sent, or what comes, as the pages on the links and `User`, `LookUps`,
-# `Sending` and `Arriving` of `dna_links` list them; what segments and their acknowledgement words say has rows of its own. `without X`
+# A row is what the user does, a look-up, what is sent, or what comes, as the pages on the links and `Table` and `LookUps` of
+# `dna_links` list them; what segments and their acknowledgement words say has rows of its own. `without X`
 # leaves a check or an effect out, `X before Y` makes two checks in the other order, `X in place of Y` is another look-up, `in X too` and
 # `not in X` turn a phase, `GoTo X` leads to another phase.
 

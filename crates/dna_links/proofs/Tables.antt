@@ -3,3 +3,5 @@ pub mod Numbers
 -- what is left of the links, and what words acknowledge
 pub mod Outcomes
 pub mod Words
+-- what is never refused
+pub mod Forms

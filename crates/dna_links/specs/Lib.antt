@@ -2,9 +2,11 @@
 pub mod LookUps
 pub mod Segmentation
 pub mod SegmentBook
--- the links and their three tables
+-- the links, their three tables, and how they go by these
 pub mod Links
 pub mod User
+pub mod Table
+pub mod LinkBook
 pub mod PacketAddresses
 pub mod Sending
 pub mod Arriving
@@ -21,3 +23,5 @@ pub mod Runs
 pub mod Bounds
 pub mod Delivery
 pub mod Captures
+-- words of private contracts and of proofs
+pub mod inner

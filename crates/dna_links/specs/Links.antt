@@ -1,5 +1,5 @@
--- The logical links of one node, over any book of their segments (NSP 4.0, ports). What the user does stands in `User`, what may be sent in
--- `Sending`, what an arrival does in `Arriving`.
+-- The logical links of one node, over any book of their segments (NSP 4.0, ports). The rules stand in `Table`, and how
+-- links go by them in `LinkBook`.
 use Rattle.std.specs.Prelude.{ℕ, Bool, true, false, Option, Some, None, List, [], ◌∷◌, ◌++◌, slice_get, slice_set, position, Result, Err}
 use Rattle.dna_packet.specs.Nsp.{NspValue}
 use Rattle.dna_station.specs.declared.link_refusal.LinkRefusal.{LinkRefusal}

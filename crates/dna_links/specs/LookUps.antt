@@ -12,25 +12,29 @@ abbrev pub is_live : Phase → Bool
 is_live Ended = false
 is_live phase = true
 
+abbrev pub is_in : (wanted phase : Phase) → Bool
+is_in Calling Calling = true
+is_in Called Called = true
+is_in Confirming Confirming = true
+is_in Running Running = true
+is_in Disconnecting Disconnecting = true
+is_in Ended Ended = true
+is_in wanted phase = false
+
 abbrev pub is_calling : Phase → Bool
-is_calling Calling = true
-is_calling phase = false
+is_calling phase = is_in Calling phase
 
 abbrev pub is_called : Phase → Bool
-is_called Called = true
-is_called phase = false
+is_called phase = is_in Called phase
 
 abbrev pub is_confirming : Phase → Bool
-is_confirming Confirming = true
-is_confirming phase = false
+is_confirming phase = is_in Confirming phase
 
 abbrev pub is_running : Phase → Bool
-is_running Running = true
-is_running phase = false
+is_running phase = is_in Running phase
 
 abbrev pub is_disconnecting : Phase → Bool
-is_disconnecting Disconnecting = true
-is_disconnecting phase = false
+is_disconnecting phase = is_in Disconnecting phase
 
 -- both sides have agreed: segments that come are acted on, and the user may close the link
 abbrev pub is_connected : Phase → Bool
@@ -61,7 +65,7 @@ passes (LiveAt own) port = is_live port.phase && is_at port.own own
 passes (TheLink own far) port = is_live port.phase && has_both port own far
 passes (LiveTo far) port = is_live port.phase && is_at port.far far
 passes (OpenedAt own) port = is_live port.phase && (port.opened && is_at port.own own)
-passes (CallingAt own) port = is_calling port.phase && is_at port.own own
-passes (CalledBy far) port = is_called port.phase && is_at port.far far
+passes (CallingAt own) port = is_in Calling port.phase && is_at port.own own
+passes (CalledBy far) port = is_in Called port.phase && is_at port.far far
 passes (BegunBy far) port = is_live port.phase && (not port.opened && is_at port.far far)
 passes (ActedOn own far) port = is_connected port.phase && has_both port own far

@@ -3,7 +3,8 @@ use Rattle.std.specs.Prelude.{ℕ, Result}
 use Rattle.dna_station.specs.declared.link_refusal.LinkRefusal.{LinkRefusal}
 use Rattle.dna_links.specs.declared.tag.LinkTag.{LinkTag}
 use Rattle.dna_links.specs.Links.{LinksOf, Carried, no_links}
-use Rattle.dna_links.specs.User.{LinkEventValue, user_step}
+use Rattle.dna_links.specs.User.{LinkEventValue}
+use Rattle.dna_links.specs.LinkBook.{user_step}
 use Rattle.dna_links.specs.Sending.{Sent, sent_step}
 use Rattle.dna_links.specs.Arriving.{PartnerRule, arrived_step}
 use Rattle.dna_links.specs.WireSegments.{WireSegments, wire_segments}

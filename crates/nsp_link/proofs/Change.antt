@@ -7,12 +7,13 @@ use Rattle.std.proofs.lemmas.List.{set-get_or}
 use Rattle.dna_station.specs.declared.link_refusal.LinkRefusal.{LinkRefusal}
 use Rattle.dna_station.specs.declared.link_refusal.LinkRefusal.TheVariants.{WrongDelivery}
 use Rattle.dna_links.specs.SegmentBook.{Sending}
-use Rattle.dna_links.specs.User.{delivered}
-use Rattle.dna_links.specs.Sending.{carries, truth_of}
+use Rattle.dna_links.specs.inner.Forms.{delivered}
+use Rattle.dna_links.specs.inner.Forms.{carries, truth_of}
 use Rattle.std.proofs.lemmas.Option.{slice_get_read}
 use Rattle.dna_links.specs.LookUps.{is_live, is_at}
 use Rattle.dna_links.specs.Links.{LinkOf, changed, in_phase, with_segments, ended}
-use Rattle.dna_links.specs.Arriving.{of_partner, confirmed}
+use Rattle.dna_links.specs.Arriving.{of_partner}
+use Rattle.dna_links.specs.inner.Forms.{confirmed}
 use Rattle.dna_links.specs.declared.tag.LinkTag.{LinkTag}
 use Rattle.dna_links.specs.WireSegments.{WireSegments, wire_segments, sending, delivers}
 use Rattle.dna_links.specs.WireLinks.{WireLinks}

@@ -1,5 +1,5 @@
 -- The check that a message does not pass which comes is the one for which the tables refuse it.
-use Rattle.std.proofs.Common.{◌≡◌, ℕ, ◌&&◌, Option, Some, None, refl, sym, option_map, eqb}
+use Rattle.std.proofs.Common.{◌≡◌, ℕ, ◌&&◌, Option, Some, None, refl, sym, ap, option_map, eqb}
 use Rattle.std.specs.Prelude.{Ok, slice_get}
 use Rattle.dna_packet.specs.Nsp.{NspValue, DataSegment, LinkService, DataAck, OtherDataAck, ConnectAck, NoOperation, ConnectInitiate, ConnectConfirm}
 use Rattle.dna_packet.specs.Nsp.{DisconnectInitiate, DisconnectConfirm}
@@ -7,7 +7,8 @@ use Rattle.dna_station.specs.declared.link_refusal.LinkRefusal.{LinkRefusal}
 use Rattle.dna_links.specs.declared.port.LinkTest.{LinkTest}
 use Rattle.dna_links.specs.declared.port.LinkTest.TheVariants.{CallingAt, LiveTo, ActedOn}
 use Rattle.dna_links.specs.declared.tag.LinkTag.{LinkTag}
-use Rattle.dna_links.specs.Arriving.{acted_on, called, confirmed, is_for, is_of_pair, message_arrived, of_partner, running}
+use Rattle.dna_links.specs.inner.Forms.{acted_on, called, confirmed, running}
+use Rattle.dna_links.specs.Arriving.{is_for, is_of_pair, message_arrived, of_partner}
 use Rattle.dna_links.specs.Links.{LinkOf, Carried, begun, changed, with_link, at_number, on_link, number_of}
 use Rattle.dna_links.specs.WireSegments.{WireSegments, takes_acks, takes_segment, wire_segments}
 use Rattle.dna_links.specs.WireLinks.{WireLinks, wire_links_arrived}
@@ -16,6 +17,7 @@ use Rattle.nsp_link.specs.FailedArrival.{failed_pair, failed_taken, failed_arriv
 use Rattle.nsp_link.specs.Missing.{refusal_in}
 use Rattle.nsp_link.specs.declared.failed.FailedLinkArrival.{FailedLinkArrival}
 use Rattle.nsp_link.specs.declared.failed.FailedLinkArrival.TheVariants.{OtherCall, OtherPair, Nodes as Between}
+use Rattle.dna_links.proofs.Tables.Forms.{ends_ok}
 use Rattle.nsp_link.proofs.FailedSending.{check_same, linked_same}
 
 abbrev refused : Option FailedLinkArrival → Option LinkRefusal
@@ -54,8 +56,8 @@ taken_same s (ConnectInitiate retransmitted src services info segsize user_data)
     sym (made_either_way (LiveTo src) s (begun (called wire_segments of_partner src segsize tag) s) (λ number link. s))
 taken_same s (ConnectAck dst) tag = refl
 taken_same s (NoOperation rest) tag = refl
-taken_same s (DisconnectInitiate dst src reason user_data) tag = refl
-taken_same s (DisconnectConfirm dst src reason) tag = refl
+taken_same s (DisconnectInitiate dst src reason user_data) tag = sym (ap refusal_in (ends_ok wire_segments of_partner dst src s))
+taken_same s (DisconnectConfirm dst src reason) tag = sym (ap refusal_in (ends_ok wire_segments of_partner dst src s))
 
 pub arrival_same : (s : WireLinks) (packet : Carried) (tag : LinkTag) →
     refused (failed_arrival s packet tag) ≡ refusal_in (wire_links_arrived of_partner s packet tag)

@@ -9,7 +9,8 @@ use Rattle.dna_links.specs.declared.port.Phase.TheVariants.{Confirming, Disconne
 use Rattle.dna_links.specs.Links.{LinkOf, begun, with_segments, changed, in_phase, freed}
 use Rattle.dna_links.specs.LookUps.{is_connected, takes_messages}
 use Rattle.dna_links.specs.Segmentation.{Whole, next_message}
-use Rattle.dna_links.specs.User.{LinkEventValue, Open, Accept, Reject, In, Up, Close, answered, answers, delivered, gives, opened}
+use Rattle.dna_links.specs.User.{LinkEventValue, Open, Accept, Reject, In, Up, Close}
+use Rattle.dna_links.specs.inner.Forms.{answered, answers, delivered, gives, opened}
 use Rattle.dna_links.specs.WireSegments.{WireSegments, delivers_whole, delivered_as, hands_in, wire_segments}
 use Rattle.dna_links.specs.WireLinks.{WireLinks, wire_links_user}
 use Rattle.link_segments.specs.Received.{pieces_if, pieces_of, next_length}

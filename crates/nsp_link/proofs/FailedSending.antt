@@ -1,6 +1,6 @@
 -- The check that a message does not pass is the one for which the tables refuse it, and with what is allowed it is passed.
 use Rattle.std.proofs.Common.{◌≡◌, ℕ, ◌-◌, ◌<◌, Bool, true, false, ◌&&◌, ◌||◌, cond, not, Option, Some, None, List, [], ◌∷◌, length}
-use Rattle.std.proofs.Common.{refl, sym, ◌∙◌, arith, option_map, ltb, leb, eqb}
+use Rattle.std.proofs.Common.{refl, sym, ap, ◌∙◌, arith, option_map, ltb, leb, eqb}
 use Rattle.std.proofs.lemmas.Bool.{leb-false}
 use Rattle.std.specs.Prelude.{slice_get, Result, Ok, Err}
 use Rattle.dna_packet.specs.Nsp.{SegmentValue, NspValue, DataSegment, LinkService, DataAck, OtherDataAck, ConnectAck, NoOperation, ConnectInitiate}
@@ -9,13 +9,14 @@ use Rattle.dna_packet.specs.declared.ack_word.AckWord.{AckWord}
 use Rattle.dna_station.specs.declared.link_refusal.LinkRefusal.{LinkRefusal}
 use Rattle.dna_station.specs.declared.link_refusal.LinkRefusal.TheVariants.{WrongSegment}
 use Rattle.dna_links.specs.declared.port.LinkTest.{LinkTest}
-use Rattle.dna_links.specs.declared.port.LinkTest.TheVariants.{TheLink, OpenedAt, BegunBy}
+use Rattle.dna_links.specs.declared.port.LinkTest.TheVariants.{TheLink, OpenedAt, BegunBy, CalledBy}
 use Rattle.dna_links.specs.declared.port.Phase.{Phase}
 use Rattle.dna_links.specs.declared.port.Phase.TheVariants.{Calling, Confirming, Running, Disconnecting}
 use Rattle.dna_links.specs.SegmentBook.{REACH, distance, is_of_data, Sending}
 use Rattle.dna_links.specs.Links.{LinkOf, Carried, check, with_link, at_number, on_link, number_of}
 use Rattle.dna_links.specs.Segmentation.{Piece, piece_of, same_piece, is_next_piece}
-use Rattle.dna_links.specs.Sending.{carries, in_its_phase, in_run, message_sent, segment_of, unchanged}
+use Rattle.dna_links.specs.inner.Forms.{carries, confirms_end, ending, in_its_phase, in_run, of_no_link, segment_of, unchanged}
+use Rattle.dna_links.specs.Sending.{message_sent}
 use Rattle.dna_links.specs.WireSegments.{WireSegments, LastSent, all_named, last_named, after_first, last_of, is_new, highest_given, is_given}
 use Rattle.dna_links.specs.WireSegments.{is_repeat}
 use Rattle.dna_links.specs.WireSegments.{sends_acks, acks_named, sends_new, sends_again, segment_named}
@@ -32,6 +33,7 @@ use Rattle.nsp_link.specs.declared.failed.FailedLinkSending.{FailedLinkSending}
 use Rattle.nsp_link.specs.declared.failed.FailedLinkSending.TheVariants.{Acknowledgement, Room, Length, NextPiece, Number, AsFirstGiven}
 use Rattle.nsp_link.specs.declared.failed.FailedLinkSending.TheVariants.{Phase as InPhase, Nodes as Between}
 use Rattle.nsp_link.specs.declared.failed.Numbers.{Numbers}
+use Rattle.dna_links.proofs.Tables.Forms.{with_link_ok}
 use Rattle.nsp_link.proofs.Found.{some_there}
 
 -- ---- one check, and one look-up
@@ -182,6 +184,16 @@ run_same src dst fails sends s same = linked_same refused refusal_in (TheLink sr
     check_same refusal_of_sending (is_in Running link.port.phase) (InPhase number link.port.phase Running) (fails link)
     (carries wire_segments s number link (sends link)) (same link ∙ sym (carries_same s number link (sends link))))
 
+-- a DC of no live link
+never_refused : (s : WireLinks) (src dst : ℕ) → refusal_in (confirms_end wire_segments s src dst) ≡ None
+never_refused s src dst = by_address (eqb src 0) where
+  by_address : (b : Bool) → refusal_in {E = LinkRefusal}
+      (cond b (with_link (CalledBy dst) s (Ok (of_no_link wire_segments s)) (λ number link. Ok (ending wire_segments s number link)))
+      (Ok (of_no_link wire_segments s))) ≡ None
+  by_address true = ap refusal_in
+      (with_link_ok (CalledBy dst) s (of_no_link wire_segments s) _ (λ number link. ending wire_segments s number link) refl)
+  by_address false = refl
+
 -- ---- each message
 
 message_same : (s : WireLinks) (m : NspValue) → refused (failed_message s m) ≡ refusal_in (message_sent wire_segments s m)
@@ -189,7 +201,8 @@ message_same s (ConnectInitiate retransmitted src services info segsize user_dat
 message_same s (ConnectAck dst) = linked_same refused refusal_in (BegunBy dst) s _ _ _ _ refl (λ number link. refl)
 message_same s (ConnectConfirm dst src services info segsize user_data) = phase_same (TheLink src dst) Confirming s
 message_same s (DisconnectInitiate dst src reason user_data) = phase_same (TheLink src dst) Disconnecting s
-message_same s (DisconnectConfirm dst src reason) = linked_same refused refusal_in (TheLink src dst) s _ _ _ _ refl (λ number link. refl)
+message_same s (DisconnectConfirm dst src reason) =
+    linked_same refused refusal_in (TheLink src dst) s _ _ _ _ (sym (never_refused s src dst)) (λ number link. refl)
 message_same s (DataSegment segment) =
     run_same segment.srcaddr segment.dstaddr (λ link. failed_segment link.segsize segment link.segments) (segment_of wire_segments segment) s (λ link.
     segment_same link.segsize segment link.segments)

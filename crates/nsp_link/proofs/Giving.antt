@@ -7,7 +7,7 @@ use Rattle.std.proofs.lemmas.Option.{slice_get_within, slice_get_read}
 use Rattle.std.proofs.lemmas.Bool.{eqb-true, eqb-false}
 use Rattle.dna_links.specs.LookUps.{is_live, is_at, is_called, is_calling}
 use Rattle.dna_links.specs.Links.{LinkOf, begun, changed, forgotten, freed}
-use Rattle.dna_links.specs.User.{opened, answered}
+use Rattle.dna_links.specs.inner.Forms.{opened, answered}
 use Rattle.dna_links.specs.declared.port.Phase.{Phase}
 use Rattle.dna_links.specs.WireSegments.{WireSegments, wire_segments}
 use Rattle.dna_links.specs.WireLinks.{WireLinks}

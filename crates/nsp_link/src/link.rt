@@ -7,10 +7,10 @@ ghost use Rattle.dna_packet.specs.Nsp.{segment_view};
 ghost use Rattle.dna_links.specs.LookUps.{is_live, is_called, is_calling};
 ghost use Rattle.dna_links.specs.Links.{in_phase, with_segments};
 ghost use Rattle.dna_links.specs.Links as links;
-ghost use Rattle.dna_links.specs.User as user;
-ghost use Rattle.dna_links.specs.Sending.{segment_of};
-ghost use Rattle.dna_links.specs.Arriving.{of_partner, running};
-ghost use Rattle.dna_links.specs.Arriving as arriving;
+ghost use Rattle.dna_links.specs.inner.Forms as forms;
+ghost use Rattle.dna_links.specs.inner.Forms.{segment_of};
+ghost use Rattle.dna_links.specs.Arriving.{of_partner};
+ghost use Rattle.dna_links.specs.inner.Forms.{running};
 ghost use Rattle.dna_links.specs.WireSegments.{wire_segments, hands_in, delivers, sends_acks, sending, takes_segment, takes_acks};
 ghost use Rattle.dna_links.specs.WireSegments as spec;
 ghost use Rattle.nsp_link.specs.Fault.{IsFault};
@@ -65,7 +65,7 @@ impl<W: Window<Piece, 4096> + Drop> Model for Link<W> {
 impl<W: Window<Piece, 4096> + Drop> Link<W> {
     /// A link that is opened here, with this own address.
     pub fn opened(alloc: Global, own: u16) -> Result<Self, AllocError>
-        ensures { IfOk result (λ link. link ≡ user.opened wire_segments own) }
+        ensures { IfOk result (λ link. link ≡ forms.opened wire_segments own) }
     {
         let port = Port {
             phase: Phase::Calling,
@@ -78,7 +78,7 @@ impl<W: Window<Piece, 4096> + Drop> Link<W> {
 
     /// A link that a CI begins, with this far address and the CI's SEGSIZE; its partner is the sender.
     pub fn called(alloc: Global, far: u16, segsize: u16, tag: LinkTag) -> Result<Self, AllocError>
-        ensures { IfOk result (λ link. link ≡ arriving.called wire_segments of_partner far segsize tag) }
+        ensures { IfOk result (λ link. link ≡ forms.called wire_segments of_partner far segsize tag) }
     {
         let port = Port {
             phase: Phase::Called,
@@ -182,7 +182,7 @@ impl<W: Window<Piece, 4096> + Drop> Link<W> {
         requires live { is_live self.old.port.phase ≡ true }
         requires phase { is_called phase ≡ false }
         requires known { is_calling phase ≡ false }
-        ensures { self.new ≡ user.answered wire_segments phase own self.old }
+        ensures { self.new ≡ forms.answered wire_segments phase own self.old }
     {
         self.port.phase = phase;
         self.port.own = Some(own);
@@ -253,7 +253,7 @@ impl<W: Window<Piece, 4096> + Drop> Link<W> {
     /// A CC confirms it: it runs, with this partner.
     pub fn confirm(&mut self, far: u16, segsize: u16, tag: LinkTag)
         requires { is_live self.old.port.phase ≡ true }
-        ensures { self.new ≡ arriving.confirmed wire_segments of_partner far segsize tag self.old }
+        ensures { self.new ≡ forms.confirmed wire_segments of_partner far segsize tag self.old }
     {
         self.port.phase = Phase::Running;
         self.port.far = Some(far);

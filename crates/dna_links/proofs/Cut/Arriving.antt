@@ -12,7 +12,8 @@ use Rattle.dna_links.specs.declared.port.Phase.TheVariants.{Running}
 use Rattle.dna_links.specs.declared.port.LinkTest.TheVariants.{TheLink, LiveTo, CallingAt, ActedOn}
 use Rattle.dna_links.specs.LookUps.{is_live, is_calling, is_connected, is_at, has_both, passes}
 use Rattle.dna_links.specs.Links.{LinkOf, LinksOf, Carried, LinkTruth, check, with_link, begun, changed, in_phase, with_segments, ended}
-use Rattle.dna_links.specs.Arriving.{PartnerRule, is_for, is_of_pair, called, confirmed, ends_link, running, acted_on, message_arrived}
+use Rattle.dna_links.specs.Arriving.{PartnerRule, is_for, is_of_pair, message_arrived}
+use Rattle.dna_links.specs.inner.Forms.{called, confirmed, ends_by, running, acted_on}
 use Rattle.dna_links.specs.TrueSegments.{TrueSegments, Numbers, takes_acks, takes_segment, true_segments}
 use Rattle.dna_links.specs.WireSegments.{WireSegments, wire_segments}
 use Rattle.dna_links.specs.WireSegments as wire
@@ -36,16 +37,16 @@ module _ (rule : PartnerRule) (s : Links) (ordered : AreOrdered s) where
       cut_links (changed n after s) ≡ changed n after' (cut_links s)
   one_changed n after after' same = changed_same n after s ∙ ap (λ (w : LinkOf WireSegments). changed n w (cut_links s)) same
 
-  ends_same : (own far : ℕ) → cut_links (ends_link true_segments rule own far s) ≡ ends_link wire_segments rule own far (cut_links s)
+  ends_same : (own far : ℕ) → cut_result (ends_by true_segments rule own far s) ≡ ends_by wire_segments rule own far (cut_links s)
   ends_same own far =
-      with_link_same cut_links (TheLink own far) s (with_link (CallingAt own) s s (λ n l. changed n (ended true_segments l) s))
-      (with_link (CallingAt own) (cut_links s) (cut_links s) (λ n l. changed n (ended wire_segments l) (cut_links s)))
-      (λ n l. changed n (ended true_segments l) s) (λ n l. changed n (ended wire_segments l) (cut_links s))
-      (λ none. with_link_same cut_links (CallingAt own) s s (cut_links s) (λ n l. changed n (ended true_segments l) s)
-      (λ n l. changed n (ended wire_segments l) (cut_links s))
-      (λ nobody. refl) (λ n l there here. one_ended n l there
-      (live_if is_calling refl l.port.phase (and_parts (is_calling l.port.phase) (is_at l.port.own own) here).0)))
-      (λ n l there here. one_ended n l there (and_parts (is_live l.port.phase) (has_both l.port own far) here).0)
+      with_link_same cut_result (TheLink own far) s (with_link (CallingAt own) s (Ok s) (λ n l. Ok (changed n (ended true_segments l) s)))
+      (with_link (CallingAt own) (cut_links s) (Ok (cut_links s)) (λ n l. Ok (changed n (ended wire_segments l) (cut_links s))))
+      (λ n l. Ok (changed n (ended true_segments l) s)) (λ n l. Ok (changed n (ended wire_segments l) (cut_links s)))
+      (λ none. with_link_same cut_result (CallingAt own) s (Ok s) (Ok (cut_links s)) (λ n l. Ok (changed n (ended true_segments l) s))
+      (λ n l. Ok (changed n (ended wire_segments l) (cut_links s)))
+      (λ nobody. refl) (λ n l there here. ap Ok (one_ended n l there
+      (live_if is_calling refl l.port.phase (and_parts (is_calling l.port.phase) (is_at l.port.own own) here).0))))
+      (λ n l there here. ap Ok (one_ended n l there (and_parts (is_live l.port.phase) (has_both l.port own far) here).0))
     where
       one_ended : (n : ℕ) (l : LinkOf TrueSegments) → slice_get s.links n ≡ Some l → is_live l.port.phase ≡ true
           → cut_links (changed n (ended true_segments l) s) ≡ changed n (ended wire_segments (cut_link l)) (cut_links s)
@@ -108,8 +109,8 @@ module _ (rule : PartnerRule) (s : Links) (ordered : AreOrdered s) where
         (λ e. ap Ok
         (one_changed n (confirmed true_segments rule src segsize truth.tag l) (confirmed wire_segments rule src segsize truth.tag (cut_link l))
         (confirmed_same src segsize truth.tag l live))))
-    message_same (DisconnectInitiate dst src reason user_data) near = ap Ok (ends_same dst src)
-    message_same (DisconnectConfirm dst src reason) near = ap Ok (ends_same dst src)
+    message_same (DisconnectInitiate dst src reason user_data) near = ends_same dst src
+    message_same (DisconnectConfirm dst src reason) near = ends_same dst src
     message_same (DataSegment segment) near =
         acted_same segment.dstaddr segment.srcaddr truth.tag (λ l. takes_segment segment truth.known l.segments)
         (λ l. wire.takes_segment segment tt l.segments) (segment_same segment near)

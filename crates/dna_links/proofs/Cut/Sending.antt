@@ -17,7 +17,8 @@ use Rattle.dna_links.specs.LookUps.{is_live, is_calling, is_called, is_confirmin
 use Rattle.dna_links.specs.Segmentation.{Piece, in_whole_messages}
 use Rattle.dna_links.specs.SegmentBook.{Sending}
 use Rattle.dna_links.specs.Links.{LinkOf, LinksOf, Carried, check, with_link, changed, in_phase, with_segments, ended}
-use Rattle.dna_links.specs.Sending.{Sent, of_no_link, unchanged, ending, in_its_phase, confirms_end, carries, in_run, segment_of, message_sent}
+use Rattle.dna_links.specs.Sending.{Sent, message_sent}
+use Rattle.dna_links.specs.inner.Forms.{of_no_link, unchanged, ending, in_its_phase, confirms_end, carries, in_run, segment_of}
 use Rattle.dna_links.specs.TrueSegments.{TrueSegments, Numbers, sends_acks, true_segments}
 use Rattle.dna_links.specs.WireSegments.{WireSegments, with_pieces_alone, ends, wire_segments}
 use Rattle.dna_links.specs.WireSegments as wire
@@ -72,19 +73,20 @@ module _ (s : Links) (ordered : AreOrdered s) where
       ap (λ (all : LinksOf WireSegments). record (ending wire_segments (cut_links s) n (cut_link l)) { links = all })
       (changed_same n (ended true_segments l) s ∙ ap (λ (w : LinkOf WireSegments). changed n w (cut_links s)) (ended_same l live (ordered n l there)))
 
-  confirms_same : (src dst : ℕ) → cut_one (confirms_end true_segments s src dst) ≡ confirms_end wire_segments (cut_links s) src dst
+  confirms_same : (src dst : ℕ) → cut_sent (confirms_end true_segments s src dst) ≡ confirms_end wire_segments (cut_links s) src dst
   confirms_same src dst = by_address (eqb src 0)
     where
       by_address : (b : Bool) →
-          cut_one (cond b (with_link (CalledBy dst) s (of_no_link true_segments s) (λ n l. ending true_segments s n l)) (of_no_link true_segments s))
-          ≡ cond b (with_link (CalledBy dst) (cut_links s) (of_no_link wire_segments (cut_links s)) (λ n l. ending wire_segments (cut_links s) n l))
-          (of_no_link wire_segments (cut_links s))
+          cut_sent (cond b (with_link (CalledBy dst) s (Ok (of_no_link true_segments s)) (λ n l. Ok (ending true_segments s n l)))
+          (Ok (of_no_link true_segments s)))
+          ≡ cond b (with_link (CalledBy dst) (cut_links s) (Ok (of_no_link wire_segments (cut_links s)))
+          (λ n l. Ok (ending wire_segments (cut_links s) n l))) (Ok (of_no_link wire_segments (cut_links s)))
       by_address true =
-          with_link_same cut_one (CalledBy dst) s (of_no_link true_segments s) (of_no_link wire_segments (cut_links s))
-          (λ n l. ending true_segments s n l)
-          (λ n l. ending wire_segments (cut_links s) n l)
-          (λ none. refl) (λ n l there here. ending_same n l there
-          (live_if is_called refl l.port.phase (and_parts (is_called l.port.phase) (is_at l.port.far dst) here).0))
+          with_link_same cut_sent (CalledBy dst) s (Ok (of_no_link true_segments s)) (Ok (of_no_link wire_segments (cut_links s)))
+          (λ n l. Ok (ending true_segments s n l))
+          (λ n l. Ok (ending wire_segments (cut_links s) n l))
+          (λ none. refl) (λ n l there here. ap Ok (ending_same n l there
+          (live_if is_called refl l.port.phase (and_parts (is_called l.port.phase) (is_at l.port.far dst) here).0)))
       by_address false = refl
 
   carries_same : (n : ℕ) (l : LinkOf TrueSegments) → is_live l.port.phase ≡ true → (r : Result (Sending TrueSegments Numbers) LinkRefusal)
@@ -134,9 +136,9 @@ module _ (s : Links) (ordered : AreOrdered s) where
   message_same (ConnectConfirm dst src services info segsize user_data) = in_its_phase_same (TheLink src dst) is_confirming
   message_same (DisconnectInitiate dst src reason user_data) = in_its_phase_same (TheLink src dst) is_disconnecting
   message_same (DisconnectConfirm dst src reason) =
-      with_link_same cut_sent (TheLink src dst) s (Ok (confirms_end true_segments s src dst)) (Ok (confirms_end wire_segments (cut_links s) src dst))
+      with_link_same cut_sent (TheLink src dst) s (confirms_end true_segments s src dst) (confirms_end wire_segments (cut_links s) src dst)
       (λ n l. Err LinkState) (λ n l. Err LinkState)
-      (λ none. ap Ok (confirms_same src dst)) (λ n l there here. refl)
+      (λ none. confirms_same src dst) (λ n l there here. refl)
   message_same (DataSegment segment) =
       in_run_same segment.srcaddr segment.dstaddr (segment_of true_segments segment) (segment_of wire_segments segment) (segment_same segment)
   message_same (DataAck dst src acks) = in_run_same src dst (λ l. sends_acks acks l.segments) (λ l. wire.sends_acks acks l.segments) (words_same acks)

@@ -9,7 +9,8 @@ use Rattle.dna_links.specs.declared.port.Phase.TheVariants.{Confirming, Disconne
 use Rattle.dna_links.specs.declared.port.LinkTest.TheVariants.{HasAddress, LiveAt, CalledBy}
 use Rattle.dna_links.specs.LookUps.{is_live, is_called, is_connected, is_at, takes_messages, passes}
 use Rattle.dna_links.specs.Links.{LinkOf, LinksOf, check, begun, changed, in_phase, with_segments, forgotten, freed}
-use Rattle.dna_links.specs.User.{LinkEventValue, Open, Accept, Reject, In, Up, Close, opened, answered, gives, answers, delivered}
+use Rattle.dna_links.specs.User.{LinkEventValue, Open, Accept, Reject, In, Up, Close}
+use Rattle.dna_links.specs.inner.Forms.{opened, answered, gives, answers, delivered}
 use Rattle.dna_links.specs.TrueSegments.{TrueSegments, hands_in, delivers, true_segments}
 use Rattle.dna_links.specs.WireSegments.{WireSegments, wire_segments}
 use Rattle.dna_links.specs.WireSegments as wire

@@ -12,7 +12,8 @@ use Rattle.dna_links.specs.LookUps.{is_at, is_live, is_called, is_calling, is_co
 use Rattle.dna_links.specs.Links.{LinkOf, LinkTruth, changed, in_phase, with_segments, ended}
 use Rattle.dna_links.specs.User.{LinkEventValue}
 use Rattle.dna_links.specs.Sending.{Sent}
-use Rattle.dna_links.specs.Arriving.{of_partner, called, confirmed}
+use Rattle.dna_links.specs.Arriving.{of_partner}
+use Rattle.dna_links.specs.inner.Forms.{called, confirmed}
 use Rattle.dna_links.specs.TrueSegments.{TrueSegments, Numbers, true_segments}
 use Rattle.dna_links.specs.TrueSegments as segments
 use Rattle.dna_links.specs.TrueLinks.{Links}

@@ -10,8 +10,9 @@ use Rattle.dna_links.specs.declared.port.Phase.TheVariants.{Confirming, Running,
 use Rattle.dna_links.specs.declared.port.LinkTest.TheVariants.{HasAddress, LiveAt}
 use Rattle.dna_links.specs.LookUps.{passes, is_at, is_live, is_called, is_connected}
 use Rattle.dna_links.specs.Links.{LinkOf, number_of, begun, changed, in_phase, with_segments, forgotten, freed}
-use Rattle.dna_links.specs.User.{LinkEventValue, Open, Accept, Reject, In, Up, Close, opened, answered}
-use Rattle.dna_links.specs.Arriving.{called}
+use Rattle.dna_links.specs.User.{LinkEventValue, Open, Accept, Reject, In, Up, Close}
+use Rattle.dna_links.specs.inner.Forms.{opened, answered}
+use Rattle.dna_links.specs.inner.Forms.{called}
 use Rattle.dna_links.specs.TrueSegments.{TrueSegments, Numbers, true_segments}
 use Rattle.dna_links.specs.TrueSegments as segments
 use Rattle.dna_links.specs.TrueLinks.{Links}

@@ -7,7 +7,7 @@ use Rattle.two_nodes.proofs.Order.{slice_get-append}
 use Rattle.dna_links.specs.LookUps.{is_at, is_live, is_called}
 use Rattle.dna_links.specs.Links.{LinkOf}
 use Rattle.dna_links.specs.User.{LinkEventValue, Open, Accept, Reject, In, Up, Close}
-use Rattle.dna_links.specs.Arriving.{called}
+use Rattle.dna_links.specs.inner.Forms.{called}
 use Rattle.dna_links.specs.TrueSegments.{TrueSegments}
 use Rattle.dna_links.specs.Captures.{given_address, gives_address, message_in, message_up, until_given, handed_in, delivered_up, behind, IsReadFrom}
 use Rattle.dna_links.specs.Captures.{IsRead}

@@ -10,7 +10,8 @@ use Rattle.dna_links.specs.declared.port.LinkTest.TheVariants.{HasAddress}
 use Rattle.dna_links.specs.LookUps.{is_calling}
 use Rattle.dna_links.specs.Segmentation.{Piece}
 use Rattle.dna_links.specs.Links.{LinkOf, LinksOf, begun, changed, in_phase, with_segments, forgotten, freed}
-use Rattle.dna_links.specs.User.{LinkEventValue, opened, answered}
+use Rattle.dna_links.specs.User.{LinkEventValue}
+use Rattle.dna_links.specs.inner.Forms.{opened, answered}
 use Rattle.dna_links.specs.TrueSegments.{TrueSegments, empty, highest_given, highest_received, true_segments}
 use Rattle.dna_links.specs.TrueSegments as segments
 use Rattle.dna_links.specs.TrueLinks.{Links}

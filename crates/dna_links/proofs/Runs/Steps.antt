@@ -11,8 +11,10 @@ use Rattle.dna_links.specs.LookUps.{is_calling, is_at}
 use Rattle.dna_links.specs.Segmentation.{Piece, in_order}
 use Rattle.dna_links.specs.Links.{LinkOf, Carried, LinkTruth, begun, changed, in_phase, with_segments, ended}
 use Rattle.dna_links.specs.User.{LinkEventValue}
-use Rattle.dna_links.specs.Sending.{Sent, truth_of}
-use Rattle.dna_links.specs.Arriving.{of_partner, called, confirmed}
+use Rattle.dna_links.specs.Sending.{Sent}
+use Rattle.dna_links.specs.inner.Forms.{truth_of}
+use Rattle.dna_links.specs.Arriving.{of_partner}
+use Rattle.dna_links.specs.inner.Forms.{called, confirmed}
 use Rattle.dna_links.specs.TrueSegments.{TrueSegments, Numbers, empty, highest_given, highest_received, acknowledged_through, true_segments}
 use Rattle.dna_links.specs.TrueSegments as segments
 use Rattle.dna_links.specs.TrueLinks.{Links}

@@ -10,7 +10,8 @@ use Rattle.dna_links.specs.declared.port.Phase.TheVariants.{Running}
 use Rattle.dna_links.specs.LookUps.{is_at}
 use Rattle.dna_links.specs.Segmentation.{Piece, piece_of, in_order, hold}
 use Rattle.dna_links.specs.Links.{LinkOf, in_phase, with_segments}
-use Rattle.dna_links.specs.Arriving.{are_same, is_of_pair}
+use Rattle.dna_links.specs.LinkBook.{are_same}
+use Rattle.dna_links.specs.Arriving.{is_of_pair}
 use Rattle.dna_links.specs.TrueSegments.{TrueSegments, highest_given, highest_received, acknowledged_through}
 use Rattle.dna_links.specs.TrueSegments as segments
 use Rattle.dna_links.specs.Runs.{SentMessage}

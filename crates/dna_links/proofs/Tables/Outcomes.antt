@@ -17,10 +17,14 @@ use Rattle.dna_links.specs.LookUps.{passes, takes_messages, is_connected, is_cal
 use Rattle.dna_links.specs.SegmentBook.{SegmentBook, Sending}
 use Rattle.dna_links.specs.Links.{LinkOf, LinksOf, Carried, LinkTruth, check, number_of, on_link, at_number, with_link, begun, changed, in_phase}
 use Rattle.dna_links.specs.Links.{with_segments, ended, freed}
-use Rattle.dna_links.specs.User.{LinkEventValue, Open, Accept, Reject, In, Up, Close, opened, answered, gives, delivered, user_step}
-use Rattle.dna_links.specs.Sending.{Sent, of_no_link, truth_of, unchanged, ending, confirms_end, carries, in_run, segment_of, in_its_phase}
+use Rattle.dna_links.specs.User.{LinkEventValue, Open, Accept, Reject, In, Up, Close}
+use Rattle.dna_links.specs.inner.Forms.{opened, answered, gives, delivered}
+use Rattle.dna_links.specs.LinkBook.{user_step}
+use Rattle.dna_links.specs.Sending.{Sent}
+use Rattle.dna_links.specs.inner.Forms.{of_no_link, truth_of, unchanged, ending, confirms_end, carries, in_run, segment_of, in_its_phase}
 use Rattle.dna_links.specs.Sending.{message_sent, sent_step}
-use Rattle.dna_links.specs.Arriving.{PartnerRule, is_for, is_of_pair, called, confirmed, ends_link, running, acted_on, message_arrived, arrived_step}
+use Rattle.dna_links.specs.Arriving.{PartnerRule, is_for, is_of_pair, message_arrived, arrived_step}
+use Rattle.dna_links.specs.inner.Forms.{called, confirmed, ends_by, running, acted_on}
 
 -- ---- look-ups
 
@@ -230,22 +234,18 @@ module _ {D K : Type 0} (book : SegmentBook D K) where
         (λ number link found e. let c = checked _ _ _ left e in
         carries_did m number link (sends link) (λ sent is. d number link sent found c.0 is) c.1)
 
-    called_ends : (dst src reason : ℕ) (r : Sent D K) → src ≡ 0 →
-        with_link (CalledBy dst) s (of_no_link book s) (λ number link. ending book s number link) ≡ r
-        → SentDid s (DisconnectConfirm dst src reason) r
-    called_ends dst src reason r none e =
-        looked (CalledBy dst) s (of_no_link book s) (λ number link. ending book s number link) r e
-        (λ missing e. subst (λ (x : Sent D K). SentDid s (DisconnectConfirm dst src reason) x) e (OfNone refl))
-        (λ number link found e. subst (λ (x : Sent D K). SentDid s (DisconnectConfirm dst src reason) x) e
-        (EndsCalled dst reason number link refl (ap (λ (n : ℕ). DisconnectConfirm dst n reason) none) found))
-
-    end_did : (dst src reason : ℕ) → SentDid s (DisconnectConfirm dst src reason) (confirms_end book s src dst)
-    end_did dst src reason = go (src == 0) refl
+    end_did : (dst src reason : ℕ) → confirms_end book s src dst ≡ Ok left → SentDid s (DisconnectConfirm dst src reason) left
+    end_did dst src reason e = go (src == 0) refl e
       where
-        go : (b : Bool) → (src == 0) ≡ b → SentDid s (DisconnectConfirm dst src reason)
-            (cond b (with_link (CalledBy dst) s (of_no_link book s) (λ number link. ending book s number link)) (of_no_link book s))
-        go true e = called_ends dst src reason _ (eqb-true src 0 e) refl
-        go false e = OfNone refl
+        go : (b : Bool) → (src == 0) ≡ b → ◌≡◌ {A = Result (Sent D K) LinkRefusal}
+            (cond b (with_link (CalledBy dst) s (Ok (of_no_link book s)) (λ number link. Ok (ending book s number link))) (Ok (of_no_link book s)))
+            (Ok left) → SentDid s (DisconnectConfirm dst src reason) left
+        go true none e =
+            looked (CalledBy dst) s (Ok (of_no_link book s)) (λ number link. Ok (ending book s number link)) (Ok left) e
+            (λ missing e. did_send (DisconnectConfirm dst src reason) _ (OfNone refl) e)
+            (λ number link found e. did_send (DisconnectConfirm dst src reason) _
+            (EndsCalled dst reason number link refl (ap (λ (n : ℕ). DisconnectConfirm dst n reason) (eqb-true src 0 none)) found) e)
+        go false none e = did_send (DisconnectConfirm dst src reason) _ (OfNone refl) e
 
     message_did : (m : NspValue) → message_sent book s m ≡ Ok left → SentDid s m left
     message_did (ConnectInitiate retransmitted src services info segsize user_data) e = phase_did _ (OpenedAt src) is_calling refl e
@@ -255,8 +255,8 @@ module _ {D K : Type 0} (book : SegmentBook D K) where
     message_did (ConnectConfirm dst src services info segsize user_data) e = phase_did _ (TheLink src dst) is_confirming refl e
     message_did (DisconnectInitiate dst src reason user_data) e = phase_did _ (TheLink src dst) is_disconnecting refl e
     message_did (DisconnectConfirm dst src reason) e =
-        looked (TheLink src dst) s (Ok (confirms_end book s src dst)) (λ number link. Err LinkState) (Ok left) e
-        (λ missing e. did_send (DisconnectConfirm dst src reason) _ (end_did dst src reason) e)
+        looked (TheLink src dst) s (confirms_end book s src dst) (λ number link. Err LinkState) (Ok left) e
+        (λ missing e. end_did dst src reason e)
         (λ number link found e. absurd cc)
     message_did (DataSegment segment) e =
         run_did (DataSegment segment) segment.srcaddr segment.dstaddr (segment_of book segment)
@@ -309,19 +309,13 @@ module _ {D K : Type 0} (book : SegmentBook D K) where
         (Ok (changed number (running book rule takes link) s))) (Ok left) e
         (λ missing e. did_arrive m s Ignores e) (λ number link found e. let c = checked _ _ _ left e in did_arrive m _ (d number link found c.0) c.1)
 
-    calling_ends : (m : NspValue) (own : ℕ) (r : LinksOf D) → with_link (CallingAt own) s s (λ number link. changed number (ended book link) s) ≡ r →
-        ArrivedDid rule s m truth r
-    calling_ends m own r e =
-        looked (CallingAt own) s s (λ number link. changed number (ended book link) s) r e
-        (λ missing e. subst (λ (x : LinksOf D). ArrivedDid rule s m truth x) e Ignores)
-        (λ number link found e. subst (λ (x : LinksOf D). ArrivedDid rule s m truth x) e (Ends (CallingAt own) number link found))
-
-    ends_did : (m : NspValue) (own far : ℕ) (r : LinksOf D) → ends_link book rule own far s ≡ r → ArrivedDid rule s m truth r
-    ends_did m own far r e =
-        looked (TheLink own far) s (with_link (CallingAt own) s s (λ number link. changed number (ended book link) s))
-        (λ number link. changed number (ended book link) s) r e
-        (λ missing e. calling_ends m own r e)
-        (λ number link found e. subst (λ (x : LinksOf D). ArrivedDid rule s m truth x) e (Ends (TheLink own far) number link found))
+    ends_did : (m : NspValue) (own far : ℕ) → ends_by book rule own far s ≡ Ok left → ArrivedDid rule s m truth left
+    ends_did m own far e =
+        looked (TheLink own far) s (with_link (CallingAt own) s (Ok s) (λ number link. Ok (changed number (ended book link) s)))
+        (λ number link. Ok (changed number (ended book link) s)) (Ok left) e
+        (λ missing e. looked (CallingAt own) s (Ok s) (λ number link. Ok (changed number (ended book link) s)) (Ok left) e
+        (λ missing e. did_arrive m _ Ignores e) (λ number link found e. did_arrive m _ (Ends (CallingAt own) number link found) e))
+        (λ number link found e. did_arrive m _ (Ends (TheLink own far) number link found) e)
 
     came_did : (m : NspValue) → message_arrived book rule s m truth ≡ Ok left → ArrivedDid rule s m truth left
     came_did (ConnectInitiate retransmitted src services info segsize user_data) e =
@@ -335,8 +329,8 @@ module _ {D K : Type 0} (book : SegmentBook D K) where
         (Ok (changed number (confirmed book rule src segsize truth.tag link) s))) (Ok left) e
         (λ missing e. did_arrive _ _ Ignores e)
         (λ number link found e. let c = checked _ _ _ left e in did_arrive _ _ (Confirms dst src segsize number link (refl, refl) found c.0) c.1)
-    came_did (DisconnectInitiate dst src reason user_data) e = did_arrive _ _ (ends_did _ dst src _ refl) e
-    came_did (DisconnectConfirm dst src reason) e = did_arrive _ _ (ends_did _ dst src _ refl) e
+    came_did (DisconnectInitiate dst src reason user_data) e = ends_did _ dst src e
+    came_did (DisconnectConfirm dst src reason) e = ends_did _ dst src e
     came_did (DataSegment segment) e =
         acts_did (DataSegment segment) segment.dstaddr segment.srcaddr (λ link. book.takes_segment segment truth.known link.segments)
         (λ number link found of_pair. TakesSegment segment.dstaddr segment.srcaddr segment number link refl found of_pair) e

@@ -17,7 +17,8 @@ use Rattle.dna_links.specs.Segmentation.{Piece}
 use Rattle.dna_links.specs.LookUps.{passes, is_connected, has_both}
 use Rattle.dna_links.specs.SegmentBook.{REACH, wire, distance, is_of_data}
 use Rattle.dna_links.specs.Links.{LinkOf, Carried, LinkTruth, check, number_of, on_link, at_number, with_link, changed}
-use Rattle.dna_links.specs.Arriving.{of_partner, is_of_pair, running, acted_on, message_arrived}
+use Rattle.dna_links.specs.Arriving.{of_partner, is_of_pair, message_arrived}
+use Rattle.dna_links.specs.inner.Forms.{running, acted_on}
 use Rattle.dna_links.specs.TrueSegments.{TrueSegments, Numbers, highest_given, acknowledged_through, numbers_of}
 use Rattle.dna_links.specs.TrueLinks.{Links}
 use Rattle.dna_links.specs.WireSegments.{LinkVariables, WireSegments, acknowledged_by, acknowledged_to, wire_segments}

@@ -20,10 +20,14 @@ use Rattle.dna_links.specs.LookUps.{passes, is_connected, takes_messages, is_cal
 use Rattle.dna_links.specs.SegmentBook.{SegmentBook, Sending}
 use Rattle.dna_links.specs.Links.{LinkOf, LinksOf, Carried, LinkTruth, check, number_of, on_link, at_number, with_link, begun, changed, in_phase}
 use Rattle.dna_links.specs.Links.{with_segments, ended, forgotten, freed}
-use Rattle.dna_links.specs.User.{LinkEventValue, Open, Accept, Reject, In, Up, Close, opened, answered, gives, answers, delivered, user_step}
-use Rattle.dna_links.specs.Sending.{Sent, of_no_link, unchanged, ending, in_its_phase, confirms_end, carries, in_run, segment_of, message_sent}
+use Rattle.dna_links.specs.User.{LinkEventValue, Open, Accept, Reject, In, Up, Close}
+use Rattle.dna_links.specs.inner.Forms.{opened, answered, gives, answers, delivered}
+use Rattle.dna_links.specs.LinkBook.{user_step}
+use Rattle.dna_links.specs.Sending.{Sent, message_sent}
+use Rattle.dna_links.specs.inner.Forms.{of_no_link, unchanged, ending, in_its_phase, confirms_end, carries, in_run, segment_of}
 use Rattle.dna_links.specs.Sending.{sent_step}
-use Rattle.dna_links.specs.Arriving.{of_partner, of_anyone, is_for, is_of_pair, called, confirmed, ends_link, running, acted_on, message_arrived}
+use Rattle.dna_links.specs.Arriving.{of_partner, of_anyone, is_for, is_of_pair, message_arrived}
+use Rattle.dna_links.specs.inner.Forms.{called, confirmed, ends_by, running, acted_on}
 use Rattle.dna_links.specs.Arriving.{arrived_step}
 use Rattle.dna_node.specs.WireLayers as layers
 use Rattle.dna_node.specs.Alone.{is_seen_alone}
@@ -172,16 +176,16 @@ module _ {D K : Type 0} (book : SegmentBook D K) where
     ending_along n l =
         ap (λ (all : LinksOf D). record (ending book (forget_links s) n (forget_link l)) { links = all }) (changed_along n (ended book l) s)
 
-    confirms_along : (src dst : ℕ) → forget_one (confirms_end book s src dst) ≡ confirms_end book (forget_links s) src dst
+    confirms_along : (src dst : ℕ) → forget_sent (confirms_end book s src dst) ≡ confirms_end book (forget_links s) src dst
     confirms_along src dst = by_address (eqb src 0)
       where
         by_address : (b : Bool) →
-            forget_one (cond b (with_link (CalledBy dst) s (of_no_link book s) (λ n l. ending book s n l)) (of_no_link book s))
-            ≡ cond b (with_link (CalledBy dst) (forget_links s) (of_no_link book (forget_links s)) (λ n l. ending book (forget_links s) n l))
-            (of_no_link book (forget_links s))
+            forget_sent (cond b (with_link (CalledBy dst) s (Ok (of_no_link book s)) (λ n l. Ok (ending book s n l))) (Ok (of_no_link book s)))
+            ≡ cond b (with_link (CalledBy dst) (forget_links s) (Ok (of_no_link book (forget_links s))) (λ n l. Ok (ending book (forget_links s) n l)))
+            (Ok (of_no_link book (forget_links s)))
         by_address true =
-            with_both (λ (x y : Sent D K). forget_one x ≡ y) (CalledBy dst) s (of_no_link book s) (of_no_link book (forget_links s))
-            (λ n l. ending book s n l) (λ n l. ending book (forget_links s) n l) refl ending_along
+            with_both Goes (CalledBy dst) s (Ok (of_no_link book s)) (Ok (of_no_link book (forget_links s)))
+            (λ n l. Ok (ending book s n l)) (λ n l. Ok (ending book (forget_links s) n l)) refl (λ n l. ap Ok (ending_along n l))
         by_address false = refl
 
     carries_along : (n : ℕ) (l : LinkOf D) (r : Result (Sending D K) LinkRefusal) →
@@ -210,8 +214,8 @@ module _ {D K : Type 0} (book : SegmentBook D K) where
     message_along (ConnectConfirm dst src services info segsize user_data) = in_its_phase_along (TheLink src dst) is_confirming
     message_along (DisconnectInitiate dst src reason user_data) = in_its_phase_along (TheLink src dst) is_disconnecting
     message_along (DisconnectConfirm dst src reason) =
-        with_both Goes (TheLink src dst) s (Ok (confirms_end book s src dst)) (Ok (confirms_end book (forget_links s) src dst))
-        (λ n l. Err LinkState) (λ n l. Err LinkState) (ap Ok (confirms_along src dst)) (λ n l. refl)
+        with_both Goes (TheLink src dst) s (confirms_end book s src dst) (confirms_end book (forget_links s) src dst)
+        (λ n l. Err LinkState) (λ n l. Err LinkState) (confirms_along src dst) (λ n l. refl)
     message_along (DataSegment segment) = in_run_along segment.srcaddr segment.dstaddr (segment_of book segment) (λ l. refl)
     message_along (DataAck dst src acks) = in_run_along src dst (λ l. book.sends_acks acks l.segments) (λ l. refl)
     message_along (LinkService interrupt dst src rest) = in_its_phase_along (TheLink src dst) is_running
@@ -239,15 +243,15 @@ module _ {D K : Type 0} (book : SegmentBook D K) where
     abbrev pub truth_alone : LinkTruth K
     truth_alone = record { tag = layers.of_no_link; known = truth.known }
 
-    ends_along : (own far : ℕ) → forget_links (ends_link book of_partner own far s) ≡ ends_link book of_anyone own far (forget_links s)
+    ends_along : (own far : ℕ) → Along (ends_by book of_partner own far s) (ends_by book of_anyone own far (forget_links s))
     ends_along own far =
-        with_both (λ (x y : LinksOf D). forget_links x ≡ y) (TheLink own far) s
-        (with_link (CallingAt own) s s (λ n l. changed n (ended book l) s))
-        (with_link (CallingAt own) (forget_links s) (forget_links s) (λ n l. changed n (ended book l) (forget_links s)))
-        (λ n l. changed n (ended book l) s) (λ n l. changed n (ended book l) (forget_links s))
-        (with_both (λ (x y : LinksOf D). forget_links x ≡ y) (CallingAt own) s s (forget_links s) (λ n l. changed n (ended book l) s)
-        (λ n l. changed n (ended book l) (forget_links s)) refl (λ n l. changed_along n (ended book l) s))
-        (λ n l. changed_along n (ended book l) s)
+        with_both Along (TheLink own far) s
+        (with_link (CallingAt own) s (Ok s) (λ n l. Ok (changed n (ended book l) s)))
+        (with_link (CallingAt own) (forget_links s) (Ok (forget_links s)) (λ n l. Ok (changed n (ended book l) (forget_links s))))
+        (λ n l. Ok (changed n (ended book l) s)) (λ n l. Ok (changed n (ended book l) (forget_links s)))
+        (with_both Along (CallingAt own) s (Ok s) (Ok (forget_links s)) (λ n l. Ok (changed n (ended book l) s))
+        (λ n l. Ok (changed n (ended book l) (forget_links s))) refl (λ n l. ap Ok (sym (changed_along n (ended book l) s))))
+        (λ n l. ap Ok (sym (changed_along n (ended book l) s)))
 
     acted_along : (own far : ℕ) (takes : LinkOf D → D) → ((l : LinkOf D) → takes (forget_link l) ≡ takes l) →
         Along (acted_on book of_partner own far truth.tag takes s) (acted_on book of_anyone own far layers.of_no_link takes (forget_links s))
@@ -277,8 +281,8 @@ module _ {D K : Type 0} (book : SegmentBook D K) where
         (λ n l. crossed (is_for n truth.tag) (changed n (confirmed book of_partner src segsize truth.tag l) s)
         (changed n (confirmed book of_anyone src segsize layers.of_no_link (forget_link l)) (forget_links s))
         (changed_along n (confirmed book of_partner src segsize truth.tag l) s))
-    message_arrives_along (DisconnectInitiate dst src reason user_data) = ap Ok (sym (ends_along dst src))
-    message_arrives_along (DisconnectConfirm dst src reason) = ap Ok (sym (ends_along dst src))
+    message_arrives_along (DisconnectInitiate dst src reason user_data) = ends_along dst src
+    message_arrives_along (DisconnectConfirm dst src reason) = ends_along dst src
     message_arrives_along (DataSegment segment) =
         acted_along segment.dstaddr segment.srcaddr (λ l. book.takes_segment segment truth.known l.segments) (λ l. refl)
     message_arrives_along (DataAck dst src acks) = acted_along dst src (λ l. book.takes_acks acks truth.known l.segments) (λ l. refl)

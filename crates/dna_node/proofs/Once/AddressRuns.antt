@@ -12,7 +12,9 @@ use Rattle.dna_links.specs.declared.port.LinkTest.TheVariants.{CallingAt, ActedO
 use Rattle.dna_links.specs.LookUps.{is_at, is_calling, is_connected, has_both}
 use Rattle.dna_links.specs.Links.{LinkOf, on_link, at_number, check, with_link, changed}
 use Rattle.dna_links.specs.User.{LinkEventValue}
-use Rattle.dna_links.specs.Arriving.{of_partner, of_anyone, are_same, is_for, is_of_pair, confirmed, running, acted_on, message_arrived}
+use Rattle.dna_links.specs.Arriving.{of_partner, of_anyone, is_for, is_of_pair, message_arrived}
+use Rattle.dna_links.specs.LinkBook.{are_same}
+use Rattle.dna_links.specs.inner.Forms.{confirmed, running, acted_on}
 use Rattle.dna_links.specs.TrueSegments.{TrueSegments, true_segments}
 use Rattle.dna_links.specs.TrueLinks.{Links, links_arrived}
 use Rattle.dna_links.specs.Captures.{given_address}

@@ -11,7 +11,8 @@ use Rattle.dna_links.specs.declared.port.Phase.TheVariants.{Confirming, Disconne
 use Rattle.dna_links.specs.declared.port.LinkTest.TheVariants.{HasAddress}
 use Rattle.dna_links.specs.LookUps.{is_at, is_called}
 use Rattle.dna_links.specs.Links.{LinkOf, changed, begun, in_phase, with_segments, forgotten, freed}
-use Rattle.dna_links.specs.User.{LinkEventValue, opened, answered}
+use Rattle.dna_links.specs.User.{LinkEventValue}
+use Rattle.dna_links.specs.inner.Forms.{opened, answered}
 use Rattle.dna_links.specs.TrueSegments.{TrueSegments, true_segments}
 use Rattle.dna_links.specs.TrueLinks.{Links}
 use Rattle.dna_links.specs.Captures.{given_address}

@@ -13,8 +13,10 @@ use Rattle.dna_links.specs.declared.port.LinkTest.TheVariants.{TheLink, OpenedAt
 use Rattle.dna_links.specs.LookUps.{is_live, is_at, is_calling, is_confirming, is_running, is_disconnecting, has_both, passes}
 use Rattle.dna_links.specs.SegmentBook.{Sending}
 use Rattle.dna_links.specs.Links.{LinkOf, LinkTruth, check, changed, with_segments, ended, in_phase}
-use Rattle.dna_links.specs.Sending.{Sent, truth_of, unchanged, in_its_phase, carries, in_run, segment_of, message_sent}
-use Rattle.dna_links.specs.Arriving.{of_partner, called, confirmed}
+use Rattle.dna_links.specs.Sending.{Sent, message_sent}
+use Rattle.dna_links.specs.inner.Forms.{truth_of, unchanged, in_its_phase, carries, in_run, segment_of}
+use Rattle.dna_links.specs.Arriving.{of_partner}
+use Rattle.dna_links.specs.inner.Forms.{called, confirmed}
 use Rattle.dna_links.specs.TrueSegments.{TrueSegments, Numbers, true_segments}
 use Rattle.dna_links.specs.TrueLinks.{Links}
 use Rattle.dna_links.proofs.Runs.Reads.{at_is}

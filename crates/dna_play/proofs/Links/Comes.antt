@@ -1,5 +1,5 @@
 -- What a message that comes, other than a segment, makes of the links of an end of the player is what it makes of those that are kept.
-use Rattle.std.proofs.Common.{◌≡◌, ℕ, ◌<◌, ◌^◌, Bool, true, false, Some, Result, Ok, Err, refl, ap, subst, arith, eq-eqb, List}
+use Rattle.std.proofs.Common.{◌≡◌, ℕ, ◌<◌, ◌^◌, Bool, true, false, Some, Result, Ok, Err, refl, sym, ap, subst, arith, eq-eqb, List}
 use Rattle.std.specs.Prelude.{slice_get}
 use Rattle.std.proofs.lemmas.Bool.{and_parts}
 use Rattle.dna_packet.specs.Nsp.{NspValue, DataSegment, LinkService, DataAck, OtherDataAck, ConnectAck, NoOperation, ConnectInitiate, ConnectConfirm}
@@ -11,7 +11,8 @@ use Rattle.dna_links.specs.declared.port.Phase.TheVariants.{Called, Confirming, 
 use Rattle.dna_links.specs.declared.port.LinkTest.TheVariants.{TheLink, LiveTo, CallingAt, ActedOn}
 use Rattle.dna_links.specs.LookUps.{is_running, is_calling, is_at, is_connected, has_both}
 use Rattle.dna_links.specs.Links.{LinkOf, LinkTruth, check, with_link, begun, changed, in_phase, with_segments, ended}
-use Rattle.dna_links.specs.Arriving.{of_partner, is_for, is_of_pair, called, confirmed, ends_link, running, acted_on, message_arrived}
+use Rattle.dna_links.specs.Arriving.{of_partner, is_for, is_of_pair, message_arrived}
+use Rattle.dna_links.specs.inner.Forms.{called, confirmed, ends_link, ends_by, running, acted_on}
 use Rattle.dna_links.specs.Segmentation.{SEGSIZE}
 use Rattle.dna_links.specs.TrueSegments.{TrueSegments, Numbers, takes_acks, true_segments}
 use Rattle.dna_links.specs.WireSegments.{LinkVariables, WireSegments, acknowledged_by_all}
@@ -24,6 +25,7 @@ use Rattle.dna_play.specs.StoredEnd.{StoredLinks}
 use Rattle.dna_play.specs.StoredLinks as keeping
 use Rattle.dna_links.proofs.Cut.SegmentsArriving.{takes_acks_same}
 use Rattle.dna_links.proofs.Tables.Outcomes.{IsFound}
+use Rattle.dna_links.proofs.Tables.Forms.{ends_ok}
 use Rattle.dna_play.proofs.Links.Pays.{end_of, running_is}
 use Rattle.dna_play.proofs.Links.Fits.{IsPlain}
 use Rattle.dna_play.proofs.Links.Owing.{duty_fits, nothing_fits, left_fits, still_fits, still_owed}
@@ -126,6 +128,10 @@ module _ (s : Links) (most : ℕ) (kept : StoredLinks) (h : LinkHolds s.links mo
         over n place l o at = one (changed n (ended true_segments l) s) (keeping.ended place kept)
             (end_holds s most kept h at (ended true_segments l) (ended_goes most l) refl)
 
+  ends_lead : (dst src : ℕ) (after : StoredLinks) → LinkHolds (ends_link true_segments of_partner dst src s).links most after →
+      Leads (ends_by true_segments of_partner dst src s) after
+  ends_lead dst src after holds = subst (λ (r : Result Links LinkRefusal). Leads r after) (sym (ends_ok true_segments of_partner dst src s)) holds
+
   -- ---- what is acted on
 
   acts_lead : (own far : ℕ) (takes : LinkOf TrueSegments → TrueSegments) (change : LinkEnd → LinkEnd) →
@@ -156,14 +162,15 @@ module _ (s : Links) (most : ℕ) (kept : StoredLinks) (h : LinkHolds s.links mo
   leads (NoOperation rest) is plain ends near = h
   leads (ConnectConfirm dst src services info segsize user_data) is plain ends near = confirm_leads dst src segsize plain
   leads (DisconnectInitiate dst src reason user_data) is plain ends near =
-      ends_hold dst src (keeping.confirming src dst 41 kept) (keeping.confirming src dst 42) (one_confirms 41 (omega arith) s kept h)
-      (one_confirms 42 (omega arith))
+      ends_lead dst src _ (ends_hold dst src (keeping.confirming src dst 41 kept) (keeping.confirming src dst 42)
+      (one_confirms 41 (omega arith) s kept h) (one_confirms 42 (omega arith)))
     where
       one_confirms : (code : ℕ) → code < 2 ^ 16 → (left : Links) (after : StoredLinks) → LinkHolds left.links most after →
           left ≡ ends_link true_segments of_partner dst src s → LinkHolds left.links most (keeping.confirming src dst code after)
       one_confirms code small left after l e = confirming_holds left most after l src dst code
           (rw e (ends dst src reason user_data refl code small))
-  leads (DisconnectConfirm dst src reason) is plain ends near = ends_hold dst src kept keeping.no_more (λ e. h) (λ left after l e. l)
+  leads (DisconnectConfirm dst src reason) is plain ends near =
+      ends_lead dst src _ (ends_hold dst src kept keeping.no_more (λ e. h) (λ left after l e. l))
   leads (DataAck dst src acks) is plain ends near =
       acts_lead dst src (λ link. takes_acks acks truth.known link.segments) (keeping.took_acks acks) (λ l. took_acks l.segments truth.known)
       (λ n l o found pair.

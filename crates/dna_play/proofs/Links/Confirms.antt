@@ -9,7 +9,8 @@ use Rattle.dna_links.specs.declared.port.Port.{Port}
 use Rattle.dna_links.specs.declared.port.LinkTest.TheVariants.{TheLink, CallingAt}
 use Rattle.dna_links.specs.LookUps.{is_live, is_calling, is_connected, is_at, has_both, passes}
 use Rattle.dna_links.specs.Links.{LinkOf, number_of, with_link, changed, ended}
-use Rattle.dna_links.specs.Arriving.{PartnerRule, ends_link}
+use Rattle.dna_links.specs.Arriving.{PartnerRule}
+use Rattle.dna_links.specs.inner.Forms.{ends_link}
 use Rattle.dna_links.specs.TrueSegments.{TrueSegments, true_segments}
 use Rattle.dna_links.specs.TrueLinks.{Links}
 use Rattle.dna_play.specs.LinkOwed.{EndConfirm}

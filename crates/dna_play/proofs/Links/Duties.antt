@@ -15,7 +15,8 @@ use Rattle.dna_links.specs.LookUps.{is_live, is_calling, is_confirming, is_runni
 use Rattle.dna_links.specs.SegmentBook.{Sending, REACH}
 use Rattle.dna_links.specs.Segmentation.{Piece, has_more, next_piece, SEGSIZE}
 use Rattle.dna_links.specs.Links.{LinkOf, changed, with_segments}
-use Rattle.dna_links.specs.Sending.{Sent, unchanged, carries, in_run, segment_of, message_sent}
+use Rattle.dna_links.specs.Sending.{Sent, message_sent}
+use Rattle.dna_links.specs.inner.Forms.{unchanged, carries, in_run, segment_of}
 use Rattle.dna_links.specs.TrueSegments.{TrueSegments, Numbers, true_segments, sends_segment}
 use Rattle.dna_links.specs.TrueLinks.{Links}
 use Rattle.dna_links.specs.CutSegments.{IsOrdered, IsAnswered}

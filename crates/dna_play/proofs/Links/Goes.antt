@@ -13,8 +13,9 @@ use Rattle.dna_links.specs.declared.port.Phase.TheVariants.{Calling, Called, Run
 use Rattle.dna_links.specs.LookUps.{is_live, is_at, is_called, is_calling, is_connected}
 use Rattle.dna_links.specs.Segmentation.{Piece, without_piece, SEGSIZE}
 use Rattle.dna_links.specs.Links.{LinkOf, in_phase, with_segments, ended}
-use Rattle.dna_links.specs.User.{answered}
-use Rattle.dna_links.specs.Arriving.{PartnerRule, confirmed}
+use Rattle.dna_links.specs.inner.Forms.{answered}
+use Rattle.dna_links.specs.Arriving.{PartnerRule}
+use Rattle.dna_links.specs.inner.Forms.{confirmed}
 use Rattle.dna_links.specs.TrueSegments.{TrueSegments, Numbers, true_segments, highest_given, acknowledged_through}
 use Rattle.dna_links.specs.CutSegments.{IsOrdered}
 use Rattle.dna_play.specs.HasLine.{are_bytes}

@@ -9,8 +9,9 @@ use Rattle.dna_links.specs.declared.port.Phase.TheVariants.{Disconnecting}
 use Rattle.dna_links.specs.declared.port.LinkTest.TheVariants.{LiveAt, CalledBy}
 use Rattle.dna_links.specs.LookUps.{is_live, is_at, is_connected, takes_messages}
 use Rattle.dna_links.specs.Links.{LinkOf, number_of, begun, changed, in_phase, with_segments}
-use Rattle.dna_links.specs.User.{LinkEventValue, Open, Accept, Reject, In, Close, opened, gives, answers}
-use Rattle.dna_links.specs.User as users
+use Rattle.dna_links.specs.User.{LinkEventValue, Open, Accept, Reject, In, Close}
+use Rattle.dna_links.specs.inner.Forms.{opened, gives, answers}
+use Rattle.dna_links.specs.inner.Forms as forms
 use Rattle.dna_links.specs.TrueSegments.{TrueSegments, true_segments}
 use Rattle.dna_links.specs.TrueLinks.{Links, links_user}
 use Rattle.dna_node.specs.Content.{link_event}
@@ -62,7 +63,7 @@ module _ (s : Links) (others : LinkList) (most : ℕ) (addressed : AreAddressed 
   -- a call is accepted or rejected
   pub answer_goes : (phase : Phase) (partner address number : ℕ) (link : LinkOf TrueSegments) → IsFound (CalledBy partner) s number link →
       most < address →
-      answers true_segments phase partner address s ≡ Ok (changed number (users.answered true_segments phase address link) s)
+      answers true_segments phase partner address s ≡ Ok (changed number (forms.answered true_segments phase address link) s)
   answer_goes phase partner address number link found less =
       rw (found.found, found.there, free address less, freed_same s others most addressed address less) refl
 

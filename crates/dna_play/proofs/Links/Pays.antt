@@ -13,7 +13,8 @@ use Rattle.dna_links.specs.declared.port.LinkTest.{LinkTest}
 use Rattle.dna_links.specs.declared.port.LinkTest.TheVariants.{TheLink}
 use Rattle.dna_links.specs.LookUps.{is_running, is_at, passes}
 use Rattle.dna_links.specs.Links.{LinkOf, check, number_of, at_number, with_link}
-use Rattle.dna_links.specs.Sending.{Sent, of_no_link, message_sent}
+use Rattle.dna_links.specs.Sending.{Sent, message_sent}
+use Rattle.dna_links.specs.inner.Forms.{of_no_link}
 use Rattle.dna_links.specs.TrueSegments.{TrueSegments, Numbers, true_segments}
 use Rattle.dna_links.specs.TrueLinks.{Links}
 use Rattle.dna_links.specs.WireSegments.{LinkVariables}

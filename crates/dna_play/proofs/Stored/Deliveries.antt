@@ -9,6 +9,7 @@ use Rattle.dna_links.specs.LookUps.{is_at}
 use Rattle.dna_links.specs.Segmentation.{Whole, in_whole_messages}
 use Rattle.dna_links.specs.Links.{LinkOf, changed, with_segments}
 use Rattle.dna_links.specs.User as of_links
+use Rattle.dna_links.specs.inner.Forms as forms
 use Rattle.dna_links.specs.TrueSegments.{TrueSegments, true_segments}
 use Rattle.dna_links.specs.TrueLinks.{Links, links_user}
 use Rattle.dna_play.specs.Receipt.{complete}
@@ -66,8 +67,8 @@ gets_made other address number (message ∷ later) half l lined there owns only 
     let left : Links = changed number k s in
     let does : links_user s (of_links.Up address message) ≡ Ok left =
     with_found s (HasAddress address) number l (Err NoLink)
-    (λ number link. of_links.delivered true_segments number link s (true_segments.delivers message link.segments))
-    (found_at s (HasAddress address) number l there owns only) ∙ ap (of_links.delivered true_segments number l s) d.does in
+    (λ number link. forms.delivered true_segments number link s (true_segments.delivers message link.segments))
+    (found_at s (HasAddress address) number l there owns only) ∙ ap (forms.delivered true_segments number l s) d.does in
     First (event_makes half other (events.Up address message) (of_links.Up address message) left refl lined.0 does)
     (subst (λ (x : Links). MakesAll other (with_left half left) (ups address later) (with_left half x))
     (rw (set-set s.links number k (with_segments (segments_got k.segments later) k), more_got l.segments message later d.w d.counted) refl)

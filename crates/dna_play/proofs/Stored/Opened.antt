@@ -15,6 +15,7 @@ use Rattle.dna_links.specs.TrueSegments.{TrueSegments, true_segments}
 use Rattle.dna_links.specs.TrueLinks.{Links, links_user}
 use Rattle.dna_links.specs.User.{LinkEventValue}
 use Rattle.dna_links.specs.User as of_links
+use Rattle.dna_links.specs.inner.Forms as forms
 use Rattle.dna_links.specs.declared.port.LinkTest.TheVariants.{CalledBy}
 use Rattle.dna_links.specs.declared.port.Phase.{Phase}
 use Rattle.dna_links.specs.declared.port.Phase.TheVariants.{Confirming, Disconnecting}
@@ -63,7 +64,7 @@ module _ (own other : End) (now : StoredNow own other) where
 
   pub open_right : IsRight own other Open (keeping.opens (stored own))
   open_right = giving_right own other now Open _ refl tt (λ less.
-      let left = of_links.opened true_segments next in
+      let left = forms.opened true_segments next in
       event_right own other now Open (events.Open next) (of_links.Open next) next refl (begun left links)
       (stored_link.begun (stored_link.opened next) own.links) (bare_line (events.Open next) (next_address less) refl)
       (open_goes links others own.addresses (known own other now).addressed next (omega arith)) (omega arith)
@@ -102,16 +103,16 @@ module _ (own other : End) (now : StoredNow own other) where
       (asked : IsAsked own other step → IsCalled (stored own) partner)
       (is : (address : ℕ) → link_event (event address) ≡ Some (value address)) (lives : is_live phase ≡ true) (of : phase ≡ phase_of duty)
       (shape : (l : LinkOf TrueSegments) →
-      fits_in phase (of_links.answered true_segments phase next l) ≡ (is_some l.port.far && eqb l.segsize SEGSIZE))
+      fits_in phase (forms.answered true_segments phase next l) ≡ (is_some l.port.far && eqb l.segsize SEGSIZE))
       (lined : IsLink next → has_line (User (event next)) ≡ true)
       (goes : (number : ℕ) (link : LinkOf TrueSegments) → IsFound (CalledBy partner) links number link → own.addresses < next →
-      links_user links (value next) ≡ Ok (changed number (of_links.answered true_segments phase next link) links)) where
+      links_user links (value next) ≡ Ok (changed number (forms.answered true_segments phase next link) links)) where
     answer_right : IsRight own other step (keeping.answers (stored own) partner (stored_link.answered phase duty) event)
     answer_right = look (CalledBy partner) (called_by_lives partner) (IsRight own other step) links own.links now.stage.links.keeps (Err BadStep) _
         (λ none asks. nobody_calls partner none (asked asks)) (λ n place l o found at.
         let asks = may (called_from partner n place l o found at) in
         giving_right own other now step _ gives asks (λ less.
-        let left = of_links.answered true_segments phase next l in
+        let left = forms.answered true_segments phase next l in
         let owed = unless_left (same_phase l.port.phase phase) o in
         event_right own other now step (event next) (value next) next (is next) (changed n left links)
         (stored_link.changed place (stored_link.answered phase duty next (end_of l o)) own.links)

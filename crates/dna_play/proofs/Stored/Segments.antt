@@ -15,7 +15,8 @@ use Rattle.dna_links.specs.declared.port.LinkTest.TheVariants.{ActedOn}
 use Rattle.dna_links.specs.LookUps.{is_connected, is_at, has_both}
 use Rattle.dna_links.specs.Segmentation.{in_whole_messages}
 use Rattle.dna_links.specs.Links.{LinkOf, LinkTruth, check, changed, in_phase, with_segments}
-use Rattle.dna_links.specs.Arriving.{of_partner, is_of_pair, running, message_arrived}
+use Rattle.dna_links.specs.Arriving.{of_partner, is_of_pair, message_arrived}
+use Rattle.dna_links.specs.inner.Forms.{running}
 use Rattle.dna_links.specs.TrueSegments.{TrueSegments, Numbers, takes_segment, true_segments}
 use Rattle.dna_links.specs.TrueLinks.{Links}
 use Rattle.dna_links.specs.WireSegments.{WireSegments, acknowledged_by_all, segment_taken}

@@ -12,7 +12,8 @@ use Rattle.dna_station.specs.declared.link_refusal.LinkRefusal.{LinkRefusal}
 use Rattle.dna_links.specs.declared.tag.LinkTag.{LinkTag}
 use Rattle.dna_links.specs.SegmentBook.{SegmentBook}
 use Rattle.dna_links.specs.Links.{LinksOf, Carried, LinkTruth, no_links}
-use Rattle.dna_links.specs.User.{LinkEventValue, user_step}
+use Rattle.dna_links.specs.User.{LinkEventValue}
+use Rattle.dna_links.specs.LinkBook.{user_step}
 use Rattle.dna_links.specs.Sending.{Sent, sent_step}
 use Rattle.dna_links.specs.Arriving.{of_partner, arrived_step}
 use Rattle.dna_links.specs.TrueSegments.{true_segments}

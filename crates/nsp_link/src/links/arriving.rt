@@ -5,8 +5,9 @@ ghost use Rattle.std.specs.List.{AllByRecursion};
 ghost use Rattle.dna_packet.specs.AckWord.{IsAckWord};
 ghost use Rattle.dna_packet.specs.Nsp.{segment_view};
 ghost use Rattle.dna_packet.specs.Nsp as nsp;
-ghost use Rattle.dna_links.specs.Arriving.{of_partner, message_arrived, ends_link};
-ghost use Rattle.dna_links.specs.Arriving as arriving;
+ghost use Rattle.dna_links.specs.Arriving.{of_partner, message_arrived};
+ghost use Rattle.dna_links.specs.inner.Forms.{ends_by};
+ghost use Rattle.dna_links.specs.inner.Forms as forms;
 ghost use Rattle.dna_links.specs.WireSegments.{wire_segments};
 ghost use Rattle.dna_links.specs.WireLinks.{wire_links_arrived};
 ghost use Rattle.nsp_link.specs.Fault.{IsFault};
@@ -143,8 +144,8 @@ impl<W: Window<Piece, 4096> + Drop> Links<W> {
         far: u16,
         tag: LinkTag,
     ) -> Result<(), LinkFault>
-        ensures ok { OnOk result (arriving.acted_on wire_segments (partner_rule OF_PAIR) own far tag (λ link. link.segments) self.old ≡ Ok self.new) }
-        ensures refused { IfErr result (λ fault. IsFault (arriving.acted_on wire_segments (partner_rule OF_PAIR) own far tag (λ link. link.segments)
+        ensures ok { OnOk result (forms.acted_on wire_segments (partner_rule OF_PAIR) own far tag (λ link. link.segments) self.old ≡ Ok self.new) }
+        ensures refused { IfErr result (λ fault. IsFault (forms.acted_on wire_segments (partner_rule OF_PAIR) own far tag (λ link. link.segments)
             self.old) false fault) }
         ensures err { OnErr result (self.new ≡ self.old) }
     {
@@ -246,7 +247,7 @@ impl<W: Window<Piece, 4096> + Drop> Links<W> {
     // A DI or a DC: the link, or the one in Calling with the own address, is over.
     #[tactic(auto, using(crate::proofs::Found::found_links))]
     fn end(&mut self, own: u16, far: u16)
-        ensures { self.new ≡ ends_link wire_segments of_partner own far self.old }
+        ensures { Ok self.new ≡ ends_by wire_segments of_partner own far self.old }
     {
         if let Some((number, _link)) = self.found(LinkTest::TheLink { own, far }) {
             self.end_at(number);

@@ -2,6 +2,7 @@
 
 ghost use Rattle.std.specs.Prelude.{◌≡◌, true};
 ghost use Rattle.dna_links.specs.Arriving as arriving;
+ghost use Rattle.dna_links.specs.LinkBook as book;
 ghost use Rattle.dna_links.specs.LookUps as tests;
 ghost use Rattle.nsp_link.specs.PartnerRules.{partner_rule};
 
@@ -28,7 +29,7 @@ pub fn is_of_pair<const OF_PAIR: bool>(number: usize, partner: Option<u64>, tag:
 }
 
 fn are_same(known: Option<u64>, other: Option<u64>) -> bool
-    ensures { result ≡ arriving.are_same known other }
+    ensures { result ≡ book.are_same known other }
 {
     match known {
         Some(number) => is_known(other, number),

@@ -7,7 +7,7 @@ ghost use Rattle.dna_packet.specs.Nsp.{segment_view};
 ghost use Rattle.dna_packet.specs.Nsp as nsp;
 ghost use Rattle.dna_links.specs.Links.{LinkOf, check, number_of, with_link};
 ghost use Rattle.dna_links.specs.Sending.{Sent, message_sent};
-ghost use Rattle.dna_links.specs.Sending as sending;
+ghost use Rattle.dna_links.specs.inner.Forms as forms;
 ghost use Rattle.dna_links.specs.WireSegments.{WireSegments, wire_segments};
 ghost use Rattle.nsp_link.specs.Fault.{IsFault};
 ghost use Rattle.nsp_link.specs.inner.Index.{is_of_one};
@@ -113,9 +113,9 @@ impl<W: Window<Piece, 4096> + Drop> Links<W> {
     #[tactic(auto, using(crate::proofs::Found::found_links))]
     fn in_its_phase(&self, test: LinkTest, phase: Phase) -> Result<LinkTag, LinkFault>
         requires { is_of_one test ≡ true }
-        ensures ok { IfOk result (λ tag. sending.in_its_phase wire_segments test (is_in phase) self.now
+        ensures ok { IfOk result (λ tag. forms.in_its_phase wire_segments test (is_in phase) self.now
             ≡ Ok (record { links = self.now; truth = record { tag = tag; known = tt } })) }
-        ensures refused { IfErr result (λ fault. IsFault (sending.in_its_phase wire_segments test (is_in phase) self.now) false fault) }
+        ensures refused { IfErr result (λ fault. IsFault (forms.in_its_phase wire_segments test (is_in phase) self.now) false fault) }
     {
         let (number, link) = self.found_in(test, phase)?;
         Ok(tag_of(number, link))

@@ -2,6 +2,7 @@
 
 ghost use Rattle.std.specs.Prelude.{◌≡◌, ◌<◌, Ok, Some, true, false, length, slice_get, OnOk, OnErr, IfOk, IfErr};
 ghost use Rattle.dna_links.specs.User as user;
+ghost use Rattle.dna_links.specs.inner.Forms as forms;
 ghost use Rattle.dna_links.specs.WireLinks.{wire_links_user};
 ghost use Rattle.nsp_link.specs.Fault.{IsFault};
 ghost use Rattle.dna_links.specs.Links.{LinkOf, changed, in_phase};
@@ -118,8 +119,8 @@ impl<W: Window<Piece, 4096> + Drop> Links<W> {
         requires live { is_live phase ≡ true }
         requires answers { is_called phase ≡ false }
         requires known { is_calling phase ≡ false }
-        ensures ok { OnOk result (user.answers wire_segments phase partner own self.old ≡ Ok self.new) }
-        ensures refused { IfErr result (λ fault. IsFault (user.answers wire_segments phase partner own self.old) true fault) }
+        ensures ok { OnOk result (forms.answers wire_segments phase partner own self.old ≡ Ok self.new) }
+        ensures refused { IfErr result (λ fault. IsFault (forms.answers wire_segments phase partner own self.old) true fault) }
         ensures err { OnErr result (self.new ≡ self.old) }
     {
         let Some((number, _link)) = self.found(LinkTest::CalledBy { far: partner }) else {

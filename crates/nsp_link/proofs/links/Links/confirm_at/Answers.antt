@@ -2,7 +2,8 @@ use Rattle.std.proofs.Common.{◌≡◌, ℕ, suc, cond, eqb, refl, ap, ◌∙�
 use Rattle.std.specs.BTreeMap.{BTreeMap, get}
 use Rattle.std.specs.HashMap.{HashMap}
 use Rattle.std.specs.HashMap as hashed
-use Rattle.dna_links.specs.Arriving.{of_partner, confirmed}
+use Rattle.dna_links.specs.Arriving.{of_partner}
+use Rattle.dna_links.specs.inner.Forms.{confirmed}
 use Rattle.dna_links.specs.WireSegments.{wire_segments}
 use Rattle.nsp_link.specs.inner.Index.{times}
 use Rattle.nsp_link.proofs.Indexed.{some_wait, few_reached}

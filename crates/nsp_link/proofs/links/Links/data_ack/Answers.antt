@@ -1,7 +1,7 @@
 use Rattle.std.proofs.Common.{rules, false}
 use Rattle.std.proofs.Common.{ℕ}
 use Rattle.dna_links.specs.Links.{LinkOf}
-use Rattle.dna_links.specs.Sending.{carries}
+use Rattle.dna_links.specs.inner.Forms.{carries}
 use Rattle.dna_links.specs.WireSegments.{WireSegments, wire_segments, sends_acks}
 use Rattle.nsp_link.proofs.links.Links.data_ack.Goals as goal
 

@@ -1,7 +1,7 @@
 use Rattle.std.proofs.Common.{rules, false}
 use Rattle.std.proofs.Common.{ℕ, Ok}
 use Rattle.dna_links.specs.Links.{LinkOf}
-use Rattle.dna_links.specs.Sending.{unchanged}
+use Rattle.dna_links.specs.inner.Forms.{unchanged}
 use Rattle.dna_links.specs.WireSegments.{WireSegments, wire_segments}
 use Rattle.nsp_link.proofs.links.Links.in_its_phase.Goals as goal
 

@@ -2,7 +2,7 @@ use Rattle.std.proofs.Common.{rules}
 use Rattle.std.proofs.Common.{ℕ}
 use Rattle.dna_packet.specs.Nsp.{segment_view}
 use Rattle.dna_links.specs.Links.{LinkOf}
-use Rattle.dna_links.specs.Sending.{carries, segment_of}
+use Rattle.dna_links.specs.inner.Forms.{carries, segment_of}
 use Rattle.dna_links.specs.WireSegments.{WireSegments, wire_segments}
 use Rattle.nsp_link.specs.Phases.{gives_new}
 use Rattle.nsp_link.proofs.links.Links.segment.Goals as goal

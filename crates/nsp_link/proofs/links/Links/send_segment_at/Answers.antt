@@ -1,6 +1,6 @@
 use Rattle.std.proofs.Common.{IfErr, rules}
 use Rattle.dna_packet.specs.Nsp.{segment_view}
-use Rattle.dna_links.specs.Sending.{segment_of}
+use Rattle.dna_links.specs.inner.Forms.{segment_of}
 use Rattle.dna_links.specs.WireSegments.{wire_segments, is_new}
 use Rattle.nsp_link.specs.Fault.{IsFault}
 use Rattle.nsp_link.proofs.Change.{in_place, changes, carried_if_ok, holds_there}

@@ -1,5 +1,6 @@
 use Rattle.std.proofs.Common.{rules}
-use Rattle.dna_links.specs.Arriving.{of_partner, running}
+use Rattle.dna_links.specs.Arriving.{of_partner}
+use Rattle.dna_links.specs.inner.Forms.{running}
 use Rattle.dna_links.specs.WireSegments.{wire_segments, takes_acks}
 use Rattle.nsp_link.proofs.Change.{in_place, changes, change_made}
 use Rattle.nsp_link.proofs.links.Links.take_acks_at.Goals as goal

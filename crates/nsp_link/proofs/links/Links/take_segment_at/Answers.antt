@@ -1,6 +1,7 @@
 use Rattle.std.proofs.Common.{◌≡◌, true, IfErr, rules}
 use Rattle.dna_packet.specs.Nsp.{segment_view}
-use Rattle.dna_links.specs.Arriving.{of_partner, running}
+use Rattle.dna_links.specs.Arriving.{of_partner}
+use Rattle.dna_links.specs.inner.Forms.{running}
 use Rattle.dna_links.specs.WireSegments.{wire_segments, takes_segment}
 use Rattle.nsp_link.specs.Segments.{is_held}
 use Rattle.nsp_link.proofs.Change.{in_place, changes, made_if_ok, holds_there}

@@ -4,7 +4,7 @@ use Rattle.std.specs.HashMap.{HashMap}
 use Rattle.std.specs.HashMap as hashed
 use Rattle.std.specs.Prelude.{slice_get}
 use Rattle.dna_links.specs.Links.{LinkOf}
-use Rattle.dna_links.specs.User.{answered}
+use Rattle.dna_links.specs.inner.Forms.{answered}
 use Rattle.dna_links.specs.WireSegments.{WireSegments, wire_segments}
 use Rattle.nsp_link.specs.inner.Index.{forgotten_at, times}
 use Rattle.nsp_link.proofs.Giving.{answered_index, still_here, link_at, one_link, same_set}

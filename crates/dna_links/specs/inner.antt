@@ -1,0 +1,2 @@
+-- words of private contracts and of proofs
+pub mod Forms
