@@ -7,10 +7,11 @@ use Rattle.std.proofs.lemmas.Slice.Eq.{bytes_eq-Decides}
 use Rattle.two_nodes.specs.Nodes.{Made, stepped, advance}
 use Rattle.ddcmp_msg.specs.Message.{MessageValue}
 use Rattle.ddcmp_msg.specs.Reading.{reading}
-use Rattle.dna_packet.specs.Nsp.{NspValue, DataSegment, LinkService, DataAck, OtherDataAck, ConnectInitiate, ConnectConfirm}
+use Rattle.dna_packet.specs.Nsp.{NspValue, DataSegment, LinkService, DataAck, OtherDataAck, ConnectInitiate, ConnectConfirm, DisconnectInitiate}
+use Rattle.dna_packet.specs.Nsp.{DisconnectConfirm}
 use Rattle.capture.specs.declared.record.Record.TheVariants.{Received}
 use Rattle.dna_links.specs.declared.port.LinkTest.{LinkTest}
-use Rattle.dna_links.specs.declared.port.LinkTest.TheVariants.{LiveTo, CallingAt, ActedOn}
+use Rattle.dna_links.specs.declared.port.LinkTest.TheVariants.{LiveTo, TheLink, CallingAt, ActedOn}
 use Rattle.dna_station.specs.declared.link_refusal.LinkRefusal.{LinkRefusal}
 use Rattle.dna_station.specs.declared.refusal.StepRefusal.{StepRefusal}
 use Rattle.dna_station.specs.Table.{row}
@@ -58,9 +59,20 @@ found_takes test s otherwise next = looked test s (Ok otherwise) (λ number link
     (with_link test s (Ok otherwise) (λ number link. Ok (next number link))) refl (λ none e. (otherwise, sym e))
     (λ number link found e. (next number link, sym e))
 
+-- and one by either of two tests
+either_takes : (first second : LinkTest) (s otherwise : Links) (next : ℕ → LinkOf TrueSegments → Links) →
+    Takes (with_link first s (with_link second s (Ok otherwise) (λ number link. Ok (next number link))) (λ number link. Ok (next number link)))
+either_takes first second s otherwise next =
+    looked first s (with_link second s (Ok otherwise) (λ number link. Ok (next number link))) (λ number link. Ok (next number link))
+    (with_link first s (with_link second s (Ok otherwise) (λ number link. Ok (next number link))) (λ number link. Ok (next number link))) refl
+    (λ none e. let taken = found_takes second s otherwise next in (taken.0, sym e ∙ taken.1))
+    (λ number link found e. (next number link, sym e))
+
 message_takes : (s : Links) (m : NspValue) (truth : LinkTruth Numbers) → Takes (message_arrived true_segments of_anyone s m truth)
 message_takes s (ConnectInitiate retransmitted src services info segsize user_data) truth = found_takes (LiveTo src) s _ _
 message_takes s (ConnectConfirm dst src services info segsize user_data) truth = found_takes (CallingAt dst) s _ _
+message_takes s (DisconnectInitiate dst src reason user_data) truth = either_takes (TheLink dst src) (CallingAt dst) s _ _
+message_takes s (DisconnectConfirm dst src reason) truth = either_takes (TheLink dst src) (CallingAt dst) s _ _
 message_takes s (DataSegment segment) truth = found_takes (ActedOn segment.dstaddr segment.srcaddr) s _ _
 message_takes s (DataAck dst src acks) truth = found_takes (ActedOn dst src) s _ _
 message_takes s (LinkService interrupt dst src rest) truth = found_takes (ActedOn dst src) s _ _
