@@ -11,10 +11,12 @@ abbrev pub cut_words : (lead : List ℕ) → (count due : ℕ) → List ℕ
 cut_words lead count due = lead ++ (byte_count count ++ (codes " instead of " ++ decimal due))
 
 -- `block check 7596 instead of 7595`, the low byte of each first
+abbrev pub both_checks : (first second low high : ℕ) → List ℕ
+both_checks first second low high =
+    codes "block check " ++ (byte_digits first ++ (byte_digits second ++ (codes " instead of " ++ (byte_digits low ++ byte_digits high))))
+
 abbrev pub check_fault : (field : List ℕ) → (first second : ℕ) → List ℕ
-check_fault field first second =
-    codes "block check " ++ (byte_digits first ++ (byte_digits second ++ (codes " instead of " ++ (byte_digits (check_of field % 256)
-    ++ byte_digits (check_of field / 256)))))
+check_fault field first second = both_checks first second (check_of field % 256) (check_of field / 256)
 
 -- of a header that is bad: six bytes and their check
 abbrev pub header_fault : (bytes : List ℕ) → List ℕ

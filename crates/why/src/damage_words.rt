@@ -1,5 +1,6 @@
 //! What is wrong with bytes that show damage, in words (DDCMP 4.1, message formats).
 
+ghost use Rattle.std.specs.Prelude.{◌≡◌, ◌/◌, ◌%◌};
 ghost use Rattle.std.specs.Fmt.{WritesOnOk};
 ghost use Rattle.why.specs.DamageWords as spec;
 
@@ -49,13 +50,30 @@ fn write_check<W: Write>(f: &mut Formatter<W>, field: &[u8], first: u8, second: 
     ensures { WritesOnOk W.write_str_gives f.old result (spec.check_fault field.now first second) f.new }
 {
     let check = block_check(field);
-    let first = ByteDigits { byte: first };
-    let second = ByteDigits { byte: second };
-    let low = ByteDigits {
-        byte: (check % 256) as u8,
-    };
-    let high = ByteDigits {
-        byte: (check / 256) as u8,
-    };
+    write_both(f, (first, second), (low_byte(check), high_byte(check)))
+}
+
+// Writes the two bytes that came, and the two that should have come.
+fn write_both<W: Write>(f: &mut Formatter<W>, came: (u8, u8), due: (u8, u8)) -> fmt::Result
+    ensures { WritesOnOk W.write_str_gives f.old result (spec.both_checks came.0 came.1 due.0 due.1) f.new }
+{
+    let first = ByteDigits { byte: came.0 };
+    let second = ByteDigits { byte: came.1 };
+    let low = ByteDigits { byte: due.0 };
+    let high = ByteDigits { byte: due.1 };
     write!(f, "block check {first}{second} instead of {low}{high}")
+}
+
+// The byte of a check that is sent first.
+fn low_byte(check: u16) -> u8
+    ensures { result ≡ check % 256 }
+{
+    (check % 256) as u8
+}
+
+// And the other one.
+fn high_byte(check: u16) -> u8
+    ensures { result ≡ check / 256 }
+{
+    (check / 256) as u8
 }
