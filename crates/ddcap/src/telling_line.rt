@@ -1,7 +1,6 @@
 //! `why --line`: which record was refused where stations and line alone are judged, and why.
 
-ghost use Rattle.dna_node.specs.Kind.{stations_alone};
-ghost use Rattle.ddcap.specs.inner.Statuses.{EndsAsJudged, EndsWith};
+ghost use Rattle.ddcap.specs.inner.Statuses.{EndsWith};
 
 use crate::check::{print, print_fault, print_out_of_memory};
 use crate::last_rows::LastRows;
@@ -15,7 +14,7 @@ use std::io::{Read, Seek, Write};
 use wire_base::Tally;
 
 /// Judges stations and line alone of the captures that two files give, prints what is answered and why, as `why_to` does, and answers the status.
-/// The first line is that of `check_line_to`. No contract tells the rest.
+/// The first line is that of `check_line_to`. No contract tells the text or the status.
 pub fn why_line_to<A: Read + Seek, B: Read + Seek, O: Write, E: Write>(
     alloc: Global,
     printout: Printout<'_>,
@@ -23,9 +22,7 @@ pub fn why_line_to<A: Read + Seek, B: Read + Seek, O: Write, E: Write>(
     b: &mut B,
     out: &mut Tally<O>,
     err: &mut Tally<E>,
-) -> u8
-    ensures { EndsAsJudged stations_alone (A.remaining a.old) (B.remaining b.old) result }
-{
+) -> u8 {
     let Ok(rows) = LastRows::new(alloc) else {
         return print_out_of_memory(err);
     };

@@ -8,4 +8,4 @@ returns-in-Ok g c = judged_verdict (nodes_of c.args.layers) _ _ _ c.in-Ok.verdic
 
 pub returns-in-Err : goal.returns-in-Err
 returns-in-Err g c = judged_fault (nodes_of c.args.layers) _ _ _ c.in-Err.fault c.in-Err.ensures.judged
-    (ends_after _ _ _ (ends_fault _ _ _ c.print_fault.ensures) (rw c.of_judge.ensures at c.print_told.ensures))
+    (ends_after _ _ _ (ends_fault _ _ _ c.print_fault-status.ensures) (rw c.of_judge.ensures at c.print_told.ensures))
