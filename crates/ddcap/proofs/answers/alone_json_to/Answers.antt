@@ -8,4 +8,4 @@ returns-in-Ok g c = end_verdict (end_of c.args.layers) _ _ c.in-Ok.verdict c.in-
 
 pub returns-in-Err : goal.returns-in-Err
 returns-in-Err g c = end_fault (end_of c.args.layers) _ _ c.in-Err.fault c.in-Err.ensures.judged
-    (ends_after _ _ _ (ends_end_fault _ _ _ c.print_end_fault.ensures) (rw c.of_capture.ensures at c.print_told.ensures))
+    (ends_after _ _ _ (ends_end_fault _ _ _ c.print_end_fault-status.ensures) (rw c.of_capture.ensures at c.print_told.ensures))
