@@ -2,8 +2,8 @@
 
 ghost use Rattle.std.specs.Prelude.{◌≡◌, IfErr};
 ghost use Rattle.wire_base.specs.Tally.{tally_lent};
-ghost use Rattle.ddcap.specs.inner.Statuses.{EndsAsJudged, EndsAsJudgedAlone, EndsWith};
-ghost use Rattle.ddcap.specs.inner.Layers.{end_of, nodes_of};
+ghost use Rattle.ddcap.specs.inner.Statuses.{EndsAsJudged, EndsWith};
+ghost use Rattle.ddcap.specs.inner.Layers.{nodes_of};
 
 use crate::alone::print_end_fault;
 use crate::check::{print, print_fault, print_out_of_memory};
@@ -19,7 +19,7 @@ use std::io::{Read, Write};
 use wire_base::{Side, Tally, write_whole};
 
 /// Judges a pair as `check_to` does, and prints the verdict or the fault as one JSON object. A fault is told to `err` too. Status and order of
-/// reading are those of `check_to`. No contract tells the object.
+/// reading are those of `check_to`. No contract tells them, or the object.
 pub fn check_json_to<A: Read, B: Read, O: Write, E: Write>(
     alloc: Global,
     layers: Layers,
@@ -28,9 +28,7 @@ pub fn check_json_to<A: Read, B: Read, O: Write, E: Write>(
     b: &mut Tally<B>,
     out: &mut Tally<O>,
     err: &mut Tally<E>,
-) -> u8
-    ensures { EndsAsJudged (nodes_of layers) (A.remaining (tally_lent a.old)) (B.remaining (tally_lent b.old)) result }
-{
+) -> u8 {
     match judge_over(alloc, layers, a, b) {
         Ok(verdict) => {
             let object = verdict_object(alloc, layers, name, verdict);
@@ -44,7 +42,7 @@ pub fn check_json_to<A: Read, B: Read, O: Write, E: Write>(
 }
 
 /// Judges one end as `alone_to` does, and prints the verdict or the fault as one JSON object. A fault is told to `err` too. No contract tells the
-/// object.
+/// object or the status.
 pub fn alone_json_to<A: Read, O: Write, E: Write>(
     alloc: Global,
     layers: Layers,
@@ -52,9 +50,7 @@ pub fn alone_json_to<A: Read, O: Write, E: Write>(
     a: &mut Tally<A>,
     out: &mut Tally<O>,
     err: &mut Tally<E>,
-) -> u8
-    ensures { EndsAsJudgedAlone (end_of layers) (A.remaining (tally_lent a.old)) result }
-{
+) -> u8 {
     match judge_end_over(alloc, layers, a) {
         Ok(verdict) => {
             let object = end_object(alloc, layers, name, verdict);
