@@ -33,6 +33,7 @@ mod under_way;
 mod xml;
 mod xml_names;
 
+pub use dna_station::State;
 pub use drawn::Drawn;
 pub use ladder::Ladder;
 pub use laws::{
@@ -42,6 +43,5 @@ pub use reading::said_by;
 pub use row::{Fate, Receipt, Row};
 pub use rows::Keep;
 pub use said::{Content, Link, Said};
-pub use dna_station::State;
 pub use svg::Caption;
 pub use told::{Sending, Told, What};

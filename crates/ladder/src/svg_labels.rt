@@ -3,10 +3,10 @@
 use crate::drawn::Drawn;
 use crate::row::{Fate, Row};
 use crate::sides::is_side;
+use crate::state::name_of;
 use crate::svg_arrivals::{Ending, arrival_of};
 use crate::svg_arrows::{is_from_outside, kind_of};
 use crate::svg_columns::{Columns, label_room};
-use crate::state::name_of;
 use crate::svg_marks::new_state;
 use crate::svg_parts::{MARGIN, WIDTH, with_text, y_of};
 use crate::svg_places::Places;

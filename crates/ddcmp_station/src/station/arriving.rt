@@ -147,6 +147,17 @@ impl<T: Copy, W: Window<HeldPacket<T>, 256>> Station<T, W> {
         }
     }
 
+    /// The same as [`Station::arrive`], as a call of its own: beside the work that a kept packet makes it costs nothing, and it keeps its caller small.
+    #[inline(never)]
+    pub fn arrive_apart(&mut self, arrival: Arrival, row: ArrivalRow, kept: bool)
+        requires load { load self.old < 2 ^ 63 }
+        requires row { IsRow self.old (arrival_view arrival) row }
+        ensures step { self.new ≡ wire_after_arrival self.old (arrival_view arrival.entry) kept }
+        ensures load { load self.new ≤ load self.old + 1 }
+    {
+        self.arrive(arrival, row, kept);
+    }
+
     // ---- what it does
 
     // The effects of a sound message, by its row.

@@ -78,7 +78,6 @@ impl<T: Copy, W: Window<HeldPacket<T>, 256>> Station<T, W> {
     }
 
     // A NAK of a reason that needs a cause has an open one.
-    #[inline(always)]
     fn failing_cause(&self, reason: NakReason) -> Option<SendingCheck>
         ensures { result ≡ if has_cause reason self.now.causes then None else Some SendingCheck.CauseIsOpen }
     {
@@ -89,7 +88,6 @@ impl<T: Copy, W: Window<HeldPacket<T>, 256>> Station<T, W> {
     }
 
     // A REP asks for the answer to the highest number given, while one is outstanding.
-    #[inline(always)]
     fn failing_rep(&self, num: u8) -> Option<SendingCheck>
         ensures { result ≡ if not (length self.now.variables.held == 0)
             then (if num == wire (self.now.variables.acknowledged + length self.now.variables.held) then None
@@ -118,7 +116,6 @@ impl<T: Copy, W: Window<HeldPacket<T>, 256>> Station<T, W> {
     }
 
     // A new packet has room in the window; one that is sent again is as first given.
-    #[inline(always)]
     fn failing_packet(&self, body: &[u8]) -> Option<SendingCheck>
         ensures { result ≡ if (if wire_is_new self.now.variables then nat_lt (length self.now.variables.held) WINDOW else true)
             then (if (if wire_is_new self.now.variables then true

@@ -126,6 +126,7 @@ impl<T: Copy, W: Window<HeldPacket<T>, 256>> Station<T, W> {
     }
 
     // A packet of these bytes gets the next number. Where memory for it is refused, nothing changes.
+    #[inline(never)]
     fn give(&mut self, body: &[u8]) -> Result<(), AllocError>
         requires new { wire_is_new self.old.variables ≡ true }
         requires room { length self.old.variables.held < WINDOW }

@@ -48,7 +48,7 @@ impl Layers {
             Ok(permit) => match permit.packet {
                 Some(packet) => match self.keep::<OF_PAIR>(packet, tag_of(link)) {
                     Ok(()) => {
-                        self.station.arrive(arrival, permit.row, kept);
+                        self.station.arrive_apart(arrival, permit.row, kept);
                         Ok(())
                     }
                     Err(fault) => Err(fault),

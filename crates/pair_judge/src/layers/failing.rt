@@ -77,9 +77,7 @@ impl Layers {
         ensures { result ≡ spec.failed_arrival self.now (with_link link.now (arrival_view arrival.entry)) kept }
     {
         if let Err(check) = self.station.ask_arrival::<true>(arrival, kept) {
-            return Some(FailedCheck::StationArrival(
-                self.station.tell_arrival(&arrival, check),
-            ));
+            return Some(FailedCheck::StationArrival(self.station.tell_arrival(&arrival, check)));
         }
         if !kept {
             return None;

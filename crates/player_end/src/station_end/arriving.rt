@@ -137,9 +137,7 @@ impl<W: Window<HeldPacket, 256> + Drop> StationEnd<W> {
                 self.variables.respond(resp_of(message));
                 self.variables.set_back();
             }
-            ArrivalRow::Delivered => {
-                self.receive_data(resp_of(message), num_of(message), kept)
-            }
+            ArrivalRow::Delivered => { self.receive_data(resp_of(message), num_of(message), kept) }
         }
     }
 

@@ -18,7 +18,7 @@ returns-in-Ok-keep-clause-ok g c =
     (meets_kept (rules_by _) old c.args.link.now c.args.kept (arrival_view c.args.arrival) c.in-Some.packet.now _ c.in-Ok.ensures.allowed taken
     c.tag_of.ensures met (rw (← c.self.view_is) at c.in-Ok-keep.ensures.ok ∙ ap Ok (sym c.self-in-Some.view_is))
     (ap (λ (s : WireLayers). s.station) c.self-in-Some.view_is ∙ rw (← c.self.view_is) at c.in-Ok-keep.ensures.station)
-    ∙ ap (λ (w : WireStation LinkTag). Ok (record met { station = w })) (sym c.arrive.ensures.step))
+    ∙ ap (λ (w : WireStation LinkTag). Ok (record met { station = w })) (sym c.arrive_apart.ensures.step))
 
 pub returns-in-Err-keep-clause-refused : goal.returns-in-Err-keep-clause-refused
 returns-in-Err-keep-clause-refused g c =
@@ -34,4 +34,4 @@ returns-in-None-clause-ok g c =
     rw (← c.self.view_is)
     (arrives_untaken (rules_by _) old c.args.link.now c.args.kept (arrival_view c.args.arrival) c.in-Ok.ensures.allowed
     (sym c.in-Ok.ensures.taken ∙ ap option_copied c.in-None.is)
-    ∙ ap (λ (w : WireStation LinkTag). Ok (record old { station = w })) (sym c.arrive-in-None.ensures.step))
+    ∙ ap (λ (w : WireStation LinkTag). Ok (record old { station = w })) (sym c.arrive.ensures.step))
