@@ -1,5 +1,5 @@
 -- The first check that a message does not pass which comes to a node's links, by its name, with what is seen there and what is allowed. The
--- checks are those of `Arriving` of `dna_links`, in their order.
+-- checks are those of `Table` of `dna_links`, in their order.
 use Rattle.std.specs.Prelude.{ℕ, Option, None, ◌==◌, ◌&&◌}
 use Rattle.dna_packet.specs.Nsp.{NspValue, DataSegment, LinkService, DataAck, OtherDataAck, ConnectAck, NoOperation, ConnectInitiate, ConnectConfirm}
 use Rattle.dna_packet.specs.Nsp.{DisconnectInitiate, DisconnectConfirm}

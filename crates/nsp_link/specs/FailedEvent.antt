@@ -1,5 +1,5 @@
 -- The first check that an event of the links' user does not pass, by its name, with what is seen there and what is allowed. The checks are those
--- of `User` of `dna_links`, in their order.
+-- of `Table` of `dna_links`, in their order.
 use Rattle.std.specs.Prelude.{ℕ, Bool, false, Option, Some, None, List, length}
 use Rattle.std.specs.Str.{bytes_eq}
 use Rattle.dna_station.specs.declared.link_refusal.LinkRefusal.{LinkRefusal}

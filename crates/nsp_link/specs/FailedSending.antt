@@ -1,5 +1,5 @@
 -- The first check that a message does not pass which a node's links send, by its name, with what is seen there and what is allowed. The checks
--- are those of `Sending` and `WireSegments` of `dna_links`, in their order.
+-- are those of `Table` and `WireSegments` of `dna_links`, in their order.
 use Rattle.std.specs.Prelude.{ℕ, ◌+◌, ◌-◌, Bool, true, false, ◌&&◌, ◌||◌, not, ◌==◌, nat_lt, nat_le, min, if◌then◌else◌, Option, Some, None, List, []}
 use Rattle.std.specs.Prelude.{◌∷◌, length, take, slice_get}
 use Rattle.dna_packet.specs.Nsp.{SegmentValue, NspValue, DataSegment, LinkService, DataAck, OtherDataAck, ConnectAck, NoOperation, ConnectInitiate}
