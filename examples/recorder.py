@@ -3,16 +3,16 @@
     recorder = Recorder(open('node.a', 'w', newline='\\n'), '1.1', '1.2')
     recorder.user('start')                   the user's event, when the node acts on it; also 'halt', 'open', 1 and so on
     recorder.sent(unit)                      when the station decides on the unit, before the unit waits in a queue for the line
-    recorder.received(unit, number)          when the station acts on a unit that came
-    recorder.kept(unit, number)              the same, where the station takes the packet in it and counts its number
-    recorder.noise()                         when a block check showed that what came is no unit of the peer
+    recorder.received(unit, number)          when the station acts on a unit that arrived
+    recorder.kept(unit, number)              the same, if the station accepts the packet in it and counts its number
+    recorder.noise()                         when a block check showed bytes that are not a unit of the peer
     recorder.user('in', 1, message=b'hello') before the units that carry the message; 'up' when it is delivered
 
-A unit is header, data and checks as they passed, without SYN and pads. `number` says which of the peer's units came, counted from 0 over all that the
-peer sent. Without it the next one is meant: that is right where no unit was lost, and enough for `alone`.
+A unit is header, data and checks as they passed, without SYN and pads. `number` says which of the peer's units this is, counted from 0 over all that
+the peer sent. Without it the next one is meant: that is right if no unit was lost, and enough for `alone`.
 
-Called otherwise the pair is refused: `received` for a packet that was kept (8), a unit with SYN in front (1), no `number` where a unit was lost (5),
-`sent` only when the line has taken the unit (4, 6, 8), and no `sent` for a unit that is sent again (4, 5)."""
+If you call it otherwise the pair is refused: `received` for a packet that was kept (8), a unit with SYN in front (1), no `number` though a unit was
+lost (5), `sent` only when the line has taken the unit (4, 6, 8), and no `sent` for a unit that is sent again (4, 5)."""
 EVENTS = {'start': 0, 'halt': 0, 'open': 1, 'accept': 2, 'reject': 2, 'in': 1, 'up': 1, 'close': 1}  # how many link addresses each has
 MOST_OF_UNIT, MOST_OF_MESSAGE, MOST_UNITS = 16_393, 65_535, 10 ** 18
 
@@ -51,7 +51,7 @@ class Recorder:
 
     def line(self, words):
         self.file.write(words + '\n')
-        self.file.flush()  # what the node did is told, also where the node breaks off
+        self.file.flush()  # so that nothing is missing if the node crashes
 
 
 def digits(what, most):

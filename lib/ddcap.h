@@ -17,14 +17,14 @@ extern "C" {
 enum {
   DDCAP_ACCEPTED = 0, /* the captures obey the rules; of one end: as far as one end shows */
   DDCAP_REFUSED = 1,
-  DDCAP_FAULTY = 2,   /* a text is no capture: `a: line 3: syntax`; or the choices do not go with the call */
+  DDCAP_FAULTY = 2,   /* a text is not a capture: `a: line 3: syntax`; or the choices do not fit the call */
   DDCAP_NO_MEMORY = 3
 };
 
-/* Choices, which are added. */
+/* Choices, which may be added up. */
 enum {
-  DDCAP_LINE = 1, /* DDCMP alone is judged, without links */
-  DDCAP_JSON = 2  /* `ddcap_why` tells each part as a JSON object on a line of its own */
+  DDCAP_LINE = 1, /* DDCMP alone is judged, without links; not by `ddcap_why` of one end */
+  DDCAP_JSON = 2  /* the answer is a JSON object, of `ddcap_why` one on a line for each part; docs/KEYS.md has their keys */
 };
 
 /* What the program prints for it, standard output first. `text` ends with a NUL that `length` doesn't count. It is never NULL. */
@@ -43,7 +43,7 @@ int ddcap_alone(const char *a, size_t a_length, unsigned choices, struct ddcap_a
 /* Tells why they are refused, as `ddcap why A B`; with a `b` of NULL why one is, as `ddcap why A`. */
 int ddcap_why(const char *a, size_t a_length, const char *b, size_t b_length, unsigned choices, struct ddcap_answer *answer);
 
-/* Gives the text of an answer back. */
+/* Frees the text of an answer. */
 void ddcap_free(struct ddcap_answer *answer);
 
 #ifdef __cplusplus

@@ -31,8 +31,8 @@ class Answer(namedtuple('Answer', 'status text')):
         return self.status == 1
 
     def parts(self):
-        """Of an answer of `why(.., json=True)` its objects; docs/WORDS.md has their keys."""
-        return [_json.loads(line) for line in self.text.splitlines()]
+        """Of an answer with `json=True` its objects; docs/KEYS.md has their keys. A fault is an object of `check` and `alone` alone."""
+        return [_json.loads(line) for line in self.text.split('\n') if line.startswith('{')]
 
 
 class _Answer(ctypes.Structure):
@@ -73,16 +73,26 @@ def _answer(call, texts, choices):
         _LIBRARY.ddcap_free(ctypes.byref(got))
 
 
-def check(a, b, line=False):
-    """Judges the captures of both ends of a line, as `ddcap check A B`. With `line` DDCMP is judged alone, without links."""
-    return _answer(_LIBRARY.ddcap_check, [a, b], _LINE if line else 0)
+def _choices(line, json):
+    return (_LINE if line else 0) | (_JSON if json else 0)
 
 
-def alone(a, line=False):
-    """Judges the capture of one end without the other, as `ddcap alone A`."""
-    return _answer(_LIBRARY.ddcap_alone, [a], _LINE if line else 0)
+def check(a, b, line=False, json=False):
+    """Judges the captures of both ends of a line, as `ddcap check A B`. With `line` DDCMP is judged alone, without links; with `json` the answer is
+    one object.
+
+    >>> check('ddcap 1 1.1 1.2\\nu start\\n', 'ddcap 1 1.2 1.1\\n', json=True).parts()[0]['what']
+    'accepted'
+    """
+    return _answer(_LIBRARY.ddcap_check, [a, b], _choices(line, json))
 
 
-def why(a, b=None, json=False):
-    """Tells why two captures are refused, or one, as `ddcap why A B`. With `json` each part is an object on a line of its own: `why(..).parts()`."""
-    return _answer(_LIBRARY.ddcap_why, [a, b], _JSON if json else 0)
+def alone(a, line=False, json=False):
+    """Judges the capture of one end without the other, as `ddcap alone A`, with the same choices."""
+    return _answer(_LIBRARY.ddcap_alone, [a], _choices(line, json))
+
+
+def why(a, b=None, line=False, json=False):
+    """Tells why two captures are refused, or one, as `ddcap why A B`. With `json` each part is an object on a line of its own: `why(..).parts()`.
+    `line` goes with two captures."""
+    return _answer(_LIBRARY.ddcap_why, [a, b], _choices(line, json))

@@ -45,12 +45,6 @@ class NodesExchanged(Node):
         return bytes([2]) + word(self.address) + word(self.peer) + bytes([0]) + message
 
 
-@bug(16, 'a packet of a third node is passed on', at.quiet)
-class PassedOn(Node):
-    def hello(self):
-        return bytes([2]) + word(self.peer) + word(1 << 10 | 9) + bytes([1, 8])
-
-
 # ---- messages of NSP
 
 
@@ -59,6 +53,13 @@ class NoBit15(Node):
     def data_ack(self, link):
         message = super().data_ack(link)
         return message[:-1] + bytes([message[-1] & 0x7f])
+
+
+@bug(17, 'an acknowledgement word has a qualifier above 3', at.quiet)
+class HighQualifier(Node):
+    def data_ack(self, link):
+        message = super().data_ack(link)
+        return message[:-1] + bytes([message[-1] | 0x40])
 
 
 @bug(17, 'a CI has a DSTADDR', at.quiet)
@@ -124,7 +125,7 @@ class DataBeforeConfirm(Node):
         yield from super().messages()
 
 
-@bug(18, 'a connect acknowledgement names the own address', at.quiet)
+@bug(18, "a connect acknowledgement names the sender's own address", at.quiet)
 class AckOfOwn(Node):
     def connect_ack(self, link):
         return super().connect_ack(link)[:1] + word(link.own)

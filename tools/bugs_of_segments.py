@@ -182,7 +182,7 @@ class SizeTurned(Node):
         return (link.size & 255) << 8 | link.size >> 8
 
 
-@bug(23, 'unacknowledged segments have no limit', at.silent)
+@bug(23, 'there is no limit on unacknowledged segments', at.silent)
 class NoSegmentWindow(Node):
     def may_give_segment(self, link):
         return True
@@ -220,7 +220,7 @@ class EmptyNotDelivered(Node):
             super().deliver(link, message)
 
 
-@bug(24, 'a message is delivered on another link', at.quiet)
+@bug(24, 'a message is delivered on the wrong link', at.quiet)
 class DeliveredElsewhere(Node):
     def deliver(self, link, message):
         super().deliver(self.links[-1], message)
@@ -242,7 +242,7 @@ class GivenEarly(Node):
         return next(own for own in range(1, 65536) if own not in taken)
 
 
-@bug(26, 'opened and called links count addresses apart', at.quiet)
+@bug(26, 'addresses of opened and of called links are counted separately', at.quiet)
 class CountedApart(Node):
     def free_address(self, is_opened):
         taken = [link.own for link in self.links if link.phase != 'Ended' and link.is_opened == is_opened]

@@ -69,7 +69,7 @@ class RepTimerRuns(Node):
 # ---- packets that are unacknowledged, and packets that are sent again
 
 
-@bug(9, 'unacknowledged packets have no limit', at.burst)
+@bug(9, 'there is no limit on unacknowledged packets', at.burst)
 class NoWindow(Node):
     def may_give(self):
         return True
@@ -199,7 +199,7 @@ class HaltedKeeps(Node):
 # ---- its user
 
 
-@bug(14, 'a station without an answer starts again without a halt', at.lossy)
+@bug(14, 'a station that gets no answer starts again without a halt', at.lossy)
 class StartsInRunning(Node):
     def say_rep(self):
         self.start()

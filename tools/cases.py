@@ -32,9 +32,10 @@ def asked_of_pairs(most):
             yield place, ['check', *more, 'a', 'b'], {'a': a, 'b': b}
             if number % 10 == 0:
                 for words in (['why', 'a', 'b'], ['why', '--json', 'a', 'b'], ['cover', 'a', 'b'], ['draw', 'a', 'b'],
-                              ['draw', 'a', 'b', '--svg', 'svg'], ['check', '--line', 'a', 'b'], ['convert', '2', 'a', 'made']):
+                              ['draw', 'a', 'b', '--svg', 'svg'], ['check', '--line', 'a', 'b'], ['convert', '2', 'a', 'made'],
+                              ['check', '--json', 'a', 'b'], ['why', '--line', 'a', 'b'], ['cover', '--line', '--json', 'a', 'b']):
                     yield place, words, {'a': a, 'b': b}
-                for words in ['alone', 'a'], ['show', 'a'], ['why', 'a']:
+                for words in ['alone', 'a'], ['alone', '--line', '--json', 'a'], ['show', 'a'], ['why', 'a']:
                     yield place, words, {'a': a}
 
 
@@ -70,6 +71,7 @@ def asked_of_bad_input():
         yield 'one text twice', words, both
     for text in b'', b'\n', good[:-1], good.replace(b'\n', b'\r\n'), good + b's 0506C00000017595\n', good + b'x' * 140000, bytes(range(256)):
         yield 'a faulty text', ['check', 'a', 'b'], {'a': text, 'b': good}
+        yield 'a faulty text', ['check', '--json', 'a', 'b'], {'a': text, 'b': good}
         yield 'a faulty text', ['why', 'b', 'a'], {'a': text, 'b': good}
         yield 'a faulty text', ['tap', 'wire', 'a', 'b'], {'wire': text}
 

@@ -57,6 +57,15 @@ machine_of() {
 
 has_assembly() { [ -f "$(packed "$top/dist/ddcap-$1.s")" ]; }
 
+# Why the assembly for a machine can't be used, with what to do; nothing where it can: MACHINE
+unusable() {
+  local file
+  has_assembly "$1" || { echo "dist/ has no assembly for $1; web/ddcap.html works in a browser on any machine"; return; }
+  file=$(cd "$top" && packed "dist/ddcap-$1.s")
+  [ "$(unpacked "$top/dist/ddcap-$1.s" 2> /dev/null | checksum)" = "$(origin_of "ddcap-$1.s")" ] ||
+    echo "$file is not the file that dist/ORIGIN names; get it anew, as by 'git checkout dist'"
+}
+
 # The name of a file that may be packed, and what it holds.
 packed() { if [ -f "$1.gz" ]; then echo "$1.gz"; else echo "$1"; fi; }
 unpacked() { if [ -f "$1.gz" ]; then gzip -dc "$1.gz"; else cat "$1"; fi; }

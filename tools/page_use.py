@@ -1,6 +1,7 @@
 """The page as somebody uses it: rows of files that are chosen, and what has to be seen then. tools/test_page runs them in a browser."""
 import gzip
 import os
+import re
 import time
 
 from program import TOP
@@ -107,6 +108,7 @@ def several_drops(use):
     use.expect('its captures can be saved', saved == 'line.a,line.b')
     use.expect('a wire text without an explanation', use.choose('a', os.path.join(TOP, 'tools', 'tap', 'skipped_number.wire')) == 'Unexplained')
     use.expect('its place, and nobody accused', 'unit 7 of a' in use.text('#verdict') and 'Accused' not in use.text('#verdict'))
+    use.expect('on what it rests', 'every unit sent passed this point' in use.text('#verdict .meaning'))
     use.expect('a script too', use.choose('a', example('lost_and_damaged.script')) == 'Accepted')
     use.expect('a pair in place of a script', use.choose('a', example('two_links.a'), example('two_links.b')) == 'Accepted')
     use.click('#swap')
@@ -115,12 +117,44 @@ def several_drops(use):
     use.expect('cleared', use.browser.value('document.querySelector("#result").hidden'))
 
 
+def texts_that_do_not_pair(use):
+    """A text of both ends is judged by itself, whatever is dropped beside it; two recordings of one end are asked about."""
+    wire, script, capture = example('two_way_links.wire'), example('lost_and_damaged.script'), example('two_links.a')
+    for pair in (capture, wire), (wire, use.file('again.wire', b'ddwire 1 1.1 1.2\n')), (script, capture), (wire, use.file('empty.z', b'')):
+        use.clear()
+        use.drop(*pair)
+        use.browser.until('globalThis.shown')
+        name = next(name for name in sorted(map(os.path.basename, pair)) if name.endswith(('.wire', '.script')))
+        use.expect('%s is judged by itself' % name, name + ' is of both ends' in use.text('#note') and 'is left out' in use.text('#note'))
+        use.expect('%s: it alone is left' % name, name in use.text('#end-a') and 'Not needed' in use.text('#end-b'))
+        use.expect('%s: it alone is marked' % name, 'good' not in use.browser.value('document.querySelector("#end-b").className'))
+    for name, content, words in ('copy.a', GOOD, 'recordings of the same end?'), ('far.b', b'ddcap 2 1.3 1.1\n', 'the two ends of one line?'):
+        use.clear()
+        use.drop(use.file('one.a', GOOD), use.file(name, content))
+        use.browser.until('globalThis.shown')
+        use.expect(words, words in use.text('#note'))
+        use.browser.value('new Promise(later => setTimeout(later, 500))')  # it scrolls
+        use.expect('the question is to be seen', use.browser.value('document.querySelector("#note").getBoundingClientRect().top >= 0'))
+    use.clear()
+    pair = [use.file('windows.' + side, text.replace(b'\n', b'\r\n')) for side, text in (('a', GOOD), ('b', OTHER))]
+    use.expect('CRs in both', 'with CR at the end of its lines' in use.drop(*pair))
+    use.click('#note button')
+    use.browser.until('globalThis.shown')
+    use.expect('are taken out at once', use.text('#verdict h2') == 'Accepted')
+    use.clear()
+    with open(wire, 'rb') as file:
+        lines = file.read().splitlines(keepends=True)
+    more = use.file('more.wire', b''.join(lines[:3] + [b'a 112233445566\n'] + lines[3:]))
+    use.expect('a wire text with other bytes', use.choose('a', more) == 'Accepted')
+    use.expect('what was skipped', 'Skipped of what a sent: 0 maintenance messages, 6 bytes' in use.text('#verdict .meaning'))
+
+
 # Refused pairs by their names; what is said of the cause, the lines that contradict each other, and what the second one is.
 CAUSES = [
     (('examples', 'wrong_response'), 'End a acknowledged the wrong message', '5 of wrong_response.a', '2 of wrong_response.a', 'no data message'),
     (('examples', 'wrong_delivery'), 'End b delivered', '21 of wrong_delivery.b', '14 of wrong_delivery.a', 'handed in at a'),
     (('examples', 'crossed_period'), 'End b acted on a message', '8 of crossed_period.b', '5 of crossed_period.a', 'What a sent as unit 1'),
-    (('tools', 'why', 'line_missing'), 'End a received other bytes', '32 of line_missing.a', '20 of line_missing.b', 'What b sent as unit 11'),
+    (('tools', 'why', 'line_missing'), 'End a received bytes that end b did not send', '32 of line_missing.a', '20 of line_missing.b', 'What b sent as unit 11'),
 ]
 
 
@@ -164,6 +198,11 @@ def strange_files(use):
             use.click('#note button')
             said = use.said()
             use.expect('%s, mended: %s' % (name, said), after in said)
+    with open(os.path.join(TOP, 'docs', 'WIRE.md')) as page:
+        recipe = re.search(r"\(echo 'ddwire 1 1.1 1.2'\n tshark [^\n]* follow,tcp[^`]*line\.wire", page.read())[0]
+    use.clear()
+    use.choose('a', use.file("it's.pcap", STRANGE[3][1]))
+    use.expect('the commands for a packet capture', use.text('#note pre') == recipe.replace('line.pcap', "'it'\\''s.pcap'"))
     use.clear()
     large = use.file('large.a', b'')
     os.truncate(large, 2 << 30)
@@ -191,6 +230,9 @@ def tabs_and_keys(use):
                                   '(document.querySelector("#panel"))')
         use.expect('tab %s is not empty' % name, shown > 40)
         use.expect('tab %s can be shown' % name, 'could not be shown' not in use.text('#panel'))
+        if name == 'Rules met':
+            heads = use.browser.value('[...document.querySelectorAll("#panel thead th")].map(it => it.textContent)')
+            use.expect('its columns', heads == ['rule', 'a', 'b'])
     named = ('button', 'tab', 'checkbox', 'link', 'tabpanel', 'img')
     nodes = use.browser.send('Accessibility.getFullAXTree')['nodes']
     found = [node for node in nodes if node.get('role', {}).get('value') in named]
@@ -251,8 +293,9 @@ def opened(use):
         use.browser.drop('h1', example('wrong_response.a'), example('wrong_response.b'))
         use.expect('a dropped pair', use.said() == 'Refused')
         taken.append(time.time() - begun)
-    print('from opening the page to the answer to a dropped pair: %.2f s' % min(taken))
-    use.expect('an answer within %d s' % SECONDS, min(taken) < SECONDS)
+    busy = max(1, os.getloadavg()[0] / os.cpu_count())  # the browser has its share of the processors alone
+    print('from opening the page to the answer to a dropped pair: %.2f s, with %.1f times as much to do as the processors can' % (min(taken), busy))
+    use.expect('an answer within %d s, or longer on a busy machine' % SECONDS, min(taken) < SECONDS * busy)
     use.browser.open('about:blank')
     use.browser.open('file://' + use.page + '#wrong_response')
     use.expect('an example by its name', use.said() == 'Refused')
@@ -266,7 +309,7 @@ def expectations(browser, page, folder):
     """How many things were expected of the page, and those that did not hold."""
     use = Use(browser, page, folder)
     opened(use)
-    for part in several_drops, causes, strange_files, tabs_and_keys, by_keys_alone, lacking:
+    for part in several_drops, texts_that_do_not_pair, causes, strange_files, tabs_and_keys, by_keys_alone, lacking:
         part(use)
     for error in browser.errors:
         use.expect('an error of the page: ' + error, False)

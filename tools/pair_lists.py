@@ -7,18 +7,21 @@ from program import TOP
 
 REFUSAL = re.compile(r'([ab]) (\d+): (\d+ \w+)')
 COUNTS = r' records (\d+) sent \d+ received \d+ damaged \d+ kept \d+ periods \d+'
+QUEUED = 'queued '
 LINKS = r' links \d+ up \d+'
 ACCEPTANCE = re.compile('accepted\n(a%s)\n(b%s)\n' % (COUNTS + LINKS, COUNTS + LINKS))
 LINE_ACCEPTANCE = re.compile('accepted\n(a%s)\n(b%s)\n' % (COUNTS, COUNTS))
 
 
 class Line:
-    """A line of a list: where it stands, its turns (of a worked pair its name), and the records of both sides with the answer, or None."""
+    """A line of a list: where it stands, its turns (of a worked pair its name), and the records of both sides with the answer, or None. `queued` is
+    the answer where both are nodes with queues, in the lists of those."""
 
     def __init__(self, place, fields):
         self.place = place
         self.turns = fields[0].split(', ')
-        self.pair = fields[1:] if len(fields) == 4 else None
+        self.pair = fields[1:4] if len(fields) > 2 else None
+        self.queued = fields[4].removeprefix(QUEUED) if len(fields) == 5 else None
 
 
 def lines_below(name):
@@ -35,11 +38,16 @@ def lines_below(name):
             lines = None
         elif lines is None and len(fields) == 1 and text not in below:
             lines = below[text] = []
-        elif lines is not None and (len(fields) == 4 or len(fields) == 2 and fields[1].startswith('no pair: ')):
+        elif lines is not None and is_line(fields):
             lines.append(Line(place, fields))
         else:
             sys.exit('%s: what is this?' % place)
     return below
+
+
+def is_line(fields):
+    """Whether a line below a heading has these fields."""
+    return len(fields) == 4 or len(fields) == 5 and fields[4].startswith(QUEUED) or len(fields) == 2 and fields[1].startswith('no pair: ')
 
 
 def is_answer(answer, printed, status, records, line_alone=False):

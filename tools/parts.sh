@@ -1,4 +1,7 @@
-# How ./test and tools/test_machine count: functions that run parts, tests whose last line is 'N passed, M failed', and add these up.
+# How ./test and tools/test_machine count: functions that run parts, tests whose last line is 'N passed, M failed', and add these up. Each part
+# leaves a line in `clock`: its name, its seconds of processor time, and those of the clock on the wall.
+clock=''
+TIMEFORMAT='%U %S %R'
 
 # Adds the last line of a part. One that says nothing, passes nothing, or ends badly without naming a failure, is one failure.
 passed=0 failed=0
@@ -21,11 +24,24 @@ told() {
   return "$3"
 }
 
+# Notes what a part took, which `time` wrote behind what the part itself said there: NAME FILE
+took() { clock+=$(tail -n 1 "$2" | awk -v name="$1" '{ printf "%-60s %7.0f %7.0f", name, $1 + $2, $3 }')$'\n'; }
+
+# Runs a command, and gives what it said as `said` and its status as `status`: NAME COMMAND..
+timed() {
+  local seconds
+  seconds=$(mktemp)
+  said=$({ time "${@:2}" 2>&1; } 2> "$seconds")
+  status=$?
+  took "$1" "$seconds"
+  rm -f "$seconds"
+}
+
 # Runs a part: NAME COMMAND..
 part() {
-  local said
-  said=$("${@:2}" 2>&1)
-  told "$1" "$said" $?
+  local said status
+  timed "$@"
+  told "$1" "$said" "$status"
 }
 
 # Tries one program by scripts that run side by side, as many as there are processors: NAME SCRIPTS [SETTING..]
@@ -34,9 +50,12 @@ try() {
   room=$(mktemp -d)
   for script in $2; do
     while [ "$(jobs -pr | wc -l)" -ge "$(nproc)" ]; do wait -n; done
-    { env "${@:3}" "tools/test_$script" > "$room/$script" 2>&1; echo $? > "$room/$script.ended"; } &
+    { { time env "${@:3}" "tools/test_$script" > "$room/$script" 2>&1; } 2> "$room/$script.took"; echo $? > "$room/$script.ended"; } &
   done
   wait
-  for script in $2; do told "tools/test_$script, $1" "$(cat "$room/$script")" "$(cat "$room/$script.ended")"; done
+  for script in $2; do
+    took "tools/test_$script, $1" "$room/$script.took"
+    told "tools/test_$script, $1" "$(cat "$room/$script")" "$(cat "$room/$script.ended")"
+  done
   rm -rf "$room"
 }

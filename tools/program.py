@@ -2,7 +2,7 @@
 - DDCAP_PROGRAM: the program. Without it, the one that ./ddcap makes and runs.
 - DDCAP_EMULATED: what runs it for another machine: `qemu`, whose libraries are made by the compiler CC, and which preloads them; or `wine`, which
   preloads none, and has no devices.
-- DDCAP_QUICK: nothing that takes the toolchain."""
+- DDCAP_QUICK: nothing that takes the toolchain; and by an emulator a share of each list alone."""
 import os
 import shutil
 import subprocess
@@ -12,7 +12,9 @@ CRATES = os.path.join(TOP, 'crates')
 PROVED = os.path.join(CRATES, 'ddcap', 'out', 'ddcap')
 EMULATED = os.environ.get('DDCAP_EMULATED')
 IS_WINDOWS = EMULATED == 'wine'
-ONE_IN = 10 if EMULATED else 1  # so many of the longest lists are tried, since an emulator takes long to start
+SHARE = 20 if EMULATED and 'DDCAP_QUICK' in os.environ else 1  # of all lists one in so many is tried
+MOST_SECONDS = 1800 if EMULATED else 600  # a run that takes longer hangs
+ONE_IN = 10 * SHARE if EMULATED else 1  # and of the longest lists, since an emulator takes long to start
 HAS_TOOLCHAIN = 'DDCAP_QUICK' not in os.environ and shutil.which('rt') is not None
 
 
@@ -55,6 +57,11 @@ def library(folder, name):
     if made.returncode:
         raise OSError('%s: %s' % (source, made.stderr))
     return path
+
+
+def share(cases):
+    """Those cases that are tried: all, or a share of them."""
+    return list(cases)[::SHARE]
 
 
 def by(*counts):

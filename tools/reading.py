@@ -1,13 +1,16 @@
 """A second reading of the rules: it judges pairs of captures as docs/PROTOCOL.md and docs/LINKS.md tell, apart from the program, and each of
 its rules can be turned. `judged(rules, a, b)` is the answer to the captures of both sides; `RULES` are the rules, and `with_turn` of
-tools/reading_rows.py turns one. tools/test_turns sees that the pairs of the lists tell each turn from the rule."""
+tools/reading_rows.py turns one. tools/test_turns sees that the pairs of the lists tell each turn from the rule. `queued` is of nodes with queues
+between NSP and DDCMP, whose links tools/reading_queues.py has, and `line` of the line alone, with no packet read."""
 from collections import Counter
 
 from reading_carried import flags_sent, is_passed, is_read, packet_sent, returned_kept
+from reading_line import WithoutLinks
 from reading_links import NO_TAG, Links, link_rules
 from reading_messages import gets, sends
 from reading_packets import DATA_BAD, HEADER_BAD, MALFORMED, read_nsp, read_packet, read_unit
-from reading_rows import Refused, Row
+from reading_queues import QueuedLinks, queue_rules
+from reading_rows import Departs, Refused, Row
 from reading_station import Station
 from reading_station_rules import station_rules
 
@@ -17,7 +20,7 @@ NAMES = [
     'NoCause', 'WrongKeep', 'CrossedPeriod', 'WrongUserEvent', 'BadPacket', 'WrongNode', 'BadNsp', 'NoLink', 'LinkState', 'WrongSegment',
     'WrongAck', 'SegmentTooLong', 'LinkWindowFull', 'WrongDelivery', 'CrossedLink', 'AddressInUse', 'NotNoise',
 ]
-RULES = {**station_rules(), **link_rules(), 'the line': Row('the line'), 'the layers': Row('the layers')}
+RULES = {**station_rules(), **link_rules(), **queue_rules(), 'the line': Row('the line'), 'the layers': Row('the layers')}
 
 
 def node_of(text):
@@ -30,17 +33,29 @@ class Side:
     """A node with its capture: its records one after another, and the units that it sent, each with the tags of its sender and of its link. `came`
     are the number of the last unit of the other side that came, and one more: the front."""
 
-    def __init__(self, rules, text):
+    def __init__(self, rules, text, queued=False):
         head, *lines = text.splitlines()
         self.rules = rules
         self.line, self.layers = rules['the line'], rules['the layers']
         self.own, self.peer = [node_of(address) for address in head.split()[2:]]
         self.records = [line.split(' ') for line in lines]
+        if head.split()[1] == '2':
+            self.counts_hints()
         self.next = 0
         self.units, self.front = [], 0
         self.station = Station(rules)
-        self.links = Links(rules, self.own, self.peer)
+        self.new_links = QueuedLinks if queued else Links
+        self.links = self.new_links(rules, self.own, self.peer)
         self.counts = Counter(records=len(lines))
+
+    def counts_hints(self):
+        """In format 2 a hint is a distance from the front."""
+        front = 0
+        for record in self.records:
+            if record[0] in 'rk':
+                front += int(record[1])
+                record[1] = str(front)
+                front += 1
 
     def has_ended(self):
         return self.next == len(self.records)
@@ -59,6 +74,8 @@ class Side:
             self.sends(words[0])
         elif verb == 'n':
             self.hears_noise(words[0].replace('-', ''))
+        elif verb == '!':
+            raise Departs(' '.join(words))
         else:
             self.receives(other, int(words[0]), words[1].replace('-', ''), verb == 'k')
         self.next += 1
@@ -75,7 +92,7 @@ class Side:
         self.counts['periods'] += words[0] == 'start'
         dropped = {'halt': 'a halt ends the links', 'start': 'a start drops the links'}[words[0]]
         if self.layers.turned(dropped):
-            self.links = Links(self.rules, self.own, self.peer)
+            self.links = self.new_links(self.rules, self.own, self.peer)
         return None
 
     # -- what is sent
@@ -256,15 +273,20 @@ class Side:
         """The counts of its line in an acceptance."""
         begun = 0 if self.layers.turned('links are not counted') else len(self.links.links)
         if self.layers.turned('links that are over are not counted'):
-            begun = sum(link.phase != 'Ended' for link in self.links.links)
+            begun = sum(link.is_live() for link in self.links.links)
         up = 0 if self.layers.turned('what came up is not counted') else self.links.delivered
         counts = {**self.counts, 'sent': len(self.units), 'links': begun, 'up': up}
         return ' '.join('%s %d' % (name, counts.get(name, 0)) for name in 'records sent received damaged kept periods links up'.split())
 
 
-def judged(rules, a, b):
+class StationSide(WithoutLinks, Side):
+    """A station with its capture."""
+
+
+def judged(rules, a, b, queued=False, line=False):
     """What is printed for these two captures: side a goes on until it waits or has ended, and then side b makes a record."""
-    sides = Side(rules, a), Side(rules, b)
+    kind = StationSide if line else Side
+    sides = kind(rules, a, queued), kind(rules, b, queued)
     if rules['the layers'].turned('b has the addresses of the other head'):
         sides[1].links.node, sides[1].links.other = sides[0].peer, sides[0].own
     if (sides[0].own, sides[0].peer) != (sides[1].peer, sides[1].own) and rules['not judged'].turned('heads that do not pair'):

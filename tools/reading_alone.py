@@ -1,8 +1,10 @@
 """The second reading of one end alone: the node of a pair with the rules on periods and on partners left out, over a line that gives what stands in
-each receipt; and what no right other end can have sent. `judged_alone(a)` is the answer to one capture, of a station alone where `line` is set. A part
-of tools/reading.py, which judges pairs apart from the program."""
+each receipt; and what no right other end can have sent. `judged_alone(a)` is the answer to one capture, of a station alone where `line` is set, and
+of a node with queues where `queued` is. Of such a node too an acknowledgement that comes is looked at when it is received: later the node might have
+composed what was not given then. A part of tools/reading.py, which judges pairs apart from the program."""
 from reading import NAMES, RULES, Side
 from reading_flow import distance
+from reading_line import WithoutLinks
 from reading_links import NO_TAG
 from reading_packets import DATA_BAD, HEADER_BAD, MALFORMED, read_nsp, read_packet, read_unit
 from reading_rows import Refused
@@ -10,7 +12,7 @@ from reading_rows import Refused
 # no period and no partner is asked
 FREE = {heading: row.copy(None, need='Anything') if 'need' in row.parts else
         row.copy(None, checks=[check for check in row.parts['checks'] if check not in ('SenderIsPartner', 'ForThisLink')])
-        if heading.startswith('gets ') else row for heading, row in RULES.items()}
+        if heading.removeprefix('queued ').startswith('gets ') else row for heading, row in RULES.items()}
 NO_PERIOD = (0, None)
 
 
@@ -19,12 +21,11 @@ class ByOther(Refused):
 
 
 class Alone(Side):
-    """One end: a receipt is what the other end sent. In format 2 a hint is a distance from the front. A turn names a rule that is read wrongly."""
+    """One end: a receipt is what the other end sent. A turn names a rule that is read wrongly."""
 
-    def __init__(self, rules, text, turn=None):
-        super().__init__(rules, text)
+    def __init__(self, rules, text, turn=None, queued=False):
+        super().__init__(rules, text, queued)
         self.turn = turn
-        self.is_distance = text.split(' ')[1] == '2'
 
     def turned(self, name):
         if name not in TURNS:
@@ -35,7 +36,6 @@ class Alone(Side):
         return False
 
     def receives(self, other, hint, text, kept):
-        hint += self.front if self.is_distance else 0
         unit = read_unit(text)
         if unit == MALFORMED and self.turned('malformed before the hint'):
             raise ByOther(1)
@@ -103,7 +103,7 @@ class Alone(Side):
     def accuses_message(self, message):
         """Of a packet that is taken: what the link that acts on it has not given."""
         if message.kind in ('segment', 'data ack') and not self.turned('any acknowledgement of a ' + message.kind):
-            row = self.rules['gets ' + message.kind]
+            row = self.links.row('gets ' + message.kind)
             link = self.links.find(row, row['look_up'], message.destination, message.source)
             if link is not None and not (link.phase == 'Confirming' and self.turned('none in Confirming')):
                 acknowledged = link.flow.acknowledged
@@ -142,31 +142,15 @@ TURNS = {
 }
 
 
-class StationAlone(Alone):
-    """The same of a station with nothing on top: packets are not read, and the links' events are nothing."""
-
-    def user(self, words):
-        if len(words) == 1:
-            super().user(words)
-
-    def looks_early(self, unit):
-        pass
-
-    def meets(self, text):
-        return NO_TAG
+class StationAlone(WithoutLinks, Alone):
+    """The same of a station with nothing on top."""
 
     def accuses_packet(self, text):
         pass
 
-    def kept(self, text, label):
-        pass
 
-    def ends(self):
-        return super().ends().partition(' links')[0]
-
-
-def judged_alone(text, line=False, turn=None):
-    side = (StationAlone if line else Alone)(FREE, text, turn)
+def judged_alone(text, line=False, turn=None, queued=False):
+    side = (StationAlone if line else Alone)(FREE, text, turn, queued)
     while not side.has_ended():
         try:
             side.make(None)

@@ -130,9 +130,13 @@ class Flow:
             stays = is_nak and row.turned('NAK leaves the last') or bearer == 'a repeat' and row.turned('a repeat leaves the last')
             return start if stays else start + ahead
         back = distance(row, number, wire(row, start))
-        if not self.may_go_back(row, bearer) or not self.lies_behind(row, start, back):
+        if not self.may_name(row, start, back, bearer):
             raise Refused(21)
         return start - back if row.turned('a repeat that goes back moves the last') else start
+
+    def may_name(self, row, start, back, bearer):
+        """Whether a word of this message may name the number so far below the last one."""
+        return self.may_go_back(row, bearer) and self.lies_behind(row, start, back)
 
     def may_go_back(self, row, bearer):
         """Whether a word of this message may name a number below the last one."""

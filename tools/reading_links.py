@@ -29,7 +29,7 @@ LOOK_UPS = {
 TESTS = {
     'own': lambda link, own, far: link.own is not None and link.own == own,
     'far': lambda link, own, far: link.far is not None and link.far == far,
-    'live': lambda link, own, far: link.phase != 'Ended',
+    'live': lambda link, own, far: link.is_live(),
     'opened': lambda link, own, far: link.opened,
     'begun by a CI': lambda link, own, far: not link.opened,
     'calling': lambda link, own, far: link.phase == 'Calling',
@@ -104,7 +104,14 @@ class Link:
         self.is_called = self.is_heard = False  # whether its CI was sent, and whether a connect ack for it came
         self.words, self.bits_12 = {}, {}  # of each segment when it was first sent, by number
         self.interrupts = 0
-        self.flow = Flow(rules)
+        self.flow = self.new_flow(rules)
+
+    def new_flow(self, rules):
+        """Its segments."""
+        return Flow(rules)
+
+    def is_live(self):
+        return self.phase != 'Ended'
 
     def tag(self):
         return Tag(self.place, self.partner)
@@ -113,24 +120,30 @@ class Link:
 class Links:
     """The links of a node with this address, to the other one. `delivered` counts what came up."""
 
+    new_link = Link
+
     def __init__(self, rules, node, other):
         self.rules = rules
         self.node, self.other = node, other
         self.links = []
         self.delivered = 0
 
+    def row(self, heading):
+        """The row with this heading."""
+        return self.rules[heading]
+
     def find(self, row, name, own=None, far=None):
         """The link that a look-up finds; a row may have another look-up in its place."""
         if name is None:
             return None
-        tests = self.rules['look-up ' + row['instead'].get(name, name)]
+        tests = self.row('look-up ' + row['instead'].get(name, name))
         links = reversed(self.links) if tests.turned('the last that passes') else self.links
         wanted = [TESTS[test] for test in tests['tests']]
         return next((link for link in links if all(is_so(link, own, far) for is_so in wanted)), None)
 
     def begin(self, row, opened):
         """A new link, in the phase of the row."""
-        link = Link(len(self.links), self.rules, row['begins'], opened)
+        link = self.new_link(len(self.links), self.rules, row['begins'], opened)
         self.links.append(link)
         return link
 
@@ -148,12 +161,20 @@ class Links:
         if phase == 'Ended':
             link.flow.end()
 
+    def ends(self, row, link):
+        """A DI or a DC that came ends the link."""
+        self.go_to(link, 'Ended')
+
+    def ends_call(self, link):
+        """A DC that is sent ends the call that it answers."""
+        self.go_to(link, 'Ended')
+
     # -- what the user does
 
     def user(self, words):
         """An event of a link: its words, and the data that are handed in or delivered."""
         verb, *words = words
-        row = self.rules['user ' + verb]
+        row = self.row('user ' + verb)
         far = int(words[0]) if verb in ('accept', 'reject') else None
         own = int(words[1] if far is not None else words[0])
         data = bytes.fromhex(words[1].replace('-', '')) if verb in ('in', 'up') else None

@@ -12,7 +12,7 @@ class Sending:
     def __init__(self, links, message):
         self.links = links
         self.message = message = message_sent(links.rules['not judged'], message)
-        self.row = links.rules['sends ' + message.kind]
+        self.row = links.row('sends ' + message.kind)
         self.link = links.find(self.row, self.row['look_up'], message.source, message.destination)
         self.number, self.is_new, self.last = None, False, None
         if message.kind == 'segment' and self.link:
@@ -54,6 +54,8 @@ class Sending:
         for effect in self.row['effects']:
             if effect == 'EndCalled':
                 tag_link = self.end_called()
+            elif effect == 'EndWaiting':
+                self.links.ends_waiting(self.row, self.message)
             elif self.link is not None:
                 self.do(effect)
         if self.row.turned('has the tag of a link') and self.links.links:
@@ -66,7 +68,10 @@ class Sending:
             return None
         link = self.links.find(self.row, 'CalledBy', far=self.message.destination)
         if link is not None:
-            self.links.go_to(link, 'DI' if self.row.turned('EndCalled as DI') else 'Ended')
+            if self.row.turned('EndCalled as DI'):
+                self.links.go_to(link, 'DI')
+            else:
+                self.links.ends_call(link)
         return link
 
     def do(self, effect):
@@ -81,6 +86,8 @@ class Sending:
         elif effect == 'GiveNumber':
             if self.is_new:
                 flow.give(self.row, self.message.flag, self.message.body)
+        elif effect.startswith('Say '):
+            self.link.says(int(effect.removeprefix('Say ')))
         else:
             self.links.go_to(self.link, effect.removeprefix('GoTo '))
 
@@ -145,6 +152,9 @@ def as_first_given(sending):
 
 CHECKS = {
     'RightPhase': (right_phase, 19),
+    'HasRun': (lambda sending: sending.link.ran, 19),
+    'IsAccepted': (lambda sending: sending.link.accepted, 19),
+    'SaidAtMost': (lambda sending: sending.link.said <= sending.row['most'], 19),
     'WordsAreRight': (words_are_right, 21),
     'RoomInWindow': (room_in_window, 23),
     'FitsSegsize': (fits_segsize, 22),
@@ -165,7 +175,7 @@ def sends(links, packet, message):
 
 def gets(links, packet, message, tag):
     """This message comes to a node in this packet, with this tag."""
-    row, message = links.rules['gets ' + message.kind], message_coming(links.rules['not judged'], message)
+    row, message = links.row('gets ' + message.kind), message_coming(links.rules['not judged'], message)
     between_nodes(row, packet, links.other, links.node)
     if message is None:
         return None
@@ -214,7 +224,7 @@ def act(links, row, link, message, tag):
     """Does the effects of a row on the link that acts on the message."""
     for effect in row['effects']:
         if effect == 'EndLink':
-            links.go_to(link, 'Ended')
+            links.ends(row, link)
         elif effect == 'TakeWords':
             is_next = message.segnum is None or message.segnum == (link.flow.received + 1) % 4096
             link.flow.words_come(message.words if is_next or not row.turned('TakeWords of no segment over a gap') else [])

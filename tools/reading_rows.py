@@ -16,6 +16,10 @@ class Refused(Exception):
         self.reason = reason
 
 
+class Departs(Exception):
+    """The line of a record departs from the format of captures."""
+
+
 class Row:
     """A row, and the turn that it has, if any. `asked` are the switches that the reading has asked any row for, each with the heading of the row, and
     `read` the headings of all rows that it has looked at."""
@@ -88,6 +92,7 @@ GRAMMAR = [
     ('(.*) in place of (.*)', lambda parts, other, name: {'instead': {name: other}} if 'instead' in parts else None),
     ('GoTo (.*)', leads_to),
     ('begins in (.*)', lambda parts, phase: {'begins': phase} if 'begins' in parts else None),
+    ('said at most (.*)', lambda parts, most: {'most': int(most)} if 'most' in parts else None),
     ('in (.*) too', lambda parts, phase: {'phases': parts['phases'] + [phase]} if 'phases' in parts else None),
     ('not in (.*)', lambda parts, phase: {'phases': [other for other in parts['phases'] if other != phase]} if 'phases' in parts else None),
 ]

@@ -7,6 +7,7 @@ from reading import NAMES, RULES, Side, passes_over
 from reading_bytes import check_of, counted
 from reading_packets import read_nsp, read_packet, read_unit
 from reading_rows import Refused
+from why_rules import INDENT, wrapped
 
 Said = namedtuple('Said', 'lines rows behind check')
 
@@ -80,13 +81,13 @@ def station_rows(other, station):
     partner = '' if station.partner is None else ', goes with start %d of %s' % (station.partner, other)
     yield '  station  %s, start %d%s' % (station.state, station.period, partner)
     numbers = [number % 256 for number in (station.received, station.acknowledged, station.given, station.next)]
-    yield '  numbers  R %d received   A %d acknowledged   N %d given   T %d next to send' % tuple(numbers)
+    yield '  numbers  R %d received  A %d acknowledged  N %d given  T %d next to send' % tuple(numbers)
     first, last = (station.acknowledged + 1) % 256, station.given % 256
     if station.given > station.acknowledged:
         spans = [(first, last)] if first <= last else [(first, 255), (0, last)]
         yield '           outstanding %s' % ' and '.join('%d-%d' % span if span[0] < span[1] else str(span[0]) for span in spans)
     causes = ['%d x reason %d (%s)' % (station.causes[reason], reason, name) for reason, name in CAUSES.items() if station.causes[reason]]
-    yield '           NAKs owed or open: ' + (', '.join(causes) or 'none')
+    yield from wrapped(INDENT, 'NAKs owed or open: ' + (', '.join(causes) or 'none'))
 
 
 def link_rows(live, named):
@@ -101,7 +102,8 @@ def link_rows(live, named):
         numbers = [number % 4096 for number in (link.flow.given, link.flow.acknowledged, link.flow.received, link.flow.last)]
         words = 'given %d, acknowledged %d, received %d, last acknowledged %d' % tuple(numbers)
         segsize = '' if link.phase == 'Calling' else ', SEGSIZE %d' % link.segsize
-        yield '  link     %s-%s %s: %s%s' % (own, far, link.phase, words, segsize)
+        yield '  link     %s-%s %s%s' % (own, far, link.phase, segsize)
+        yield INDENT + words
     if len(live) > len(shown):
         yield '           and %s' % counted(len(live) - len(shown), 'more live link')
 

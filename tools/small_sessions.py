@@ -121,6 +121,20 @@ def restarted_and_lost(nodes, chance):
     restarted(nodes, chance, 0.08)
 
 
+def restarted_under_way(nodes, chance):
+    """Both stations start again at once, some of them while they start, and what is on its way arrives."""
+    linked(nodes, chance)
+    for _ in range(8):
+        users_talk(nodes, chance, 2)
+        for node in nodes.values():
+            if node.state != 'HALTED':
+                node.halt()
+            node.start()
+        for _ in range(chance.randrange(2, 12)):
+            step(nodes, chance, 0.0)
+    run(nodes, chance)
+
+
 def one_restarts(nodes, chance):
     """One node starts again while the other runs and has data to send, each in its turn."""
     linked(nodes, chance)
@@ -189,6 +203,42 @@ def opened_while_closing(nodes, chance):
                 node.close(closing)
             node.open()
         run(nodes, chance)
+
+
+def closed_under_way(nodes, chance):
+    """Links are closed while messages are on their way."""
+    linked(nodes, chance)
+    users_talk(nodes, chance, 4)
+    for _ in range(chance.randrange(20, 60)):
+        step(nodes, chance, 0.0)
+    for node in nodes.values():
+        for link in node.links:
+            if link.is_opened and link.phase == 'RUN':
+                node.close(link)
+    run(nodes, chance)
+
+
+def closed_by_both(nodes, chance):
+    """Both users close each link at once, and open another as soon as it is over."""
+    linked(nodes, chance)
+    for _ in range(8):
+        for node in nodes.values():
+            for link in node.links:
+                if link.phase == 'RUN':
+                    node.close(link)
+        for _ in range(40):
+            step(nodes, chance, 0.0)
+            for node in nodes.values():
+                if not any(link.is_opened and link.phase != 'Ended' for link in node.links):
+                    node.open()
+        run(nodes, chance)
+
+
+def long_message(nodes, chance):
+    """A message of more segments than may be unacknowledged at once."""
+    linked(nodes, chance)
+    nodes['a'].hand_in(nodes['a'].links[0], bytes(2100 * nodes['a'].SIZE))
+    run(nodes, chance, steps=20_000)
 
 
 def silent(nodes, chance):

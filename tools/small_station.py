@@ -136,7 +136,10 @@ class Station:
         """The reason of a NAK for this unit, or None where its checks are good."""
         if len(unit) < 8 or register_over(unit[:8]):
             return BAD_HEADER
-        return BAD_DATA if unit[0] == SOH and register_over(unit[8:]) else None
+        if unit[0] != SOH:
+            return None
+        end = (unit[1] | (unit[2] & 63) << 8) + 10
+        return BAD_DATA if len(unit) < end or register_over(unit[8:end]) else None
 
     def come_damaged(self, reason):
         self.say_nak(reason)

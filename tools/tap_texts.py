@@ -5,7 +5,7 @@ import os
 import subprocess
 
 from captures import ack_of, changed, nak_of, with_check
-from program import TOP
+from program import TOP, share
 from rows import HEAD, rows_of
 
 STRT, STACK, MAINTENANCE = '0506c00000017595', '0507c00000014855', '9002c00000019950080007c0'
@@ -182,7 +182,7 @@ def is_without_restart(script):
 
 def faults_of_scripts(tap):
     """For each script without a restart that plays a run, how what passed in it is not accepted, or None."""
-    for name, script in scripts():
+    for name, script in share(scripts()):
         if not is_without_restart(script):
             continue
         with open(tap.wire, 'w', encoding='ascii') as text:

@@ -1,12 +1,12 @@
 """The rules of tools/why/rules.txt, and the rows in which `ddcap why` prints a check with its rule."""
 import os
 import re
-import textwrap
 from functools import lru_cache
 
 from program import TOP
 
-RULE_COLUMNS = 68  # of a row of the rule, without what stands before it
+COLUMNS = 68  # of the words of a row, without what stands before them
+INDENT = 11 * ' '
 
 
 @lru_cache(None)
@@ -19,9 +19,19 @@ def rules():
 
 def rows_of_check(check):
     """The rows that have the words of the line; the rule is in as many rows as it takes, and both pages are below each other."""
-    words = [('seen', [check['seen']]), ('allowed', [check['allowed']]), ('rule', textwrap.wrap(check['rule'], RULE_COLUMNS)),
-             ('page', [check['page'], check['table']])]
-    return ['  %-8s %s' % ('' if at else key, row) for key, rows in words for at, row in enumerate(rows)]
+    words = ('seen', check['seen']), ('allowed', check['allowed']), ('rule', check['rule']), ('page', check['page']), ('', check['table'])
+    return [row for key, text in words for row in wrapped('  %-8s ' % key, text)]
+
+
+def wrapped(lead, words):
+    """Rows of at most 79 columns that have these words: the first behind `lead`, which has eleven columns."""
+    rows = ['']
+    for word in words.split(' '):
+        if rows[-1] and len(rows[-1]) + 1 + len(word) > COLUMNS:
+            rows.append(word)
+        else:
+            rows[-1] += ' ' * bool(rows[-1]) + word
+    return [(INDENT if at else lead) + row for at, row in enumerate(rows)]
 
 
 def faults_of_rules():

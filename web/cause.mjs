@@ -3,22 +3,22 @@ import {lastLine, linesOf} from './seeming.mjs';
 
 // By the numbers of the reasons. SIDE is the end that did it, OTHER the other one.
 const SENTENCES = [null,
-  'SIDE sent bytes that are no DDCMP message.',
+  'SIDE sent bytes that are not a DDCMP message.',
   'The capture of SIDE lists a unit as received twice, or out of order.',
   'SIDE received a unit that is not in the capture of OTHER.',
   'Both ends wait for a unit that the other has not sent yet.',
-  'SIDE received other bytes than OTHER sent, and no block check shows the damage.',
-  'SIDE sent a message that its station may not send in this state.',
+  'SIDE received bytes that OTHER did not send, and no block check shows damage.',
+  'SIDE sent a message that a station may not send in this state.',
   'SIDE sent a message with the wrong number, NUM.',
   'SIDE acknowledged the wrong message: RESP is not the number of the last one that it received in order.',
   'SIDE sent one more packet, although 255 are not acknowledged yet.',
   'SIDE sent a packet again, but with other data.',
   'SIDE sent a NAK, but nothing had arrived that calls for it.',
-  'SIDE says that it kept a packet which it can’t have kept.',
+  'SIDE says that it kept a packet that it can’t have kept.',
   'SIDE acted on a message that belongs to another start of the line.',
   'SIDE was started, although it had not been halted.',
   'SIDE sent a packet of a kind that a DDCMP circuit does not carry.',
-  'A packet is not between the two nodes that the first lines name.',
+  'A packet goes between nodes other than the two that the first lines name.',
   'SIDE sent a packet whose NSP message can’t be read.',
   'This is about a link that does not exist.',
   'The link exists, but is not in a phase in which this may happen.',
@@ -26,13 +26,13 @@ const SENTENCES = [null,
   'SIDE acknowledged a segment that it had not received, or one from before its last acknowledgement.',
   'SIDE sent a segment that is longer than its peer allows.',
   'SIDE sent one more segment, although 2,047 of this link are not acknowledged yet.',
-  'SIDE delivered something else than the next whole message.',
+  'SIDE delivered something other than the next whole message.',
   'SIDE acted on a message of another link, which had the same addresses.',
   'SIDE gave a link an address that another live link has.',
   'SIDE calls these bytes noise, but no block check shows damage.',
 ];
 
-const opposite = side => side === 'a' ? 'b' : 'a';
+export const opposite = side => side === 'a' ? 'b' : 'a';
 
 // What happened, in a sentence.
 export function sentence({side, number, accuses}, isOneEnd) {

@@ -1,14 +1,11 @@
 // The page: what is dropped or chosen, the verdict, and the tabs. The program answers; this shows it.
+import {$, ends, leaveWhole, place, put} from './boxes.mjs';
 import {Judge} from './judge.mjs';
-import {MOST_BYTES, cured, seeming} from './seeming.mjs';
+import {MOST_BYTES, cured, seeming, unpaired} from './seeming.mjs';
 import {Session} from './session.mjs';
-import {faultOf, printed, rowsOf} from './telling.mjs';
+import {conditionsOf, faultOf, printed, rowsOf} from './telling.mjs';
 import {brokenView, causeView, countsView, coverView, faultView, keyView, link, make, pictureView, textView, whyView} from './views.mjs';
 
-const $ = selector => document.querySelector(selector);
-const EMPTY = {a: 'Drop its capture here, or choose it', b: 'Its capture, if you have it'};
-const TITLES = {a: 'One end', b: 'The other end', wire: 'What passed on the line, of both ends', script: 'A script of both ends'};
-const ends = {a: null, b: null}; // {name, bytes}
 let judge = null, round = 0, current = null;
 
 // ---- the judge
@@ -45,20 +42,6 @@ function note(...paragraphs) {
   $('#note').hidden = paragraphs.length === 0;
 }
 
-function put(side, file) {
-  ends[side] = file;
-  const box = $('#end-' + side);
-  box.classList.toggle('full', file !== null);
-  box.classList.remove('good', 'bad');
-  const whole = file && TITLES[seeming(file.bytes).kind];
-  box.querySelector('.title').textContent = whole || TITLES[side];
-  box.querySelector('.what').textContent = file ? `${file.name}, ${file.bytes.length.toLocaleString('en')} bytes` : EMPTY[side];
-  const begin = new TextDecoder().decode((file ? file.bytes : new Uint8Array()).subarray(0, 400)).replace(/[^\x20-\x7e\n]/g, '·');
-  box.querySelector('.head').textContent = begin.split('\n').slice(0, 3).map(line => line.slice(0, 48)).join('\n');
-  box.querySelector('input').value = '';
-  $('#swap').disabled = $('#clear').disabled = !ends.a && !ends.b;
-}
-
 const sized = bytes => bytes < 1e9 ? `${Math.ceil(bytes / 1e6)} MB` : `${(bytes / 1e9).toFixed(1)} GB`;
 
 // Takes dropped or chosen files: two are a and b by their names, one goes where it was dropped, or to the first free end.
@@ -84,34 +67,29 @@ async function take(list, side) {
   await judgeGiven(list.length > 2 ? [`Of ${list.length} files the first two were taken: ${read[0].name} as a, ${read[1].name} as b.`] : []);
 }
 
-function place(file, side) {
-  const full = ends.a && ends.b;
-  const isWhole = it => ['wire', 'script'].includes(seeming(it.bytes).kind); // which has no other end
-  if (isWhole(file) || (!side && full)) put('a', file), put('b', null);
-  else put(side || (ends.a ? 'b' : 'a'), file);
-  for (const other of ['a', 'b']) {
-    if (ends[other] && ends[other] !== file && isWhole(ends[other])) put(other, null);
-  }
-}
-
 // ---- judging
 
 function strange(side, file, found) {
   const button = found.cure && make('button', {type: 'button', onclick: async () => {
     try {
-      put(side, {name: file.name, bytes: await cured(found.cure, file.bytes)});
+      for (const each of ['a', 'b'].filter(each => ends[each] && seeming(ends[each].bytes).cure === found.cure)) {
+        const {name, bytes} = ends[each];
+        put(each, {name, bytes: await cured(found.cure, bytes)});
+      }
       judgeGiven();
     } catch {
       note(`${file.name} could not be unpacked: it is torn, or no gzip file.`);
     }
   }}, found.button);
-  note(make('p', {}, make('b', {}, `${file.name} is ${found.is}. `), found.words), ...(button ? [button] : []));
+  const recipe = found.recipe && make('pre', {tabIndex: 0}, found.recipe(file.name));
+  note(make('p', {}, make('b', {}, `${file.name} is ${found.is}. `), found.words), ...[recipe, button].filter(Boolean));
   $('#end-' + side).classList.add('bad');
 }
 
 async function judgeGiven(notes = []) {
-  const mine = ++round, given = ['a', 'b'].filter(side => ends[side]).map(side => ({side, ...ends[side], seems: seeming(ends[side].bytes)}));
-  note(...notes);
+  const leaving = leaveWhole(), mine = ++round;
+  const given = ['a', 'b'].filter(side => ends[side]).map(side => ({side, ...ends[side], seems: seeming(ends[side].bytes)}));
+  note(...notes, ...leaving, ...(given.length === 2 ? unpaired(given) : []));
   between('');
   if (!given.length) {
     $('#result').hidden = true;
@@ -140,7 +118,7 @@ async function judgeGiven(notes = []) {
   } catch (error) {
     if (mine !== round) return;
     between('');
-    note(`Judging broke off: ${error.message}.`,
+    note(`Judging stopped: ${error.message}.`,
       'Where the texts are large, this page may lack the memory; the program itself needs a few MB: ./ddcap check A B.');
   }
 }
@@ -160,7 +138,7 @@ function show(session, verdict, why, took) {
   box.className = 'verdict ' + verdict.kind;
   box.querySelector('h2').textContent = verdict.title;
   box.querySelector('.first').textContent = verdict.first === verdict.title.toLowerCase() ? '' : verdict.first;
-  box.querySelector('.meaning').textContent = verdict.meaning;
+  box.querySelector('.meaning').textContent = [verdict.meaning, ...conditionsOf(printed(session.answer))].join(' ');
   const broken = fault ? [brokenView(fault, session)] : [];
   box.querySelector('.parts').replaceChildren(...(refused ? causeView(why, session, verdict.first) : broken));
   between(verdict.kind);
@@ -175,7 +153,8 @@ function show(session, verdict, why, took) {
   $('#result').hidden = false;
   showTabs(session, verdict, why);
   const isStill = matchMedia('(prefers-reduced-motion: reduce)').matches, {top, bottom} = box.getBoundingClientRect();
-  if (bottom > innerHeight && top > innerHeight / 4) box.scrollIntoView({behavior: isStill ? 'auto' : 'smooth'});
+  const first = $('#note').hidden ? box : $('#note');
+  if (bottom > innerHeight && top > innerHeight / 4) first.scrollIntoView({behavior: isStill ? 'auto' : 'smooth'});
   globalThis.shown = {status: session.answer.status, out: session.answer.out, err: session.answer.err, verdict, took};
 }
 
@@ -196,7 +175,7 @@ function tabsOf(session, verdict, why) {
         return [pictureView(made.svg), saving, keyView()];
       }]);
       tabs.push(['Ladder', async () => [...await text(isRefused, 'draw', ...names, ...line), keyView()]]);
-      tabs.push(['Rules met', async () => coverView(printed(await session.ask('cover', ...names)))]);
+      tabs.push(['Rules met', async () => coverView(printed(await session.ask('cover', ...names, ...line)))]);
     }
     for (const side of names) {
       const isIt = row => side === at.side && row.startsWith(at.record + ' ');

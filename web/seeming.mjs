@@ -18,7 +18,10 @@ const BEGINNINGS = [
 const WHAT_IS_WANTED = 'A capture is a text whose first line is like “ddcap 1 1.1 1.2”; what passed on a line begins with “ddwire 1”.';
 const CURES = {
   gzip: {words: 'It can be unpacked here.', cure: 'unpack', button: 'Unpack it and judge'},
-  pcap: {words: 'ddcap reads text. If it holds a DDCMP line over TCP, tshark makes the text of it: docs/WIRE.md has the command.'},
+  pcap: {words: 'ddcap reads text. If it holds a DDCMP line over TCP, recorded from its start, tshark makes the text of it. Then drop line.wire.',
+    recipe: name => `(echo 'ddwire 1 1.1 1.2'
+ tshark -r '${name.replaceAll("'", "'\\''")}' -q -z follow,tcp,raw,0 |
+   sed -n 's/^\\t\\([0-9a-f]*\\)$/b \\1/p; s/^\\([0-9a-f][0-9a-f]*\\)$/a \\1/p') > line.wire`},
   packed: {words: 'Unpack it, and drop the text that is in it.'},
   other: {words: WHAT_IS_WANTED},
   utf16: {words: 'A capture is plain ASCII.', cure: 'utf16', button: 'Turn it into ASCII and judge'},
@@ -28,7 +31,8 @@ const KINDS = {ddcap: 'capture', ddwire: 'wire', ddplay: 'script'};
 const hex = bytes => Array.from(bytes, byte => byte.toString(16).padStart(2, '0')).join('');
 const ascii = bytes => String.fromCharCode(...bytes);
 
-// {kind: 'capture', 'wire' or 'script'}, or {kind: 'strange', is, words, cure, button}
+// {kind: 'capture', 'wire' or 'script'}, or {kind: 'strange', is, words, cure, button, recipe}: `cure` goes with `button`, and `recipe` makes
+// commands of the file's name.
 export function seeming(bytes) {
   if (bytes.length === 0) return {kind: 'strange', is: 'empty', words: WHAT_IS_WANTED};
   const front = hex(bytes.subarray(0, 8));
@@ -45,6 +49,20 @@ export function seeming(bytes) {
   if (first.endsWith('\r')) return {kind: 'strange', is: 'a text with CR at the end of its lines', cure: 'crlf', button: 'Take the CRs out and judge',
     words: 'Windows ends lines so; ddcap takes LF alone, since a text has one spelling.'};
   return {kind};
+}
+
+// Whether bytes are a text of both ends, beside which no other belongs.
+export const isWhole = bytes => ['wire', 'script'].includes(seeming(bytes).kind);
+
+// What to say of two captures whose first lines are not those of the two ends of one line; nothing where they are, or are no first lines. `given`
+// are two of {name, bytes}.
+export function unpaired(given) {
+  const [one, other] = given.map(({bytes}) => ascii(bytes.subarray(0, 80)).match(/^ddcap \d (\S+) (\S+)\n/));
+  if (!one || !other || (one[1] === other[2] && one[2] === other[1])) return [];
+  const [first, second] = given.map(({name}) => name);
+  if (one[1] === other[1]) return [`Both first lines name ${one[1]} as the node. Are ${first} and ${second} recordings of the same end?`];
+  return [`The first line of ${first} is of node ${one[1]} and its peer ${one[2]}, that of ${second} of node ${other[1]} and its peer ${other[2]}. `
+    + 'Are they the two ends of one line?'];
 }
 
 // The bytes after a cure that `seeming` named.

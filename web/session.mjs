@@ -43,7 +43,7 @@ export class Session {
       const answer = await this.judge.ask(words, {[kind]: bytes});
       const is_written = kind === 'wire' ? answer.status < 2 : answer.status === 0;
       if (is_written) this.made = this.texts = answer.made, this.names = ['a', 'b'];
-      if (kind === 'wire' || !is_written) return this.#found(answer);
+      if (kind === 'wire' || !is_written) return this.#found(answer, kind === 'wire');
     }
     return this.#found(await this.ask(this.isOneEnd ? 'alone' : 'check', ...this.names, ...this.line));
   }
@@ -57,9 +57,9 @@ export class Session {
     return {refusal, text, meaning: printed(await this.judge.ask(['explain', String(refusal.refused.number)], {}))};
   }
 
-  #found(answer) {
+  #found(answer, isWire = false) {
     this.answer = answer;
-    this.verdict = verdictOf(answer, this.isOneEnd);
+    this.verdict = verdictOf(answer, this.isOneEnd, isWire);
     return this.verdict;
   }
 }

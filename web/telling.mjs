@@ -5,11 +5,12 @@ const decode = bytes => new TextDecoder().decode(bytes);
 // What was printed to both streams.
 export const printed = answer => decode(answer.out) + decode(answer.err);
 
-// Of a verdict its kind (good, bad or fault), a title, what it means, and the program's own first line.
-export function verdictOf(answer, isOneEnd) {
+// Of a verdict its kind (good, bad or fault), a title, what it means, and the program's own first line. `isOneEnd` and `isWire` tell what was judged.
+export function verdictOf(answer, isOneEnd, isWire) {
   const [first] = printed(answer).split('\n'), word = first.split(' ')[0];
   const rows = {
-    accepted: ['good', 'Accepted', 'All records of both captures fit together, and obey the protocol.'],
+    accepted: ['good', 'Accepted', isWire ? 'Two nodes that obey the protocol could have sent all this.'
+      : 'All records of both captures fit together, and obey the protocol.'],
     passed: ['good', 'Passed', 'This end kept to the rules, as far as one end shows.'],
     refused: ['bad', 'Refused', isOneEnd ? 'No capture of the other end would make this one right.'
       : 'The records of both captures can’t be put in any order that obeys the protocol.'],
@@ -63,6 +64,14 @@ export function countsOf(text) {
   if (!some) return null;
   const values = words => words && words.filter((_, i) => i % 2 === 1).map(Number);
   return {names: some.filter((_, i) => i % 2 === 0), a: values(sides.a), b: values(sides.b)};
+}
+
+// On what an answer of `tap` rests, and what it skipped, in sentences; of another answer nothing.
+export function conditionsOf(text) {
+  const rests = [...text.matchAll(/^(?:this holds only|more bytes were skipped) .*$/gm)].map(([line]) => `${line[0].toUpperCase()}${line.slice(1)}.`);
+  const rows = [...text.matchAll(/^([ab]) skipped maintenance messages (\d+) bytes between units (\d+)$/gm)];
+  return [...rests, ...rows.filter(([, , messages, bytes]) => messages !== '0' || bytes !== '0')
+    .map(([, side, messages, bytes]) => `Skipped of what ${side} sent: ${messages} maintenance messages, ${bytes} bytes between units.`)];
 }
 
 // The table of `cover`: {through: [..], rows: [[name, a, b], ..]}, or null.

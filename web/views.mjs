@@ -64,7 +64,7 @@ export function faultView(fault, session) {
   const words = fault.line === 1 ? 'The first line has to be the head: “ddcap 1 1.1 1.2”, the format, this node’s address and its peer’s.'
     : 'A record is a line as “u start”, “s BYTES”, “r NUMBER BYTES”, “k NUMBER BYTES” or “n BYTES”, in small hexadecimal digits.';
   return [make('h3', {}, `Line ${fault.line} of ${session.nameOf(fault.side)}: ${fault.fault}`), excerptView(around(bytes, fault.line), fault.line),
-    ...(found.length ? [make('ul', {}, ...found.map(text => make('li', {}, text[0].toUpperCase() + text.slice(1) + '.')))] : []),
+    ...(found.length ? [make('ul', {}, ...found.map(text => make('li', {}, raised(text) + '.')))] : []),
     make('p', {className: 'soft'}, words + ' docs/CAPTURES.md has all kinds of lines.')];
 }
 
@@ -90,6 +90,7 @@ export function causeView({refusal, text, meaning}, session, first) {
 }
 
 const lowered = text => text[0].toLowerCase() + text.slice(1);
+const raised = text => text[0].toUpperCase() + text.slice(1);
 
 // A line among its neighbours, with what it is.
 function columnView({title, words, side, line, lines, isRefused}, name) {
@@ -144,7 +145,7 @@ export function whyView({refusal, text, meaning}) {
   if (edits) {
     const found = [make('p', {}, 'Likely. Each of these small changes would make the pair acceptable:'),
       make('ul', {}, ...edit.map(({words}) => make('li', {}, ...codes(words))))];
-    const none = make('p', {}, told.recorder.join(' ') || 'No small change was found that helps.');
+    const none = make('p', {}, raised(told.recorder.join(' ') || 'no small change was found that helps') + '.');
     parts.push(make('h3', {}, 'Is it the recording?'), ...(edit.length ? found : [none]));
   }
   if (record) parts.push(make('h3', {}, 'What the line says'), make('dl', {className: 'record'}, ...recordRows(record)));
@@ -160,9 +161,9 @@ const codes = text => text.split('`').map((part, i) => i % 2 ? make('code', {}, 
 export function coverView(text) {
   const cover = coverOf(text);
   if (!cover) return [textView(text)];
-  const head = make('tr', {}, make('th', {scope: 'col'}, cover.rows[0][0]),
+  const head = make('tr', {}, make('th', {scope: 'col'}, 'rule'),
     ...['a', 'b'].map(side => make('th', {scope: 'col', className: 'number'}, side)));
-  const body = cover.rows.filter(([, a]) => a !== 'a').map(([name, ...counts]) => make('tr', {}, make('th', {scope: 'row'}, name),
+  const body = cover.rows.map(([name, ...counts]) => make('tr', {}, make('th', {scope: 'row'}, name),
     ...counts.map(count => make('td', {className: 'number'}, count))));
   return [make('p', {}, cover.through.join('; ') + '. Each row is one of the rules; a dot is none.'),
     make('div', {className: 'scroll'}, make('table', {}, make('thead', {}, head), make('tbody', {}, ...body)))];

@@ -1,4 +1,5 @@
 -- What a reader must believe of what a pair went through: the rows of the tables, which of them a record goes through, and how often
+pub mod Missing
 pub mod Row
 pub mod Rows
 pub mod Counts

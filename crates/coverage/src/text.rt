@@ -37,8 +37,8 @@ fn headings(alloc: Global) -> Result<String, AllocError>
     line(alloc, "row", "a", "b")
 }
 
-// How many rows a side went through.
-fn side_line(alloc: Global, side: Side, counts: &Counts) -> Result<String, AllocError>
+/// How many rows a side went through.
+pub fn side_line(alloc: Global, side: Side, counts: &Counts) -> Result<String, AllocError>
     ensures { IfOk result (λ text. string_bytes text ≡ spec.side_line side counts.now.met) }
 {
     let met = counts.met_rows();

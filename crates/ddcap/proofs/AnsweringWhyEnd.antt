@@ -17,11 +17,11 @@ use Rattle.pair_judge.specs.declared.reason.Reason.{Reason}
 use Rattle.pair_judge.specs.declared.summary.SideSummary.{SideSummary}
 use Rattle.why.specs.declared.end_text.EndRefusal.{EndRefusal}
 use Rattle.ddcap.specs.Printed.{Moved, Writes}
-use Rattle.ddcap.specs.PrintedAlone.{TellsEndFault}
-use Rattle.ddcap.specs.PrintedWhyEnd.{AreEndRows, ExplainsEnd, IsEndText, IsToldOf, PrintsPass, PrintsStop, Stop, TellsEnd, stop}
+use Rattle.ddcap.specs.PrintedAlone.{TellsEndFault, end_text}
+use Rattle.ddcap.specs.PrintedWhyEnd.{ExplainsEnd, IsEndText, IsToldOf, PrintsPass, PrintsStop, Stop, TellsEnd, stop}
 use Rattle.ddcap.specs.declared.telling.Form.{Form}
 use Rattle.ddcap.specs.declared.telling.Form.TheVariants.{Rows, Json}
-use Rattle.why.specs.WholeEnd.{end_lines}
+use Rattle.why.specs.Refused.{BeginsWith, line_of_end, refused_line}
 use Rattle.ddcap.proofs.AnsweringAlone.{without_memory}
 
 -- ---- what is told of a refusal tells it in either form
@@ -31,11 +31,11 @@ module _ {X E : Type 0} (bytes : X → List ℕ) (s : Stop) (told : EndRefusal) 
   tells form r is_text = IfOk-weaker r (λ text. IsEndText form told s (bytes text)) (λ text. TellsEnd form s (bytes text))
       (λ text is. inl (record { told = told; is_told = is_told; is_text = is })) is_text
 
-  pub end_tells_in_rows : (form : Form) → form ≡ Rows → (r : Result X E) → IfOk r (λ text. AreEndRows told s (bytes text)) →
+  pub end_tells_in_rows : (form : Form) → form ≡ Rows → (r : Result X E) → IfOk r (λ text. BeginsWith (end_text s.verdict) (bytes text)) →
       IfOk r (λ text. TellsEnd form s (bytes text))
   end_tells_in_rows form is r are_rows = subst (λ (form : Form). IfOk r (λ text. TellsEnd form s (bytes text))) (sym is) (tells Rows r are_rows)
 
-  pub end_tells_as_objects : (form : Form) → form ≡ Json → (r : Result X E) → IfOk r (λ text. bytes text ≡ end_lines told s.end) →
+  pub end_tells_as_objects : (form : Form) → form ≡ Json → (r : Result X E) → IfOk r (λ text. BeginsWith (refused_line (line_of_end told)) (bytes text)) →
       IfOk r (λ text. TellsEnd form s (bytes text))
   end_tells_as_objects form is r are_objects =
       subst (λ (form : Form). IfOk r (λ text. TellsEnd form s (bytes text))) (sym is) (tells Json r are_objects)

@@ -1,12 +1,7 @@
 -- The status of what is printed: the one that was meant, or 3.
 use Rattle.std.proofs.Common.{◌≡◌, ℕ, List, Option, Ok, Err, ◌⊎◌, ◌∙◌, inl, inr}
-use Rattle.capture.specs.declared.fault.CaptureFault.{CaptureFault}
-use Rattle.capture.specs.declared.fault.CaptureFault.TheVariants as end
 use Rattle.dna_node.specs.Kind.{NodeKind}
-use Rattle.pair_judge.specs.EndJudged.{IsJudgedAlone}
-use Rattle.pair_judge.specs.EndKind.{EndKind}
 use Rattle.pair_judge.specs.Judged.{IsAnswer}
-use Rattle.pair_judge.specs.declared.end_verdict.EndVerdict.{EndVerdict}
 use Rattle.pair_judge.specs.declared.fault.JudgeFault.{JudgeFault}
 use Rattle.pair_judge.specs.declared.fault.JudgeFault.TheVariants.{Capture, OutOfMemory}
 use Rattle.pair_judge.specs.declared.fault.TextFault.TheVariants.{Departs, Read}
@@ -14,10 +9,8 @@ use Rattle.pair_judge.specs.declared.verdict.Verdict.{Verdict}
 use Rattle.wire_tap.specs.declared.tapped.Tapped.{Tapped}
 use Rattle.tap_answer.specs.Telling.{telling}
 use Rattle.ddcap.specs.Printed.{Moved, TellsFault, fault_status, verdict_status}
-use Rattle.ddcap.specs.PrintedAlone.{TellsEndFault, end_status}
 use Rattle.ddcap.specs.PrintedWhy.{WritesRefusal}
-use Rattle.ddcap.specs.Showing.{shown_fault_status}
-use Rattle.ddcap.specs.inner.Statuses.{EndsAsJudged, EndsAsJudgedAlone, EndsAsTapped, EndsWith, told_status}
+use Rattle.ddcap.specs.inner.Statuses.{EndsAsJudged, EndsAsTapped, EndsWith, told_status}
 
 -- a text is written, or a beginning of it
 pub ends_written : {A B C D : Type 0} (meant status : ℕ) → (A × B × (status ≡ meant)) ⊎ (C × D × (status ≡ 3)) → EndsWith meant status
@@ -44,14 +37,6 @@ ends_fault err (Capture side (Departs kind line)) status (inr told) = ends_faile
 ends_fault err (Capture side Read) status told = ends_written 3 status told
 ends_fault err OutOfMemory status told = ends_written 3 status told
 
-pub ends_end_fault : (err : Moved) (fault : CaptureFault) (status : ℕ) → TellsEndFault err fault status →
-    EndsWith (shown_fault_status fault) status
-ends_end_fault err (end.Departs kind line) status (inl told) = ends_written 2 status told
-ends_end_fault err (end.Departs kind line) status (inr told) = ends_failed 2 status (ends_written 3 status told)
-ends_end_fault err end.Read status told = ends_written 3 status told
-ends_end_fault err end.OutOfMemory status told = ends_written 3 status told
-ends_end_fault err end.Failed status told = absurd told
-
 pub ends_refusal : (out err : Moved) (text : List ℕ) (status : ℕ) → WritesRefusal out err text status → EndsWith 1 status
 ends_refusal out err text status (inl written) = ends_written 1 status written.0
 ends_refusal out err text status (inr (side, out_has, no_fault, told)) = ends_failed 1 status (ends_written 3 status told)
@@ -75,12 +60,3 @@ module _ (nodes : NodeKind) (text_a text_b : Option (List ℕ)) (status : ℕ) w
     pub tapped_fault : (fault : JudgeFault) → IsAnswer nodes text_a text_b (Err fault) → EndsWith (fault_status fault) status →
         EndsAsTapped nodes tapped text_a text_b status
     tapped_fault fault judged ends = record { answer = Err fault; judged = judged; ends = ends }
-
-module _ (end : EndKind) (text : Option (List ℕ)) (status : ℕ) where
-  pub end_verdict : (verdict : EndVerdict) → IsJudgedAlone end text (Ok verdict) → EndsWith (end_status verdict) status →
-      EndsAsJudgedAlone end text status
-  end_verdict verdict judged ends = record { answer = Ok verdict; judged = judged; ends = ends }
-
-  pub end_fault : (fault : CaptureFault) → IsJudgedAlone end text (Err fault) → EndsWith (shown_fault_status fault) status →
-      EndsAsJudgedAlone end text status
-  end_fault fault judged ends = record { answer = Err fault; judged = judged; ends = ends }

@@ -4,7 +4,9 @@ use Rattle.std.specs.Prelude.{IfOk}
 use Rattle.std.proofs.lemmas.Result.{IfOk-weaker}
 use Rattle.pair_judge.specs.Ends.{ShownEnds}
 use Rattle.why.specs.declared.why_text.Refusal.{Refusal}
-use Rattle.ddcap.specs.PrintedWhy.{AreObjects, AreRows, IsTold, IsWhyText, TellsRefusal}
+use Rattle.why.specs.Refused.{BeginsWith, line_of, refused_line}
+use Rattle.ddcap.specs.Printed.{verdict_text}
+use Rattle.ddcap.specs.PrintedWhy.{IsTold, IsWhyText, TellsRefusal}
 use Rattle.ddcap.specs.declared.telling.Form.{Form}
 use Rattle.ddcap.specs.declared.telling.Form.TheVariants.{Rows, Json}
 use Rattle.ddcap.specs.declared.telling.Refused.{Refused}
@@ -15,12 +17,12 @@ module _ {X E : Type 0} (bytes : X → List ℕ) (ends : ShownEnds) (refused : R
   tells form r is_text = IfOk-weaker r (λ text. IsWhyText form told ends (bytes text)) (λ text. TellsRefusal form ends refused (bytes text))
       (λ text is. inl (record { told = told; is_told = is_told; is_text = is })) is_text
 
-  pub tells_in_rows : (form : Form) → form ≡ Rows → (r : Result X E) → IfOk r (λ text. AreRows told ends (bytes text)) →
+  pub tells_in_rows : (form : Form) → form ≡ Rows → (r : Result X E) → IfOk r (λ text. BeginsWith (verdict_text ends.verdict) (bytes text)) →
       IfOk r (λ text. TellsRefusal form ends refused (bytes text))
   tells_in_rows form is r are_rows =
       subst (λ (form : Form). IfOk r (λ text. TellsRefusal form ends refused (bytes text))) (sym is) (tells Rows r are_rows)
 
-  pub tells_as_objects : (form : Form) → form ≡ Json → (r : Result X E) → IfOk r (λ text. AreObjects told ends (bytes text)) →
+  pub tells_as_objects : (form : Form) → form ≡ Json → (r : Result X E) → IfOk r (λ text. BeginsWith (refused_line (line_of told)) (bytes text)) →
       IfOk r (λ text. TellsRefusal form ends refused (bytes text))
   tells_as_objects form is r are_objects =
       subst (λ (form : Form). IfOk r (λ text. TellsRefusal form ends refused (bytes text))) (sym is) (tells Json r are_objects)

@@ -12,8 +12,11 @@ use Rattle.pair_judge.specs.declared.verdict.Verdict.{Verdict}
 use Rattle.pair_judge.specs.declared.verdict.Verdict.TheVariants.{Accepted, Refused}
 use Rattle.coverage.specs.Counts.{MOST}
 use Rattle.coverage.specs.Covered.{WasCovered, side_counts}
+use Rattle.coverage.specs.Missing.{missing}
 use Rattle.coverage.specs.Text.{count_of, table}
 use Rattle.coverage.specs.declared.cover.Cover.{Cover}
+use Rattle.coverage.specs.declared.hints.Hint.{Hint}
+use Rattle.coverage.specs.declared.hints.Setup.{Setup}
 use Rattle.coverage.specs.declared.row.Row.{Row}
 use Rattle.ddcap.specs.Printed.{Moved, TellsFault, Writes, fault_text, refused_text, verdict_status}
 
@@ -73,4 +76,13 @@ covered_text covered = covered.lines ++ table covered.a covered.b
 abbrev pub PrintsCovered : CoveredView → (out err : Moved) → ℕ → Type 0
 PrintsCovered covered out err status =
     (Writes out.old out.new (covered_text covered) covered.status status × (err.new ≡ err.old))
+    ⊎ (Writes err.old err.new (fault_text OutOfMemory) 3 status × (out.new ≡ out.old))
+
+-- a line for each pair, and the rows that are missing in all
+abbrev pub missing_of : List Hint → List Setup → CoveredView → List ℕ
+missing_of hints setups covered = covered.lines ++ missing hints setups covered.a covered.b
+
+abbrev pub PrintsMissing : List Hint → List Setup → CoveredView → (out err : Moved) → ℕ → Type 0
+PrintsMissing hints setups covered out err status =
+    (Writes out.old out.new (missing_of hints setups covered) covered.status status × (err.new ≡ err.old))
     ⊎ (Writes err.old err.new (fault_text OutOfMemory) 3 status × (out.new ≡ out.old))

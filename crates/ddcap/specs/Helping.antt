@@ -3,7 +3,7 @@ use Rattle.std.specs.Prelude.{ℕ, List, ◌++◌, codes}
 use Rattle.ddcap.specs.declared.help.Topic.{Topic}
 use Rattle.ddcap.specs.declared.help.Topic.TheVariants as on
 use Rattle.ddcap.specs.declared.help.TheConstants.{VERSION}
-use Rattle.ddcap.specs.declared.help_pages.TheConstants.{CONVERT, EXPLAIN, HELP, PLAY, PROGRAM, SHOW, TAP}
+use Rattle.ddcap.specs.declared.help_pages.TheConstants.{ALIGN, CONVERT, EXPLAIN, HELP, PLAY, PROGRAM, SHOW, TAP}
 use Rattle.ddcap.specs.declared.judging_pages.TheConstants.{ALONE, CHECK, COVER, DRAW, WHY}
 
 -- the page of each topic as it stands in the program; the name and the version come before that of the whole
@@ -17,6 +17,7 @@ help_text on.Draw = DRAW.now
 help_text on.Show = SHOW.now
 help_text on.Play = PLAY.now
 help_text on.Convert = CONVERT.now
+help_text on.Align = ALIGN.now
 help_text on.Tap = TAP.now
 help_text on.Help = HELP.now
 help_text on.Explain = EXPLAIN.now

@@ -101,6 +101,8 @@ not_opened_text named.Wire = codes "wire: cannot open\n"
 not_opened_text named.A = codes "a: cannot open\n"
 not_opened_text named.B = codes "b: cannot open\n"
 not_opened_text named.Svg = codes "svg: cannot open\n"
+not_opened_text named.OutA = codes "out a: cannot open\n"
+not_opened_text named.OutB = codes "out b: cannot open\n"
 
 -- where opening it failed with an error of this kind
 abbrev pub not_opened_says : Named → ErrorKind → List ℕ

@@ -1,5 +1,5 @@
--- What `why` prints of an answer of the judge, byte by byte, and with which status it ends.
-use Rattle.std.specs.Prelude.{◌≡◌, ℕ, ◌⊎◌, List, ◌++◌, Option, Some, Result, Ok, Err, IfOk, codes}
+-- What `why` prints of an answer of the judge, as far as it is claimed, and with which status it ends.
+use Rattle.std.specs.Prelude.{◌≡◌, ℕ, ◌⊎◌, List, Option, Some, Result, Ok, Err, IfOk, codes}
 use Rattle.std.specs.Io.KnownBytes.{Appends}
 use Rattle.wire_base.specs.declared.side.Side.{Side}
 use Rattle.capture.specs.Entries.{record_with}
@@ -14,11 +14,8 @@ use Rattle.pair_judge.specs.declared.fault.TextFault.TheVariants.{Read}
 use Rattle.pair_judge.specs.declared.summary.Summary.{Summary}
 use Rattle.pair_judge.specs.declared.verdict.Verdict.{Verdict}
 use Rattle.pair_judge.specs.declared.verdict.Verdict.TheVariants.{Accepted, Refused as IsRefused}
-use Rattle.why.specs.declared.edits.EditsTried.{EditsTried}
 use Rattle.why.specs.declared.why_text.Refusal.{Refusal}
-use Rattle.why.specs.declared.why_text.Shown.{Shown}
-use Rattle.why.specs.Refused.{accuses}
-use Rattle.why.specs.Whole.{why_lines, why_rows}
+use Rattle.why.specs.Refused.{BeginsWith, accuses, line_of, refused_line}
 use Rattle.ddcap.specs.Printed.{Moved, TellsFault, Writes, fault_text, verdict_text}
 use Rattle.ddcap.specs.declared.telling.Form.{Form}
 use Rattle.ddcap.specs.declared.telling.Form.TheVariants.{Rows, Json}
@@ -34,20 +31,10 @@ pub record IsTold (ends : ShownEnds) (refused : Refused) (told : Refusal) : Type
   pub failing : Side
   pub failed : IsFailedIn ends (Some (failing, told.failed))
 
--- in rows, behind the line of the verdict and an empty one
-pub record AreRows (told : Refusal) (ends : ShownEnds) (text : List ℕ) : Type 0 where
-  pub shown : Shown
-  pub are_rows : text ≡ verdict_text ends.verdict ++ (codes "\n" ++ why_rows told ends shown)
-
--- as JSON objects
-pub record AreObjects (told : Refusal) (ends : ShownEnds) (text : List ℕ) : Type 0 where
-  pub edits : List ℕ
-  pub tried : EditsTried
-  pub are_objects : text ≡ why_lines told ends edits tried
-
+-- in rows the line of the verdict comes first, and as JSON objects that of the refusal; what follows is not claimed
 abbrev pub IsWhyText : Form → Refusal → ShownEnds → List ℕ → Type 0
-IsWhyText Rows told ends text = AreRows told ends text
-IsWhyText Json told ends text = AreObjects told ends text
+IsWhyText Rows told ends text = BeginsWith (verdict_text ends.verdict) text
+IsWhyText Json told ends text = BeginsWith (refused_line (line_of told)) text
 
 pub record IsTelling (form : Form) (ends : ShownEnds) (refused : Refused) (text : List ℕ) : Type 0 where
   pub told : Refusal

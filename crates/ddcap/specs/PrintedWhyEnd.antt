@@ -1,5 +1,5 @@
--- What `why` prints of an answer of the judge of one end, byte by byte, and with which status it ends.
-use Rattle.std.specs.Prelude.{◌≡◌, ℕ, ◌⊎◌, List, ◌++◌, Some, Result, Ok, Err, IfOk, codes}
+-- What `why` prints of an answer of the judge of one end, as far as it is claimed, and with which status it ends.
+use Rattle.std.specs.Prelude.{◌≡◌, ℕ, ◌⊎◌, List, Some, Result, Ok, Err, IfOk, codes}
 use Rattle.capture.specs.Entries.{record_with}
 use Rattle.capture.specs.Faulty.{CountsReads, is_failed_read}
 use Rattle.capture.specs.declared.fault.CaptureFault.{CaptureFault}
@@ -16,8 +16,7 @@ use Rattle.pair_judge.specs.declared.end_verdict.EndVerdict.{EndVerdict}
 use Rattle.pair_judge.specs.declared.end_verdict.EndVerdict.TheVariants.{Passed, Refused}
 use Rattle.pair_judge.specs.declared.summary.SideSummary.{SideSummary}
 use Rattle.why.specs.declared.end_text.EndRefusal.{EndRefusal}
-use Rattle.why.specs.Refused.{end_accuses}
-use Rattle.why.specs.WholeEnd.{end_lines, end_rows}
+use Rattle.why.specs.Refused.{BeginsWith, end_accuses, line_of_end, refused_line}
 use Rattle.ddcap.specs.Printed.{Moved, Writes}
 use Rattle.ddcap.specs.PrintedAlone.{TellsEndFault, end_text}
 use Rattle.ddcap.specs.declared.telling.Form.{Form}
@@ -39,15 +38,10 @@ pub record IsToldOf (told : EndRefusal) (s : Stop) : Type 0 where
   pub ahead : s.end.ahead ≡ Some (record_with told.says told.bytes.now)
   pub failed : IsFailedAlone s.end told.reason told.failed
 
--- in rows, behind the line of the verdict and an empty one
-pub record AreEndRows (told : EndRefusal) (s : Stop) (text : List ℕ) : Type 0 where
-  pub name : List ℕ
-  pub ladder : List ℕ
-  pub are_rows : text ≡ end_text s.verdict ++ (codes "\n" ++ end_rows told s.end name ladder)
-
+-- in rows the line of the verdict comes first, and as JSON objects that of the refusal; what follows is not claimed
 abbrev pub IsEndText : Form → EndRefusal → Stop → List ℕ → Type 0
-IsEndText Rows told s text = AreEndRows told s text
-IsEndText Json told s text = text ≡ end_lines told s.end
+IsEndText Rows told s text = BeginsWith (end_text s.verdict) text
+IsEndText Json told s text = BeginsWith (refused_line (line_of_end told)) text
 
 pub record IsEndTelling (form : Form) (s : Stop) (text : List ℕ) : Type 0 where
   pub told : EndRefusal

@@ -4,7 +4,7 @@ use crate::alone::{alone_line_to, alone_to};
 use crate::answers::{alone_json_to, check_json_to, check_named_to, print_name, print_told};
 use crate::check::{check_line_to, check_to};
 use crate::fault_told::FaultTold;
-use crate::files::{Named, Wanted, open_to_read, opened, told_fault_of};
+use crate::files::{Named, Told, Wanted, open_to_read, opened, told_fault_of};
 use crate::layers::Layers;
 use crate::telling::Form;
 use std::io::Write;
@@ -55,6 +55,28 @@ pub fn check_files<R: Files + AllocGlobal, O: Write, E: Write>(
     greatest
 }
 
+/// Opens both files of a pair to be read, a's first. `Err`: one can't be opened, which was told in this way.
+pub fn opened_pair<R: Files + AllocGlobal, E: Write>(
+    rt: &R,
+    paths: PairPaths<'_>,
+    told: Told,
+    err: &mut Tally<E>,
+) -> Result<(Tally<R::File>, Tally<R::File>), FaultTold> {
+    let wanted_a = Wanted {
+        named: Named::A,
+        path: paths.a,
+        told,
+    };
+    let wanted_b = Wanted {
+        named: Named::B,
+        path: paths.b,
+        told,
+    };
+    let a = opened(rt, wanted_a, err)?;
+    let b = opened(rt, wanted_b, err)?;
+    Ok((a, b))
+}
+
 // The only pair.
 fn check_pair<R: Files + AllocGlobal, O: Write, E: Write>(
     rt: &R,
@@ -63,12 +85,8 @@ fn check_pair<R: Files + AllocGlobal, O: Write, E: Write>(
     out: &mut Tally<O>,
     err: &mut Tally<E>,
 ) -> u8 {
-    let mut a = match opened(rt, Wanted::by_name(Named::A, paths.a), err) {
-        Ok(a) => a,
-        Err(told) => return told.status,
-    };
-    let mut b = match opened(rt, Wanted::by_name(Named::B, paths.b), err) {
-        Ok(b) => b,
+    let (mut a, mut b) = match opened_pair(rt, paths, Told::Name, err) {
+        Ok(pair) => pair,
         Err(told) => return told.status,
     };
     match layers {
@@ -120,12 +138,8 @@ fn check_as_object<R: Files + AllocGlobal, O: Write, E: Write>(
     out: &mut Tally<O>,
     err: &mut Tally<E>,
 ) -> u8 {
-    let mut a = match opened(rt, Wanted::by_name(Named::A, paths.a), err) {
-        Ok(a) => a,
-        Err(told) => return print_told(rt.alloc(), paths.a, told, out),
-    };
-    let mut b = match opened(rt, Wanted::by_name(Named::B, paths.b), err) {
-        Ok(b) => b,
+    let (mut a, mut b) = match opened_pair(rt, paths, Told::Name, err) {
+        Ok(pair) => pair,
         Err(told) => return print_told(rt.alloc(), paths.a, told, out),
     };
     check_json_to(rt.alloc(), layers, paths.a, &mut a, &mut b, out, err)

@@ -17,6 +17,7 @@ pub fn program<'a>(alloc: Global) -> Result<Command<'a>, AllocError> {
         .subcommand(show(alloc)?)?
         .subcommand(play(alloc)?)?
         .subcommand(convert(alloc)?)?
+        .subcommand(align(alloc)?)?
         .subcommand(tap(alloc)?)?
         .subcommand(help(alloc)?)?
         .subcommand(explain(alloc)?)
@@ -35,12 +36,17 @@ fn alone<'a>(alloc: Global) -> Result<Command<'a>, AllocError> {
         .arg(as_json(alloc))
 }
 
-// `why [--line] [--json] A [B]`
+// `why [--line] [--full] [--json] A [B]`
 fn why<'a>(alloc: Global) -> Result<Command<'a>, AllocError> {
     Command::new(alloc, "why")
         .arg(Arg::new(alloc, "A").required(true))?
         .arg(Arg::new(alloc, "B"))?
         .arg(line_alone(alloc))?
+        .arg(
+            Arg::new(alloc, "full")
+                .long("full")
+                .action(ArgAction::SetTrue),
+        )?
         .arg(as_json(alloc))
 }
 
@@ -58,9 +64,16 @@ pub fn line_alone<'a>(alloc: Global) -> Arg<'a> {
         .action(ArgAction::SetTrue)
 }
 
-// `cover [--line] [--json] A B [A B ..]`
+// `cover [--line] [--json] [--missing] A B [A B ..]`
 fn cover<'a>(alloc: Global) -> Result<Command<'a>, AllocError> {
-    of_pairs(alloc, "cover")
+    of_pairs(alloc, "cover")?.arg(missing(alloc))
+}
+
+// `--missing`, before or after the files
+fn missing<'a>(alloc: Global) -> Arg<'a> {
+    Arg::new(alloc, "missing")
+        .long("missing")
+        .action(ArgAction::SetTrue)
 }
 
 // A word that takes the files of one pair or more. How many more there are is not asked here.
@@ -92,6 +105,15 @@ fn convert<'a>(alloc: Global) -> Result<Command<'a>, AllocError> {
         .arg(Arg::new(alloc, "N").required(true))?
         .arg(Arg::new(alloc, "IN").required(true))?
         .arg(Arg::new(alloc, "OUT").required(true))
+}
+
+// `align A B OUT_A OUT_B`
+fn align<'a>(alloc: Global) -> Result<Command<'a>, AllocError> {
+    Command::new(alloc, "align")
+        .arg(Arg::new(alloc, "A").required(true))?
+        .arg(Arg::new(alloc, "B").required(true))?
+        .arg(Arg::new(alloc, "OUT_A").required(true))?
+        .arg(Arg::new(alloc, "OUT_B").required(true))
 }
 
 // `tap [--line] [--json] WIRE A B`

@@ -11,7 +11,7 @@ use crate::layers::Layers;
 use crate::path_text::put_path;
 use crate::text::{verdict_line, verdict_status};
 use crate::went::{Went, judge_went};
-use coverage::{Counts, Cover, judge_covered, table};
+use coverage::{Counts, Cover, Hint, Setup, judge_covered, missing_text, table};
 use pair_judge::Verdict;
 use std::alloc::{AllocError, Global};
 use std::io::{Read, Write};
@@ -141,6 +141,38 @@ fn covered_text(alloc: Global, covered: &Covered) -> Result<String, AllocError>
     let table = table(alloc, &covered.a, &covered.b)?;
     let lines = &covered.lines;
     format!(in alloc; "{lines}{table}")
+}
+
+/// Prints which of the rows of these hints neither side went through in all pairs, with what meets each; and answers the status as `print_covered`
+/// does.
+pub fn print_missing<O: Write, E: Write>(
+    alloc: Global,
+    covered: &Covered,
+    hints: &[Hint],
+    setups: &[Setup],
+    out: &mut Tally<O>,
+    err: &mut Tally<E>,
+) -> u8
+    ensures { spec.PrintsMissing hints.now setups.now covered.now (moved O.contents out.old out.new) (moved E.contents err.old err.new) result }
+{
+    match text_of_missing(alloc, covered, hints, setups) {
+        Ok(text) => print(out, text.as_bytes(), covered.status),
+        Err(_) => print_out_of_memory(err),
+    }
+}
+
+// The first lines, and the missing rows.
+fn text_of_missing(
+    alloc: Global,
+    covered: &Covered,
+    hints: &[Hint],
+    setups: &[Setup],
+) -> Result<String, AllocError>
+    ensures { IfOk result (λ text. string_bytes text ≡ spec.missing_of hints.now setups.now covered.now) }
+{
+    let missing = missing_text(alloc, hints, setups, &covered.a, &covered.b)?;
+    let lines = &covered.lines;
+    format!(in alloc; "{lines}{missing}")
 }
 
 /// Prints which of several pairs it was of which a fault was told: `pair 2: A B`, and answers that fault's status, or 3 where a write failed. Where

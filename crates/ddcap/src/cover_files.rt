@@ -1,35 +1,69 @@
 //! `cover` between the names of its files and its status.
 
+ghost use Rattle.std.specs.Prelude.{◌≡◌, map, take};
+ghost use Rattle.coverage.specs.Missing.{hint_row};
+ghost use Rattle.coverage.specs.declared.order.TheConstants.{ORDER};
+
 use crate::answers::print_told;
-use crate::check_files::{How, PairPaths};
-use crate::cover::{Covered, cover_line_pair, cover_pair, print_covered, print_pair};
+use crate::check_files::{How, PairPaths, opened_pair};
+use crate::cover::{
+    Covered, cover_line_pair, cover_pair, print_covered, print_missing, print_pair,
+};
 use crate::cover_objects::{CoveredObjects, cover_object, print_covered_object};
 use crate::fault_told::FaultTold;
-use crate::files::{Named, Wanted, opened};
+use crate::files::Told;
 use crate::layers::Layers;
 use crate::telling::Form;
+use coverage::{Hint, all_hints, all_setups, station_hints};
 use std::io::Write;
 use std::rt::Files;
 use wire_base::Tally;
+
+/// Which rows are listed.
+#[derive(Clone, Copy, Debug, PartialEq, Eq)]
+pub enum Listed {
+    /// Those that a side went through, with how often each did.
+    Met,
+    /// Those that neither side went through, with what meets each.
+    Missing,
+}
 
 /// Judges the captures in these files, two of each pair, a's first, prints which rows all of them went through, and answers the status. A fault ends
 /// it; of several pairs the line of the pair is told after it.
 pub fn cover_files<R: Files + AllocGlobal, O: Write, E: Write>(
     rt: &R,
     how: How,
+    listed: Listed,
     files: &[&str],
     out: &mut Tally<O>,
     err: &mut Tally<E>,
 ) -> u8 {
+    let hints = match listed {
+        Listed::Met => None,
+        Listed::Missing => Some(hints_of(how.layers)),
+    };
     match how.form {
-        Form::Rows => cover_in_rows(rt, how.layers, files, out, err),
-        Form::Json => cover_as_object(rt, how.layers, files, out, err),
+        Form::Rows => cover_in_rows(rt, how.layers, hints, files, out, err),
+        Form::Json => cover_as_object(rt, how.layers, hints, files, out, err),
     }
 }
 
+// The hints of the rows that are counted.
+fn hints_of(layers: Layers) -> &'static [Hint]
+    ensures both { layers ≡ Layers.Both → map hint_row result.now ≡ ORDER }
+    ensures station { layers ≡ Layers.Station → map hint_row result.now ≡ take 52 ORDER }
+{
+    match layers {
+        Layers::Both => all_hints(),
+        Layers::Station => station_hints(),
+    }
+}
+
+// With hints the rows that are missing.
 fn cover_in_rows<R: Files + AllocGlobal, O: Write, E: Write>(
     rt: &R,
     layers: Layers,
+    hints: Option<&[Hint]>,
     files: &[&str],
     out: &mut Tally<O>,
     err: &mut Tally<E>,
@@ -50,7 +84,10 @@ fn cover_in_rows<R: Files + AllocGlobal, O: Write, E: Write>(
         }
         return print_pair(rt.alloc(), err, number, paths.a, paths.b, status);
     }
-    print_covered(rt.alloc(), &covered, out, err)
+    match hints {
+        Some(hints) => print_missing(rt.alloc(), &covered, hints, all_setups(), out, err),
+        None => print_covered(rt.alloc(), &covered, out, err),
+    }
 }
 
 // One pair more. `Err`: the status of a fault, which was told.
@@ -61,12 +98,8 @@ fn add_pair<R: Files + AllocGlobal, E: Write>(
     covered: &mut Covered,
     err: &mut Tally<E>,
 ) -> Result<(), u8> {
-    let mut a = match opened(rt, Wanted::by_path(Named::A, paths.a), err) {
-        Ok(a) => a,
-        Err(told) => return Err(told.status),
-    };
-    let mut b = match opened(rt, Wanted::by_path(Named::B, paths.b), err) {
-        Ok(b) => b,
+    let (mut a, mut b) = match opened_pair(rt, paths, Told::Path, err) {
+        Ok(pair) => pair,
         Err(told) => return Err(told.status),
     };
     match layers {
@@ -75,9 +108,11 @@ fn add_pair<R: Files + AllocGlobal, E: Write>(
     }
 }
 
+// With hints also the rows that are missing.
 fn cover_as_object<R: Files + AllocGlobal, O: Write, E: Write>(
     rt: &R,
     layers: Layers,
+    hints: Option<&[Hint]>,
     files: &[&str],
     out: &mut Tally<O>,
     err: &mut Tally<E>,
@@ -99,7 +134,7 @@ fn cover_as_object<R: Files + AllocGlobal, O: Write, E: Write>(
         }
         return print_pair(rt.alloc(), err, number, paths.a, paths.b, status);
     }
-    print_covered_object(rt.alloc(), &covered, out, err)
+    print_covered_object(rt.alloc(), &covered, hints, out, err)
 }
 
 // One pair more, for the object.
@@ -110,7 +145,6 @@ fn add_object<R: Files + AllocGlobal, E: Write>(
     covered: &mut CoveredObjects,
     err: &mut Tally<E>,
 ) -> Result<(), FaultTold> {
-    let mut a = opened(rt, Wanted::by_path(Named::A, paths.a), err)?;
-    let mut b = opened(rt, Wanted::by_path(Named::B, paths.b), err)?;
+    let (mut a, mut b) = opened_pair(rt, paths, Told::Path, err)?;
     cover_object(rt.alloc(), layers, paths.a, &mut a, &mut b, covered, err)
 }

@@ -7,10 +7,9 @@ use crate::check::{print_fault, print_out_of_memory};
 use crate::fault_told::FaultTold;
 use crate::layers::Layers;
 use crate::objects::{ended, put, verdict_object};
-use crate::rows::ROWS_IN_ORDER;
 use crate::text::verdict_status;
 use crate::went::{Went, judge_went};
-use coverage::{Counts, ROWS, Row};
+use coverage::{Counts, Hint, ORDER, Row, Setup, all_setups};
 use std::alloc::{AllocError, Global};
 use std::io::{Read, Write};
 use wire_base::{Side, Tally};
@@ -80,33 +79,90 @@ pub fn cover_object<A: Read, B: Read, E: Write>(
     }
 }
 
-/// Prints what was found of all pairs as one object, and answers the status: 0 where all are accepted, 1 where one is refused, and 3 where there is
-/// no memory for it or a write failed. No contract tells the object.
+/// Prints what was found of all pairs as one object, with hints also which of their rows are missing, and answers the status: 0 where all are
+/// accepted, 1 where one is refused, and 3 where there is no memory for it or a write failed. No contract tells the object.
 pub fn print_covered_object<O: Write, E: Write>(
     alloc: Global,
     covered: &CoveredObjects,
+    hints: Option<&[Hint]>,
     out: &mut Tally<O>,
     err: &mut Tally<E>,
 ) -> u8
     ensures { EndsWith covered.now.status result }
 {
-    print_object(covered_object(alloc, covered), covered.status, out, err)
+    print_object(
+        covered_object(alloc, covered, hints),
+        covered.status,
+        out,
+        err,
+    )
 }
 
-// The pairs, how many rows each side went through, and how often through each.
-fn covered_object(alloc: Global, covered: &CoveredObjects) -> Result<Vec<u8>, AllocError> {
+// The pairs, how many rows each side went through, how often through each, and which of those with hints are missing.
+fn covered_object(
+    alloc: Global,
+    covered: &CoveredObjects,
+    hints: Option<&[Hint]>,
+) -> Result<Vec<u8>, AllocError> {
     let mut object = Vec::new(alloc);
     put(&mut object, "{\"what\": \"cover\", \"pairs\": [")?;
     object.extend_from_slice(covered.pairs.as_slice())?;
     put_met(alloc, &mut object, covered)?;
-    for place in 0..ROWS {
-        if place > 0 {
-            put(&mut object, ", ")?;
-        }
-        put_row(alloc, &mut object, covered, ROWS_IN_ORDER[place])?;
+    let mut is_first = true;
+    for row in ORDER.iter() {
+        put_comma(&mut object, is_first)?;
+        put_row(alloc, &mut object, covered, *row)?;
+        is_first = false;
     }
     put(&mut object, "]")?;
+    if let Some(hints) = hints {
+        put_missing(alloc, &mut object, covered, hints)?;
+        put_setups(alloc, &mut object)?;
+    }
     ended(object)
+}
+
+fn put_comma(object: &mut Vec<u8>, is_first: bool) -> Result<(), AllocError> {
+    match is_first {
+        true => Ok(()),
+        false => put(object, ", "),
+    }
+}
+
+// The rows that neither side went through, with what meets each.
+fn put_missing(
+    alloc: Global,
+    object: &mut Vec<u8>,
+    covered: &CoveredObjects,
+    hints: &[Hint],
+) -> Result<(), AllocError> {
+    put(object, ", \"missing\": [")?;
+    let mut is_first = true;
+    for hint in hints {
+        let Hint(row, how) = *hint;
+        if covered.a.of(row) > 0 || covered.b.of(row) > 0 {
+            continue;
+        }
+        put_comma(object, is_first)?;
+        let part = format!(in alloc; "{{\"row\": \"{row}\", \"hint\": \"{how}\"}}")?;
+        put(object, part.as_str())?;
+        is_first = false;
+    }
+    put(object, "]")
+}
+
+// What the names in hints stand for.
+fn put_setups(alloc: Global, object: &mut Vec<u8>) -> Result<(), AllocError> {
+    put(object, ", \"setups\": [")?;
+    let mut is_first = true;
+    for setup in all_setups() {
+        let Setup(name, steps) = *setup;
+        put_comma(object, is_first)?;
+        let part = format!(in alloc; "{{\"name\": \"{name}\", \"steps\": \"{steps}\"}}")?;
+        put(object, part.as_str())?;
+        is_first = false;
+    }
+    put(object, "]")
 }
 
 fn put_met(

@@ -2,7 +2,9 @@
 
 ghost use Rattle.std.specs.Prelude.{IfOk, IfSome, string_bytes};
 ghost use Rattle.ddcap.specs.Printed.{moved};
-ghost use Rattle.ddcap.specs.PrintedWhyEnd.{AreEndRows, ExplainsEnd, IsToldOf, PrintsPass, TellsEnd, stop};
+ghost use Rattle.why.specs.Refused.{BeginsWith};
+ghost use Rattle.ddcap.specs.PrintedAlone as printed;
+ghost use Rattle.ddcap.specs.PrintedWhyEnd.{ExplainsEnd, IsToldOf, PrintsPass, TellsEnd, stop};
 
 use crate::alone::print_end_fault;
 use crate::check::{print, print_out_of_memory};
@@ -14,13 +16,15 @@ use ladder::Ladder;
 use pair_judge::{EndVerdict, SideEnd, SideSummary, WatchedEnd, judge_end_watched};
 use std::alloc::{AllocError, Global};
 use std::io::{Read, Write};
-use why::{Accusation, EndRefusal, why_end_json, why_end_rows};
+use why::{Accusation, Beside, EndRefusal, LinkPast, addresses_of, why_end_json, why_end_rows};
 use wire_base::{Side, Tally};
 
 /// How the answer is printed, and the name of the capture in it.
 #[derive(Clone, Copy)]
 pub struct EndPrintout<'n> {
     pub form: Form,
+    /// Whether all bytes of the record are printed in rows.
+    pub full: bool,
     pub name: &'n str,
 }
 
@@ -47,7 +51,7 @@ pub fn why_end_to<A: Read, O: Write, E: Write>(
     };
     match watched.verdict {
         EndVerdict::Passed(counts) => print_passed(alloc, printout.form, counts, out, err),
-        EndVerdict::Refused { .. } => match refused_text(alloc, printout, watched) {
+        EndVerdict::Refused { .. } => match end_refused_text(alloc, printout, watched) {
             Ok(text) => print(out, text.as_bytes(), REFUSED),
             Err(_) => print_out_of_memory(err),
         },
@@ -73,8 +77,8 @@ fn print_passed<O: Write, E: Write>(
     }
 }
 
-// What is said of a refusal. `AllocError` where there is no memory for it.
-fn refused_text(
+/// What is said of a refusal. `AllocError` where there is no memory for it.
+pub fn end_refused_text(
     alloc: Global,
     printout: EndPrintout<'_>,
     watched: WatchedEnd<LastRows>,
@@ -84,22 +88,22 @@ fn refused_text(
     let WatchedEnd {
         verdict,
         end,
-        observer: LastRows { mut ladder },
+        observer: LastRows { mut ladder, past },
     } = watched;
-    let Some(refusal) = refusal_of(verdict, &end) else {
+    let Some(refusal) = refusal_of(verdict, &end, &past) else {
         return end_text(alloc, Layers::Both, verdict);
     };
     match printout.form {
         Form::Json => why_end_json(alloc, refusal, &end),
         Form::Rows => {
             ladder.refused(Side::A, refusal.says, refusal.bytes, false);
-            rows_text(alloc, printout.name, verdict, refusal, &end, &ladder)
+            rows_text(alloc, printout, verdict, refusal, &end, &ladder)
         }
     }
 }
 
 // What is told of the refused record; `None` where none is ahead.
-fn refusal_of(verdict: EndVerdict, end: &SideEnd) -> Option<EndRefusal<'_>>
+fn refusal_of<'t>(verdict: EndVerdict, end: &'t SideEnd, past: &LinkPast) -> Option<EndRefusal<'t>>
     ensures { IfSome result (λ told. IsToldOf told (stop verdict end.now)) }
 {
     let Some((entry, bytes)) = end.ahead() else {
@@ -120,23 +124,29 @@ fn refusal_of(verdict: EndVerdict, end: &SideEnd) -> Option<EndRefusal<'_>>
         failed: end.failed_alone(reason),
         says: entry,
         bytes,
+        lines: past.lines(Side::A, addresses_of(entry, bytes)),
     })
 }
 
 // The line of the verdict, and the rows of a refusal.
 fn rows_text(
     alloc: Global,
-    name: &str,
+    printout: EndPrintout<'_>,
     verdict: EndVerdict,
     refusal: EndRefusal<'_>,
     end: &SideEnd,
     ladder: &Ladder,
 ) -> Result<String, AllocError>
-    ensures { IfOk result (λ text. AreEndRows refusal.entry (stop verdict end.now) (string_bytes text)) }
+    ensures { IfOk result (λ text. BeginsWith (printed.end_text verdict) (string_bytes text)) }
 {
     let drawn = ladder.drawn(alloc)?;
     let rungs = ladder_text(alloc, &drawn)?;
     let first = end_text(alloc, Layers::Both, verdict)?;
-    let rows = why_end_rows(alloc, refusal, end, name, rungs.as_str())?;
+    let beside = Beside {
+        name: printout.name,
+        unit: "",
+        full: printout.full,
+    };
+    let rows = why_end_rows(alloc, refusal, end, beside, rungs.as_str())?;
     format!(in alloc; "{first}\n{rows}")
 }

@@ -26,6 +26,9 @@ pub enum Named {
     B,
     /// The picture of `draw`.
     Svg,
+    /// What `align` writes for side a, and for side b.
+    OutA,
+    OutB,
 }
 
 impl fmt::Display for Named {
@@ -41,6 +44,8 @@ impl fmt::Display for Named {
             Named::A => f.write_str("a"),
             Named::B => f.write_str("b"),
             Named::Svg => f.write_str("svg"),
+            Named::OutA => f.write_str("out a"),
+            Named::OutB => f.write_str("out b"),
         }
     }
 }
@@ -180,6 +185,8 @@ fn print_cannot_open<W: Write>(err: &mut Tally<W>, named: Named) -> u8
         Named::A => print(err, b"a: cannot open\n", FAILED),
         Named::B => print(err, b"b: cannot open\n", FAILED),
         Named::Svg => print(err, b"svg: cannot open\n", FAILED),
+        Named::OutA => print(err, b"out a: cannot open\n", FAILED),
+        Named::OutB => print(err, b"out b: cannot open\n", FAILED),
     }
 }
 

@@ -5,14 +5,14 @@ ghost use Rattle.ddcap.specs.Helping.{help_text};
 ghost use Rattle.ddcap.specs.Printed.{Writes, stream_of};
 
 use crate::check::print;
-use crate::help_pages::{CONVERT, EXPLAIN, HELP, PLAY, PROGRAM, SHOW, TAP};
+use crate::help_pages::{ALIGN, CONVERT, EXPLAIN, HELP, PLAY, PROGRAM, SHOW, TAP};
 use crate::judging_pages::{ALONE, CHECK, COVER, DRAW, WHY};
 use crate::text::FAILED;
 use std::io::Write;
 use wire_base::{Tally, write_whole};
 
 /// The version of the program: this place alone has it.
-pub const VERSION: &str = "1.2";
+pub const VERSION: &str = "1.3";
 
 /// The status where the page was printed.
 const HELPED: u8 = 0;
@@ -30,6 +30,7 @@ pub enum Topic {
     Show,
     Play,
     Convert,
+    Align,
     Tap,
     Help,
     Explain,
@@ -49,6 +50,7 @@ pub fn help_to<W: Write>(stream: &mut Tally<W>, topic: Topic) -> u8
         Topic::Show => print(stream, SHOW.as_bytes(), HELPED),
         Topic::Play => print(stream, PLAY.as_bytes(), HELPED),
         Topic::Convert => print(stream, CONVERT.as_bytes(), HELPED),
+        Topic::Align => print(stream, ALIGN.as_bytes(), HELPED),
         Topic::Tap => print(stream, TAP.as_bytes(), HELPED),
         Topic::Help => print(stream, HELP.as_bytes(), HELPED),
         Topic::Explain => print(stream, EXPLAIN.as_bytes(), HELPED),

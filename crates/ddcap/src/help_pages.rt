@@ -6,12 +6,13 @@ pub const PROGRAM: &str = "\
 
   ddcap check A B         judge the captures of both ends of a line
   ddcap alone A           judge the capture of one end, without the other
-  ddcap why A [B]         say what was seen and allowed at a refusal
-  ddcap cover A B         count which rows of the rules a pair goes through
+  ddcap why A [B]         tell why a pair, or one end, is refused
+  ddcap cover A B         count which rules a pair exercises
   ddcap draw A B          draw what passed between both ends
   ddcap show A            print what a capture says, one line per record
   ddcap play SCRIPT A B   write both captures of a script
   ddcap convert N IN OUT  write a capture in format N: 1 or 2
+  ddcap align A B OUT_A OUT_B  find the hints of both captures by their bytes
   ddcap tap WIRE A B      make both captures from what passed on a line
   ddcap help [WORD]       print this page, or the page of one word
   ddcap explain N         say what reason N of a refusal means: 1 to 27
@@ -20,10 +21,9 @@ Status:
   0  done; from check, alone, why, cover, draw, tap: accepted or passed
   1  from check, alone, why, cover, draw: refused; from tap: unexplained
   2  the words of the command, or a line of a file, are faulty
-  3  a file, the memory or a stream failed
+  3  a file failed, or memory ran out
 
 Faults go to standard error, everything else to standard output.
-
 Begin with: ddcap help check, or ddcap help alone
 More is in docs: CAPTURES.md (how to record, the format), WIRE.md (what tap
 reads), SCRIPTS.md (what play reads), REASONS.md (refusals), WORDS.md.
@@ -89,7 +89,7 @@ ddcap convert N IN OUT
 
 Writes the capture in the file IN into the file OUT, in format N: 1 or 2. They
 differ in the hints: in format 1 a hint is the number of a unit, in format 2
-its distance to the one that is due. IN may be in either format. The file OUT
+its distance from the one that is due. IN may be in either format. The file OUT
 is created, or emptied first; if it is the same file as IN, nothing changes.
 
 Example, in the top folder of the sources:
@@ -107,12 +107,46 @@ Status:
      failed, out of memory, or a failed write to standard output or error
 ";
 
+pub const ALIGN: &str = "\
+ddcap align A B OUT_A OUT_B
+
+Finds the hints of both captures by the bytes, and writes the captures with
+them into OUT_A and OUT_B, in format 1. The hints of A and B are not looked at:
+a recorder that counts no units writes each receipt as r 0 BYTES or k 0 BYTES
+in format 2. Nothing but the hints changes.
+
+Example, in the top folder of the sources:
+
+  ./ddcap align examples/first_start_lost.a examples/first_start_lost.b x y
+
+It ends with status 0 and prints:
+
+  aligned 1 of 1 receipts of a, 2 of 2 of b
+  b line 3: unit 0, the first of 2 that would do
+
+Receipts are taken in order. One without damage gets the first unit with its
+bytes after the unit of the receipt before it; a damaged one gets the next.
+Line 3 of b could be unit 1 of a as well: both read alike, and one was lost. A
+wrong choice is accepted only if two nodes could have done exactly that.
+
+The files OUT_A and OUT_B are created or emptied once A and B were read: name
+four different files, or it changes nothing. Then: ddcap check x y
+
+Status:
+  0  each receipt got a unit
+  1  a receipt got none, as b line 9: no unit from 4 on would do; check refuses
+     the pair that was written
+  2  a faulty line, as a: line 3: syntax (or too long, too many)
+  3  a: cannot open: PATH (or b:, out a:, out b:), out b: same file as a, a:
+     read failed, out a: write failed, out of memory, or a failed write
+";
+
 pub const HELP: &str = "\
 ddcap help [WORD]
 
 Prints what the program is and all its words; or, with a word, what that one
 does, an example and the statuses. WORD is check, alone, why, cover, draw,
-show, play, convert, tap, help or explain.
+show, play, convert, align, tap, help or explain.
 
 Example, in the top folder of the sources:
 
@@ -143,8 +177,8 @@ It ends with status 0 and prints a text that begins:
 
   6 WrongState
 
-Suspect the recording as much as the node: docs/REASONS.md begins with what
-mistakes of a recorder look like.
+Suspect the recording before the node: docs/REASONS.md begins with the mistakes
+that recorders make.
 
 Status:
   0  the reason was printed
@@ -158,8 +192,8 @@ ddcap tap WIRE A B
 Reads what passed on a line in both directions, works out what both nodes did,
 writes it into the captures A and B, and judges these. WIRE has a head, and a
 line for each piece of bytes, from a or from b, in the order in which they
-passed; a piece may be cut anywhere. This works only if every unit that was
-sent passed there, from before the first start. Name three different files.
+passed; a piece may be cut anywhere. This holds only if every unit sent passed
+there, starting before the first STRT. Name three different files.
 
 Example, in the top folder of the sources:
 

@@ -12,7 +12,7 @@ use std::io::{Read, Seek};
 use wire_base::{Side, Tally};
 
 /// Changes of the lines of both captures.
-#[derive(Debug, Drop)]
+#[derive(Drop)]
 pub struct PairChanges {
     pub a: Vec<Change>,
     pub b: Vec<Change>,
@@ -60,7 +60,8 @@ pub fn judge_edited<A: Read, B: Read>(
     b: &mut B,
     changes: PairChanges,
 ) -> Result<Verdict, JudgeFault>
-    ensures { IsAnswer (nodes_of layers) (with_changes changes.a.items (A.remaining a.old)) (with_changes changes.b.items (B.remaining b.old)) result }
+    ensures { IsAnswer (nodes_of layers) (with_changes changes.a.items (A.remaining a.old)) (with_changes changes.b.items (B.remaining b.old))
+        result }
 {
     let PairChanges {
         a: changes_a,

@@ -21,8 +21,7 @@ For a pair without a fault it prints accepted, and a line of counts per side.
 
 With --line, before or after the files, only stations and line are judged: a
 packet may be any bytes and is not read, and events of links are not judged.
-Use it for a line that joins routers, or that carries something else than
-DECnet.
+Use it for a line that joins routers, or carries something other than DECnet.
 
 With --json the answer is one JSON object; docs/KEYS.md has its keys.
 
@@ -54,7 +53,7 @@ Whatever the other end's capture is, it can't go with this one: record 3, on
 line 5, breaks a rule. If ' by the other end' follows, no correct end can have
 sent what was received there. Then: ./ddcap explain 8
 
-passed, and a line of counts: this end kept its rules, as far as one end shows.
+passed, and a line of counts: this end broke no rule, as far as one end shows.
 
 A recorder that counts no units writes each receipt as r 0 BYTES in format 2.
 With --line only station and line are judged, as ddcap help check says.
@@ -94,7 +93,11 @@ With --json, before or after the files, each of these is an object on a line of
 its own. For a pair that is not refused, the answer is that of check.
 
 docs/KEYS.md has the keys of these objects. With --line only stations and line
-of a pair are judged, as by check.
+of a pair are judged, as by check. With --full all bytes of the
+record are printed in rows, and not only the first 64.
+
+At a faulty line it tells on standard error what is there, at which column, and
+what would be right.
 
 Status:
   0  accepted, passed
@@ -132,6 +135,10 @@ again for the links if it is one of theirs. A dot is a count of 0; rows that
 neither side went through are left out. More pairs may follow, as A B A B: then
 there is a first line for each, and counts add up; a fault is followed by a
 line that says which pair it was.
+
+With --missing the rows that neither side went through are listed instead, each
+with steps of a script that meet it; what short names in them stand for is at
+the end.
 
 With --line only stations and line are judged, and rows of links are not
 counted. With --json the answer is one JSON object, with all 80 rows;

@@ -1,5 +1,6 @@
 //! The words after those that judge captures.
 
+use crate::cover_files::Listed;
 use crate::layers::Layers;
 use crate::tap_files::TapPaths;
 use crate::telling::Form;
@@ -38,10 +39,22 @@ pub fn explained_of<'a>(found: &ArgMatches<'a>) -> Result<Task<'a>, WordsFault> 
     };
     let form = form_of(found);
     let layers = layers_of(found);
+    let full = found.get_flag("full");
     match found.get_str("B") {
-        Some(b) => Ok(Task::Why { form, layers, a, b }),
+        Some(b) => Ok(Task::Why {
+            form,
+            layers,
+            full,
+            a,
+            b,
+        }),
         None => match layers {
-            Layers::Both => Ok(Task::WhyAlone { form, a }),
+            Layers::Both => Ok(Task::WhyAlone {
+                form,
+                layers,
+                full,
+                a,
+            }),
             Layers::Station => Err(WordsFault::BadWords),
         },
     }
@@ -53,6 +66,7 @@ pub fn covered_of<'a>(alloc: Global, found: &ArgMatches<'a>) -> Result<Task<'a>,
         Ok(files) => Ok(Task::Cover {
             form: form_of(found),
             layers: layers_of(found),
+            listed: listed_of(found),
             files,
         }),
         Err(fault) => Err(fault),
@@ -96,6 +110,14 @@ fn layers_of(found: &ArgMatches<'_>) -> Layers {
     match found.get_flag("line") {
         true => Layers::Station,
         false => Layers::Both,
+    }
+}
+
+// Which rows are listed.
+fn listed_of(found: &ArgMatches<'_>) -> Listed {
+    match found.get_flag("missing") {
+        true => Listed::Missing,
+        false => Listed::Met,
     }
 }
 

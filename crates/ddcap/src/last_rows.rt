@@ -1,4 +1,4 @@
-//! The last rows of the ladder, as the judge tells the records.
+//! The last rows of the ladder, and the lines of the links, as the judge tells the records.
 
 ghost use Rattle.std.specs.Prelude.{[], IfOk, IfErr};
 ghost use Rattle.ddcap.specs.inner.LastRows.{WereTold};
@@ -6,14 +6,16 @@ ghost use Rattle.ddcap.specs.inner.LastRows.{WereTold};
 use ladder::{Keep, Ladder};
 use pair_judge::{MadeEntry, Observer};
 use std::alloc::{AllocError, Global};
+use why::LinkPast;
 
 /// How many rows there are before that of the refused record.
 pub const ROWS_BEFORE: usize = 10;
 
-/// The last rows of the records that were told, with room for one more, of the refused record.
+/// The last rows of the records that were told, with room for one more, of the refused record; and in which lines links began and ended.
 #[derive(Drop)]
 pub struct LastRows {
     pub ladder: Ladder,
+    pub past: LinkPast,
 }
 
 impl LastRows {
@@ -22,7 +24,8 @@ impl LastRows {
         ensures { IfOk result (λ rows. WereTold rows.ladder []) }
     {
         let ladder = Ladder::new(alloc, Keep::Last, ROWS_BEFORE + 1)?;
-        Ok(LastRows { ladder })
+        let past = LinkPast::new(alloc);
+        Ok(LastRows { ladder, past })
     }
 }
 
@@ -30,6 +33,7 @@ impl Observer for LastRows {
     ghost told = { λ rows order. WereTold rows.ladder order };
 
     fn made(&mut self, next: &MadeEntry<'_>) -> Result<(), AllocError> {
+        self.past.note(next.side, next.entry, next.bytes)?;
         self.ladder.made(next.side, next.entry, next.bytes)
     }
 }

@@ -8,6 +8,8 @@
 use std::process::ExitCode;
 use wire_base::Tally;
 
+mod align;
+mod align_files;
 mod alone;
 mod answers;
 mod check;
@@ -17,6 +19,7 @@ mod convert;
 mod cover;
 mod cover_files;
 mod cover_objects;
+mod departure;
 mod draw;
 mod draw_files;
 mod draw_words;
@@ -42,7 +45,6 @@ mod picture;
 mod play;
 mod recorder;
 mod right_units;
-mod rows;
 mod run;
 mod show;
 mod shown_line;

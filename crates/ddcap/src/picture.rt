@@ -15,7 +15,7 @@ use ladder::Caption;
 use pair_judge::{JudgeFault, JudgedEnds, Verdict};
 use std::alloc::{AllocError, Global};
 use std::io::{Read, Seek};
-use why::{Check, CheckTold, Form, FrontTexts};
+use why::{Check, CheckObject, FrontTexts, Lines};
 use wire_base::Side;
 
 /// A picture, with the verdict on what it shows.
@@ -92,7 +92,7 @@ fn verdict_words(alloc: Global, verdict: Verdict) -> Result<String, AllocError> 
     }
 }
 
-// What is said of the check that the refused record does not pass, in rows; nothing where none is refused.
+// What is said of the check that the refused record does not pass, as an object; nothing where none is refused.
 fn check_words(
     alloc: Global,
     ends: &JudgedEnds,
@@ -116,9 +116,9 @@ fn check_words(
         bytes,
         reading: read_unit(bytes),
         fronts: fronts.lent(),
+        lines: Lines::none(),
     };
-    let form = Form::Rows;
-    format!(in alloc; "{}", CheckTold { form, check })
+    format!(in alloc; "{}", CheckObject { check })
 }
 
 // The unit that the refused record names, read again from the other side's capture; `None` where it names none that was sent, or the capture can't be
@@ -145,20 +145,16 @@ fn unit_named<A: Read + Seek, B: Read + Seek>(
     }
 }
 
-// The words of its first two rows, behind their keys.
+// What is seen and what is allowed, of the object of a check.
 fn seen_and_allowed(check: &str) -> (&str, &str) {
-    let Some((first, rest)) = check.split_once('\n') else {
+    let Some((_, rest)) = check.split_once("\"seen\": \"") else {
         return ("", "");
     };
-    let Some((second, _)) = rest.split_once('\n') else {
+    let Some((seen, rest)) = rest.split_once("\", \"allowed\": \"") else {
         return ("", "");
     };
-    (
-        behind_key(first, "  seen     "),
-        behind_key(second, "  allowed  "),
-    )
-}
-
-fn behind_key<'t>(row: &'t str, key: &str) -> &'t str {
-    row.strip_prefix(key).unwrap_or(row)
+    match rest.split_once("\", \"rule\": \"") {
+        Some((allowed, _)) => (seen, allowed),
+        None => ("", ""),
+    }
 }

@@ -12,7 +12,7 @@ use pair_judge::{JudgeFault, JudgedEnds, Verdict};
 use std::alloc::{AllocError, Global};
 use std::fmt::Write as _;
 use std::io::{Read, Seek};
-use why::{EditLine, EditRow, EditsTried, FEW_RECORDS};
+use why::{EditLine, EditsTried, FEW_RECORDS, put_edit};
 use wire_base::{Side, Tally};
 
 /// How many bytes of both captures are read at most while edits are judged: about two seconds' work.
@@ -82,23 +82,18 @@ impl Tried {
             return Ok(());
         }
         let words = format!(in alloc; "{mistake}")?;
-        let (line, row) = (
-            EditLine {
-                words: words.as_str(),
-            },
-            EditRow {
-                words: words.as_str(),
-            },
-        );
+        let line = EditLine {
+            words: words.as_str(),
+        };
         write!(self.lines, "{line}")?;
-        write!(self.rows, "{row}")
+        put_edit(&mut self.rows, words.as_str())
     }
 }
 
 /// Judges the pair again, over these layers, under small edits of a recorder's mistakes near the refused record of this side, the likeliest first:
-/// at most 64, and none is begun once 500,000,000 bytes were read. Where one makes it a run, it is judged with one field of the refused unit changed too.
-/// Nothing is tried where a file can't be read again from its beginning, nor where fewer than [`FEW_RECORDS`] records stand behind the refused one;
-/// and nothing more once a read failed. `AllocError` where there is no memory for an edit.
+/// at most 64, and none is begun once 500,000,000 bytes were read. Where one makes it a run, it is judged with one field of the refused unit changed
+/// too. Nothing is tried where a file can't be read again from its beginning, nor where fewer than [`FEW_RECORDS`] records stand behind the refused
+/// one; and nothing more once a read failed. `AllocError` where there is no memory for an edit.
 pub fn try_edits<A: Read + Seek, B: Read + Seek>(
     alloc: Global,
     layers: Layers,

@@ -3,10 +3,12 @@
 ghost use Rattle.ddcap.specs.Printed.{Writes, stream_of, words_fault_status, words_fault_text};
 ghost use Rattle.ddcap.specs.inner.Statuses.{EndsWith};
 
+use crate::align_files::align_files;
 use crate::check::{print, print_out_of_memory};
 use crate::check_files::{How, alone_file, check_files};
 use crate::convert::convert_to;
 use crate::cover_files::cover_files;
+use crate::departure::{explain_departure_of_end, explain_departure_of_pair};
 use crate::draw_files::draw_files;
 use crate::end_telling::{EndPrintout, why_end_to};
 use crate::explain::explain_to;
@@ -18,8 +20,9 @@ use crate::layers::Layers;
 use crate::play::play_to;
 use crate::show::show_to;
 use crate::tap_files::tap_files;
-use crate::telling::{Form, Printout, why_to};
+use crate::telling::{Printout, why_to};
 use crate::telling_line::why_line_to;
+use crate::text::FAULTY;
 use crate::usages::advice_on;
 use crate::words::{Task, WordsFault, task_of};
 use crate::written::{Beside, written, written_pair};
@@ -77,20 +80,48 @@ impl<R: Files + AllocGlobal, O: Write, E: Write> Program<'_, '_, '_, R, O, E> {
             Task::Alone { form, layers, a } => {
                 Ok(alone_file(self.rt, How { form, layers }, a, self.out, self.err))
             }
-            Task::Why { form, layers, a, b } => self.why(How { form, layers }, a, b),
-            Task::WhyAlone { form, a } => self.why_alone(form, a),
+            Task::Why {
+                form,
+                layers,
+                full,
+                a,
+                b,
+            } => {
+                let printout = Printout {
+                    form,
+                    full,
+                    name_a: a,
+                    name_b: b,
+                };
+                self.why(layers, printout)
+            }
+            Task::WhyAlone {
+                form,
+                layers,
+                full,
+                a,
+            } => {
+                let printout = EndPrintout {
+                    form,
+                    full,
+                    name: a,
+                };
+                self.why_alone(layers, printout)
+            }
             Task::Cover {
                 form,
                 layers,
+                listed,
                 files,
             } => {
                 let how = How { form, layers };
-                Ok(cover_files(self.rt, how, files.as_slice(), self.out, self.err))
+                Ok(cover_files(self.rt, how, listed, files.as_slice(), self.out, self.err))
             }
             Task::Draw(asked) => draw_files(self.rt, asked, self.out, self.err),
             Task::Show { a } => self.show(a),
             Task::Play { script, a, b } => self.play(script, a, b),
             Task::Convert { to, a, b } => self.convert(to, a, b),
+            Task::Align(paths) => align_files(self.rt, paths, self.out, self.err),
             Task::Tap { form, paths } => Ok(tap_files(self.rt, form, paths, self.out, self.err)),
             Task::Help { topic } => Ok(help_to(self.out, topic)),
             Task::Explain { reason } => self.explain(reason),
@@ -102,25 +133,37 @@ impl<R: Files + AllocGlobal, O: Write, E: Write> Program<'_, '_, '_, R, O, E> {
         opened(self.rt, wanted, self.err)
     }
 
-    fn why(&mut self, how: How, path_a: &str, path_b: &str) -> Result<u8, FaultTold> {
-        let mut a = opened_plain(self.rt, Wanted::by_path(Named::A, path_a), self.err)?;
-        let mut b = opened_plain(self.rt, Wanted::by_path(Named::B, path_b), self.err)?;
-        let printout = Printout {
-            form: how.form,
-            name_a: path_a,
-            name_b: path_b,
-        };
+    fn why(&mut self, layers: Layers, printout: Printout<'_>) -> Result<u8, FaultTold> {
+        let mut a = opened_plain(
+            self.rt,
+            Wanted::by_path(Named::A, printout.name_a),
+            self.err,
+        )?;
+        let mut b = opened_plain(
+            self.rt,
+            Wanted::by_path(Named::B, printout.name_b),
+            self.err,
+        )?;
         let alloc = self.rt.alloc();
-        Ok(match how.layers {
+        let status = match layers {
             Layers::Both => why_to(alloc, printout, &mut a, &mut b, self.out, self.err),
             Layers::Station => why_line_to(alloc, printout, &mut a, &mut b, self.out, self.err),
-        })
+        };
+        if status == FAULTY {
+            explain_departure_of_pair(alloc, layers, &mut a, &mut b, self.err);
+        }
+        Ok(status)
     }
 
-    fn why_alone(&mut self, form: Form, path: &str) -> Result<u8, FaultTold> {
-        let mut a = self.open(Wanted::by_path(Named::A, path))?;
-        let printout = EndPrintout { form, name: path };
-        Ok(why_end_to(self.rt.alloc(), printout, &mut a, self.out, self.err))
+    fn why_alone(&mut self, layers: Layers, printout: EndPrintout<'_>) -> Result<u8, FaultTold> {
+        let mut file = opened_plain(self.rt, Wanted::by_path(Named::A, printout.name), self.err)?;
+        let mut a = Tally::new(&mut file);
+        let alloc = self.rt.alloc();
+        let status = why_end_to(alloc, printout, &mut a, self.out, self.err);
+        if status == FAULTY {
+            explain_departure_of_end(alloc, layers, &mut file, self.err);
+        }
+        Ok(status)
     }
 
     fn show(&mut self, path: &str) -> Result<u8, FaultTold> {

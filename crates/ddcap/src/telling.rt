@@ -1,8 +1,10 @@
 //! `why`: which record was refused, what was seen and what was allowed there, and both ends as they were before it.
 
 ghost use Rattle.std.specs.Prelude.{IfOk, IfSome, string_bytes};
+ghost use Rattle.why.specs.Refused.{BeginsWith, line_of, refused_line};
+ghost use Rattle.ddcap.specs.Printed as printed;
 ghost use Rattle.ddcap.specs.Printed.{moved};
-ghost use Rattle.ddcap.specs.PrintedWhy.{AreObjects, AreRows, Explains, IsTold, PrintsAcceptance, TellsRefusal, WritesRefusal};
+ghost use Rattle.ddcap.specs.PrintedWhy.{Explains, IsTold, PrintsAcceptance, TellsRefusal, WritesRefusal};
 
 use crate::check::{print, print_failed_read, print_fault, print_out_of_memory};
 use crate::last_rows::{LastRows, ROWS_BEFORE};
@@ -14,7 +16,7 @@ use ladder::{Drawn, Ladder, Sending, What};
 use pair_judge::{JudgedEnds, Reason, Summary, Verdict, Watched, judge_watched};
 use std::alloc::{AllocError, Global};
 use std::io::{Read, Seek, Write};
-use why::{Accusation, Refusal, Shown, why_json, why_rows};
+use why::{Accusation, Lines, LinkPast, Refusal, Shown, addresses_of, why_json, why_rows};
 use wire_base::{Side, Tally, write_whole};
 
 /// The status of a refusal.
@@ -41,6 +43,8 @@ pub struct Refused {
 #[derive(Clone, Copy)]
 pub struct Printout<'n> {
     pub form: Form,
+    /// Whether all bytes of the record are printed in rows.
+    pub full: bool,
     pub name_a: &'n str,
     pub name_b: &'n str,
 }
@@ -144,9 +148,9 @@ pub fn refused_text(
 {
     let Watched {
         ends,
-        observer: LastRows { mut ladder },
+        observer: LastRows { mut ladder, past },
     } = watched;
-    let Some(refusal) = refusal_of(refused, &ends, &tried) else {
+    let Some(refusal) = refusal_of(refused, &ends, &tried, &past) else {
         return verdict_text(alloc, Layers::Both, ends.verdict());
     };
     match printout.form {
@@ -161,7 +165,12 @@ pub fn refused_text(
 }
 
 // What is told of the record; `None` where none is ahead, or no check is named.
-fn refusal_of<'t>(refused: Refused, ends: &'t JudgedEnds, tried: &'t Tried) -> Option<Refusal<'t>>
+fn refusal_of<'t>(
+    refused: Refused,
+    ends: &'t JudgedEnds,
+    tried: &'t Tried,
+    past: &LinkPast,
+) -> Option<Refusal<'t>>
     ensures { IfSome result (λ told. IsTold ends.now refused told) }
 {
     let Some((entry, bytes)) = ends.ahead(refused.side) else {
@@ -170,6 +179,8 @@ fn refusal_of<'t>(refused: Refused, ends: &'t JudgedEnds, tried: &'t Tried) -> O
     let Some((_, failed)) = ends.failed() else {
         return None;
     };
+    let named = addresses_of(entry, bytes);
+    let other_at = ends.end(refused.side.other()).records().saturating_add(2);
     Some(Refusal {
         side: refused.side,
         place: refused.place,
@@ -179,6 +190,10 @@ fn refusal_of<'t>(refused: Refused, ends: &'t JudgedEnds, tried: &'t Tried) -> O
         says: entry,
         bytes,
         unit: unit_of(tried),
+        lines: Lines {
+            other_at: Some(other_at),
+            ..past.lines(refused.side, named)
+        },
     })
 }
 
@@ -213,7 +228,7 @@ fn objects_text(
     ends: &JudgedEnds,
     tried: &Tried,
 ) -> Result<String, AllocError>
-    ensures { IfOk result (λ text. AreObjects refusal.entry ends.now (string_bytes text)) }
+    ensures { IfOk result (λ text. BeginsWith (refused_line (line_of refusal.entry)) (string_bytes text)) }
 {
     why_json(alloc, refusal, ends, tried.lines.as_str(), tried.counts)
 }
@@ -227,7 +242,7 @@ fn rows_text(
     ladder: &Ladder,
     tried: &Tried,
 ) -> Result<String, AllocError>
-    ensures { IfOk result (λ text. AreRows refusal.entry ends.now (string_bytes text)) }
+    ensures { IfOk result (λ text. BeginsWith (printed.verdict_text ends.now.verdict) (string_bytes text)) }
 {
     let drawn = ladder.drawn(alloc)?;
     let unit = unit_text(alloc, printout, &drawn)?;
@@ -235,6 +250,7 @@ fn rows_text(
     let shown = Shown {
         name: printout.name_of(refusal.side),
         unit: unit.as_str(),
+        full: printout.full,
         ladder: rungs.as_str(),
         tried: tried.counts,
         edits: tried.rows.as_str(),

@@ -7,11 +7,14 @@ const CHECK: &str = "usage: ddcap check [--line] [--json] A B [A B ..]\n";
 
 const ALONE: &str = "usage: ddcap alone [--line] [--json] A\n";
 
-const WHY: &str = "usage: ddcap why [--line] [--json] A B, or: ddcap why [--json] A\n";
+const WHY: &str =
+    "usage: ddcap why [--line] [--full] [--json] A B, or: ddcap why [--full] [--json] A\n";
 
-const COVER: &str = "usage: ddcap cover [--line] [--json] A B [A B ..]\n";
+const COVER: &str = "usage: ddcap cover [--line] [--json] [--missing] A B [A B ..]\n";
 
 const DRAW: &str = "usage: ddcap draw [--line] [--from a:LINE] [--rows N] [--svg FILE] A B\n";
+
+const ALIGN: &str = "usage: ddcap align A B OUT_A OUT_B\n";
 
 const TAP: &str = "usage: ddcap tap [--line] [--json] WIRE A B\n";
 
@@ -34,6 +37,7 @@ pub fn advice_on(words: &[String]) -> Option<&'static str> {
         "why" => Some(WHY),
         "cover" => Some(COVER),
         "draw" => Some(DRAW),
+        "align" => Some(ALIGN),
         "tap" => Some(TAP),
         "help" => Some(TOPIC),
         "explain" => Some(EXPLAIN),

@@ -6,8 +6,7 @@ ghost use Rattle.pair_judge.specs.Watched.{only};
 ghost use Rattle.ddcap.specs.inner.Layers.{nodes_of};
 
 use crate::layers::Layers;
-use crate::rows::STATION_ROWS;
-use coverage::{Counts, Cover, ROWS, judge_covered};
+use coverage::{Counts, Cover, ROWS, STATION_ROWS, judge_covered};
 use pair_judge::{JudgeFault, MadeEntry, Observer, Verdict, judge_line_told};
 use std::alloc::{AllocError, Global};
 use std::io::Read;

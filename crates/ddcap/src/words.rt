@@ -1,6 +1,8 @@
 //! The words that the program is given.
 
+use crate::align_files::AlignPaths;
 use crate::commands::program;
+use crate::cover_files::Listed;
 use crate::draw_files::Asked;
 use crate::draw_words::drawing_asked;
 use crate::explanations::reason_spelled;
@@ -31,22 +33,26 @@ pub enum Task<'a> {
         layers: Layers,
         a: &'a str,
     },
-    /// To tell why the captures in two files are refused, in this form.
+    /// To tell why the captures in two files are refused, over these layers, in this form, with all bytes of the record or the first ones.
     Why {
         form: Form,
         layers: Layers,
+        full: bool,
         a: &'a str,
         b: &'a str,
     },
-    /// To tell why the capture in a file is refused without that of the other end, in this form.
+    /// To tell why the capture in a file is refused without that of the other end, likewise.
     WhyAlone {
         form: Form,
+        layers: Layers,
+        full: bool,
         a: &'a str,
     },
     /// To count which rows the pairs of captures in these files went through: a file of side a, and one of side b, and so on.
     Cover {
         form: Form,
         layers: Layers,
+        listed: Listed,
         files: Vec<&'a str>,
     },
     /// To draw the captures in two files.
@@ -66,6 +72,8 @@ pub enum Task<'a> {
         form: Form,
         paths: TapPaths<'a>,
     },
+    /// To find the hints of both captures by the bytes, and to write these with them into files.
+    Align(AlignPaths<'a>),
     /// To write the capture in the file `a` in this format, into the file `b`.
     Convert {
         to: Format,
@@ -109,6 +117,7 @@ pub fn task_of<'a, S: AsStr>(alloc: Global, words: &'a [S]) -> Result<Task<'a>, 
             },
             Some(("play", found)) => played_of(found),
             Some(("convert", found)) => conversion_of(found),
+            Some(("align", found)) => alignment_asked(found),
             Some(("tap", found)) => tapped_of(found),
             Some(("help", found)) => help_of(found),
             Some(("explain", found)) => explanation_asked(found),
@@ -165,6 +174,24 @@ fn played_of<'a>(found: &ArgMatches<'a>) -> Result<Task<'a>, WordsFault> {
     }
 }
 
+// The captures that the words behind `align` name, and the files that are written.
+fn alignment_asked<'a>(found: &ArgMatches<'a>) -> Result<Task<'a>, WordsFault> {
+    match (
+        found.get_str("A"),
+        found.get_str("B"),
+        found.get_str("OUT_A"),
+        found.get_str("OUT_B"),
+    ) {
+        (Some(a), Some(b), Some(out_a), Some(out_b)) => Ok(Task::Align(AlignPaths {
+            a,
+            b,
+            out_a,
+            out_b,
+        })),
+        _ => Err(WordsFault::BadWords),
+    }
+}
+
 // The page that the word behind `help` asks for; with no word, that of the whole.
 fn help_of<'a>(found: &ArgMatches<'a>) -> Result<Task<'a>, WordsFault> {
     let topic = match found.get_str("WORD") {
@@ -177,6 +204,7 @@ fn help_of<'a>(found: &ArgMatches<'a>) -> Result<Task<'a>, WordsFault> {
         Some("show") => Topic::Show,
         Some("play") => Topic::Play,
         Some("convert") => Topic::Convert,
+        Some("align") => Topic::Align,
         Some("tap") => Topic::Tap,
         Some("help") => Topic::Help,
         Some("explain") => Topic::Explain,

@@ -66,6 +66,30 @@ pub fn written_pair<R: Files + AllocGlobal, E: Write>(
     Ok((a, b))
 }
 
+/// Opens two files to be written, beside two that are read, the first one first, and empties them. `Err`: one of them can't be opened, or is another
+/// one of the four, and both keep what they have. That was told.
+pub fn written_pair_beside_pair<R: Files + AllocGlobal, E: Write>(
+    rt: &R,
+    a: &R::File,
+    b: &R::File,
+    wanted_a: Wanted<'_>,
+    wanted_b: Wanted<'_>,
+    err: &mut Tally<E>,
+) -> Result<(Tally<R::File>, Tally<R::File>), FaultTold> {
+    let out_a = opened_to_write(rt, wanted_a, err)?;
+    keep_apart_from_pair(rt, a, b, wanted_a, &out_a, err)?;
+    let out_b = opened_to_write(rt, wanted_b, err)?;
+    keep_apart_from_pair(rt, a, b, wanted_b, &out_b, err)?;
+    let beside = Beside {
+        named: wanted_a.named,
+        file: &out_a,
+    };
+    keep_apart(rt, &beside, wanted_b, &out_b, err)?;
+    let out_a = emptied(rt, wanted_a, out_a, err)?;
+    let out_b = emptied(rt, wanted_b, out_b, err)?;
+    Ok((out_a, out_b))
+}
+
 /// Opens a file to be written, beside two that are read, and empties it. `Err` as for `written`.
 pub fn written_beside_pair<R: Files + AllocGlobal, E: Write>(
     rt: &R,
@@ -75,11 +99,24 @@ pub fn written_beside_pair<R: Files + AllocGlobal, E: Write>(
     err: &mut Tally<E>,
 ) -> Result<Tally<R::File>, FaultTold> {
     let file = opened_to_write(rt, wanted, err)?;
+    keep_apart_from_pair(rt, a, b, wanted, &file, err)?;
+    emptied(rt, wanted, file, err)
+}
+
+// `Err`: the file is one of these two, or the system doesn't tell. That was told.
+fn keep_apart_from_pair<R: Files + AllocGlobal, E: Write>(
+    rt: &R,
+    a: &R::File,
+    b: &R::File,
+    wanted: Wanted<'_>,
+    file: &R::File,
+    err: &mut Tally<E>,
+) -> Result<(), FaultTold> {
     for (named, other) in [(Named::A, a), (Named::B, b)] {
         let other = Beside { named, file: other };
-        keep_apart(rt, &other, wanted, &file, err)?;
+        keep_apart(rt, &other, wanted, file, err)?;
     }
-    emptied(rt, wanted, file, err)
+    Ok(())
 }
 
 // `Err`: the file is the other one, or the system doesn't tell. That was told.

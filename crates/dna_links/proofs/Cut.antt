@@ -4,8 +4,11 @@ pub mod SegmentsArriving
 pub mod LookUps
 -- what is sent of a link's segments, and what is left of them when it ends
 pub mod SegmentsSending
+pub mod LateWords
 pub mod Ended
 -- each of the three tables
 pub mod User
 pub mod Sending
 pub mod Arriving
+pub mod LateLinks
+pub mod Late

@@ -3,6 +3,9 @@ pub mod Reads
 pub mod Pieces
 -- one link beside its partner, and all of both sides
 pub mod Sends
+pub mod Loose
+pub mod LateWords
+pub mod Late
 pub mod Ends
 pub mod Sides
 -- which link has which address, and how many messages were delivered
@@ -13,3 +16,6 @@ pub mod ReadSteps
 pub mod Takes
 pub mod Steps
 pub mod Bounds
+pub mod Bared
+pub mod Every
+pub mod Wider

@@ -9,7 +9,8 @@ use Rattle.dna_links.specs.SegmentBook.{SegmentBook}
 use Rattle.dna_links.specs.PacketAddresses.{goes}
 use Rattle.dna_links.specs.Links.{LinksOf, Carried, LinkTruth}
 use Rattle.dna_links.specs.Table.{arrival_row}
-use Rattle.dna_links.specs.LinkBook.{are_same, plain, after, by_row}
+use Rattle.dna_links.specs.declared.queue.Queues.{Queues}
+use Rattle.dna_links.specs.LinkBook.{are_same, after, by_row}
 
 -- what to make of the test whether a message that is acted on is of this pair of links: the judge asks for it, a player's node does not
 abbrev pub PartnerRule : Type 0
@@ -29,9 +30,9 @@ is_for number tag = is_some tag.link && is_at tag.partner number
 abbrev pub is_of_pair : ℕ → Option ℕ → LinkTag → Bool
 is_of_pair number partner tag = are_same partner tag.link && is_at tag.partner number
 
-module _ {D K : Type 0} (book : SegmentBook D K) (rule : PartnerRule) where
+module _ {D K : Type 0} (queues : Queues) (book : SegmentBook D K) (rule : PartnerRule) where
   abbrev pub message_arrived : LinksOf D → NspValue → LinkTruth K → Result (LinksOf D) LinkRefusal
-  message_arrived s m truth = by_row (plain book) rule truth s (after book s) (arrival_row m)
+  message_arrived s m truth = by_row queues book rule truth s (after queues book s) (arrival_row m)
 
   -- from the other node to this one, else 16; then by message
   abbrev pub arrived_step : LinksOf D → Carried → LinkTruth K → Result (LinksOf D) LinkRefusal

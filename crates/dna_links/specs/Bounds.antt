@@ -1,6 +1,7 @@
 -- What holds at any time in a run of one side's links beside the other: what makes numbers modulo 4,096 tell all.
 use Rattle.std.specs.Prelude.{◌≡◌, ℕ, ◌≤◌, Some, slice_get}
 use Rattle.dna_packet.specs.Nsp.{IsInRange}
+use Rattle.dna_links.specs.declared.queue.Queues.{Queues}
 use Rattle.dna_links.specs.Links.{LinkOf, Carried}
 use Rattle.dna_links.specs.User.{LinkEventValue}
 use Rattle.dna_links.specs.Arriving.{of_partner}
@@ -23,9 +24,9 @@ pub record AreLinksBounded (own other : LinkSide) : Type 0 where
 
 -- What a side keeps of its links goes along with all that may happen there: an event of its user, a message that it sends, and a message
 -- with fields in range in a packet that may still be kept
-pub record AreCutInStep (own other : LinkSide) : Type 0 where
-  pub user : (event : LinkEventValue) → cut_result (links_user own.links event) ≡ wire_links_user (cut_links own.links) event
-  pub sent : (packet : Carried) → cut_sent (links_sent own.links packet) ≡ wire_links_sent (cut_links own.links) packet
+pub record AreCutInStep (queues : Queues) (own other : LinkSide) : Type 0 where
+  pub user : (event : LinkEventValue) → cut_result queues (links_user queues own.links event) ≡ wire_links_user queues (cut_links queues own.links) event
+  pub sent : (packet : Carried) → cut_sent queues (links_sent queues own.links packet) ≡ wire_links_sent queues (cut_links queues own.links) packet
   pub kept : (place : ℕ) (unit : SentMessage) → own.front ≤ place → slice_get other.sent place ≡ Some (Some unit) → IsInRange unit.packet.message →
-      cut_result (links_arrived of_partner own.links unit.packet unit.truth) ≡ wire_links_arrived of_partner (cut_links own.links) unit.packet
+      cut_result queues (links_arrived queues of_partner own.links unit.packet unit.truth) ≡ wire_links_arrived queues of_partner (cut_links queues own.links) unit.packet
       unit.truth.tag

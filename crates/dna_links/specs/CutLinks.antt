@@ -4,6 +4,9 @@ use Rattle.dna_packet.specs.Nsp.{NspValue, DataSegment, DataAck}
 use Rattle.dna_station.specs.declared.link_refusal.LinkRefusal.{LinkRefusal}
 use Rattle.dna_links.specs.LookUps.{is_live, is_running, passes}
 use Rattle.dna_links.specs.declared.port.Port.{Port}
+use Rattle.dna_links.specs.declared.queue.Queues.{Queues}
+use Rattle.dna_links.specs.declared.queue.Queues.TheVariants.{Without, With}
+use Rattle.dna_links.specs.Queues.{keeps_numbers}
 use Rattle.dna_links.specs.declared.port.LinkTest.TheVariants.{ActedOn}
 use Rattle.dna_links.specs.SegmentBook.{wire}
 use Rattle.dna_links.specs.Links.{LinkOf, LinkTruth}
@@ -15,27 +18,37 @@ use Rattle.dna_links.specs.CutSegments.{cut, IsOrdered, IsAnswered, Spells, Acks
 use Rattle.dna_links.specs.TrueLinks.{Links}
 use Rattle.dna_links.specs.WireLinks.{WireLinks}
 
--- A live link's segments; what is left of one that has ended, while it has its own address; and nothing of one that has not
+-- The segments of a link that may yet send or take them; what is left of another while it has its own address; and nothing where it has not
 abbrev pub cut_as : (live : Bool) → (own : Option ℕ) → TrueSegments → WireSegments
 cut_as true own f = cut f
 cut_as false (Some own) f = ends (cut f)
 cut_as false None f = empty
 
-abbrev pub cut_link : LinkOf TrueSegments → LinkOf WireSegments
-cut_link l = record { port = l.port; partner = l.partner; segsize = l.segsize; segments = cut_as (is_live l.port.phase) l.port.own l.segments }
+abbrev pub is_kept : Queues → LinkOf TrueSegments → Bool
+is_kept Without l = is_live l.port.phase
+is_kept With l = keeps_numbers l
 
-abbrev pub cut_links : Links → WireLinks
-cut_links s = record { node = s.node; peer = s.peer; links = map cut_link s.links }
+abbrev pub cut_link : Queues → LinkOf TrueSegments → LinkOf WireSegments
+cut_link queues l = record {
+  port = l.port;
+  partner = l.partner;
+  segsize = l.segsize;
+  segments = cut_as (is_kept queues l) l.port.own l.segments;
+  queue = l.queue;
+}
+
+abbrev pub cut_links : Queues → Links → WireLinks
+cut_links queues s = record { node = s.node; peer = s.peer; links = map (cut_link queues) s.links }
 
 -- what becomes of the links, cut
-abbrev pub cut_result : Result Links LinkRefusal → Result WireLinks LinkRefusal
-cut_result (Ok s) = Ok (cut_links s)
-cut_result (Err reason) = Err reason
+abbrev pub cut_result : Queues → Result Links LinkRefusal → Result WireLinks LinkRefusal
+cut_result queues (Ok s) = Ok (cut_links queues s)
+cut_result queues (Err reason) = Err reason
 
 -- and what is answered of a message that is sent: of what is true of it, a node has the tag
-abbrev pub cut_sent : Result (Sent TrueSegments Numbers) LinkRefusal → Result (Sent WireSegments (Unit {0})) LinkRefusal
-cut_sent (Ok sent) = Ok (record { links = cut_links sent.links; truth = record { tag = sent.truth.tag; known = tt } })
-cut_sent (Err reason) = Err reason
+abbrev pub cut_sent : Queues → Result (Sent TrueSegments Numbers) LinkRefusal → Result (Sent WireSegments (Unit {0})) LinkRefusal
+cut_sent queues (Ok sent) = Ok (record { links = cut_links queues sent.links; truth = record { tag = sent.truth.tag; known = tt } })
+cut_sent queues (Err reason) = Err reason
 
 -- ---- what has to hold
 

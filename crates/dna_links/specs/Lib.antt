@@ -2,10 +2,11 @@
 pub mod LookUps
 pub mod Segmentation
 pub mod SegmentBook
--- the links, their three tables, and how they go by these
+-- the links, their three tables, what queues leave open, and how links go by the tables
 pub mod Links
 pub mod User
 pub mod Table
+pub mod Queues
 pub mod LinkBook
 pub mod PacketAddresses
 pub mod Sending
@@ -20,6 +21,7 @@ pub mod CutSegments
 pub mod CutLinks
 -- the links of both sides, in every run: what they come to, the bounds of numbers, what is delivered, and what the captures tell of it
 pub mod Runs
+pub mod Alike
 pub mod Bounds
 pub mod Delivery
 pub mod Captures

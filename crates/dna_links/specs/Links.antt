@@ -5,12 +5,10 @@ use Rattle.dna_packet.specs.Nsp.{NspValue}
 use Rattle.dna_station.specs.declared.link_refusal.LinkRefusal.{LinkRefusal}
 use Rattle.dna_links.specs.declared.tag.LinkTag.{LinkTag}
 use Rattle.dna_links.specs.declared.port.Phase.{Phase}
-use Rattle.dna_links.specs.declared.port.Phase.TheVariants.{Ended}
 use Rattle.dna_links.specs.declared.port.Port.{Port}
 use Rattle.dna_links.specs.declared.port.LinkTest.{LinkTest}
-use Rattle.dna_links.specs.declared.port.LinkTest.TheVariants.{HasAddress}
+use Rattle.dna_links.specs.declared.queue.LinkQueue.{LinkQueue}
 use Rattle.dna_links.specs.LookUps.{passes}
-use Rattle.dna_links.specs.SegmentBook.{SegmentBook}
 
 -- One end of a link
 pub record LinkOf (D : Type 0) : Type 0 where
@@ -20,6 +18,8 @@ pub record LinkOf (D : Type 0) : Type 0 where
   -- how many data bytes the partner takes in a segment: the SEGSIZE of the CI or CC that was acted on, and 0 before
   pub segsize : ℕ
   pub segments : D
+  -- what its node's queues leave open
+  pub queue : LinkQueue
 
 -- All links of a node that ever were, in the order in which they began: the first has number 0
 pub record LinksOf (D : Type 0) : Type 0 where
@@ -67,6 +67,10 @@ module _ {D : Type 0} where
   abbrev pub with_link : {R : Type 0} → LinkTest → LinksOf D → R → (ℕ → LinkOf D → R) → R
   with_link test s otherwise next = at_number s.links (number_of test s) otherwise next
 
+  -- the same by the ports that these links have for this look-up
+  abbrev pub with_seen : {R : Type 0} → (LinkOf D → Port) → LinkTest → LinksOf D → R → (ℕ → LinkOf D → R) → R
+  with_seen port test s otherwise next = at_number s.links (position (λ (l : LinkOf D). passes test (port l)) s.links) otherwise next
+
   -- ---- changes
 
   abbrev pub begun : LinkOf D → LinksOf D → LinksOf D
@@ -80,15 +84,3 @@ module _ {D : Type 0} where
 
   abbrev pub with_segments : D → LinkOf D → LinkOf D
   with_segments segments link = record link { segments = segments }
-
-module _ {D K : Type 0} (book : SegmentBook D K) where
-  -- the link is over
-  abbrev pub ended : LinkOf D → LinkOf D
-  ended link = with_segments (book.ends link.segments) (in_phase Ended link)
-
-  -- An own address that is given again is no longer that of the ended link which had it: `Up` goes by the link that got it last
-  abbrev pub forgotten : LinkOf D → LinkOf D
-  forgotten link = record link { port = record link.port { own = None }; segments = book.forgets link.segments }
-
-  abbrev pub freed : (own : ℕ) → LinksOf D → LinksOf D
-  freed own s = with_link (HasAddress own) s s (λ number link. changed number (forgotten link) s)

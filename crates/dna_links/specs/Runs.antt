@@ -2,6 +2,7 @@
 -- lines they know nothing but this: packets that are kept come in the order of their first sending, each at most once, and with what
 -- was true of them then.
 use Rattle.std.specs.Prelude.{◌≡◌, ℕ, ◌+◌, ◌≤◌, Option, Some, None, List, [], ◌∷◌, ◌++◌, slice_get, Ok}
+use Rattle.dna_links.specs.declared.queue.Queues.{Queues}
 use Rattle.dna_links.specs.Links.{Carried, LinkTruth}
 use Rattle.dna_links.specs.User.{LinkEventValue}
 use Rattle.dna_links.specs.Sending.{Sent}
@@ -32,26 +33,26 @@ abbrev pub keeps : LinkSide → Links → (place : ℕ) → LinkSide
 keeps own links place = record { links = links; sent = own.sent; front = place + 1 }
 
 -- What may happen at one side beside the other, with the events of its user, and what is left
-pub data LinkStep (own other : LinkSide) : List LinkEventValue → LinkSide → Type 0 where
+pub data LinkStep (queues : Queues) (own other : LinkSide) : List LinkEventValue → LinkSide → Type 0 where
   -- the user does something
-  ByUser : (event : LinkEventValue) (links : Links) → links_user own.links event ≡ Ok links →
-      LinkStep own other (event ∷ []) (record { links = links; sent = own.sent; front = own.front })
+  ByUser : (event : LinkEventValue) (links : Links) → links_user queues own.links event ≡ Ok links →
+      LinkStep queues own other (event ∷ []) (record { links = links; sent = own.sent; front = own.front })
   -- a packet is first sent: it has a message of the links, or none
-  Sends : (packet : Carried) (made : Sent TrueSegments Numbers) → links_sent own.links packet ≡ Ok made →
-      LinkStep own other [] (sends own made.links (Some (record { packet = packet; truth = made.truth })))
-  SendsNone : LinkStep own other [] (sends own own.links None)
+  Sends : (packet : Carried) (made : Sent TrueSegments Numbers) → links_sent queues own.links packet ≡ Ok made →
+      LinkStep queues own other [] (sends own made.links (Some (record { packet = packet; truth = made.truth })))
+  SendsNone : LinkStep queues own other [] (sends own own.links None)
   -- a packet is kept: it lies at or behind the front, and is the one that was first sent there, with its truth
   Keeps : (place : ℕ) (unit : SentMessage) (links : Links) → own.front ≤ place → slice_get other.sent place ≡ Some (Some unit) →
-      links_arrived of_partner own.links unit.packet unit.truth ≡ Ok links → LinkStep own other [] (keeps own links place)
-  KeepsNone : (place : ℕ) → own.front ≤ place → slice_get other.sent place ≡ Some None → LinkStep own other [] (keeps own own.links place)
+      links_arrived queues of_partner own.links unit.packet unit.truth ≡ Ok links → LinkStep queues own other [] (keeps own links place)
+  KeepsNone : (place : ℕ) → own.front ≤ place → slice_get other.sent place ≡ Some None → LinkStep queues own other [] (keeps own own.links place)
 
 -- What steps lead to, one after another on either side, with the events of each user in their order
-pub data Reached (start : LinkWorld) : LinkWorld → (of_a of_b : List LinkEventValue) → Type 0 where
-  Start : Reached start start [] []
-  ByA : {w : LinkWorld} {of_a of_b events : List LinkEventValue} {left : LinkSide} → Reached start w of_a of_b → LinkStep w.a w.b events left →
-      Reached start (record { a = left; b = w.b }) (of_a ++ events) of_b
-  ByB : {w : LinkWorld} {of_a of_b events : List LinkEventValue} {left : LinkSide} → Reached start w of_a of_b → LinkStep w.b w.a events left →
-      Reached start (record { a = w.a; b = left }) of_a (of_b ++ events)
+pub data Reached (queues : Queues) (start : LinkWorld) : LinkWorld → (of_a of_b : List LinkEventValue) → Type 0 where
+  Start : Reached queues start start [] []
+  ByA : {w : LinkWorld} {of_a of_b events : List LinkEventValue} {left : LinkSide} → Reached queues start w of_a of_b → LinkStep queues w.a w.b events left →
+      Reached queues start (record { a = left; b = w.b }) (of_a ++ events) of_b
+  ByB : {w : LinkWorld} {of_a of_b events : List LinkEventValue} {left : LinkSide} → Reached queues start w of_a of_b → LinkStep queues w.b w.a events left →
+      Reached queues start (record { a = w.a; b = left }) of_a (of_b ++ events)
 
 -- before any record: the addresses of each side's node and of the other one, as its head has them
 abbrev pub new_side : (node peer : ℕ) → LinkSide

@@ -1,7 +1,7 @@
 -- What the tables of the links ask of the segments of one link, both ways: a book of them. The tables stand once over any book; `TrueSegments`
 -- is the one on numbers without a bound, `WireSegments` the one that a node keeps. Numbers, windows and repeats: NSP 4.0, data segments and
 -- acknowledgements.
-use Rattle.std.specs.Prelude.{ℕ, Bool, true, false, Option, List, Result}
+use Rattle.std.specs.Prelude.{ℕ, ◌+◌, min, Bool, true, false, Option, List, Result, Ok, Err}
 use Rattle.wire_base.specs.Seq.{wire_value, wire_distance}
 use Rattle.dna_packet.specs.declared.ack_word.AckQualifier.{AckQualifier}
 use Rattle.dna_packet.specs.declared.ack_word.AckQualifier.TheVariants.{Ack, Nak, OtherAck, OtherNak}
@@ -32,6 +32,19 @@ pub record Sending (D K : Type 0) : Type 0 where
   pub segments : D
   pub known : K
 
+-- and how far the highest word of a new segment then lies below the last one sent
+pub record Late (D K : Type 0) : Type 0 where
+  pub sent : Sending D K
+  pub gap : ℕ
+
+abbrev pub with_gap : {D K : Type 0} → (Sending D K → ℕ) → Result (Sending D K) LinkRefusal → Result (Late D K) LinkRefusal
+with_gap gap (Ok sent) = Ok (record { sent = sent; gap = gap sent })
+with_gap gap (Err refusal) = Err refusal
+
+-- the last one sent goes on so far
+abbrev pub wider : (gap further : ℕ) → ℕ
+wider gap further = min REACH (gap + further)
+
 -- D is what a link keeps of its segments, K what is known of a message's numbers
 pub record SegmentBook (D K : Type 0) : Type 0 where
   -- nothing was handed in, given or received
@@ -43,6 +56,9 @@ pub record SegmentBook (D K : Type 0) : Type 0 where
   pub sends_segment : ℕ → SegmentValue → D → Result (Sending D K) LinkRefusal
   pub sends_acks : List AckWord → D → Result (Sending D K) LinkRefusal
   pub sends_other : D → K
+  -- the same of a segment whose words, where it is new, may reach back so far from the last one sent; how far the last one sent went on
+  pub sends_late : (gap segsize : ℕ) → SegmentValue → D → Result (Late D K) LinkRefusal
+  pub went_on : (before after : D) → ℕ
   -- a segment comes; acknowledgement words alone come
   pub takes_segment : SegmentValue → K → D → D
   pub takes_acks : List AckWord → K → D → D

@@ -12,21 +12,10 @@ use Rattle.dna_links.specs.declared.port.Phase.{Phase}
 use Rattle.dna_links.specs.declared.port.Phase.TheVariants.{Calling, Confirming, Running, Disconnecting}
 use Rattle.dna_links.specs.declared.port.LinkTest.{LinkTest}
 use Rattle.dna_links.specs.declared.port.LinkTest.TheVariants.{HasAddress, LiveAt, TheLink, LiveTo, OpenedAt, CallingAt, CalledBy, BegunBy, ActedOn}
-use Rattle.dna_links.specs.LookUps.{is_in, is_connected, takes_messages}
+use Rattle.dna_links.specs.declared.queue.Said.{Said}
+use Rattle.dna_links.specs.declared.queue.Said.TheVariants.{OfRun, Disconnect}
+use Rattle.dna_links.specs.LookUps.{is_connected, takes_messages}
 use Rattle.dna_links.specs.User.{LinkEventValue, Open, Accept, Reject, In, Up, Close}
-
--- What is asked. Where it is not so this refuses, or at None nothing is done
-pub data Ask : Type 0 where
-  Finds : LinkTest → Option LinkRefusal → Ask  -- a link passes: the row is of the first that does
-  FindsEither : (first second : LinkTest) → Option LinkRefusal → Ask  -- the same by one of two tests
-  FindsNone : LinkTest → Option LinkRefusal → Ask  -- no link passes
-  Where : Bool → Option LinkRefusal → Ask  -- this is so
-  InPhase : (Phase → Bool) → LinkRefusal → Ask  -- the link is in one of these phases
-  ForThisLink : LinkRefusal → Ask  -- the message is of a link whose partner is this one
-  OfThisPair : LinkRefusal → Ask  -- and that link is the partner of this one
-  Delivers : (message : List ℕ) → LinkRefusal → Ask  -- it is the link's next whole message
-  SendsSegment : SegmentValue → Ask  -- its words (21), room (23), length (22), and that it is the next piece or a true repeat (20)
-  SendsAcks : List AckWord → Ask  -- they name what they may (21)
 
 -- What is done with the link, or where none was found with one that begins
 pub data Effect : Type 0 where
@@ -34,18 +23,40 @@ pub data Effect : Type 0 where
   GiveAddress : (own : ℕ) → Effect  -- it gets this address, and a link that had it forgets it
   Connect : (far segsize : ℕ) → Effect  -- its partner is the sender, with this address and SEGSIZE
   GoTo : Phase → Effect
-  End : Effect  -- it is over
+  End : Effect  -- it is over, by what came
+  Drop : Effect  -- it is over, and nothing of it waits
+  Say : Said → Effect  -- it has come so far in what it sends
   Keep : Effect  -- what becomes of its segments as was asked is kept
   HandIn : (message : List ℕ) → Effect
   TakeSegment : SegmentValue → Effect
   TakeAcks : List AckWord → Effect
+  Settle : (own : ℕ) → Effect  -- what came for the link with this address was acted on
+
+-- What is asked. Where it is not so this refuses, or at None nothing is done
+pub data Ask : Type 0 where
+  Finds : LinkTest → Option LinkRefusal → Ask  -- a link passes: the row is of the first that does
+  FindsEither : (first second : LinkTest) → Option LinkRefusal → Ask  -- the same by one of two tests
+  FindsNone : LinkTest → Option LinkRefusal → Ask  -- no link passes
+  FindsInUse : LinkTest → LinkRefusal → Ask  -- a link passes, as its user and what is sent find it
+  KnowsInUse : LinkTest → LinkRefusal → Ask  -- so does one, and of a link that has ended the row is not
+  InPhase : (Phase → Bool) → LinkRefusal → Ask  -- the link is in one of these phases
+  InTurn : Phase → LinkRefusal → Ask  -- a message that asks for this phase may be sent
+  OrElse : Bool → List Effect → Ask  -- this is so; else these effects alone
+  ForThisLink : LinkRefusal → Ask  -- the message is of a link whose partner is this one
+  OfThisPair : LinkRefusal → Ask  -- and that link is the partner of this one
+  Delivers : (message : List ℕ) → LinkRefusal → Ask  -- it is the link's next whole message
+  SendsSegment : SegmentValue → Ask  -- its words (21), room (23), length (22), and that it is the next piece or a true repeat (20)
+  SendsAcks : List AckWord → Ask  -- they name what they may (21)
 
 pub data Row : Type 0 where
   Asks : List Ask → List Effect → Row
 
--- a link is found, in one of these phases; then ..
-abbrev pub found_in : LinkTest → (Phase → Bool) → List Ask → List Ask
-found_in test phases next = Finds test (Some NoLink) ∷ InPhase phases LinkState ∷ next
+-- a link is found, in one of these phases, or in the turn of this one
+abbrev pub found_in : LinkTest → (Phase → Bool) → List Ask
+found_in test phases = FindsInUse test NoLink ∷ InPhase phases LinkState ∷ []
+
+abbrev pub in_turn : LinkTest → Phase → List Ask → List Ask
+in_turn test phase next = FindsInUse test NoLink ∷ InTurn phase LinkState ∷ next
 
 -- what the user does
 abbrev pub user_row : LinkEventValue → Row
@@ -54,22 +65,23 @@ user_row (Accept far own) =
     Asks (Finds (CalledBy far) (Some NoLink) ∷ FindsNone (LiveAt own) (Some AddressInUse) ∷ []) (GiveAddress own ∷ GoTo Confirming ∷ [])
 user_row (Reject far own) =
     Asks (Finds (CalledBy far) (Some NoLink) ∷ FindsNone (LiveAt own) (Some AddressInUse) ∷ []) (GiveAddress own ∷ GoTo Disconnecting ∷ [])
-user_row (In own message) = Asks (found_in (LiveAt own) takes_messages []) (HandIn message ∷ [])
+user_row (In own message) = Asks (found_in (LiveAt own) takes_messages) (HandIn message ∷ [])
 user_row (Up own message) = Asks (Finds (HasAddress own) (Some NoLink) ∷ Delivers message WrongDelivery ∷ []) (Keep ∷ [])
-user_row (Close own) = Asks (found_in (LiveAt own) is_connected []) (GoTo Disconnecting ∷ [])
+user_row (Close own) = Asks (found_in (LiveAt own) is_connected) (GoTo Disconnecting ∷ [])
 
 -- a message that is to be sent
 abbrev pub sending_row : NspValue → Row
-sending_row (ConnectInitiate retransmitted src services info segsize user_data) = Asks (found_in (OpenedAt src) (is_in Calling) []) []
-sending_row (ConnectAck dst) = Asks (Finds (BegunBy dst) (Some NoLink) ∷ []) []
-sending_row (ConnectConfirm dst src services info segsize user_data) = Asks (found_in (TheLink src dst) (is_in Confirming) []) []
-sending_row (DisconnectInitiate dst src reason user_data) = Asks (found_in (TheLink src dst) (is_in Disconnecting) []) []
+sending_row (ConnectInitiate retransmitted src services info segsize user_data) = Asks (in_turn (OpenedAt src) Calling []) []
+sending_row (ConnectAck dst) = Asks (KnowsInUse (BegunBy dst) NoLink ∷ []) []
+sending_row (ConnectConfirm dst src services info segsize user_data) = Asks (in_turn (TheLink src dst) Confirming []) []
+sending_row (DisconnectInitiate dst src reason user_data) = Asks (in_turn (TheLink src dst) Disconnecting []) (Say Disconnect ∷ [])
 sending_row (DisconnectConfirm dst src reason) =
-    Asks (FindsNone (TheLink src dst) (Some LinkState) ∷ Where (src == 0) None ∷ Finds (CalledBy dst) None ∷ []) (End ∷ [])
-sending_row (DataSegment segment) = Asks (found_in (TheLink segment.srcaddr segment.dstaddr) (is_in Running) (SendsSegment segment ∷ [])) (Keep ∷ [])
-sending_row (DataAck dst src acks) = Asks (found_in (TheLink src dst) (is_in Running) (SendsAcks acks ∷ [])) (Keep ∷ [])
-sending_row (LinkService interrupt dst src rest) = Asks (found_in (TheLink src dst) (is_in Running) []) []
-sending_row (OtherDataAck dst src rest) = Asks (found_in (TheLink src dst) (is_in Running) []) []
+    Asks (FindsNone (TheLink src dst) (Some LinkState) ∷ OrElse (src == 0) (Settle src ∷ []) ∷ Finds (CalledBy dst) None ∷ []) (Drop ∷ [])
+sending_row (DataSegment segment) =
+    Asks (in_turn (TheLink segment.srcaddr segment.dstaddr) Running (SendsSegment segment ∷ [])) (Say OfRun ∷ Keep ∷ [])
+sending_row (DataAck dst src acks) = Asks (in_turn (TheLink src dst) Running (SendsAcks acks ∷ [])) (Say OfRun ∷ Keep ∷ [])
+sending_row (LinkService interrupt dst src rest) = Asks (in_turn (TheLink src dst) Running []) (Say OfRun ∷ [])
+sending_row (OtherDataAck dst src rest) = Asks (in_turn (TheLink src dst) Running []) (Say OfRun ∷ [])
 sending_row (NoOperation rest) = Asks [] []
 
 -- a segment or acknowledgement words: in Confirming or RUN

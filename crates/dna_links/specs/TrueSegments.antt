@@ -9,7 +9,7 @@ use Rattle.dna_station.specs.declared.link_refusal.LinkRefusal.{LinkRefusal}
 use Rattle.dna_station.specs.declared.link_refusal.LinkRefusal.TheVariants.{WrongSegment, WrongAck, SegmentTooLong, LinkWindowFull}
 use Rattle.dna_links.specs.Segmentation.{Piece, piece_of, same_piece, Unsent, none_unsent, with_message, is_next_piece, without_piece, in_order, hold}
 use Rattle.dna_links.specs.Segmentation.{Whole, next_message}
-use Rattle.dna_links.specs.SegmentBook.{SegmentBook, Sending, REACH, wire, distance, is_of_data}
+use Rattle.dna_links.specs.SegmentBook.{SegmentBook, Sending, Late, with_gap, wider, REACH, wire, distance, is_of_data}
 use Rattle.dna_links.specs.Links.{check}
 
 pub record TrueSegments : Type 0 where
@@ -164,6 +164,45 @@ segment_named (Some names) segsize s f =
 abbrev pub sends_segment : (segsize : ℕ) → SegmentValue → TrueSegments → Result (Sending TrueSegments Numbers) LinkRefusal
 sends_segment segsize s f = segment_named (all_named (not (is_new s f)) (highest_received f) s.acks f.last) segsize s f
 
+-- ---- what is sent, with queues
+
+-- in a new segment a word may also name an earlier number, at most `gap` below the last one sent
+abbrev pub named_late : (gap last highest number : ℕ) → Option ℕ
+named_late gap last highest number = named (nat_le (distance number (wire last)) gap) last highest number
+
+-- the numbers that words name, and how far the last of them lies below the last one sent
+pub record NamedLate : Type 0 where
+  pub names : Named
+  pub gap : ℕ
+
+abbrev pub with_number_late : ℕ → Option NamedLate → Option NamedLate
+with_number_late number None = None
+with_number_late number (Some late) = Some (record late { names = record late.names { numbers = number ∷ late.names.numbers } })
+
+abbrev pub with_first_late : Option ℕ → (ℕ → Option NamedLate) → Option NamedLate
+with_first_late None later = None
+with_first_late (Some number) later = with_number_late number (later number)
+
+abbrev pub all_named_late : (highest : ℕ) → List AckWord → (gap last : ℕ) → Option NamedLate
+all_named_late highest [] gap last = Some (record { names = record { numbers = []; last = last }; gap = gap })
+all_named_late highest (word ∷ words) gap last =
+    if is_of_data word.qualifier
+    then with_first_late (named_late gap last highest word.number) (λ number. all_named_late highest words (last - number) (max last number))
+    else all_named_late highest words gap last
+
+abbrev pub went_on : TrueSegments → TrueSegments → ℕ
+went_on before after = after.last - before.last
+
+abbrev pub new_late : Option NamedLate → (segsize : ℕ) → SegmentValue → TrueSegments → Result (Late TrueSegments Numbers) LinkRefusal
+new_late None segsize s f = Err WrongAck
+new_late (Some late) segsize s f = with_gap (λ sent. late.gap) (sends_new segsize (piece_of s) late.names f)
+
+abbrev pub sends_late : (gap segsize : ℕ) → SegmentValue → TrueSegments → Result (Late TrueSegments Numbers) LinkRefusal
+sends_late gap segsize s f =
+    if is_new s f
+    then new_late (all_named_late (highest_received f) s.acks gap f.last) segsize s f
+    else with_gap (λ sent. wider gap (went_on f sent.segments)) (sends_segment segsize s f)
+
 -- ---- what comes, by its true numbers
 
 -- an acknowledgement acknowledges all segments through its number
@@ -193,6 +232,8 @@ true_segments = record {
   sends_segment = sends_segment;
   sends_acks = sends_acks;
   sends_other = sends_other;
+  sends_late = sends_late;
+  went_on = went_on;
   takes_segment = takes_segment;
   takes_acks = takes_acks;
   ends = unchanged;

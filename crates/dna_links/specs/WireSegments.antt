@@ -11,7 +11,7 @@ use Rattle.dna_station.specs.declared.link_refusal.LinkRefusal.{LinkRefusal}
 use Rattle.dna_station.specs.declared.link_refusal.LinkRefusal.TheVariants.{WrongSegment, WrongAck, SegmentTooLong, LinkWindowFull}
 use Rattle.dna_links.specs.Segmentation.{Piece, piece_of, same_piece, Unsent, none_unsent, with_message, is_next_piece, without_piece, in_order, hold}
 use Rattle.dna_links.specs.Segmentation.{Whole, next_message, in_whole_messages}
-use Rattle.dna_links.specs.SegmentBook.{SegmentBook, Sending, REACH, wire, distance, is_of_data}
+use Rattle.dna_links.specs.SegmentBook.{SegmentBook, Sending, Late, with_gap, wider, REACH, wire, distance, is_of_data}
 use Rattle.dna_links.specs.Links.{check}
 
 -- what any node keeps
@@ -164,6 +164,46 @@ segment_named (Some sent) segsize s f =
 abbrev pub sends_segment : (segsize : ℕ) → SegmentValue → WireSegments → Result (Sending WireSegments (Unit {0})) LinkRefusal
 sends_segment segsize s f = segment_named (all_named (not (is_new s f.variables)) f.variables.received s.acks (last_of f)) segsize s f
 
+-- ---- what is sent, with queues
+
+-- the last acknowledgement sent, and how far the last one of a new segment lies below it
+pub record LateSent : Type 0 where
+  pub sent : LastSent
+  pub gap : ℕ
+
+-- in a new segment a word may also name an earlier number, at most `gap` below the last one sent
+abbrev pub last_named_late : (received number : ℕ) → LateSent → Option LastSent
+last_named_late received number late = last_named (nat_le (distance number late.sent.last) late.gap) received number late.sent
+
+-- how far the number lies below the last one sent then
+abbrev pub gap_at : (received number : ℕ) → LastSent → ℕ
+gap_at received number sent = if is_ahead received number sent then 0 else distance number sent.last
+
+abbrev pub after_first_late : Option LastSent → (LastSent → Option LateSent) → Option LateSent
+after_first_late None later = None
+after_first_late (Some sent) later = later sent
+
+abbrev pub all_named_late : (received : ℕ) → List AckWord → LateSent → Option LateSent
+all_named_late received [] late = Some late
+all_named_late received (word ∷ words) late =
+    if is_of_data word.qualifier
+    then after_first_late (last_named_late received word.number late)
+    (λ next. all_named_late received words (record { sent = next; gap = gap_at received word.number late.sent }))
+    else all_named_late received words late
+
+abbrev pub went_on : WireSegments → WireSegments → ℕ
+went_on before after = distance before.last after.last
+
+abbrev pub new_late : Option LateSent → (segsize : ℕ) → SegmentValue → WireSegments → Result (Late WireSegments (Unit {0})) LinkRefusal
+new_late None segsize s f = Err WrongAck
+new_late (Some late) segsize s f = with_gap (λ sent. late.gap) (sends_new segsize (piece_of s) late.sent f)
+
+abbrev pub sends_late : (gap segsize : ℕ) → SegmentValue → WireSegments → Result (Late WireSegments (Unit {0})) LinkRefusal
+sends_late gap segsize s f =
+    if is_new s f.variables
+    then new_late (all_named_late f.variables.received s.acks (record { sent = last_of f; gap = gap })) segsize s f
+    else with_gap (λ sent. wider gap (went_on f sent.segments)) (sends_segment segsize s f)
+
 -- ---- what comes
 
 -- an acknowledgement counts where it lies at most as far above the acknowledged number as segments are outstanding
@@ -213,6 +253,8 @@ wire_segments = record {
   sends_segment = sends_segment;
   sends_acks = sends_acks;
   sends_other = sends_other;
+  sends_late = sends_late;
+  went_on = went_on;
   takes_segment = takes_segment;
   takes_acks = takes_acks;
   ends = ends;

@@ -4,6 +4,7 @@ ghost use Rattle.std.specs.Prelude.{◌≡◌, ℕ, List};
 ghost use Rattle.std.specs.Option.{option_map};
 ghost use Rattle.dna_packet.specs.declared.ack_word.AckWord.{AckWord};
 ghost use Rattle.dna_packet.specs.Nsp.{SegmentValue};
+ghost use Rattle.dna_links.specs.declared.queue.Queues.TheVariants.{Without};
 ghost use Rattle.dna_links.specs.SegmentBook.{wire};
 ghost use Rattle.dna_links.specs.Links.{Carried, LinkTruth};
 ghost use Rattle.dna_links.specs.User.{LinkEventValue};
@@ -43,10 +44,10 @@ pub fn cut_segments()
 /// hold of each link does; and what comes, where besides its numbers are near those of the link that acts on it, whatever the rule on
 /// partners.
 pub fn cut_link_steps()
-    ensures start { (node peer : ℕ) → cut_links (new_links node peer) ≡ new_wire_links node peer }
-    ensures user { (s : Links) (event : LinkEventValue) → cut_result (links_user s event) ≡ wire_links_user (cut_links s) event }
-    ensures sent { (s : Links) (packet : Carried) → AreOrdered s → cut_sent (links_sent s packet) ≡ wire_links_sent (cut_links s) packet }
+    ensures start { (node peer : ℕ) → cut_links Without (new_links node peer) ≡ new_wire_links node peer }
+    ensures user { (s : Links) (event : LinkEventValue) → cut_result Without (links_user Without s event) ≡ wire_links_user Without (cut_links Without s) event }
+    ensures sent { (s : Links) (packet : Carried) → AreOrdered s → cut_sent Without (links_sent Without s packet) ≡ wire_links_sent Without (cut_links Without s) packet }
     ensures arrived { (rule : PartnerRule) (s : Links) (packet : Carried) (truth : LinkTruth Numbers) → AreOrdered s →
         ArrivesNear rule s packet.message truth
-        → cut_result (links_arrived rule s packet truth) ≡ wire_links_arrived rule (cut_links s) packet truth.tag }
+        → cut_result Without (links_arrived Without rule s packet truth) ≡ wire_links_arrived Without rule (cut_links Without s) packet truth.tag }
 {}

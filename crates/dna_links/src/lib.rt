@@ -6,14 +6,16 @@
 mod event;
 pub mod laws;
 mod port;
+mod queue;
 pub mod run_laws;
 mod tag;
 
 pub use event::LinkEvent;
 pub use laws::{cut_link_steps, cut_segments};
 pub use port::{LinkTest, Phase, Port};
+pub use queue::{LinkQueue, Queues, Said};
 pub use run_laws::{
-    links_count_deliveries, links_deliver_in_order, links_read_off_captures, links_within_bounds,
-    wire_links_see_right,
+    links_count_deliveries, links_deliver_in_order, links_read_off_captures,
+    links_with_queues_do_as_much, links_within_bounds, wire_links_see_right,
 };
 pub use tag::LinkTag;

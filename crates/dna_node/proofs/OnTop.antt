@@ -25,7 +25,8 @@ use Rattle.dna_station.specs.declared.refusal.StepRefusal.{StepRefusal}
 use Rattle.dna_station.specs.declared.refusal.StepRefusal.TheVariants.{HintOrder}
 use Rattle.dna_station.specs.declared.link_refusal.LinkRefusal.{LinkRefusal}
 use Rattle.dna_station.specs.Table.{user_refusal, counts_damage}
-use Rattle.dna_node.specs.TagRules.{Rules, judged}
+use Rattle.dna_links.specs.declared.queue.Queues.{Queues}
+use Rattle.dna_node.specs.TagRules.{Rules, judged_by}
 use Rattle.dna_station.specs.Station.{Station, after_event}
 use Rattle.dna_station.specs.Truth.{Truth}
 use Rattle.dna_station.specs.Book.{ArrivalValue, Sound, HeaderBad, DataBad, body_of}
@@ -43,21 +44,21 @@ use Rattle.dna_links.specs.Runs.{SentMessage}
 use Rattle.dna_node.specs.Content.{content, link_event}
 use Rattle.dna_node.specs.Layers.{Layers, LayersTruth, LayersNode, LayersUnit, with_station, with_links, first_sent, with_message, sends_first}
 use Rattle.dna_node.specs.Layers.{sends_again, sends_on, to_station, keeps, meets_on, layers_machine, unit_of_station, stations}
-use Rattle.dna_node.specs.LayersPair.{layers_pair}
+use Rattle.dna_node.specs.LayersPair.{layers_pair_by}
 use Rattle.dna_station.proofs.Steps.Happens.{event_of}
 
 -- what is read of a packet that is first sent, and what the links make of it
-pub data FirstSent (links : Links) (body : List ℕ) : Links → Option SentMessage → Type 0 where
-  NoMessage : content body ≡ Ok None → FirstSent links body links None
+pub data FirstSent (queues : Queues) (links : Links) (body : List ℕ) : Links → Option SentMessage → Type 0 where
+  NoMessage : content body ≡ Ok None → FirstSent queues links body links None
   Message : (packet : Carried) (made : links_sending.Sent TrueSegments Numbers) → content body ≡ Ok (Some packet) →
-      links_sent links packet ≡ Ok made →
-      FirstSent links body made.links (Some (record { packet = packet; truth = made.truth }))
+      links_sent queues links packet ≡ Ok made →
+      FirstSent queues links body made.links (Some (record { packet = packet; truth = made.truth }))
 
 -- and of a receipt, by whether its packet was kept
 pub data IsMet (rules : Rules) (links : Links) (carried : Option SentMessage) : Bool → Links → Type 0 where
   NotKept : IsMet rules links carried false links
   KeptNone : carried ≡ None → IsMet rules links carried true links
-  KeptOne : (message : SentMessage) (left : Links) → carried ≡ Some message → links_arrived rules.partners links message.packet message.truth ≡ Ok
+  KeptOne : (message : SentMessage) (left : Links) → carried ≡ Some message → links_arrived rules.queues rules.partners links message.packet message.truth ≡ Ok
       left → IsMet rules links carried true left
 
 abbrev pub sent_by : Half LayersNode LayersUnit → MessageValue → Station × Truth
@@ -72,12 +73,12 @@ pub data OnTop (rules : Rules) (own other : Half LayersNode LayersUnit) : Record
       OnTop rules own other (User (event_of event))
       (stepped own (record own.state { station = record own.state.station { station = after_event own.state.station.station event } }))
   ByLinks : (event : Event) (of_links : LinkEventValue) (links : Links) → link_event event ≡ Some of_links →
-      links_user own.state.station.links of_links ≡ Ok links →
+      links_user rules.queues own.state.station.links of_links ≡ Ok links →
       OnTop rules own other (User event) (stepped own (record own.state { station = record own.state.station { links = links } }))
   Again : (bytes : List ℕ) (m : MessageValue) → gives_number own.state.station.station m ≡ false →
       OnTop rules own other (Sent bytes) (sent_with own bytes m (sends_again own.state.station m (sent_by own m)))
   First : (bytes : List ℕ) (m : MessageValue) → gives_number own.state.station.station m ≡ true → (links : Links) (carried : Option SentMessage) →
-      FirstSent own.state.station.links (body_of m) links carried →
+      FirstSent rules.queues own.state.station.links (body_of m) links carried →
       OnTop rules own other (Sent bytes) (sent_with own bytes m (first_sent own.state.station (sent_by own m) links carried))
   Receipt : (hint : ℕ) (kept : Bool) (bytes : List ℕ) (unit : LayersUnit) (arrival : ArrivalValue LayersTruth) →
       slice_get other.sent hint ≡ Some unit →
@@ -121,7 +122,7 @@ module _ (rules : Rules) (own other h : Half LayersNode LayersUnit) where
   by_station event (Some refusal) made = absurd cc
 
   by_links : (event : Event) (of_links : LinkEventValue) → link_event event ≡ Some of_links → (o : Result Links LinkRefusal) →
-      links_user s.links of_links ≡ o →
+      links_user rules.queues s.links of_links ≡ o →
       answered own other (does own.state (with_links s o)) ≡ Made h → Follows (User event) (Made (stepped low low.state))
   by_links event of_links is (Ok links) done made = left _ _ (ByLinks event of_links links is done) made
   by_links event of_links is (Err refusal) done made = absurd cc
@@ -160,7 +161,7 @@ module _ (rules : Rules) (own other h : Half LayersNode LayersUnit) where
         (record { bytes = bytes; message = m; known = truth_of s.station m })
 
     by_message : (packet : Carried) → content (body_of m) ≡ Ok (Some packet) → gives_number s.station m ≡ true →
-        (o : Result (links_sending.Sent TrueSegments Numbers) LinkRefusal) → links_sent s.links packet ≡ o →
+        (o : Result (links_sending.Sent TrueSegments Numbers) LinkRefusal) → links_sent rules.queues s.links packet ≡ o →
         answered own other (sends own.state bytes m (with_message s (sent_by own m) packet o)) ≡ Made h → Follows (Sent bytes) (Made low_sent)
     by_message packet read new (Ok made) done is =
         pushed bytes m (first_sent s (sent_by own m) made.links (Some (record { packet = packet; truth = made.truth })))
@@ -168,19 +169,19 @@ module _ (rules : Rules) (own other h : Half LayersNode LayersUnit) where
     by_message packet read new (Err refusal) done is = absurd cc
 
     by_content : gives_number s.station m ≡ true → (o : Result (Option Carried) StepRefusal) → content (body_of m) ≡ o →
-        answered own other (sends own.state bytes m (sends_first s (sent_by own m) o)) ≡ Made h → Follows (Sent bytes) (Made low_sent)
+        answered own other (sends own.state bytes m (sends_first rules s (sent_by own m) o)) ≡ Made h → Follows (Sent bytes) (Made low_sent)
     by_content new (Ok (Some packet)) read is = by_message packet read new _ refl is
     by_content new (Ok None) read is = pushed bytes m (first_sent s (sent_by own m) s.links None) (First bytes m new s.links None (NoMessage read)) is
     by_content new (Err refusal) read is = absurd cc
 
     by_number : (b : Bool) → gives_number s.station m ≡ b →
         answered own other (sends own.state bytes m
-        (cond b (sends_first s (sent_by own m) (content (body_of m))) (Ok (sends_again s m (sent_by own m))))) ≡ Made h →
+        (cond b (sends_first rules s (sent_by own m) (content (body_of m))) (Ok (sends_again s m (sent_by own m))))) ≡ Made h →
         Follows (Sent bytes) (Made low_sent)
     by_number true new is = by_content new (content (body_of m)) refl is
     by_number false new is = pushed bytes m (sends_again s m (sent_by own m)) (Again bytes m new) is
 
-    by_refusal : (o : Option StationRefusal) → answered own other (sends own.state bytes m (sends_on s m (unless_refused o (sent_by own m)))) ≡ Made
+    by_refusal : (o : Option StationRefusal) → answered own other (sends own.state bytes m (sends_on rules s m (unless_refused o (sent_by own m)))) ≡ Made
         h →
         Follows (Sent bytes) (answered low low_other (sends low.state bytes m (unless_refused o (sent_by own m))))
     by_refusal None is = by_number (gives_number s.station m) refl is
@@ -198,7 +199,7 @@ module _ (rules : Rules) (own other h : Half LayersNode LayersUnit) where
     arrives_at arrival kept = after_arrival s.station (to_station arrival) kept
 
     by_kept : (arrival : ArrivalValue LayersTruth) (message : SentMessage) → unit.known.carried ≡ Some message → (o : Result Links LinkRefusal) →
-        links_arrived rules.partners s.links message.packet message.truth ≡ o →
+        links_arrived rules.queues rules.partners s.links message.packet message.truth ≡ o →
         concluded own (met own.state (hint + 1) (with_links (record s { station = arrives_at arrival true }) o)) ≡ Made h →
         Follows (Received hint true bytes) (Made (stepped low (record low.state { station = arrives_at arrival true; front = hint + 1 })))
     by_kept arrival message is (Ok links) done made = left _ _ (Receipt hint true bytes unit arrival there links (KeptOne message links is done)) made
@@ -280,26 +281,27 @@ module _ (rules : Rules) (own other h : Half LayersNode LayersUnit) where
   follows (Noise bytes) made = by_noise bytes (reading bytes) made
   follows (User event) made = by_user event made
 
--- ---- what each record of the station's nodes keeps, each record over both layers keeps
+module _ (queues : Queues) where
+  -- ---- what each record of the station's nodes keeps, each record over both layers keeps
 
-module _ (holds : World Node SentUnit → List Record → List Record → Type 0) where
-  abbrev pub of_stations : World LayersNode LayersUnit → List Record → List Record → Type 0
-  of_stations w of_a of_b = holds (cut_world stations w) of_a of_b
+  module _ (holds : World Node SentUnit → List Record → List Record → Type 0) where
+    abbrev pub of_stations : World LayersNode LayersUnit → List Record → List Record → Type 0
+    of_stations w of_a of_b = holds (cut_world stations w) of_a of_b
 
-  pub lifted : IsKept pair holds → IsKept layers_pair of_stations
-  lifted kept = record {
-    by_a = λ w made_a made_b r h now made. kept.by_a (cut_world stations w) made_a made_b r (cut_half stations h) now
-        (follows judged w.a w.b h r made).station;
-    by_b = λ w made_a made_b r h now made. kept.by_b (cut_world stations w) made_a made_b r (cut_half stations h) now
-        (follows judged w.b w.a h r made).station;
-  }
+    pub lifted : IsKept pair holds → IsKept (layers_pair_by queues) of_stations
+    lifted kept = record {
+      by_a = λ w made_a made_b r h now made. kept.by_a (cut_world stations w) made_a made_b r (cut_half stations h) now
+          (follows (judged_by queues) w.a w.b h r made).station;
+      by_b = λ w made_a made_b r h now made. kept.by_b (cut_world stations w) made_a made_b r (cut_half stations h) now
+          (follows (judged_by queues) w.b w.a h r made).station;
+    }
 
--- ---- a run over both layers is one of the stations
+  -- ---- a run over both layers is one of the stations
 
-pub run_of_stations : (w end : World LayersNode LayersUnit) (of_a of_b : List Record) → Run layers_pair w of_a of_b end →
-    Run pair (cut_world stations w) of_a of_b (cut_world stations end)
-run_of_stations w end of_a of_b Done = Done
-run_of_stations w end of_a of_b (OfA {h = h} {r = r} {xs = xs} made rest) =
-    OfA (follows judged w.a w.b h r made).station (run_of_stations (record { a = h; b = w.b }) end xs of_b rest)
-run_of_stations w end of_a of_b (OfB {h = h} {r = r} {ys = ys} made rest) =
-    OfB (follows judged w.b w.a h r made).station (run_of_stations (record { a = w.a; b = h }) end of_a ys rest)
+  pub run_of_stations : (w end : World LayersNode LayersUnit) (of_a of_b : List Record) → Run (layers_pair_by queues) w of_a of_b end →
+      Run pair (cut_world stations w) of_a of_b (cut_world stations end)
+  run_of_stations w end of_a of_b Done = Done
+  run_of_stations w end of_a of_b (OfA {h = h} {r = r} {xs = xs} made rest) =
+      OfA (follows (judged_by queues) w.a w.b h r made).station (run_of_stations (record { a = h; b = w.b }) end xs of_b rest)
+  run_of_stations w end of_a of_b (OfB {h = h} {r = r} {ys = ys} made rest) =
+      OfB (follows (judged_by queues) w.b w.a h r made).station (run_of_stations (record { a = w.a; b = h }) end of_a ys rest)

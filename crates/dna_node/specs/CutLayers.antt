@@ -3,6 +3,8 @@
 use Rattle.std.specs.Prelude.{ℕ, Option, Some, None, List, [], ◌∷◌, length, drop}
 use Rattle.two_nodes.specs.Cutting.{Cut}
 use Rattle.ddcmp_msg.specs.Message.{MessageValue}
+use Rattle.dna_links.specs.declared.queue.Queues.{Queues}
+use Rattle.dna_links.specs.declared.queue.Queues.TheVariants.{Without}
 use Rattle.dna_links.specs.declared.tag.LinkTag.{LinkTag}
 use Rattle.dna_station.specs.Table.{Change, SendPacket, change_of}
 use Rattle.dna_station.specs.Station.{packets_of}
@@ -28,8 +30,11 @@ with_tags (body ∷ packets) (carried ∷ messages) = record { body = body; labe
 abbrev pub tagged_packets : Layers → List (HeldPacket LinkTag)
 tagged_packets s = with_tags s.station.packets (drop (length (packets_of s.station.earlier)) s.messages)
 
+abbrev pub cut_layers_by : Queues → Layers → WireLayers
+cut_layers_by queues s = record { station = cut (tagged_packets s) s.station; links = cut_links queues s.links }
+
 abbrev pub cut_layers : Layers → WireLayers
-cut_layers s = record { station = cut (tagged_packets s) s.station; links = cut_links s.links }
+cut_layers s = cut_layers_by Without s
 
 -- only a message with a packet has a tag of the links
 abbrev pub tag_by : Change → Option SentMessage → Option LinkTag
@@ -39,12 +44,15 @@ tag_by change carried = None
 abbrev pub cut_truth : MessageValue → LayersTruth → LayersTag
 cut_truth m known = record { station = known.station.tag; link = tag_by (change_of m) known.carried }
 
-abbrev pub cut_layers_node : LayersNode → WireLayersNode
-cut_layers_node n = record { head = n.head; station = cut_layers n.station; front = n.front }
+abbrev pub cut_layers_node : Queues → LayersNode → WireLayersNode
+cut_layers_node queues n = record { head = n.head; station = cut_layers_by queues n.station; front = n.front }
 
 abbrev pub cut_layers_unit : LayersUnit → WireLayersUnit
 cut_layers_unit unit = record { bytes = unit.bytes; message = unit.message; known = cut_truth unit.message unit.known }
 
 -- what a wire node sees of the true one
+abbrev pub layers_seen_by : Queues → Cut LayersNode LayersUnit WireLayersNode WireLayersUnit
+layers_seen_by queues = record { of_state = cut_layers_node queues; of_unit = cut_layers_unit }
+
 abbrev pub layers_seen : Cut LayersNode LayersUnit WireLayersNode WireLayersUnit
-layers_seen = record { of_state = cut_layers_node; of_unit = cut_layers_unit }
+layers_seen = layers_seen_by Without

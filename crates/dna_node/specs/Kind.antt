@@ -15,7 +15,9 @@ use Rattle.dna_station.specs.Node.{station_machine}
 use Rattle.dna_station.specs.Offered.{Delivers}
 use Rattle.dna_links.specs.Delivery.{DeliversLinks}
 use Rattle.dna_links.specs.Captures.{AreUpFrom}
-use Rattle.dna_node.specs.TagRules.{judged}
+use Rattle.dna_links.specs.declared.queue.Queues.{Queues}
+use Rattle.dna_links.specs.declared.queue.Queues.TheVariants.{Without}
+use Rattle.dna_node.specs.TagRules.{judged_by}
 use Rattle.dna_node.specs.Layers.{Layers, LayersTruth, layers_machine, new_layers_node}
 use Rattle.dna_node.specs.LayersPair.{link_events}
 
@@ -67,15 +69,18 @@ pub record HasDelivered (own other : Layers) (of_own of_other : List Record) : T
   -- the same, read off the two captures
   pub captured : AreUpFrom (link_events of_own) (link_events of_other) own.links.links other.links.links
 
-abbrev pub both_layers : NodeKind
-both_layers = record {
+abbrev pub layers_kind : Queues → NodeKind
+layers_kind queues = record {
   Keeps = Layers;
   Knows = LayersTruth;
-  machine = layers_machine judged;
+  machine = layers_machine (judged_by queues);
   first = λ (head : Head). (new_layers_node head).station;
   links = λ (s : Layers). length s.links.links;
   Delivered = HasDelivered;
 }
+
+abbrev pub both_layers : NodeKind
+both_layers = layers_kind Without
 
 -- ---- stations alone
 

@@ -57,12 +57,6 @@ abbrev pub with_message : Layers → Station × Truth → Carried → Result (Se
 with_message s after packet (Ok made) = Ok (first_sent s after made.links (Some (record { packet = packet; truth = made.truth })))
 with_message s after packet (Err refusal) = Err (OfLinks refusal)
 
--- packet and message can be read, else 15 and 17; then by the links
-abbrev pub sends_first : Layers → Station × Truth → Result (Option Carried) StepRefusal → Result (Layers × LayersTruth) StepRefusal
-sends_first s after (Ok (Some packet)) = with_message s after packet (links_sent s.links packet)
-sends_first s after (Ok None) = Ok (first_sent s after s.links None)
-sends_first s after (Err refusal) = Err refusal
-
 -- the message of the packet that is sent again, found by its place
 abbrev pub of_place : Option (Option SentMessage) → Option SentMessage
 of_place None = None
@@ -74,11 +68,6 @@ carried_again s u change = None
 
 abbrev pub sends_again : Layers → MessageValue → Station × Truth → Layers × LayersTruth
 sends_again s m after = (record s { station = after.0 }, record { station = after.1; carried = carried_again s after.1 (change_of m) })
-
--- what the station made of it, with the links on top: they meet a packet when it is given a number
-abbrev pub sends_on : Layers → MessageValue → Result (Station × Truth) StepRefusal → Result (Layers × LayersTruth) StepRefusal
-sends_on s m (Ok after) = if gives_number s.station m then sends_first s after (content (body_of m)) else Ok (sends_again s m after)
-sends_on s m (Err refusal) = Err refusal
 
 -- ---- an arrival
 
@@ -94,9 +83,24 @@ carried_by HeaderBad = None
 carried_by DataBad = None
 
 module _ (rules : Rules) where
+  -- ---- a message is sent
+
+  -- packet and message can be read, else 15 and 17; then by the links
+  abbrev pub sends_first : Layers → Station × Truth → Result (Option Carried) StepRefusal → Result (Layers × LayersTruth) StepRefusal
+  sends_first s after (Ok (Some packet)) = with_message s after packet (links_sent rules.queues s.links packet)
+  sends_first s after (Ok None) = Ok (first_sent s after s.links None)
+  sends_first s after (Err refusal) = Err refusal
+
+  -- what the station made of it, with the links on top: they meet a packet when it is given a number
+  abbrev pub sends_on : Layers → MessageValue → Result (Station × Truth) StepRefusal → Result (Layers × LayersTruth) StepRefusal
+  sends_on s m (Ok after) = if gives_number s.station m then sends_first s after (content (body_of m)) else Ok (sends_again s m after)
+  sends_on s m (Err refusal) = Err refusal
+
+  -- ---- an arrival
+
   -- a packet is kept
   abbrev pub keeps : Layers → Option SentMessage → Result Layers StepRefusal
-  keeps s (Some message) = with_links s (links_arrived rules.partners s.links message.packet message.truth)
+  keeps s (Some message) = with_links s (links_arrived rules.queues rules.partners s.links message.packet message.truth)
   keeps s None = Ok s
 
   -- what the station made of it, with the links on top: they meet a packet where it was kept
@@ -108,7 +112,7 @@ module _ (rules : Rules) where
   -- ---- the node
 
   abbrev pub user_on : Layers → Event → Option LinkEventValue → Result Layers StepRefusal
-  user_on s event (Some of_links) = with_links s (links_user s.links of_links)
+  user_on s event (Some of_links) = with_links s (links_user rules.queues s.links of_links)
   user_on s event None = with_station s ((station_machine rules.periods).user s.station event)
 
   abbrev pub layers_machine : Machine Layers LayersTruth

@@ -6,16 +6,21 @@ use Rattle.capture.specs.declared.record.Record.{Record}
 use Rattle.capture.specs.declared.record.Record.TheVariants.{Sent, Received, Noise, User}
 use Rattle.dna_station.specs.declared.head.Head.{Head}
 use Rattle.dna_station.specs.declared.refusal.StepRefusal.{StepRefusal}
-use Rattle.dna_node.specs.TagRules.{judged, by_bytes}
+use Rattle.dna_node.specs.TagRules.{judged_by, by_bytes}
 use Rattle.dna_station.specs.Machine.{pair_of}
+use Rattle.dna_links.specs.declared.queue.Queues.{Queues}
+use Rattle.dna_links.specs.declared.queue.Queues.TheVariants.{Without}
 use Rattle.dna_links.specs.User.{LinkEventValue}
 use Rattle.dna_links.specs.Runs.{LinkSide, LinkWorld, new_world, Reached}
 use Rattle.dna_node.specs.Content.{link_event}
 use Rattle.dna_node.specs.Layers.{LayersNode, LayersUnit, layers_machine, new_layers_node}
 
 -- both nodes go by the rules that a judge asks
+abbrev pub layers_pair_by : Queues → Nodes LayersNode Record LayersUnit StepRefusal
+layers_pair_by queues = pair_of (layers_machine (judged_by queues))
+
 abbrev pub layers_pair : Nodes LayersNode Record LayersUnit StepRefusal
-layers_pair = pair_of (layers_machine judged)
+layers_pair = layers_pair_by Without
 
 -- both go by neither of them
 abbrev pub bytes_pair : Nodes LayersNode Record LayersUnit StepRefusal
@@ -54,8 +59,8 @@ new_links_world head_a head_b = new_world head_a.own head_a.peer head_b.own head
 
 -- The links of both sides, with the packets that went between them, are led to by steps of the links alone: behind some places of the last
 -- packets kept
-pub record AreJoined (head_a head_b : Head) (w : World LayersNode LayersUnit) (of_a of_b : List Record) : Type 0 where
+pub record AreJoined (queues : Queues) (head_a head_b : Head) (w : World LayersNode LayersUnit) (of_a of_b : List Record) : Type 0 where
   pub front_a : ℕ
   pub front_b : ℕ
-  pub reached : Reached (new_links_world head_a head_b) (record { a = side_of w.a front_a; b = side_of w.b front_b }) (link_events of_a)
+  pub reached : Reached queues (new_links_world head_a head_b) (record { a = side_of w.a front_a; b = side_of w.b front_b }) (link_events of_a)
       (link_events of_b)

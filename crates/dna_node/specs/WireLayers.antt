@@ -7,11 +7,13 @@ use Rattle.capture.specs.declared.record.Record.{Record}
 use Rattle.capture.specs.declared.event.Event.{Event}
 use Rattle.dna_station.specs.declared.head.Head.{Head}
 use Rattle.dna_station.specs.declared.tag.Tag.{Tag}
+use Rattle.dna_links.specs.declared.queue.Queues.{Queues}
+use Rattle.dna_links.specs.declared.queue.Queues.TheVariants.{Without}
 use Rattle.dna_links.specs.declared.tag.LinkTag.{LinkTag}
 use Rattle.dna_station.specs.declared.refusal.StepRefusal.{StepRefusal}
 use Rattle.dna_station.specs.declared.refusal.StepRefusal.TheVariants.{Links as OfLinks}
 use Rattle.dna_station.specs.declared.link_refusal.LinkRefusal.{LinkRefusal}
-use Rattle.dna_node.specs.TagRules.{Rules, judged}
+use Rattle.dna_node.specs.TagRules.{Rules, judged_by}
 use Rattle.dna_station.specs.Book.{ArrivalValue, Sound, HeaderBad, DataBad, body_of}
 use Rattle.dna_station.specs.WireStation.{WireStation, new_wire_station, wire_after_label}
 use Rattle.dna_station.specs.WireBook.{gives_new, label_again}
@@ -56,18 +58,8 @@ abbrev pub with_tag : WireStation LinkTag × Tag → Result (Sent WireSegments (
 with_tag after (Ok made) = Ok (first_tagged after made.links made.truth.tag)
 with_tag after (Err refusal) = Err (OfLinks refusal)
 
-abbrev pub wire_sends_first : WireLayers → WireStation LinkTag × Tag → Result (Option Carried) StepRefusal →
-    Result (WireLayers × LayersTag) StepRefusal
-wire_sends_first s after (Ok (Some packet)) = with_tag after (wire_links_sent s.links packet)
-wire_sends_first s after (Ok None) = Ok (first_tagged after s.links of_no_link)
-wire_sends_first s after (Err refusal) = Err refusal
-
 abbrev pub wire_sends_again : WireLayers → MessageValue → WireStation LinkTag × Tag → WireLayers × LayersTag
 wire_sends_again s m after = (record s { station = after.0 }, record { station = after.1; link = label_again s.station m })
-
-abbrev pub wire_sends_on : WireLayers → MessageValue → Result (WireStation LinkTag × Tag) StepRefusal → Result (WireLayers × LayersTag) StepRefusal
-wire_sends_on s m (Ok after) = if gives_new s.station m then wire_sends_first s after (content (body_of m)) else Ok (wire_sends_again s m after)
-wire_sends_on s m (Err refusal) = Err refusal
 
 -- ---- an arrival
 
@@ -81,9 +73,23 @@ tag_or_none None = of_no_link
 tag_or_none (Some tag) = tag
 
 module _ (rules : Rules) where
+  -- ---- a message is sent
+
+  abbrev pub wire_sends_first : WireLayers → WireStation LinkTag × Tag → Result (Option Carried) StepRefusal →
+      Result (WireLayers × LayersTag) StepRefusal
+  wire_sends_first s after (Ok (Some packet)) = with_tag after (wire_links_sent rules.queues s.links packet)
+  wire_sends_first s after (Ok None) = Ok (first_tagged after s.links of_no_link)
+  wire_sends_first s after (Err refusal) = Err refusal
+
+  abbrev pub wire_sends_on : WireLayers → MessageValue → Result (WireStation LinkTag × Tag) StepRefusal → Result (WireLayers × LayersTag) StepRefusal
+  wire_sends_on s m (Ok after) = if gives_new s.station m then wire_sends_first s after (content (body_of m)) else Ok (wire_sends_again s m after)
+  wire_sends_on s m (Err refusal) = Err refusal
+
+  -- ---- an arrival
+
   -- the packet that was kept is read again
   abbrev pub wire_keeps_packet : WireLayers → LinkTag → Result (Option Carried) StepRefusal → Result WireLayers StepRefusal
-  wire_keeps_packet s tag (Ok (Some packet)) = with_wire_links s (wire_links_arrived rules.partners s.links packet tag)
+  wire_keeps_packet s tag (Ok (Some packet)) = with_wire_links s (wire_links_arrived rules.queues rules.partners s.links packet tag)
   wire_keeps_packet s tag (Ok None) = Ok s
   wire_keeps_packet s tag (Err refusal) = Err refusal
 
@@ -101,7 +107,7 @@ module _ (rules : Rules) where
   -- ---- the node
 
   abbrev pub wire_user_on : WireLayers → Event → Option LinkEventValue → Result WireLayers StepRefusal
-  wire_user_on s event (Some of_links) = with_wire_links s (wire_links_user s.links of_links)
+  wire_user_on s event (Some of_links) = with_wire_links s (wire_links_user rules.queues s.links of_links)
   wire_user_on s event None = with_wire_station s ((wire_machine rules.periods).user s.station event)
 
   abbrev pub wire_layers_machine : Machine WireLayers LayersTag
@@ -123,8 +129,11 @@ new_wire_layers_node head =
     record { head = head; station = record { station = new_wire_station; links = new_wire_links head.own head.peer }; front = 0 }
 
 -- both nodes go by the rules that a judge asks
+abbrev pub wire_layers_pair_by : Queues → Nodes WireLayersNode Record WireLayersUnit StepRefusal
+wire_layers_pair_by queues = pair_of (wire_layers_machine (judged_by queues))
+
 abbrev pub wire_layers_pair : Nodes WireLayersNode Record WireLayersUnit StepRefusal
-wire_layers_pair = pair_of (wire_layers_machine judged)
+wire_layers_pair = wire_layers_pair_by Without
 
 abbrev pub wire_layers_start : (head_a head_b : Head) → World WireLayersNode WireLayersUnit
 wire_layers_start head_a head_b = start_world (new_wire_layers_node head_a) (new_wire_layers_node head_b)

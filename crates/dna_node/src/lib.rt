@@ -15,6 +15,6 @@ pub use alone_laws::{
 pub use finding::{Cause, Finding};
 pub use laws::{
     layers_deliver_in_order, layers_run_as_stations, links_meet_packets_in_order,
-    wire_layers_see_right,
+    queued_wire_layers_see_right, wire_layers_see_right,
 };
 pub use nodes::{TrueLayersNodes, WireLayersNodes};

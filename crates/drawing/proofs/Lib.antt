@@ -4,5 +4,4 @@ mod Recents
 mod Firsts
 mod Onwards
 mod Ladders
-mod Texts
 mod Writings

@@ -1,6 +1,5 @@
 -- What is drawn of two captures, and what is written of it.
-use Rattle.std.specs.Prelude.{◌≡◌, ◌⊎◌, ℕ, Bool, true, false, List, [], ◌∷◌, ◌++◌, Option, Some, None, Result, Ok, Err, codes}
-use Rattle.std.specs.List.{flat_map}
+use Rattle.std.specs.Prelude.{◌≡◌, ◌⊎◌, ℕ, Bool, true, false, List, [], ◌∷◌, Option, Some, None, Result, Ok, Err}
 use Rattle.std.specs.Io.KnownBytes.{Appends}
 use Rattle.wire_base.specs.Tally.{AppendsBeginning, CountedFault}
 use Rattle.wire_base.specs.declared.side.Side.{Side}
@@ -9,8 +8,6 @@ use Rattle.capture.specs.declared.entry.Entry.{Entry}
 use Rattle.dna_node.specs.Kind.{NodeKind, both_layers, stations_alone}
 use Rattle.ladder.specs.Drawn.{DrawnView, IsDrawn}
 use Rattle.ladder.specs.Ladder.{LadderView, refused}
-use Rattle.ladder.specs.Text.{row_text}
-use Rattle.ladder.specs.declared.row.Row.{Row}
 use Rattle.pair_judge.specs.Ends.{ShownEnds}
 use Rattle.pair_judge.specs.Finding.{of_side}
 use Rattle.pair_judge.specs.Judged.{IsAnswer}
@@ -87,13 +84,6 @@ IsDrawing range text_a text_b (Err fault) = IsAnswer (kind_by range.judging) tex
 
 -- ---- what is written
 
--- a row with its LF
-abbrev pub row_line : (ended : Bool) → Row → List ℕ
-row_line ended row = row_text row ended ++ codes "\n"
-
-abbrev pub rows_text : DrawnView → List ℕ
-rows_text drawn = flat_map (row_line drawn.ended) drawn.rows
-
 -- the bytes that a writer has, and its count of failed calls, before and after
 pub record Writing : Type 0 where
   pub old : Option (List ℕ)
@@ -101,12 +91,14 @@ pub record Writing : Type 0 where
   pub old_faults : ℕ
   pub new_faults : ℕ
 
--- The rows are written; or a beginning of them that is not all, by a failed write; or there is no verdict or nothing else to draw, and nothing is.
+-- A text of the rows is written; or a beginning that is not all of it, by a failed write; or there is no verdict or nothing else to draw, and nothing
+-- is. In which words the text tells them is not said here.
 abbrev pub Draws : Range → (text_a text_b : Option (List ℕ)) → Writing → Result Verdict DrawFault → Type 0
 Draws range text_a text_b out (Ok verdict) =
-    (drawn : DrawnView) × IsPicture range text_a text_b verdict drawn × Appends out.old out.new (rows_text drawn) × (out.new_faults ≡ out.old_faults)
+    (drawn : DrawnView) × IsPicture range text_a text_b verdict drawn
+    × (text : List ℕ) × Appends out.old out.new text × (out.new_faults ≡ out.old_faults)
 Draws range text_a text_b out (Err Write) =
     (verdict : Verdict) × (drawn : DrawnView) × IsPicture range text_a text_b verdict drawn
-    × AppendsBeginning out.old out.new (rows_text drawn) × CountedFault out.old_faults out.new_faults
+    × (text : List ℕ) × AppendsBeginning out.old out.new text × CountedFault out.old_faults out.new_faults
 Draws range text_a text_b out (Err (Judge fault)) =
     IsAnswer (kind_by range.judging) text_a text_b (Err fault) × (out.new ≡ out.old) × (out.new_faults ≡ out.old_faults)

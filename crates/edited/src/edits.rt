@@ -12,14 +12,14 @@ use wire_base::Side;
 pub const MAX_EDITS: usize = 64;
 
 /// The changes of one side's capture that undo a mistake.
-#[derive(Debug, Drop)]
+#[derive(Drop)]
 pub struct Edit {
     pub of: MistakeOf,
     pub changes: Vec<Change>,
 }
 
 /// At most [`MAX_EDITS`] edits, the likeliest first.
-#[derive(Debug, Drop)]
+#[derive(Drop)]
 pub struct Edits {
     list: Vec<Edit>,
     ghost few: { length list.items ≤ MAX_EDITS },

@@ -5,7 +5,7 @@ use std::fmt;
 use wire_base::Side;
 
 /// What a recorder may have done wrong in the capture of one side. Lines are those of the capture as it stands, counted from 1.
-#[derive(Clone, Copy, Debug)]
+#[derive(Clone, Copy)]
 pub enum Mistake {
     /// A receipt has the wrong one of `k` and `r`; `kept` is what it should say.
     WrongLetter {
@@ -80,7 +80,7 @@ impl Mistake {
 /// A mistake with the side whose capture has it, to be printed.
 ///
 /// `line 36 of b is `k`, not `r``.
-#[derive(Clone, Copy, Debug)]
+#[derive(Clone, Copy)]
 pub struct MistakeOf {
     pub side: Side,
     pub mistake: Mistake,

@@ -1,7 +1,7 @@
 use capture::{Entry, HintForm};
 
 /// A record of a capture near a refused one, with its line.
-#[derive(Debug, Drop)]
+#[derive(Drop)]
 pub struct Row {
     /// Which line of the text, counted from 1.
     pub line: u64,
@@ -42,7 +42,7 @@ impl Row {
 }
 
 /// What a capture has near the record that its side comes to next.
-#[derive(Debug, Drop)]
+#[derive(Drop)]
 pub struct Stretch {
     /// The line of that record, counted from 1.
     pub line: u64,
@@ -53,7 +53,7 @@ pub struct Stretch {
 }
 
 /// A line that may be missing: one of the user, or an `n` line.
-#[derive(Debug, Drop)]
+#[derive(Drop)]
 pub struct Due {
     /// In front of which line it belongs, counted from 1.
     pub before: u64,
@@ -62,7 +62,7 @@ pub struct Due {
 }
 
 /// Which check of a unit that came fails where it was damaged.
-#[derive(Clone, Copy, Debug, PartialEq, Eq)]
+#[derive(Clone, Copy)]
 pub enum Damage {
     /// That of its header, of 8 bytes.
     Header,
@@ -71,7 +71,7 @@ pub enum Damage {
 }
 
 /// The refused record.
-#[derive(Debug, Drop)]
+#[derive(Drop)]
 pub struct Refused {
     /// The number of the reason.
     pub reason: u64,

@@ -1,6 +1,5 @@
 pub mod Said
 pub mod Reading
-pub mod Note
 pub mod Given
 pub mod State
 pub mod UnderWay
@@ -10,5 +9,5 @@ pub mod Ladder
 pub mod Order
 pub mod Drawn
 pub mod Places
-pub mod Text
+pub mod Cell
 pub mod Xml

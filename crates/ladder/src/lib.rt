@@ -2,6 +2,7 @@
 //! and keeps a few of them with the units that may still come. It judges nothing, and touches no file, clock or thread.
 #![tactic(auto)]
 
+mod cell;
 mod drawn;
 mod given;
 mod half;
@@ -33,12 +34,14 @@ mod under_way;
 mod xml;
 mod xml_names;
 
+pub use cell::{Cell, End};
 pub use dna_station::State;
 pub use drawn::Drawn;
 pub use ladder::Ladder;
 pub use laws::{
     arrow_is_by_the_hint, order_keeps_sides, records_stand_once_in_order, rows_have_no_gap,
 };
+pub use note::Note;
 pub use reading::said_by;
 pub use row::{Fate, Receipt, Row};
 pub use rows::Keep;

@@ -1,14 +1,14 @@
 //! What stands beside a line number of a row.
 
 ghost use Rattle.std.specs.Prelude.{◌≡◌};
-ghost use Rattle.ladder.specs.Note.{byte_word, note_words};
+ghost use Rattle.ladder.specs.Cell.{receipt_note};
 
 use crate::said::Said;
 use capture::Entry;
 use std::fmt;
 
 /// A note beside a line number.
-#[derive(Clone, Copy, Debug, PartialEq, Eq)]
+#[derive(Clone, Copy)]
 pub enum Note {
     /// Nothing is to be said: of a sending, and of a receipt that had no packet to keep.
     Nothing,
@@ -21,8 +21,6 @@ pub enum Note {
 }
 
 impl Note {
-    ghost use Rattle.ladder.specs.Note.{receipt_note};
-
     /// The note of a receipt.
     pub fn of_receipt(kept: bool, said: Said) -> Note
         ensures { result ≡ receipt_note kept said }
@@ -36,10 +34,6 @@ impl Note {
 }
 
 impl fmt::Display for Note {
-    ghost use Rattle.std.specs.Prelude.{Some};
-
-    ghost output = { λ note. Some (note_words note) };
-
     fn fmt<W: fmt::Write>(&self, f: &mut fmt::Formatter<W>) -> fmt::Result {
         match *self {
             Note::Nothing => Ok(()),
@@ -61,9 +55,7 @@ impl fmt::Display for Note {
 }
 
 // The word for so many bytes.
-fn byte_word(count: usize) -> &'static str
-    ensures { result.now ≡ byte_word count }
-{
+fn byte_word(count: usize) -> &'static str {
     if count == 1 {
         return "byte";
     }

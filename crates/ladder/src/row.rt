@@ -10,7 +10,7 @@ use dna_station::State;
 use wire_base::Side;
 
 /// A row: one record, or the sending of a unit and its receipt, where that is the next record.
-#[derive(Clone, Copy, Debug, PartialEq, Eq)]
+#[derive(Clone, Copy)]
 pub struct Row {
     /// The record; the sending, where there are two.
     pub told: Told,
@@ -23,7 +23,7 @@ pub struct Row {
 }
 
 /// What became of a unit that was sent, by the records told since.
-#[derive(Clone, Copy, Debug, PartialEq, Eq)]
+#[derive(Clone, Copy)]
 pub enum Fate {
     /// It may still come.
     Open,
@@ -36,7 +36,7 @@ pub enum Fate {
 }
 
 /// The receipt of a unit in the row of its sending.
-#[derive(Clone, Copy, Debug, PartialEq, Eq)]
+#[derive(Clone, Copy)]
 pub struct Receipt {
     /// In which line of the receiver's capture it stands.
     pub line: u64,

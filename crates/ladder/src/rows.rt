@@ -15,7 +15,7 @@ use wire_base::Side;
 const RECORDS: usize = 4;
 
 /// Which rows a ladder draws.
-#[derive(Clone, Copy, Debug, PartialEq, Eq)]
+#[derive(Clone, Copy)]
 pub enum Keep {
     /// The last rows.
     Last,

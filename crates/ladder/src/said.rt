@@ -1,22 +1,19 @@
 //! What a unit says, in the few words of a row.
 
-ghost use Rattle.ladder.specs.Said.{content_words, link_words, said_words};
+ghost use Rattle.std.specs.Prelude.{◌≡◌};
+ghost use Rattle.ladder.specs.Said.{brief};
 
 use ddcmp_msg::NakReason;
 use std::fmt;
 
 /// The two addresses of a link that a message goes between: SRCADDR and DSTADDR of NSP. Printed as `1>2`.
-#[derive(Clone, Copy, Debug, PartialEq, Eq)]
+#[derive(Clone, Copy, PartialEq, Eq)]
 pub struct Link {
     pub source: u16,
     pub destination: u16,
 }
 
 impl fmt::Display for Link {
-    ghost use Rattle.std.specs.Prelude.{Some};
-
-    ghost output = { λ link. Some (link_words link) };
-
     fn fmt<W: fmt::Write>(&self, f: &mut fmt::Formatter<W>) -> fmt::Result {
         let source = self.source;
         let destination = self.destination;
@@ -25,7 +22,7 @@ impl fmt::Display for Link {
 }
 
 /// What a row tells of the packet in a data message (NSP 4.0, message formats). Printed with a space in front.
-#[derive(Clone, Copy, Debug, PartialEq, Eq)]
+#[derive(Clone, Copy, PartialEq, Eq)]
 pub enum Content {
     /// Nothing: a routing control packet, one on its way back, or none that is known.
     Untold,
@@ -52,10 +49,6 @@ pub enum Content {
 }
 
 impl fmt::Display for Content {
-    ghost use Rattle.std.specs.Prelude.{Some};
-
-    ghost output = { λ content. Some (content_words content) };
-
     fn fmt<W: fmt::Write>(&self, f: &mut fmt::Formatter<W>) -> fmt::Result {
         match *self {
             Content::Untold => Ok(()),
@@ -74,7 +67,7 @@ impl fmt::Display for Content {
 }
 
 /// What the bytes of a unit say, as far as a row tells it.
-#[derive(Clone, Copy, Debug, PartialEq, Eq)]
+#[derive(Clone, Copy, PartialEq, Eq)]
 pub enum Said {
     /// A data message.
     Data { num: u8, resp: u8, content: Content },
@@ -97,9 +90,6 @@ pub enum Said {
 }
 
 impl Said {
-    ghost use Rattle.std.specs.Prelude.{◌≡◌};
-    ghost use Rattle.ladder.specs.Said.{brief};
-
     /// The same with nothing of the packet in a data message.
     pub fn brief(self) -> Said
         ensures { result ≡ brief self }
@@ -116,10 +106,6 @@ impl Said {
 }
 
 impl fmt::Display for Said {
-    ghost use Rattle.std.specs.Prelude.{Some};
-
-    ghost output = { λ said. Some (said_words said) };
-
     fn fmt<W: fmt::Write>(&self, f: &mut fmt::Formatter<W>) -> fmt::Result {
         match *self {
             Said::Data { num, resp, content } => write!(f, "DATA {num}/{resp}{content}"),

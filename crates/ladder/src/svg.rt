@@ -19,7 +19,7 @@ use std::alloc::{AllocError, Global};
 use wire_base::Side;
 
 /// What is written around the rows of a picture.
-#[derive(Clone, Copy, Debug)]
+#[derive(Clone, Copy)]
 pub struct Caption<'t> {
     /// Of what it is: the names of both captures.
     pub title: &'t str,
@@ -96,10 +96,11 @@ fn size_of(alloc: Global, height: usize) -> Result<Attributes, AllocError> {
     let view = format!(in alloc; "0 0 {WIDTH} {height}")?;
     Attributes::new(alloc)
         .with(Attribute::Xmlns, "http://www.w3.org/2000/svg")?
-        .with_number(Attribute::Width, WIDTH)?
-        .with_number(Attribute::Height, height)?
-        .with(Attribute::ViewBox, view.as_str())?
-        .with(Attribute::Space, "preserve")
+        .with_numbers(&[(Attribute::Width, WIDTH), (Attribute::Height, height)])?
+        .with_all(&[
+            (Attribute::ViewBox, view.as_str()),
+            (Attribute::Space, "preserve"),
+        ])
 }
 
 // How many letters of a title have room.

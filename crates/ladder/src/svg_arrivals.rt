@@ -69,7 +69,7 @@ fn arrival_below(drawn: &Drawn, places: &Places, sender: Side, unit: u64) -> Opt
 }
 
 /// What becomes of a unit whose receipt is not drawn.
-#[derive(Clone, Copy, Debug, PartialEq, Eq)]
+#[derive(Clone, Copy)]
 pub enum Ending {
     /// Nothing, since it was not sent: its record is refused.
     Refused,

@@ -18,7 +18,7 @@ const LEAST: usize = 210;
 const MOST: usize = 310;
 
 /// The columns at both edges, each as broad as its labels want it, and not so broad that the arrows have no room.
-#[derive(Clone, Copy, Debug)]
+#[derive(Clone, Copy)]
 pub struct Columns {
     breadth: usize,
 }

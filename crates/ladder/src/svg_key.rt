@@ -18,7 +18,7 @@ const SIGNS: usize = 39;
 const WORDS: usize = 4;
 
 // What is drawn beside words of the key.
-#[derive(Clone, Copy, PartialEq, Eq)]
+#[derive(Clone, Copy)]
 enum Form {
     Line,
     Dot,

@@ -104,18 +104,16 @@ fn own_words(
     state: String,
     room: usize,
 ) -> Result<String, AllocError> {
-    let full = unit_words(alloc, drawn, places, index, Detail::Full)?;
-    let noted = joined(alloc, full.as_str(), note.as_str())?;
-    let words = joined(alloc, noted.as_str(), state.as_str())?;
-    if words.len() <= room {
-        return Ok(words);
+    for detail in [Detail::Full, Detail::Brief] {
+        let unit = unit_words(alloc, drawn, places, index, detail)?;
+        let noted = joined(alloc, unit.as_str(), note.as_str())?;
+        let words = joined(alloc, noted.as_str(), state.as_str())?;
+        if words.len() <= room {
+            return Ok(words);
+        }
     }
-    let brief = unit_words(alloc, drawn, places, index, Detail::Brief)?;
-    let noted = joined(alloc, brief.as_str(), note.as_str())?;
-    let words = joined(alloc, noted.as_str(), state.as_str())?;
-    if words.len() <= room {
-        return Ok(words);
-    }
+    let unit = unit_words(alloc, drawn, places, index, Detail::Brief)?;
+    let noted = joined(alloc, unit.as_str(), note.as_str())?;
     fitted(alloc, noted.as_str(), room)
 }
 

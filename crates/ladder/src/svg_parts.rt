@@ -23,6 +23,17 @@ pub fn y_of(level: usize) -> usize {
     TOP.saturating_add(level.saturating_mul(STEP))
 }
 
+// The attributes of a form of these classes.
+fn form(
+    alloc: Global,
+    class: &str,
+    numbers: &[(Attribute, usize)],
+) -> Result<Attributes, AllocError> {
+    Attributes::new(alloc)
+        .with(Attribute::Class, class)?
+        .with_numbers(numbers)
+}
+
 /// These words of these classes, in a line of their own.
 pub fn with_text(
     svg: Content,
@@ -31,10 +42,7 @@ pub fn with_text(
     (x, y): At,
     words: &str,
 ) -> Result<Content, AllocError> {
-    let place = Attributes::new(alloc)
-        .with(Attribute::Class, class)?
-        .with_number(Attribute::X, x)?
-        .with_number(Attribute::Y, y)?;
+    let place = form(alloc, class, &[(Attribute::X, x), (Attribute::Y, y)])?;
     let content = Content::new(alloc).with_words(words)?;
     svg.with(Tag::Text, place, content)?.with_words("\n")
 }
@@ -47,12 +55,13 @@ pub fn with_rect(
     (x, y): At,
     (width, height): At,
 ) -> Result<Content, AllocError> {
-    let form = Attributes::new(alloc)
-        .with(Attribute::Class, class)?
-        .with_number(Attribute::X, x)?
-        .with_number(Attribute::Y, y)?
-        .with_number(Attribute::Width, width)?
-        .with_number(Attribute::Height, height)?;
+    let sides = [
+        (Attribute::X, x),
+        (Attribute::Y, y),
+        (Attribute::Width, width),
+        (Attribute::Height, height),
+    ];
+    let form = form(alloc, class, &sides)?;
     svg.with_empty(Tag::Rect, form)?.with_words("\n")
 }
 
@@ -64,12 +73,13 @@ pub fn with_line(
     (x1, y1): At,
     (x2, y2): At,
 ) -> Result<Content, AllocError> {
-    let form = Attributes::new(alloc)
-        .with(Attribute::Class, class)?
-        .with_number(Attribute::X1, x1)?
-        .with_number(Attribute::Y1, y1)?
-        .with_number(Attribute::X2, x2)?
-        .with_number(Attribute::Y2, y2)?;
+    let ends = [
+        (Attribute::X1, x1),
+        (Attribute::Y1, y1),
+        (Attribute::X2, x2),
+        (Attribute::Y2, y2),
+    ];
+    let form = form(alloc, class, &ends)?;
     svg.with_empty(Tag::Line, form)
 }
 
@@ -80,10 +90,11 @@ pub fn with_dot(
     class: &str,
     (x, y): At,
 ) -> Result<Content, AllocError> {
-    let form = Attributes::new(alloc)
-        .with(Attribute::Class, class)?
-        .with_number(Attribute::CenterX, x)?
-        .with_number(Attribute::CenterY, y)?
-        .with_number(Attribute::Radius, 3)?;
+    let round = [
+        (Attribute::CenterX, x),
+        (Attribute::CenterY, y),
+        (Attribute::Radius, 3),
+    ];
+    let form = form(alloc, class, &round)?;
     svg.with_empty(Tag::Circle, form)?.with_words("\n")
 }

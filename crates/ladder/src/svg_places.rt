@@ -14,7 +14,7 @@ const LINES: usize = 9;
 const CHECK: usize = 44;
 
 /// Where the records of one row stand, in steps below the first record: the record, and the receipt in its row, if there is one.
-#[derive(Clone, Copy, Debug)]
+#[derive(Clone, Copy)]
 pub struct Place {
     pub told: usize,
     pub receipt: usize,

@@ -75,7 +75,7 @@ struct Head {
     name: &'static str,
     view: &'static str,
     point: (&'static str, &'static str),
-    size: (usize, usize),
+    size: (&'static str, &'static str),
     lines: &'static str,
 }
 
@@ -84,21 +84,21 @@ static HEADS: [Head; 3] = [
         name: "head",
         view: "0 0 8 6",
         point: ("8", "3"),
-        size: (8, 6),
+        size: ("8", "6"),
         lines: "M0 0 L8 3 L0 6 Z",
     },
     Head {
         name: "hollow",
         view: "0 0 9 7",
         point: ("8.5", "3.5"),
-        size: (9, 7),
+        size: ("9", "7"),
         lines: "M0.5 0.7 L8 3.5 L0.5 6.3 Z",
     },
     Head {
         name: "cross",
         view: "0 0 10 10",
         point: ("5", "5"),
-        size: (10, 10),
+        size: ("10", "10"),
         lines: "M1 1 L9 9 M1 9 L9 1",
     },
 ];
@@ -121,18 +121,20 @@ pub fn with_style(svg: Content, alloc: Global, height: usize) -> Result<Content,
 fn with_head(heads: Content, alloc: Global, head: &Head) -> Result<Content, AllocError> {
     let (point_x, point_y) = head.point;
     let (width, height) = head.size;
-    let form = Attributes::new(alloc)
-        .with(Attribute::Id, head.name)?
-        .with(Attribute::ViewBox, head.view)?
-        .with(Attribute::ReferenceX, point_x)?
-        .with(Attribute::ReferenceY, point_y)?
-        .with_number(Attribute::MarkerWidth, width)?
-        .with_number(Attribute::MarkerHeight, height)?
-        .with(Attribute::MarkerUnits, "userSpaceOnUse")?
-        .with(Attribute::Orient, "auto")?;
-    let lines = Attributes::new(alloc)
-        .with(Attribute::Class, head.name)?
-        .with(Attribute::Drawn, head.lines)?;
+    let form = Attributes::new(alloc).with_all(&[
+        (Attribute::Id, head.name),
+        (Attribute::ViewBox, head.view),
+        (Attribute::ReferenceX, point_x),
+        (Attribute::ReferenceY, point_y),
+        (Attribute::MarkerWidth, width),
+        (Attribute::MarkerHeight, height),
+        (Attribute::MarkerUnits, "userSpaceOnUse"),
+        (Attribute::Orient, "auto"),
+    ])?;
+    let lines = Attributes::new(alloc).with_all(&[
+        (Attribute::Class, head.name),
+        (Attribute::Drawn, head.lines),
+    ])?;
     let content = Content::new(alloc).with_empty(Tag::Path, lines)?;
     heads.with(Tag::Marker, form, content)?.with_words("\n")
 }

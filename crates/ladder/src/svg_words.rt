@@ -7,7 +7,7 @@ use crate::told::{Sending, What};
 use std::alloc::{AllocError, Global};
 
 /// How much is told of a unit.
-#[derive(Clone, Copy, Debug, PartialEq, Eq)]
+#[derive(Clone, Copy)]
 pub enum Detail {
     /// Nothing of the packet in a data message.
     Brief,

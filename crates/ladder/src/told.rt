@@ -6,7 +6,7 @@ use dna_station::State;
 use wire_base::Side;
 
 /// A record of one side, as it was told.
-#[derive(Clone, Copy, Debug, PartialEq, Eq)]
+#[derive(Clone, Copy)]
 pub struct Told {
     /// Whose record it is.
     pub side: Side,
@@ -19,7 +19,7 @@ pub struct Told {
 }
 
 /// What happened, by a record.
-#[derive(Clone, Copy, Debug, PartialEq, Eq)]
+#[derive(Clone, Copy)]
 pub enum What {
     /// The side sent a unit.
     Sent {
@@ -53,7 +53,7 @@ pub enum What {
 }
 
 /// A unit that was sent.
-#[derive(Clone, Copy, Debug, PartialEq, Eq)]
+#[derive(Clone, Copy)]
 pub struct Sending {
     /// In which line of its sender's capture it stands.
     pub line: u64,

@@ -8,7 +8,7 @@ use std::alloc::{AllocError, Global};
 use std::marker::Model;
 
 /// What stands for a character that has a meaning of its own in XML (XML 1.0, 4.6).
-#[derive(Clone, Copy, Debug, PartialEq, Eq)]
+#[derive(Clone, Copy)]
 pub enum Reference {
     Less,
     Greater,
@@ -160,8 +160,25 @@ impl Attributes {
         })
     }
 
-    /// The same with a number.
-    pub fn with_number(self, name: Attribute, value: usize) -> Result<Attributes, AllocError> {
+    /// The same with all of these.
+    pub fn with_all(self, values: &[(Attribute, &str)]) -> Result<Attributes, AllocError> {
+        let mut attributes = self;
+        for (name, value) in values {
+            attributes = attributes.with(*name, *value)?;
+        }
+        Ok(attributes)
+    }
+
+    /// The same with numbers.
+    pub fn with_numbers(self, values: &[(Attribute, usize)]) -> Result<Attributes, AllocError> {
+        let mut attributes = self;
+        for (name, value) in values {
+            attributes = attributes.with_number(*name, *value)?;
+        }
+        Ok(attributes)
+    }
+
+    fn with_number(self, name: Attribute, value: usize) -> Result<Attributes, AllocError> {
         let digits = format!(in self.alloc; "{value}")?;
         self.with(name, digits.as_str())
     }

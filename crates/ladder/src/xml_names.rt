@@ -4,7 +4,7 @@ ghost use Rattle.std.specs.Prelude.{◌≡◌};
 ghost use Rattle.ladder.specs.Xml as spec;
 
 /// An element of SVG.
-#[derive(Clone, Copy, Debug, PartialEq, Eq)]
+#[derive(Clone, Copy)]
 pub enum Tag {
     Svg,
     Style,
@@ -41,7 +41,7 @@ impl Tag {
 }
 
 /// An attribute of SVG. Those of an element stand in this order.
-#[derive(Clone, Copy, Debug, PartialEq, Eq)]
+#[derive(Clone, Copy)]
 pub enum Attribute {
     Xmlns,
     Id,

@@ -6,12 +6,13 @@ use Rattle.std.specs.Prelude.{slice_get}
 use Rattle.std.proofs.lemmas.List.{set-get_or}
 use Rattle.dna_station.specs.declared.link_refusal.LinkRefusal.{LinkRefusal}
 use Rattle.dna_station.specs.declared.link_refusal.LinkRefusal.TheVariants.{WrongDelivery}
+use Rattle.dna_links.specs.Queues.{ended}
 use Rattle.dna_links.specs.SegmentBook.{Sending}
 use Rattle.dna_links.specs.inner.Forms.{delivered}
 use Rattle.dna_links.specs.inner.Forms.{carries, truth_of}
 use Rattle.std.proofs.lemmas.Option.{slice_get_read}
 use Rattle.dna_links.specs.LookUps.{is_live, is_at}
-use Rattle.dna_links.specs.Links.{LinkOf, changed, in_phase, with_segments, ended}
+use Rattle.dna_links.specs.Links.{LinkOf, changed, in_phase, with_segments}
 use Rattle.dna_links.specs.Arriving.{of_partner}
 use Rattle.dna_links.specs.inner.Forms.{confirmed}
 use Rattle.dna_links.specs.declared.tag.LinkTag.{LinkTag}

@@ -4,6 +4,7 @@ use Rattle.std.specs.Prelude.{Ok, slice_get}
 use Rattle.dna_packet.specs.Nsp.{NspValue, DataSegment, LinkService, DataAck, OtherDataAck, ConnectAck, NoOperation, ConnectInitiate, ConnectConfirm}
 use Rattle.dna_packet.specs.Nsp.{DisconnectInitiate, DisconnectConfirm}
 use Rattle.dna_station.specs.declared.link_refusal.LinkRefusal.{LinkRefusal}
+use Rattle.dna_links.specs.declared.queue.Queues.TheVariants.{Without}
 use Rattle.dna_links.specs.declared.port.LinkTest.{LinkTest}
 use Rattle.dna_links.specs.declared.port.LinkTest.TheVariants.{CallingAt, LiveTo, ActedOn}
 use Rattle.dna_links.specs.declared.tag.LinkTag.{LinkTag}
@@ -44,7 +45,7 @@ pair_same own far tag takes s = linked_same refused refusal_in (ActedOn own far)
     (Ok (changed number (running wire_segments of_partner takes link) s)) refl)
 
 taken_same : (s : WireLinks) (m : NspValue) (tag : LinkTag) →
-    refused (failed_taken s m tag) ≡ refusal_in (message_arrived wire_segments of_partner s m (record { tag = tag; known = tt }))
+    refused (failed_taken s m tag) ≡ refusal_in (message_arrived Without wire_segments of_partner s m (record { tag = tag; known = tt }))
 taken_same s (ConnectConfirm dst src services info segsize user_data) tag = linked_same refused refusal_in (CallingAt dst) s _ _ _ _ refl
     (λ number link. check_same refusal_of_arrival (is_for number tag) (OtherCall number tag) None
     (Ok (changed number (confirmed wire_segments of_partner src segsize tag link) s)) refl)
@@ -60,9 +61,9 @@ taken_same s (DisconnectInitiate dst src reason user_data) tag = sym (ap refusal
 taken_same s (DisconnectConfirm dst src reason) tag = sym (ap refusal_in (ends_ok wire_segments of_partner dst src s))
 
 pub arrival_same : (s : WireLinks) (packet : Carried) (tag : LinkTag) →
-    refused (failed_arrival s packet tag) ≡ refusal_in (wire_links_arrived of_partner s packet tag)
+    refused (failed_arrival s packet tag) ≡ refusal_in (wire_links_arrived Without of_partner s packet tag)
 arrival_same s packet tag =
     check_same refusal_of_arrival (eqb packet.src s.peer && eqb packet.dst s.node)
     (Between (nodes_of packet) (record { source = s.peer; destination = s.node })) (failed_taken s packet.message tag)
-    (message_arrived wire_segments of_partner s packet.message (record { tag = tag; known = tt }))
+    (message_arrived Without wire_segments of_partner s packet.message (record { tag = tag; known = tt }))
     (taken_same s packet.message tag)

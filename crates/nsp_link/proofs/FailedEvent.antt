@@ -3,10 +3,12 @@ use Rattle.std.proofs.Common.{◌≡◌, ℕ, Bool, true, false, Option, Some, N
 use Rattle.std.specs.Prelude.{Ok, is_some}
 use Rattle.std.specs.Str.{bytes_eq}
 use Rattle.dna_station.specs.declared.link_refusal.LinkRefusal.{LinkRefusal}
+use Rattle.dna_links.specs.Queues.{freed}
+use Rattle.dna_links.specs.declared.queue.Queues.TheVariants.{Without}
 use Rattle.dna_links.specs.declared.port.LinkTest.TheVariants.{HasAddress, LiveAt, CalledBy}
 use Rattle.dna_links.specs.declared.port.Phase.{Phase}
 use Rattle.dna_links.specs.declared.port.Phase.TheVariants.{Confirming, Disconnecting}
-use Rattle.dna_links.specs.Links.{LinkOf, begun, with_segments, changed, in_phase, freed}
+use Rattle.dna_links.specs.Links.{LinkOf, begun, with_segments, changed, in_phase}
 use Rattle.dna_links.specs.LookUps.{is_connected, takes_messages}
 use Rattle.dna_links.specs.Segmentation.{Whole, next_message}
 use Rattle.dna_links.specs.User.{LinkEventValue, Open, Accept, Reject, In, Up, Close}
@@ -38,7 +40,7 @@ address_same own s next = linked_same refused refusal_in (LiveAt own) s _ _ _ _ 
 answer_same : (phase : Phase) (far own : ℕ) (s : WireLinks) →
     refused (failed_answer far own s) ≡ refusal_in (answers wire_segments phase far own s)
 answer_same phase far own s = linked_same refused refusal_in (CalledBy far) s _ _ _ _ refl (λ number link.
-    address_same own s (changed number (answered wire_segments phase own link) (freed wire_segments own s)))
+    address_same own s (changed number (answered wire_segments phase own link) (freed wire_segments Without own s)))
 
 delivered_same : (number : ℕ) (link : LinkOf WireSegments) (s : WireLinks) (message : List ℕ) (o : Option Whole) (failed : FailedLinkEvent) →
     refusal_of_event failed ≡ refusal_of_event (Delivery 0 0 None) →
@@ -49,8 +51,8 @@ delivered_same number link s message (Some w) failed is = by_same (bytes_eq mess
   by_same true = refl
   by_same false = ap Some is
 
-pub event_same : (s : WireLinks) (event : LinkEventValue) → refused (failed_event s event) ≡ refusal_in (wire_links_user s event)
-event_same s (Open own) = address_same own s (begun (opened wire_segments own) (freed wire_segments own s))
+pub event_same : (s : WireLinks) (event : LinkEventValue) → refused (failed_event s event) ≡ refusal_in (wire_links_user Without s event)
+event_same s (Open own) = address_same own s (begun (opened wire_segments own) (freed wire_segments Without own s))
 event_same s (Accept far own) = answer_same Confirming far own s
 event_same s (Reject far own) = answer_same Disconnecting far own s
 event_same s (In own message) = linked_same refused refusal_in (LiveAt own) s _ _ _ _ refl (λ number link.

@@ -8,6 +8,7 @@ use Rattle.dna_packet.specs.Nsp.{ConnectConfirm, DisconnectInitiate, DisconnectC
 use Rattle.dna_packet.specs.declared.ack_word.AckWord.{AckWord}
 use Rattle.dna_station.specs.declared.link_refusal.LinkRefusal.{LinkRefusal}
 use Rattle.dna_station.specs.declared.link_refusal.LinkRefusal.TheVariants.{WrongSegment}
+use Rattle.dna_links.specs.declared.queue.Queues.TheVariants.{Without}
 use Rattle.dna_links.specs.declared.port.LinkTest.{LinkTest}
 use Rattle.dna_links.specs.declared.port.LinkTest.TheVariants.{TheLink, OpenedAt, BegunBy, CalledBy}
 use Rattle.dna_links.specs.declared.port.Phase.{Phase}
@@ -196,7 +197,7 @@ never_refused s src dst = by_address (eqb src 0) where
 
 -- ---- each message
 
-message_same : (s : WireLinks) (m : NspValue) → refused (failed_message s m) ≡ refusal_in (message_sent wire_segments s m)
+message_same : (s : WireLinks) (m : NspValue) → refused (failed_message s m) ≡ refusal_in (message_sent Without wire_segments s m)
 message_same s (ConnectInitiate retransmitted src services info segsize user_data) = phase_same (OpenedAt src) Calling s
 message_same s (ConnectAck dst) = linked_same refused refusal_in (BegunBy dst) s _ _ _ _ refl (λ number link. refl)
 message_same s (ConnectConfirm dst src services info segsize user_data) = phase_same (TheLink src dst) Confirming s
@@ -212,8 +213,8 @@ message_same s (LinkService interrupt dst src rest) = phase_same (TheLink src ds
 message_same s (OtherDataAck dst src rest) = phase_same (TheLink src dst) Running s
 message_same s (NoOperation rest) = refl
 
-pub sending_same : (s : WireLinks) (packet : Carried) → refused (failed_sending s packet) ≡ refusal_in (wire_links_sent s packet)
+pub sending_same : (s : WireLinks) (packet : Carried) → refused (failed_sending s packet) ≡ refusal_in (wire_links_sent Without s packet)
 sending_same s packet =
     check_same refusal_of_sending (eqb packet.src s.node && eqb packet.dst s.peer)
     (Between (nodes_of packet) (record { source = s.node; destination = s.peer }))
-    (failed_message s packet.message) (message_sent wire_segments s packet.message) (message_same s packet.message)
+    (failed_message s packet.message) (message_sent Without wire_segments s packet.message) (message_same s packet.message)

@@ -5,8 +5,10 @@ use Rattle.std.proofs.Common.{sym, subst, ap, ◌∙◌, arith, eqb}
 use Rattle.std.specs.Prelude.{slice_get, position}
 use Rattle.std.proofs.lemmas.Option.{slice_get_within, slice_get_read}
 use Rattle.std.proofs.lemmas.Bool.{eqb-true, eqb-false}
+use Rattle.dna_links.specs.Queues.{forgotten, freed}
+use Rattle.dna_links.specs.declared.queue.Queues.TheVariants.{Without}
 use Rattle.dna_links.specs.LookUps.{is_live, is_at, is_called, is_calling}
-use Rattle.dna_links.specs.Links.{LinkOf, begun, changed, forgotten, freed}
+use Rattle.dna_links.specs.Links.{LinkOf, begun, changed}
 use Rattle.dna_links.specs.inner.Forms.{opened, answered}
 use Rattle.dna_links.specs.declared.port.Phase.{Phase}
 use Rattle.dna_links.specs.WireSegments.{WireSegments, wire_segments}
@@ -101,7 +103,7 @@ module _ (links : List (LinkOf WireSegments)) (h c : ℕ → Option ℕ) (r : �
 
   still_by : (k n : ℕ) (o : Option (LinkOf WireSegments)) → (n ≡ k → ⊥) → slice_get (forgotten_found k o links) n ≡ slice_get links n
   still_by k n None apart = refl
-  still_by k n (Some l) apart = slice_set_other links k n (forgotten wire_segments l) apart
+  still_by k n (Some l) apart = slice_set_other links k n (forgotten wire_segments Without l) apart
 
   module _ (n : ℕ) (l : LinkOf WireSegments) (there : slice_get links n ≡ Some l) (unowned : l.port.own ≡ None) where
     not_holder : (k : ℕ) → h own ≡ Some k → n ≡ k → ⊥
@@ -212,18 +214,18 @@ pub ruleset indexes = (indexed_same)
 
 module _ (node peer : ℕ) (items : List (LinkOf WireSegments)) (s : WireLinks) (is : record { node = node; peer = peer; links = items } ≡ s) (own : ℕ)
     (h : Option ℕ) (held : position (λ (l : LinkOf WireSegments). is_at l.port.own own) items ≡ h) (ys : List (LinkOf WireSegments)) where
-  shown_freed : freed wire_segments own s ≡ record { node = node; peer = peer; links = forgotten_at h items }
-  shown_freed = ap (freed wire_segments own) (sym is) ∙ freed_is own (record { node = node; peer = peer; links = items }) h held
+  shown_freed : freed wire_segments Without own s ≡ record { node = node; peer = peer; links = forgotten_at h items }
+  shown_freed = ap (freed wire_segments Without own) (sym is) ∙ freed_is own (record { node = node; peer = peer; links = items }) h held
 
   pub opened_made : ys ≡ forgotten_at h items ++ opened wire_segments own ∷ [] → record { node = node; peer = peer; links = ys } ≡ begun
-      (opened wire_segments own) (freed wire_segments own s)
+      (opened wire_segments own) (freed wire_segments Without own s)
   opened_made e =
       ap (λ (xs : List (LinkOf WireSegments)). record { node = node; peer = peer; links = xs }) e
       ∙ ap (begun (opened wire_segments own)) (sym shown_freed)
 
   pub answered_made : (phase : Phase) (n : ℕ) (link : LinkOf WireSegments) →
       ys ≡ set (forgotten_at h items) n (answered wire_segments phase own link) →
-      record { node = node; peer = peer; links = ys } ≡ changed n (answered wire_segments phase own link) (freed wire_segments own s)
+      record { node = node; peer = peer; links = ys } ≡ changed n (answered wire_segments phase own link) (freed wire_segments Without own s)
   answered_made phase n link e =
       ap (λ (xs : List (LinkOf WireSegments)). record { node = node; peer = peer; links = xs }) e
       ∙ ap (changed n (answered wire_segments phase own link)) (sym shown_freed)

@@ -1,5 +1,6 @@
 -- What is shown of a live link is what is true of it.
 use Rattle.std.proofs.Common.{◌≡◌, ℕ, ◌+◌, ◌-◌, ◌≤◌, true, length, drop, ap, ◌∙◌, arith, length-drop}
+use Rattle.dna_links.specs.declared.queue.Queues.TheVariants.{Without}
 use Rattle.dna_links.specs.CutSegments.{cut, IsOrdered}
 use Rattle.dna_links.specs.CutLinks.{cut_as, cut_link}
 use Rattle.dna_links.specs.SegmentBook.{wire}
@@ -23,7 +24,7 @@ numbers_true f ordered =
     let held : length (drop f.acknowledged f.given) ≡ highest_given f - f.acknowledged = length-drop f.acknowledged f.given in
     same_given f (ap (λ (n : ℕ). wire (wire f.acknowledged + n)) held ∙ wire_on f.acknowledged (highest_given f) ordered.given) held
 
-pub shows_truth : (l : LinkOf TrueSegments) → is_live l.port.phase ≡ true → IsOrdered l.segments → view_of (cut_link l) ≡ true_view l
+pub shows_truth : (l : LinkOf TrueSegments) → is_live l.port.phase ≡ true → IsOrdered l.segments → view_of (cut_link Without l) ≡ true_view l
 shows_truth l live ordered =
     ap (λ (numbers : LinkNumbers). record (true_view l) { numbers = numbers })
     (ap (λ b. numbers_of (cut_as b l.port.own l.segments)) live ∙ numbers_true l.segments ordered)

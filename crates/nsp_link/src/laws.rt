@@ -1,6 +1,7 @@
 //! What holds of what is shown of a link, and of the check that a message does not pass.
 
 ghost use Rattle.std.specs.Prelude.{◌≡◌, ◌≤◌, ◌<◌, ◌+◌, ℕ, Bool, true, Some, List, length, is_some, nat_lt, option_map, slice_get};
+ghost use Rattle.dna_links.specs.declared.queue.Queues.TheVariants.{Without};
 ghost use Rattle.dna_links.specs.CutSegments.{IsOrdered};
 ghost use Rattle.dna_links.specs.CutLinks.{cut_link};
 ghost use Rattle.dna_links.specs.Links.{Carried, LinkOf, number_of};
@@ -23,17 +24,17 @@ ghost use Rattle.nsp_link.specs.View.{true_view, view_of};
 
 /// What is shown of a live link is what is true of it, on the numbers of messages.
 pub fn link_view_shows_truth()
-    ensures { (l : LinkOf TrueSegments) → is_live l.port.phase ≡ true → IsOrdered l.segments → view_of (cut_link l) ≡ true_view l }
+    ensures { (l : LinkOf TrueSegments) → is_live l.port.phase ≡ true → IsOrdered l.segments → view_of (cut_link Without l) ≡ true_view l }
 {}
 
 /// The check that a message or an event does not pass is the one for which the links refuse it.
 pub fn failed_as_refused()
     ensures sending { (s : WireLinks) (packet : Carried) → option_map refusal_of_sending (failed_sending s packet) ≡
-        refusal_in (wire_links_sent s packet) }
+        refusal_in (wire_links_sent Without s packet) }
     ensures event { (s : WireLinks) (event : LinkEventValue) → option_map refusal_of_event (failed_event s event) ≡
-        refusal_in (wire_links_user s event) }
+        refusal_in (wire_links_user Without s event) }
     ensures arrival { (s : WireLinks) (packet : Carried) (tag : LinkTag) →
-        option_map refusal_of_arrival (failed_arrival s packet tag) ≡ refusal_in (wire_links_arrived of_partner s packet tag) }
+        option_map refusal_of_arrival (failed_arrival s packet tag) ≡ refusal_in (wire_links_arrived Without of_partner s packet tag) }
 {}
 
 /// With what is allowed in the place of what is seen, the check is passed that a message or an event did not pass: a link that is as it asks for;

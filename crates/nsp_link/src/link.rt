@@ -6,7 +6,8 @@ ghost use Rattle.dna_packet.specs.AckWord.{IsAckWord};
 ghost use Rattle.dna_packet.specs.Nsp.{segment_view};
 ghost use Rattle.dna_links.specs.LookUps.{is_live, is_called, is_calling};
 ghost use Rattle.dna_links.specs.Links.{in_phase, with_segments};
-ghost use Rattle.dna_links.specs.Links as links;
+ghost use Rattle.dna_links.specs.Queues.{fresh, ended, forgotten};
+ghost use Rattle.dna_links.specs.declared.queue.Queues.TheVariants.{Without};
 ghost use Rattle.dna_links.specs.inner.Forms as forms;
 ghost use Rattle.dna_links.specs.inner.Forms.{segment_of};
 ghost use Rattle.dna_links.specs.Arriving.{of_partner};
@@ -45,6 +46,7 @@ pub struct Link<W: Window<Piece, 4096> + Drop> {
 impl<W: Window<Piece, 4096> + Drop> Model for Link<W> {
     ghost use Rattle.std.specs.Prelude.{◌≡◌, true, None, IsSome};
     ghost use Rattle.dna_links.specs.Links.{LinkOf};
+    ghost use Rattle.dna_links.specs.Queues.{fresh};
     ghost use Rattle.dna_links.specs.LookUps.{is_live, is_called, is_calling};
     ghost use Rattle.dna_links.specs.WireSegments.{WireSegments};
     ghost use Rattle.nsp_link.specs.inner.Link.{segments_in};
@@ -56,6 +58,7 @@ impl<W: Window<Piece, 4096> + Drop> Model for Link<W> {
       partner = l.partner;
       segsize = l.segsize;
       segments = segments_in (λ b. b.value) l.segments;
+      queue = fresh;
     } };
 
     ghost invariant = { λ l. (is_called l.port.phase ≡ true → l.port.own ≡ None) × (is_live l.port.phase ≡ true → IsSome l.segments)
@@ -98,7 +101,7 @@ impl<W: Window<Piece, 4096> + Drop> Link<W> {
     ) -> Result<Self, AllocError>
         requires called { is_called port.phase ≡ true → port.own ≡ None }
         requires calling { is_calling port.phase ≡ true → (port.opened ≡ true) × (port.far ≡ None) }
-        ensures { IfOk result (λ link. link ≡ record { port = port; partner = partner; segsize = segsize; segments = spec.empty }) }
+        ensures { IfOk result (λ link. link ≡ record { port = port; partner = partner; segsize = segsize; segments = spec.empty; queue = fresh }) }
     {
         let Ok(segments) = Box::new(alloc, Segments::new(alloc)) else {
             return Err(AllocError);
@@ -191,7 +194,7 @@ impl<W: Window<Piece, 4096> + Drop> Link<W> {
     /// Its own address is given to another link.
     pub fn forget(&mut self)
         requires { is_live self.old.port.phase ≡ false }
-        ensures { self.new ≡ links.forgotten wire_segments self.old }
+        ensures { self.new ≡ forgotten wire_segments Without self.old }
     {
         self.port.own = None;
         self.segments = None;
@@ -238,7 +241,7 @@ impl<W: Window<Piece, 4096> + Drop> Link<W> {
     #[tactic(auto, using(crate::proofs::Ended::left))]
     pub fn end(&mut self, alloc: Global)
         requires { is_live self.old.port.phase ≡ true }
-        ensures { self.new ≡ links.ended wire_segments self.old }
+        ensures { self.new ≡ ended wire_segments self.old }
     {
         self.port.phase = Phase::Ended;
         let Some(segments) = &mut self.segments else {

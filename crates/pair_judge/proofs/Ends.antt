@@ -14,6 +14,7 @@ use Rattle.dna_station.specs.Bounds.{IsOrdered}
 use Rattle.dna_station.specs.Cut.{AreLabelled, cut}
 use Rattle.dna_station.specs.Station.{Station}
 use Rattle.dna_station.specs.WireStation.{HeldPacket}
+use Rattle.dna_links.specs.declared.queue.Queues.TheVariants.{Without}
 use Rattle.dna_links.specs.CutLinks.{cut_links}
 use Rattle.dna_links.specs.Runs.{SentMessage}
 use Rattle.dna_links.specs.declared.tag.LinkTag.{LinkTag}
@@ -113,7 +114,7 @@ module _ (laws : EndLaws) (own : End) (incoming : Line) (w : JudgeHalf) (half : 
   layers_true : own.layers ≡ cut_layers half.state.station
   layers_true = sym stands.layers ∙ shows.station
 
-  links_true : own.layers.links ≡ cut_links half.state.station.links
+  links_true : own.layers.links ≡ cut_links Without half.state.station.links
   links_true = ap (λ (l : WireLayers). l.links) (sym stands.layers ∙ shows.station)
 
   sent_true : sent_on own.line ≡ length half.sent

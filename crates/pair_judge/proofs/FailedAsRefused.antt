@@ -28,6 +28,7 @@ use Rattle.dna_station.specs.PeriodRule.{of_period}
 use Rattle.dna_station.specs.Table.{user_refusal}
 use Rattle.dna_station.specs.WireBook.{gives_new, wire_book, wire_sending_refusal, wire_after_sending, wire_arrival_refusal, wire_after_arrival}
 use Rattle.dna_station.specs.WireStation.{WireStation}
+use Rattle.dna_links.specs.declared.queue.Queues.TheVariants.{Without}
 use Rattle.dna_links.specs.declared.tag.LinkTag.{LinkTag}
 use Rattle.dna_links.specs.Links.{Carried}
 use Rattle.dna_links.specs.User.{LinkEventValue, Open, Accept, Reject, In, Up, Close}
@@ -110,24 +111,24 @@ without_link link HeaderBad = refl
 without_link link DataBad = refl
 
 first_same : (s : WireLayers) (m : MessageValue) (after : WireStation LinkTag × Tag) →
-    caused (failed_first s m) ≡ cause_in (wire_sends_on s m (Ok after))
+    caused (failed_first s m) ≡ cause_in (wire_sends_on judged s m (Ok after))
 first_same s m after = by_new (gives_new s.station m) where
   by_new : (b : Bool) →
       caused (cond b (failed_packet (λ packet. option_map LinkSending (sends.failed_sending s.links packet)) (body_of m)) None) ≡
-      cause_in (cond b (wire_sends_first s after (content (body_of m))) (Ok (wire_sends_again s m after)))
+      cause_in (cond b (wire_sends_first judged s after (content (body_of m))) (Ok (wire_sends_again s m after)))
   by_new true =
-      packet_same (λ packet. option_map LinkSending (sends.failed_sending s.links packet)) (wire_sends_first s after) refl (λ refusal. refl)
+      packet_same (λ packet. option_map LinkSending (sends.failed_sending s.links packet)) (wire_sends_first judged s after) refl (λ refusal. refl)
       (λ packet. linked_same LinkSending sends.refusal_of_sending (with_tag after) (λ failed. refl) (λ made. refl) (λ refusal. refl)
-      (sends.failed_sending s.links packet) (wire_links_sent s.links packet) (sending_same s.links packet))
+      (sends.failed_sending s.links packet) (wire_links_sent Without s.links packet) (sending_same s.links packet))
       (body_of m)
   by_new false = refl
 
 message_by : (s : WireLayers) (m : MessageValue) (after : WireStation LinkTag × Tag) (o : Option FailedSending) (p : Option StationRefusal) →
     option_map of_station.refusal_of_failed o ≡ p →
-    caused (or_next (option_map StationSending o) (failed_first s m)) ≡ cause_in (wire_sends_on s m (unless_refused p after))
-message_by s m after (Some failed) p same = ap (λ (q : Option StationRefusal). cause_in (wire_sends_on s m (unless_refused q after))) same
+    caused (or_next (option_map StationSending o) (failed_first s m)) ≡ cause_in (wire_sends_on judged s m (unless_refused p after))
+message_by s m after (Some failed) p same = ap (λ (q : Option StationRefusal). cause_in (wire_sends_on judged s m (unless_refused q after))) same
 message_by s m after None p same =
-    first_same s m after ∙ ap (λ (q : Option StationRefusal). cause_in (wire_sends_on s m (unless_refused q after))) same
+    first_same s m after ∙ ap (λ (q : Option StationRefusal). cause_in (wire_sends_on judged s m (unless_refused q after))) same
 
 pub message_same : (s : WireLayers) (m : MessageValue) → caused (failed_message s m) ≡ cause_in ((wire_layers_machine judged).sends s m)
 message_same s m =
@@ -143,7 +144,7 @@ kept_same s after (Sound m known) =
     (wire_keeps_packet judged (record s { station = after }) (tag_or_none known.link)) refl (λ refusal. refl)
     (λ packet. linked_same LinkArrival arrives.refusal_of_arrival (with_wire_links (record s { station = after })) (λ failed. refl) (λ made. refl)
     (λ refusal. refl) (arrives.failed_arrival s.links packet (tag_or_none known.link))
-    (wire_links_arrived judged.partners s.links packet (tag_or_none known.link)) (link_arrival_same s.links packet (tag_or_none known.link)))
+    (wire_links_arrived Without judged.partners s.links packet (tag_or_none known.link)) (link_arrival_same s.links packet (tag_or_none known.link)))
     (body_of m)
 kept_same s after HeaderBad = refl
 kept_same s after DataBad = refl
@@ -188,10 +189,10 @@ halt_same s after Astrt = refl
 halt_same s after Running = refl
 
 links_same : (s : WireLayers) (event : LinkEventValue) →
-    caused (failed_at_links s (Some event)) ≡ cause_in (with_wire_links s (wire_links_user s.links event))
+    caused (failed_at_links s (Some event)) ≡ cause_in (with_wire_links s (wire_links_user Without s.links event))
 links_same s event =
     linked_same LinkEvent happens.refusal_of_event (with_wire_links s) (λ failed. refl) (λ made. refl) (λ refusal. refl)
-    (happens.failed_event s.links event) (wire_links_user s.links event) (event_same s.links event)
+    (happens.failed_event s.links event) (wire_links_user Without s.links event) (event_same s.links event)
 
 pub user_same : (s : WireLayers) (event : Event) → caused (failed_user s event) ≡ cause_in ((wire_layers_machine judged).user s event)
 user_same s events.Start = start_same s (wire_book.after_event s.station Start) s.station.variables.state

@@ -9,6 +9,7 @@ pub mod LineEnds
 pub mod LoneEnds
 pub mod LoneWalk
 pub mod Meets
+pub mod LinkEvents
 pub mod Events
 pub mod Entries
 pub mod Advances

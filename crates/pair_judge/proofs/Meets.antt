@@ -33,7 +33,7 @@ module _ (rules : Rules) (s : WireLayers) (after : WireStation LinkTag) where
   -- what the links make of a packet has nothing of the station
   keeps_under : (tag : LinkTag) (r : Result (Option Carried) StepRefusal) →
       wire_keeps_packet rules (record s { station = after }) tag r ≡ under after (wire_keeps_packet rules s tag r)
-  keeps_under tag (Ok (Some packet)) = links_under (wire_links_arrived rules.partners s.links packet tag)
+  keeps_under tag (Ok (Some packet)) = links_under (wire_links_arrived rules.queues rules.partners s.links packet tag)
   keeps_under tag (Ok None) = refl
   keeps_under tag (Err refusal) = refl
 

@@ -7,6 +7,7 @@ use Rattle.two_nodes.specs.Cutting.{Cut, cut_outcome, cut_world}
 use Rattle.capture.specs.declared.record.Record.{Record}
 use Rattle.dna_station.specs.declared.head.Head.{Head}
 use Rattle.dna_station.specs.declared.refusal.StepRefusal.{StepRefusal}
+use Rattle.dna_links.specs.declared.queue.Queues.TheVariants.{Without}
 use Rattle.dna_node.specs.CutLayers.{cut_layers_unit, layers_seen}
 use Rattle.dna_links.specs.CutLinks.{cut_link}
 use Rattle.dna_node.specs.LayersPair.{layers_pair}
@@ -37,8 +38,8 @@ shown head_a head_b w of_a of_b s = record {
   refused_b = λ r refusal is. refused_there layers_seen (advance layers_pair.node_b s.world.b s.world.a r) refusal (sym (s.same_b r) ∙ is);
   waits_a = λ r is. waits_there layers_seen (advance layers_pair.node_a s.world.a s.world.b r) (sym (s.same_a r) ∙ is);
   waits_b = λ r is. waits_there layers_seen (advance layers_pair.node_b s.world.b s.world.a r) (sym (s.same_b r) ∙ is);
-  links_a = ap (λ (x : JudgeWorld). length x.a.state.station.links.links) s.is_cut ∙ length-map s.world.a.state.station.links.links cut_link;
-  links_b = ap (λ (x : JudgeWorld). length x.b.state.station.links.links) s.is_cut ∙ length-map s.world.b.state.station.links.links cut_link;
+  links_a = ap (λ (x : JudgeWorld). length x.a.state.station.links.links) s.is_cut ∙ length-map s.world.a.state.station.links.links (cut_link Without);
+  links_b = ap (λ (x : JudgeWorld). length x.b.state.station.links.links) s.is_cut ∙ length-map s.world.b.state.station.links.links (cut_link Without);
   shows_a = record {
     station = ap (λ (x : JudgeWorld). x.a.state.station) s.is_cut;
     front = ap (λ (x : JudgeWorld). x.a.state.front) s.is_cut;

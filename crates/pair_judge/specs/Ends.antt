@@ -11,6 +11,7 @@ use Rattle.capture.specs.SoFar.{ReadSoFar, IsReadSoFar}
 use Rattle.ddcmp_station.specs.View.{true_view}
 use Rattle.ddcmp_station.specs.declared.view.StationView.{StationView}
 use Rattle.dna_station.specs.Machine.{step}
+use Rattle.dna_links.specs.declared.queue.Queues.TheVariants.{Without}
 use Rattle.dna_links.specs.CutLinks.{cut_links}
 use Rattle.dna_links.specs.WireLinks.{WireLinks}
 use Rattle.dna_node.specs.declared.finding.Cause.{Cause}
@@ -73,7 +74,7 @@ NodeWorld = World (KindNode both_layers) (KindUnit both_layers)
 pub record ShowsNode (end : ShownEnd) (half : NodeHalf) : Type 0 where
   pub layers : end.layers ≡ cut_layers half.state.station
   pub station : end.station ≡ true_view half.state.station.station
-  pub links : end.links ≡ cut_links half.state.station.links
+  pub links : end.links ≡ cut_links Without half.state.station.links
   pub sent : end.sent ≡ length half.sent
   pub front : end.front ≡ half.state.front
 

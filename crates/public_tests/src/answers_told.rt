@@ -6,8 +6,8 @@ use nsp_link::{FailedLinkSending, LinkNumbers, LinkView, NextPiece, PieceShape};
 use pair_judge::{FailedCheck, Reason, Verdict, judge_with_ends};
 use std::alloc::{AllocError, Global};
 use why::{
-    Accusation, Addresses, Check, CheckTold, Differing, EditRow, EditsTried, Form, Fronts,
-    RecorderRow, Refusal, Shown, StateLine, addresses_of, record_json, record_text, side_json,
+    Accusation, Addresses, Check, CheckObject, Differing, EditsTried, Fronts, Lines, RecorderRow,
+    Refusal, Shown, StateLine, addresses_of, put_edit, record_json, record_text, side_json,
     side_text, why_json, why_rows,
 };
 use wire_base::{Side, Tally};
@@ -64,12 +64,12 @@ const ROWS: &str = "2-not-set-back.a:10: sent\n  \
      \n\
      a before it (8 records, to line 9)\n  \
      station  RUNNING, start 1, goes with start 1 of b\n  \
-     numbers  R 0 received   A 1 acknowledged   N 3 given   T 2 next to send\n           \
+     numbers  R 0 received  A 1 acknowledged  N 3 given  T 2 next to send\n           \
      outstanding 2-3\n           \
      NAKs owed or open: none\n\
      b before it (7 records, to line 8)\n  \
      station  RUNNING, start 1, goes with start 1 of a\n  \
-     numbers  R 1 received   A 0 acknowledged   N 0 given   T 1 next to send\n           \
+     numbers  R 1 received  A 0 acknowledged  N 0 given  T 1 next to send\n           \
      NAKs owed or open: none\n\
      \n  \
      the rows before it\n\
@@ -103,7 +103,7 @@ fn records_are_told_layer_by_layer(rt: HostRuntime) -> Result<(), AllocError> {
         kept: false,
         hint: 1,
     };
-    let told = record_text(alloc, "pdp.b", 8, entry, stack.as_slice())?;
+    let told = record_text(alloc, ("pdp.b", 8), entry, stack.as_slice(), false)?;
     assert_eq!(rt;
         told.as_str(),
         "pdp.b:8: received, hint 1\n  bytes    0507c00000014855\n  DDCMP    STACK  flags QSYNC SELECT\n"
@@ -171,12 +171,12 @@ fn sides_are_told_with_few_links(rt: HostRuntime) -> Result<(), AllocError> {
     );
     let station = "a before it (8 records, to line 9)\n  \
          station  RUNNING, start 1, goes with start 1 of b\n  \
-         numbers  R 0 received   A 1 acknowledged   N 3 given   T 2 next to send\n           \
+         numbers  R 0 received  A 1 acknowledged  N 3 given  T 2 next to send\n           \
          outstanding 2-3\n           \
          NAKs owed or open: 1 x reason 8 (no buffer)\n";
     let told = side_text(alloc, running(), Addresses::none(), &[quiet_link()])?;
     let row =
-        "  link     1-2 RUN: given 0, acknowledged 0, received 0, last acknowledged 0, SEGSIZE 512\n";
+        "  link     1-2 RUN, SEGSIZE 512\n           given 0, acknowledged 0, received 0, last acknowledged 0\n";
     let wanted = format!(in alloc; "{station}{row}")?;
     assert_eq!(rt; told.as_str(), wanted.as_str());
     let mut called = quiet_link();
@@ -185,7 +185,8 @@ fn sides_are_told_with_few_links(rt: HostRuntime) -> Result<(), AllocError> {
     let mut links = [quiet_link(); 1000];
     links[700] = called;
     let told = side_text(alloc, running(), Addresses::none(), &links)?;
-    let row = "  link     1-? Calling: given 0, acknowledged 0, received 0, last acknowledged 0\n";
+    let row =
+        "  link     1-? Calling\n           given 0, acknowledged 0, received 0, last acknowledged 0\n";
     let wanted = format!(in alloc; "{station}{row}           and 999 more live links\n")?;
     assert_eq!(rt; told.as_str(), wanted.as_str());
     links[900].port.own = Some(7);
@@ -195,7 +196,7 @@ fn sides_are_told_with_few_links(rt: HostRuntime) -> Result<(), AllocError> {
     };
     let told = side_text(alloc, running(), named, &links)?;
     let first =
-        "  link     7-2 RUN: given 0, acknowledged 0, received 0, last acknowledged 0, SEGSIZE 512\n";
+        "  link     7-2 RUN, SEGSIZE 512\n           given 0, acknowledged 0, received 0, last acknowledged 0\n";
     let wanted = format!(in alloc; "{station}{first}{row}           and 998 more live links\n")?;
     assert_eq!(rt; told.as_str(), wanted.as_str());
     Ok(())
@@ -215,10 +216,8 @@ fn edits_are_told_with_what_they_tell(rt: HostRuntime) -> Result<(), AllocError>
         "{\"what\": \"edits\", \"tried\": 37, \"accepted\": 1, \"records_behind\": 135}\n"
     );
     let row = RecorderRow { edits: tried };
-    let edit = EditRow {
-        words: "line 36 of b is `k`, not `r`",
-    };
-    let told = format!(in alloc; "{row}{edit}")?;
+    let mut told = format!(in alloc; "{row}")?;
+    put_edit(&mut told, "line 36 of b is `k`, not `r`")?;
     assert_eq!(rt;
         told.as_str(),
         "recorder 1 of 37 small edits nearby would make the pair acceptable\n         \
@@ -263,6 +262,7 @@ fn a_refusal_is_told_whole(rt: HostRuntime) -> Result<(), AllocError> {
         says: entry,
         bytes,
         unit: None,
+        lines: Lines::none(),
     };
     let tried = EditsTried {
         tried: 0,
@@ -274,6 +274,7 @@ fn a_refusal_is_told_whole(rt: HostRuntime) -> Result<(), AllocError> {
     let shown = Shown {
         name: "2-not-set-back.a",
         unit: "",
+        full: false,
         ladder: "  the rows before it\n",
         tried,
         edits: "",
@@ -307,9 +308,9 @@ fn compared_bytes_are_told(rt: HostRuntime) -> Result<(), AllocError> {
             unit_name: "",
             differs: None,
         },
+        lines: Lines::none(),
     };
-    let form = Form::Object;
-    let told = format!(in rt.alloc(); "{}", CheckTold { form, check })?;
+    let told = format!(in rt.alloc(); "{}", CheckObject { check })?;
     assert_eq!(rt;
         told.as_str(),
         "{\"what\": \"check\", \"check\": \"next piece\", \"seen\": \"1 byte 05, begins and ends\", \"allowed\": \"the next of 20 bytes \
@@ -348,9 +349,9 @@ fn bytes_that_read_alike_are_told_by_a_byte(rt: HostRuntime) -> Result<(), Alloc
                 sent: byte_2(0xc0),
             }),
         },
+        lines: Lines::none(),
     };
-    let form = Form::Object;
-    let told = format!(in rt.alloc(); "{}", CheckTold { form, check })?;
+    let told = format!(in rt.alloc(); "{}", CheckObject { check })?;
     assert_eq!(rt;
         told.as_str(),
         "{\"what\": \"check\", \"check\": \"the line\", \"seen\": \"STRT, of which byte 2 is 80, and it has 8 bytes\", \"allowed\": \

@@ -1,6 +1,5 @@
 -- The first bytes of a record that are compared with those of its node, and the node's, as hexadecimal digits.
-use Rattle.std.specs.Prelude.{ℕ, ◌/◌, ◌==◌, nat_le, nat_lt, if◌then◌else◌, Option, Some, None, Result, Ok, Err}
-use Rattle.std.specs.Prelude.{List, [], ◌++◌, length, take, codes}
+use Rattle.std.specs.Prelude.{ℕ, nat_le, if◌then◌else◌, Option, Some, None, Result, Ok, Err, List, [], length, take}
 use Rattle.hex.specs.Hex.{encode_lower}
 use Rattle.capture.specs.declared.entry.Entry.{Entry}
 use Rattle.capture.specs.declared.entry.Entry.TheVariants as entries
@@ -11,33 +10,19 @@ use Rattle.dna_links.specs.WireLinks.{WireLinks}
 use Rattle.nsp_link.specs.Due.{due_at_links, due_to_user}
 use Rattle.why.specs.declared.digits.Fronts as declared
 use Rattle.why.specs.Layers.{message_in_unit}
-use Rattle.why.specs.Undetected.{differing, name_before}
-use Rattle.why.specs.declared.undetected.Differing.{Differing}
-use Rattle.why.specs.Words.{words_if}
 
--- The digits of both, the short name of the unit that the record names, with a comma and a blank behind it, or nothing, and the first byte in which
--- the record's bytes differ from it under that name
+-- the digits of both
 pub record Fronts : Type 0 where
   pub seen : List ℕ
   pub due : List ℕ
-  pub unit_name : List ℕ
-  pub differs : Option Differing
 
 -- as they are lent
 abbrev pub fronts_told : declared.Fronts → Fronts
-fronts_told f = record { seen = f.seen.now; due = f.due.now; unit_name = f.unit_name.now; differs = f.differs }
+fronts_told f = record { seen = f.seen.now; due = f.due.now }
 
 -- at most sixteen bytes are told
 abbrev pub front_digits : List ℕ → List ℕ
 front_digits bytes = if nat_le (length bytes) 16 then encode_lower bytes else encode_lower (take 16 bytes)
-
--- that so many bytes are not all told by these digits
-abbrev pub dots : (front : List ℕ) → (count : ℕ) → List ℕ
-dots front count = words_if (nat_lt (length front / 2) count) (codes "..")
-
--- the digits of the front of so many bytes, behind a space or a colon; nothing where there is none
-abbrev pub front_behind : (lead front : List ℕ) → (count : ℕ) → List ℕ
-front_behind lead front count = if count == 0 then [] else lead ++ (front ++ dots front count)
 
 -- ---- what a segment carries, and what it is compared with
 
@@ -76,11 +61,5 @@ abbrev pub due_bytes : WireLinks → Entry → List ℕ → List ℕ
 due_bytes links (entries.Up own) bytes = or_none (due_to_user own links)
 due_bytes links entry bytes = in_message (due_for links) (message_in_unit bytes)
 
--- beside the unit that the record names, where it is known
-abbrev pub fronts : WireLinks → Entry → List ℕ → (unit : Option (List ℕ)) → Fronts
-fronts links entry bytes unit = record {
-  seen = front_digits (seen_bytes entry bytes);
-  due = front_digits (due_bytes links entry bytes);
-  unit_name = name_before unit;
-  differs = differing bytes unit;
-}
+abbrev pub fronts : WireLinks → Entry → List ℕ → Fronts
+fronts links entry bytes = record { seen = front_digits (seen_bytes entry bytes); due = front_digits (due_bytes links entry bytes) }

@@ -6,15 +6,11 @@ use Rattle.capture.specs.declared.entry.Entry.{Entry}
 use Rattle.capture.specs.declared.entry.Entry.TheVariants.{Sent, Received, Noise}
 use Rattle.nsp_link.specs.View.{view_of}
 use Rattle.nsp_link.specs.declared.view.LinkView.{LinkView}
-use Rattle.pair_judge.specs.Ends.{ShownEnd, ShownEnds}
-use Rattle.pair_judge.specs.Finding.{of_side}
+use Rattle.pair_judge.specs.Ends.{ShownEnd}
 use Rattle.why.specs.declared.state_line.StateLine.{StateLine}
 use Rattle.why.specs.LinkLine.{is_live}
 
 -- ---- what the ends show
-
-abbrev pub end_of : Side → ShownEnds → ShownEnd
-end_of side e = of_side side e.a e.b
 
 abbrev pub state_by : Side → ShownEnd → StateLine
 state_by side e = record { side = side; records = e.records; station = e.station; sent = e.sent; front = e.front }

@@ -1,11 +1,10 @@
 -- Where the layers of a record's bytes lie: a packet in a unit, and a message of NSP in a packet.
-use Rattle.std.specs.Prelude.{ℕ, List, Option, Some, None, Result, Ok, Err, if◌then◌else◌}
+use Rattle.std.specs.Prelude.{ℕ, ◌/◌, ◌%◌, ◌==◌, Bool, List, Option, Some, None, Result, Ok, Err, if◌then◌else◌}
 use Rattle.ddcmp_msg.specs.Message.{MessageValue, Data}
 use Rattle.ddcmp_msg.specs.Reading.{ReadingValue, Sound, reading}
 use Rattle.dna_packet.specs.declared.fault.PacketFault.{PacketFault}
 use Rattle.dna_packet.specs.Packet.{PacketValue, Data as DataPacket}
 use Rattle.dna_packet.specs.ReadingPacket.{packet_at}
-use Rattle.why.specs.PacketWords.{is_on_its_way_back}
 
 abbrev pub body_of : MessageValue → Option (List ℕ)
 body_of (Data flags resp num body) = Some body
@@ -15,6 +14,10 @@ body_of message = None
 abbrev pub packet_in : ReadingValue → Option (List ℕ)
 packet_in (Sound message) = body_of message
 packet_in reading = None
+
+-- bit 4 of RTFLG: the packet is on its way back to its source
+abbrev pub is_on_its_way_back : (rtflg : ℕ) → Bool
+is_on_its_way_back rtflg = (rtflg / 16 % 2) == 1
 
 -- the message of a data packet, but of one on its way back
 abbrev pub message_in : PacketValue → Option (List ℕ)

@@ -1,29 +1,12 @@
--- What is said of a refused record, byte by byte
-pub mod Words
-pub mod PacketWords
-pub mod DamageWords
-pub mod UnitWords
-pub mod NspWords
+-- What the numbers and names are that are said of a refused record, and its first line
 pub mod Layers
-pub mod EventWords
-pub mod RecordTold
 pub mod Causes
-pub mod StateLine
-pub mod StateText
 pub mod LinkLine
 pub mod Subject
 pub mod Sides
 pub mod Digits
-pub mod StationChecks
 pub mod Undetected
-pub mod LinkChecks
-pub mod Pages
-pub mod Rules
-pub mod Checks
 pub mod Refused
-pub mod Edits
 pub mod Ends
+pub mod EndAlone
 pub mod OtherEnd
-pub mod RefusedRecord
-pub mod Whole
-pub mod WholeEnd

@@ -1,8 +1,9 @@
--- The refusal as a JSON object, and who is accused.
-use Rattle.std.specs.Prelude.{ℕ, ◌+◌, Bool, true, false, List, ◌++◌, codes}
+-- Who is accused, and the refusal as the JSON object that comes first of all that is said of it.
+use Rattle.std.specs.Prelude.{◌≡◌, ℕ, ◌+◌, Bool, true, false, List, ◌++◌, codes}
 use Rattle.std.specs.Fmt.{decimal}
-use Rattle.wire_base.specs.Side.{other_side, side_letter}
+use Rattle.wire_base.specs.Side.{side_letter}
 use Rattle.wire_base.specs.declared.side.Side.{Side}
+use Rattle.wire_base.specs.declared.side.Side.TheVariants.{A}
 use Rattle.capture.specs.declared.entry.Entry.{Entry}
 use Rattle.capture.specs.declared.entry.Entry.TheVariants.{Received}
 use Rattle.pair_judge.specs.Reason.{reason_name, reason_number}
@@ -17,7 +18,9 @@ use Rattle.why.specs.declared.accusation.Accusation.{Accusation}
 use Rattle.why.specs.declared.accusation.Accusation.TheVariants.{Sender, OtherSender, Hints, Line, Claim, Nobody, User}
 use Rattle.why.specs.declared.accusation.Accusation.TheVariants.{Starter, Chooser, OtherEnd}
 use Rattle.why.specs.Ends.{is_of_user}
+use Rattle.why.specs.declared.end_text.EndRefusal.{EndRefusal}
 use Rattle.why.specs.declared.refused_line.RefusedLine.{RefusedLine}
+use Rattle.why.specs.declared.why_text.Refusal.{Refusal}
 
 -- a link that is not there, or not in the right phase, is the sender's fault, or the user's in a user's record
 abbrev pub sender_or_user : (of_user : Bool) → Accusation
@@ -91,23 +94,15 @@ reason_keys reason accusation =
 abbrev pub refused_line : RefusedLine → List ℕ
 refused_line r = place_keys r.side r.record_number ++ reason_keys r.reason r.accusation
 
--- ---- the same in words, of a record of this side
+-- ---- of a pair, and of one end, which is side a
 
-abbrev pub accused_words : Side → Accusation → List ℕ
-accused_words side Sender = codes "the sender, " ++ (side_letter side ++ codes "\n")
-accused_words side OtherSender =
-    codes "the sender of what came, " ++ (side_letter (other_side side) ++ codes ", or heads that do not pair\n")
-accused_words side Hints = codes "the hints, or captures that do not pair\n"
-accused_words side Line = codes "the line, or captures that do not pair\n"
-accused_words side Claim =
-    side_letter side ++ (codes " (its node or its recorder); " ++ (side_letter (other_side side) ++ codes " is not to blame\n"))
-accused_words side Nobody = codes "nobody: the protocol cannot tell the two apart\n"
-accused_words side User = codes "the user of " ++ (side_letter side ++ codes "\n")
-accused_words side Starter =
-    codes "the user of " ++ (side_letter side ++ codes ", or the node if it started by itself\n")
-accused_words side Chooser =
-    codes "the user of " ++ (side_letter side ++ codes ", or the node if it chose the address\n")
-accused_words side OtherEnd = codes "the other end\n"
+abbrev pub line_of : Refusal → RefusedLine
+line_of r = record { side = r.side; record_number = r.place; reason = r.reason; accusation = r.accusation }
 
-abbrev pub accused_row : Side → Accusation → List ℕ
-accused_row side accusation = codes "accused  " ++ accused_words side accusation
+abbrev pub line_of_end : EndRefusal → RefusedLine
+line_of_end r = record { side = A; record_number = r.place; reason = r.reason; accusation = r.accusation }
+
+-- a text whose first line this is
+pub record BeginsWith (front text : List ℕ) : Type 0 where
+  pub rest : List ℕ
+  pub is : text ≡ front ++ rest

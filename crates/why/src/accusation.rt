@@ -121,10 +121,6 @@ pub struct AccusedRow {
 }
 
 impl fmt::Display for AccusedRow {
-    ghost use Rattle.std.specs.Prelude.{Some};
-
-    ghost output = { λ row. Some (spec.accused_row row.side row.accusation) };
-
     fn fmt<W: fmt::Write>(&self, f: &mut fmt::Formatter<W>) -> fmt::Result {
         let side = self.side;
         let other = side.other();

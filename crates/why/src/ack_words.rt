@@ -1,15 +1,10 @@
 //! Acknowledgement words, in words (NSP 4.0, data segment format).
 
-ghost use Rattle.std.specs.Fmt.{WritesOnOk};
-ghost use Rattle.why.specs.NspWords as spec;
-
 use dna_packet::{AckQualifier, AckWord};
 use std::fmt::{self, Formatter, Write};
 
 /// Writes the acknowledgement words of a message, of which there are at most two.
-pub fn write_acks<W: Write>(f: &mut Formatter<W>, acks: &[AckWord]) -> fmt::Result
-    ensures { WritesOnOk W.write_str_gives f.old result (spec.ack_words acks.now) f.new }
-{
+pub fn write_acks<W: Write>(f: &mut Formatter<W>, acks: &[AckWord]) -> fmt::Result {
     match acks {
         [] => Ok(()),
         [first] => write_ack(f, *first),
@@ -20,9 +15,7 @@ pub fn write_acks<W: Write>(f: &mut Formatter<W>, acks: &[AckWord]) -> fmt::Resu
     }
 }
 
-fn write_ack<W: Write>(f: &mut Formatter<W>, ack: AckWord) -> fmt::Result
-    ensures { WritesOnOk W.write_str_gives f.old result (spec.ack_word_words ack.qualifier ack.number) f.new }
-{
+fn write_ack<W: Write>(f: &mut Formatter<W>, ack: AckWord) -> fmt::Result {
     let number = ack.number;
     match ack.qualifier {
         AckQualifier::Ack => write!(f, ", acks {number}"),

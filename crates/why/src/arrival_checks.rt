@@ -1,10 +1,5 @@
 //! The check of the station that an arrival does not pass, in words.
 
-ghost use Rattle.std.specs.Prelude.{◌≡◌};
-ghost use Rattle.std.specs.Fmt.{WritesOnOk};
-ghost use Rattle.ddcmp_msg.specs.Reading.{reading_view};
-ghost use Rattle.why.specs.StationChecks as spec;
-
 use crate::unit_words::ReadingName;
 use crate::words::write_known_start;
 use ddcmp_msg::Reading;
@@ -13,9 +8,7 @@ use std::fmt::{self, Formatter, Write};
 use wire_base::Side;
 
 /// The name of the check in the tables of a station.
-pub fn arrival_check(failed: FailedArrival) -> &'static str
-    ensures { result.now ≡ spec.arrival_check failed }
-{
+pub fn arrival_check(failed: FailedArrival) -> &'static str {
     match failed {
         FailedArrival::Period { .. } => "Period",
         FailedArrival::Keep => "Keep",
@@ -28,9 +21,7 @@ pub fn write_arrival_seen<W: Write>(
     side: Side,
     failed: FailedArrival,
     reading: Reading<'_>,
-) -> fmt::Result
-    ensures { WritesOnOk W.write_str_gives f.old result (spec.arrival_seen side failed (reading_view reading.entry)) f.new }
-{
+) -> fmt::Result {
     let name = ReadingName { reading };
     match failed {
         FailedArrival::Period { seen, .. } => {
@@ -43,9 +34,7 @@ pub fn write_arrival_seen<W: Write>(
 }
 
 // Writes the start of this side that the other side's start went with.
-fn write_then_with<W: Write>(f: &mut Formatter<W>, side: Side, period: Option<u64>) -> fmt::Result
-    ensures { WritesOnOk W.write_str_gives f.old result (spec.then_with side period) f.new }
-{
+fn write_then_with<W: Write>(f: &mut Formatter<W>, side: Side, period: Option<u64>) -> fmt::Result {
     match period {
         Some(period) => write!(f, ", which then went with start {period} of {side}"),
         None => write!(f, ", which then went with none of {side}"),
@@ -58,9 +47,7 @@ pub fn write_arrival_allowed<W: Write>(
     side: Side,
     failed: FailedArrival,
     reading: Reading<'_>,
-) -> fmt::Result
-    ensures { WritesOnOk W.write_str_gives f.old result (spec.arrival_allowed side failed (reading_view reading.entry)) f.new }
-{
+) -> fmt::Result {
     match failed {
         FailedArrival::Period { needs, own, .. } => write_needed(f, side, needs, own),
         FailedArrival::Keep => write!(f, "{}, not kept", ReadingName { reading }),
@@ -73,9 +60,7 @@ fn write_needed<W: Write>(
     side: Side,
     needs: PeriodNeed,
     own: Tag,
-) -> fmt::Result
-    ensures { WritesOnOk W.write_str_gives f.old result (spec.needed side needs own) f.new }
-{
+) -> fmt::Result {
     match needs {
         PeriodNeed::Anything => f.write_str("any start"),
         PeriodNeed::Fresh => write_fresh(f, side, own.period),
@@ -83,15 +68,11 @@ fn write_needed<W: Write>(
     }
 }
 
-fn write_fresh<W: Write>(f: &mut Formatter<W>, side: Side, period: u64) -> fmt::Result
-    ensures { WritesOnOk W.write_str_gives f.old result (spec.fresh side period) f.new }
-{
+fn write_fresh<W: Write>(f: &mut Formatter<W>, side: Side, period: u64) -> fmt::Result {
     write!(f, "what goes with start {period} of {side}")
 }
 
-fn write_of_pair<W: Write>(f: &mut Formatter<W>, side: Side, own: Tag) -> fmt::Result
-    ensures { WritesOnOk W.write_str_gives f.old result (spec.of_pair side own) f.new }
-{
+fn write_of_pair<W: Write>(f: &mut Formatter<W>, side: Side, own: Tag) -> fmt::Result {
     write_fresh(f, side, own.period)?;
     write_known_start(f, "sent in", side.other(), own.partner)
 }

@@ -1,7 +1,6 @@
 //! The open causes of NAKs, in a list.
 
 ghost use Rattle.std.specs.Prelude.{◌≡◌};
-ghost use Rattle.std.specs.Fmt.{WritesOnOk};
 ghost use Rattle.why.specs.Causes as spec;
 
 use crate::form::Form;
@@ -30,10 +29,6 @@ pub struct CausesTold {
 }
 
 impl fmt::Display for CausesTold {
-    ghost use Rattle.std.specs.Prelude.{Some};
-
-    ghost output = { λ told. Some (spec.causes_told told.form told.causes) };
-
     fn fmt<W: Write>(&self, f: &mut Formatter<W>) -> fmt::Result {
         match self.form {
             Form::Object => {
@@ -48,9 +43,7 @@ impl fmt::Display for CausesTold {
     }
 }
 
-fn write_counted<W: Write>(f: &mut Formatter<W>, causes: OpenCauses) -> fmt::Result
-    ensures { WritesOnOk W.write_str_gives f.old result (spec.causes_words causes) f.new }
-{
+fn write_counted<W: Write>(f: &mut Formatter<W>, causes: OpenCauses) -> fmt::Result {
     if has_any(causes) {
         let list = CauseList {
             form: CauseForm::Counted,
@@ -62,9 +55,7 @@ fn write_counted<W: Write>(f: &mut Formatter<W>, causes: OpenCauses) -> fmt::Res
 }
 
 /// Writes the reasons that a NAK may have: those of which a cause is open, and those that need none.
-pub fn write_allowed_reasons<W: Write>(f: &mut Formatter<W>, causes: OpenCauses) -> fmt::Result
-    ensures { WritesOnOk W.write_str_gives f.old result (spec.allowed_reasons causes) f.new }
-{
+pub fn write_allowed_reasons<W: Write>(f: &mut Formatter<W>, causes: OpenCauses) -> fmt::Result {
     if has_any(causes) {
         let list = CauseList {
             form: CauseForm::Number,
@@ -83,10 +74,6 @@ struct CauseList {
 }
 
 impl fmt::Display for CauseList {
-    ghost use Rattle.std.specs.Prelude.{Some};
-
-    ghost output = { λ list. Some (spec.cause_list list.form list.causes) };
-
     fn fmt<W: Write>(&self, f: &mut Formatter<W>) -> fmt::Result {
         let CauseList { form, causes } = *self;
         let OpenCauses {
@@ -110,9 +97,7 @@ impl CauseForm {
         is_behind: bool,
         reason: NakReason,
         count: u64,
-    ) -> fmt::Result
-        ensures { WritesOnOk W.write_str_gives f.old result (spec.cause_entry self is_behind reason count) f.new }
-    {
+    ) -> fmt::Result {
         if count == 0 {
             return Ok(());
         }

@@ -1,9 +1,5 @@
 //! What is seen where a check is not passed, and what is allowed there.
 
-ghost use Rattle.std.specs.Fmt.{WritesOnOk};
-ghost use Rattle.why.specs.Checks as spec;
-ghost use Rattle.why.specs.Digits.{fronts_told};
-
 use crate::arrival_checks::{write_arrival_allowed, write_arrival_seen};
 use crate::checks::Check;
 use crate::digits::Fronts;
@@ -12,6 +8,7 @@ use crate::link_event_checks::{write_link_event_allowed, write_link_event_seen};
 use crate::link_sending_checks::{write_link_sending_allowed, write_link_sending_seen};
 use crate::nsp_words::nsp_fault_words;
 use crate::packet_words::packet_fault_words;
+use crate::past::Lines;
 use crate::state_line::state_name;
 use crate::station_checks::{write_sending_allowed, write_sending_seen};
 use crate::undetected::{came_byte, sent_byte, write_byte};
@@ -28,10 +25,6 @@ pub struct Seen<'a, 't> {
 }
 
 impl fmt::Display for Seen<'_, '_> {
-    ghost use Rattle.std.specs.Prelude.{Some};
-
-    ghost output = { λ words. Some (spec.seen_in (spec.check_value words.check)) };
-
     fn fmt<W: Write>(&self, f: &mut Formatter<W>) -> fmt::Result {
         let side = self.check.side;
         let bytes = self.check.bytes;
@@ -41,7 +34,9 @@ impl fmt::Display for Seen<'_, '_> {
             FailedCheck::Message(_) => write!(f, "{}", ReadingWords { bytes, reading }),
             FailedCheck::HintOrder { seen, .. } => write!(f, "hint {seen}"),
             FailedCheck::NoSuchUnit(awaited) => write!(f, "hint {}", awaited.hint),
-            FailedCheck::NoOrder { own, other } => write_both_wait(f, side, own, other),
+            FailedCheck::NoOrder { own, other } => {
+                write_both_wait(f, side, own, other, self.check.lines)
+            }
             FailedCheck::Undetected { .. } => {
                 write!(f, "{}", ReadingName { reading })?;
                 write_byte(f, came_byte(self.check.fronts.differs))
@@ -51,9 +46,13 @@ impl fmt::Display for Seen<'_, '_> {
             FailedCheck::StationEvent { seen } => write!(f, "start in {}", state_name(seen)),
             FailedCheck::Packet(fault) => f.write_str(packet_fault_words(fault)),
             FailedCheck::Nsp(fault) => f.write_str(nsp_fault_words(fault)),
-            FailedCheck::LinkSending(failed) => write_link_sending_seen(f, failed, front),
+            FailedCheck::LinkSending(failed) => {
+                write_link_sending_seen(f, failed, front, self.check.lines)
+            }
             FailedCheck::LinkArrival(failed) => write_link_arrival_seen(f, side, failed),
-            FailedCheck::LinkEvent(failed) => write_link_event_seen(f, failed, front),
+            FailedCheck::LinkEvent(failed) => {
+                write_link_event_seen(f, failed, front, self.check.lines)
+            }
             FailedCheck::Noise => {
                 let name = ReadingName { reading };
                 write!(f, "{name}, and no block check shows damage")
@@ -62,23 +61,26 @@ impl fmt::Display for Seen<'_, '_> {
     }
 }
 
-// Writes that both sides wait for a unit.
+// Writes that both sides wait for a unit, and in which line the other one does.
 fn write_both_wait<W: Write>(
     f: &mut Formatter<W>,
     side: Side,
     own: Awaited,
     other: Awaited,
-) -> fmt::Result
-    ensures { WritesOnOk W.write_str_gives f.old result (spec.both_wait side own other) f.new }
-{
+    lines: Lines,
+) -> fmt::Result {
     let sender = side.other();
     let Awaited { hint, sent } = own;
     let waits = other.hint;
     let s = plural(sent);
     write!(
         f,
-        "hint {hint} while {sender} has sent {sent} unit{s} and waits for hint {waits} of {side}"
-    )
+        "hint {hint} while {sender} has sent {sent} unit{s} and waits"
+    )?;
+    if let Some(line) = lines.other_at {
+        write!(f, " in its line {line}")?;
+    }
+    write!(f, " for hint {waits} of {side}")
 }
 
 /// What would be right there, with the digits of the first bytes: with it the check is passed.
@@ -88,10 +90,6 @@ pub struct Allowed<'a, 't> {
 }
 
 impl fmt::Display for Allowed<'_, '_> {
-    ghost use Rattle.std.specs.Prelude.{Some};
-
-    ghost output = { λ words. Some (spec.allowed_in (spec.check_value words.check)) };
-
     fn fmt<W: Write>(&self, f: &mut Formatter<W>) -> fmt::Result {
         let side = self.check.side;
         let other = side.other();
@@ -128,9 +126,7 @@ fn write_undetected_allowed<W: Write>(
     other: Side,
     unit: u64,
     fronts: Fronts<'_>,
-) -> fmt::Result
-    ensures { WritesOnOk W.write_str_gives f.old result (spec.undetected_allowed other unit (fronts_told fronts.entry)) f.new }
-{
+) -> fmt::Result {
     write_unit_bytes(f, other, unit, fronts)?;
     f.write_str("; or damaged bytes")
 }
@@ -141,9 +137,7 @@ fn write_unit_bytes<W: Write>(
     other: Side,
     unit: u64,
     fronts: Fronts<'_>,
-) -> fmt::Result
-    ensures { WritesOnOk W.write_str_gives f.old result (spec.unit_bytes other unit (fronts_told fronts.entry)) f.new }
-{
+) -> fmt::Result {
     write_unit_named(f, other, unit, fronts.unit_name)?;
     write_byte(f, sent_byte(fronts.differs))
 }
@@ -153,16 +147,12 @@ fn write_unit_named<W: Write>(
     other: Side,
     unit: u64,
     name: &str,
-) -> fmt::Result
-    ensures { WritesOnOk W.write_str_gives f.old result (spec.unit_named other unit name.now) f.new }
-{
+) -> fmt::Result {
     write!(f, "{name}the bytes of unit {unit} of {other}")
 }
 
 // Writes the hints of units that the other side sent: they are counted from 0. Where it sent none, no receipt is right.
-fn write_below<W: Write>(f: &mut Formatter<W>, other: Side, sent: u64) -> fmt::Result
-    ensures { WritesOnOk W.write_str_gives f.old result (spec.below_words other sent) f.new }
-{
+fn write_below<W: Write>(f: &mut Formatter<W>, other: Side, sent: u64) -> fmt::Result {
     if sent == 0 {
         return write!(f, "no receipt: {other} sent no unit");
     }

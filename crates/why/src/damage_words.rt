@@ -1,8 +1,6 @@
 //! What is wrong with bytes that show damage, in words (DDCMP 4.1, message formats).
 
 ghost use Rattle.std.specs.Prelude.{◌≡◌, ◌/◌, ◌%◌};
-ghost use Rattle.std.specs.Fmt.{WritesOnOk};
-ghost use Rattle.why.specs.DamageWords as spec;
 
 use crate::packet_words::ByteDigits;
 use crate::words::ByteCount;
@@ -10,9 +8,7 @@ use std::fmt::{self, Formatter, Write};
 use wire_base::block_check;
 
 /// Writes what is wrong with a bad header: it is cut, or its block check is wrong, as `header bad: block check 7596 instead of 7595`.
-pub fn write_header_fault<W: Write>(f: &mut Formatter<W>, bytes: &[u8]) -> fmt::Result
-    ensures { WritesOnOk W.write_str_gives f.old result (spec.header_fault bytes.now) f.new }
-{
+pub fn write_header_fault<W: Write>(f: &mut Formatter<W>, bytes: &[u8]) -> fmt::Result {
     let length = bytes.len();
     if length < 8 {
         return write_cut(f, "header bad: ", length, 8);
@@ -22,9 +18,7 @@ pub fn write_header_fault<W: Write>(f: &mut Formatter<W>, bytes: &[u8]) -> fmt::
 }
 
 /// Writes what is wrong with bad data after a good header: they are cut, or their block check is wrong.
-pub fn write_data_fault<W: Write>(f: &mut Formatter<W>, bytes: &[u8]) -> fmt::Result
-    ensures { WritesOnOk W.write_str_gives f.old result (spec.data_fault bytes.now) f.new }
-{
+pub fn write_data_fault<W: Write>(f: &mut Formatter<W>, bytes: &[u8]) -> fmt::Result {
     let length = bytes.len();
     if length < 8 {
         return f.write_str("data bad");
@@ -38,25 +32,19 @@ pub fn write_data_fault<W: Write>(f: &mut Formatter<W>, bytes: &[u8]) -> fmt::Re
 }
 
 // Writes how many bytes there are, and how many there should be.
-fn write_cut<W: Write>(f: &mut Formatter<W>, lead: &str, length: usize, due: usize) -> fmt::Result
-    ensures { WritesOnOk W.write_str_gives f.old result (spec.cut_words lead.now length due) f.new }
-{
+fn write_cut<W: Write>(f: &mut Formatter<W>, lead: &str, length: usize, due: usize) -> fmt::Result {
     let count = ByteCount { count: length };
     write!(f, "{lead}{count} instead of {due}")
 }
 
 // Writes the block check that came with a field, and the one that it should have, both as they are sent.
-fn write_check<W: Write>(f: &mut Formatter<W>, field: &[u8], first: u8, second: u8) -> fmt::Result
-    ensures { WritesOnOk W.write_str_gives f.old result (spec.check_fault field.now first second) f.new }
-{
+fn write_check<W: Write>(f: &mut Formatter<W>, field: &[u8], first: u8, second: u8) -> fmt::Result {
     let check = block_check(field);
     write_both(f, (first, second), (low_byte(check), high_byte(check)))
 }
 
 // Writes the two bytes that came, and the two that should have come.
-fn write_both<W: Write>(f: &mut Formatter<W>, came: (u8, u8), due: (u8, u8)) -> fmt::Result
-    ensures { WritesOnOk W.write_str_gives f.old result (spec.both_checks came.0 came.1 due.0 due.1) f.new }
-{
+fn write_both<W: Write>(f: &mut Formatter<W>, came: (u8, u8), due: (u8, u8)) -> fmt::Result {
     let first = ByteDigits { byte: came.0 };
     let second = ByteDigits { byte: came.1 };
     let low = ByteDigits { byte: due.0 };

@@ -1,17 +1,12 @@
 //! The byte in which data that are sent again differ from those of their first sending, in words.
 
-ghost use Rattle.std.specs.Fmt.{WritesOnOk};
-ghost use Rattle.why.specs.StationChecks as spec;
-
 use crate::packet_words::ByteDigits;
 use crate::words::ByteCount;
 use ddcmp_station::DataByte;
 use std::fmt::{self, Formatter, Write};
 
 /// Writes the byte as it is seen, as `byte 0 of the data is 07, and it has 1 byte`.
-pub fn write_seen_byte<W: Write>(f: &mut Formatter<W>, seen: DataByte) -> fmt::Result
-    ensures { WritesOnOk W.write_str_gives f.old result (spec.seen_byte seen) f.new }
-{
+pub fn write_seen_byte<W: Write>(f: &mut Formatter<W>, seen: DataByte) -> fmt::Result {
     let DataByte {
         place,
         byte,
@@ -23,9 +18,11 @@ pub fn write_seen_byte<W: Write>(f: &mut Formatter<W>, seen: DataByte) -> fmt::R
 }
 
 /// Writes the byte as the packet of this number was first sent, as `byte 0 is 05, and 1 byte, as number 1 was first sent`.
-pub fn write_first_byte<W: Write>(f: &mut Formatter<W>, number: u8, first: DataByte) -> fmt::Result
-    ensures { WritesOnOk W.write_str_gives f.old result (spec.first_byte number first) f.new }
-{
+pub fn write_first_byte<W: Write>(
+    f: &mut Formatter<W>,
+    number: u8,
+    first: DataByte,
+) -> fmt::Result {
     let DataByte {
         place,
         byte,
@@ -46,10 +43,6 @@ pub struct ByteWords {
 }
 
 impl fmt::Display for ByteWords {
-    ghost use Rattle.std.specs.Prelude.{Some};
-
-    ghost output = { λ words. Some (spec.byte_words words.byte) };
-
     fn fmt<W: Write>(&self, f: &mut Formatter<W>) -> fmt::Result {
         match self.byte {
             Some(byte) => write!(f, "{}", ByteDigits { byte }),

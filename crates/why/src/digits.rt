@@ -118,10 +118,6 @@ pub struct FrontBehind<'l, 't> {
 }
 
 impl fmt::Display for FrontBehind<'_, '_> {
-    ghost use Rattle.std.specs.Prelude.{Some};
-
-    ghost output = { λ words. Some (spec.front_behind words.lead.now words.front.now words.count) };
-
     fn fmt<W: fmt::Write>(&self, f: &mut fmt::Formatter<W>) -> fmt::Result {
         let FrontBehind { lead, front, count } = *self;
         if count == 0 {

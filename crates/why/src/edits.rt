@@ -1,10 +1,8 @@
 //! What small edits of the captures tell.
 
-ghost use Rattle.std.specs.Prelude.{◌≡◌};
-ghost use Rattle.std.specs.Fmt.{WritesOnOk};
-ghost use Rattle.why.specs.Edits as spec;
-
 use crate::words::NumberOr;
+use crate::wrapped::{INDENT, put_wrapped};
+use std::alloc::AllocError;
 use std::fmt::{self, Formatter, Write};
 
 /// With fewer records than this after the refusal, small edits tell nothing: most of them make the pair a run.
@@ -23,11 +21,6 @@ pub struct EditsTried {
 }
 
 impl fmt::Display for EditsTried {
-    ghost use Rattle.std.specs.Prelude.{Some};
-    ghost use Rattle.why.specs.Edits.{edits_line};
-
-    ghost output = { λ edits. Some (edits_line edits) };
-
     fn fmt<W: Write>(&self, f: &mut Formatter<W>) -> fmt::Result {
         let EditsTried {
             tried,
@@ -52,11 +45,6 @@ pub struct RecorderRow {
 }
 
 impl fmt::Display for RecorderRow {
-    ghost use Rattle.std.specs.Prelude.{Some};
-    ghost use Rattle.why.specs.Edits.{recorder_row};
-
-    ghost output = { λ row. Some (recorder_row row.edits) };
-
     fn fmt<W: Write>(&self, f: &mut Formatter<W>) -> fmt::Result {
         let EditsTried {
             tried,
@@ -76,9 +64,7 @@ impl fmt::Display for RecorderRow {
 }
 
 // Writes that too few records follow for small edits to tell something.
-fn write_too_few<W: Write>(f: &mut Formatter<W>, records: u64) -> fmt::Result
-    ensures { WritesOnOk W.write_str_gives f.old result (spec.too_few records) f.new }
-{
+fn write_too_few<W: Write>(f: &mut Formatter<W>, records: u64) -> fmt::Result {
     let follow = FollowWords { records };
     write!(
         f,
@@ -92,9 +78,7 @@ fn write_tried<W: Write>(
     tried: u64,
     accepted: u64,
     records: u64,
-) -> fmt::Result
-    ensures { WritesOnOk W.write_str_gives f.old result (spec.tried_words tried accepted records) f.new }
-{
+) -> fmt::Result {
     let follow = FollowWords { records };
     if tried == 0 {
         return write!(
@@ -121,10 +105,6 @@ struct FollowWords {
 }
 
 impl fmt::Display for FollowWords {
-    ghost use Rattle.std.specs.Prelude.{Some};
-
-    ghost output = { λ words. Some (spec.follow_words words.records) };
-
     fn fmt<W: Write>(&self, f: &mut Formatter<W>) -> fmt::Result {
         let records = self.records;
         if records == 1 {
@@ -142,11 +122,6 @@ pub struct EditLine<'w> {
 }
 
 impl fmt::Display for EditLine<'_> {
-    ghost use Rattle.std.specs.Prelude.{Some};
-    ghost use Rattle.why.specs.Edits.{edit_line};
-
-    ghost output = { λ line. Some (edit_line line.words.now) };
-
     fn fmt<W: Write>(&self, f: &mut Formatter<W>) -> fmt::Result {
         let words = self.words;
         write!(
@@ -156,29 +131,14 @@ impl fmt::Display for EditLine<'_> {
     }
 }
 
-/// The same edit as a row below that of the recorder.
-#[derive(Clone, Copy)]
-pub struct EditRow<'w> {
-    pub words: &'w str,
-}
-
-impl fmt::Display for EditRow<'_> {
-    ghost use Rattle.std.specs.Prelude.{Some};
-    ghost use Rattle.why.specs.Edits.{edit_row};
-
-    ghost output = { λ row. Some (edit_row row.words.now) };
-
-    fn fmt<W: Write>(&self, f: &mut Formatter<W>) -> fmt::Result {
-        let words = self.words;
-        write!(f, "           {words}\n")
-    }
+/// Appends the same edit in rows below that of the recorder.
+pub fn put_edit(rows: &mut String, words: &str) -> Result<(), AllocError> {
+    put_wrapped(rows, INDENT, words)
 }
 
 /// What edits that make the pair a run tell, below their rows; nothing where there are none. That the recording is more likely wrong than a
 /// node is said only where the node is not explained as well by one unit that it sent wrongly (`unit_as_well`).
-pub fn so_row(accepted: u64, unit_as_well: bool) -> &'static str
-    ensures { result.now ≡ spec.so_row accepted unit_as_well }
-{
+pub fn so_row(accepted: u64, unit_as_well: bool) -> &'static str {
     if accepted == 0 {
         return "";
     }

@@ -1,13 +1,15 @@
 //! All that is said of a refused record of one end, of whose other side nothing is known.
 
 ghost use Rattle.std.specs.Prelude.{◌≡◌, IfOk, string_bytes};
-ghost use Rattle.why.specs.WholeEnd as spec;
+ghost use Rattle.why.specs.EndAlone as spec;
+ghost use Rattle.why.specs.Refused.{BeginsWith, line_of_end, refused_line};
 
 use crate::accusation::{Accusation, AccusedRow};
 use crate::ends::state_at;
 use crate::form::Form;
+use crate::past::Lines;
 use crate::refused_line::RefusedLine;
-use crate::refused_record::{RefusedRecord, end_told, record_objects, record_rows};
+use crate::refused_record::{Beside, RefusedRecord, end_told, record_objects, record_rows};
 use crate::state_line::StateLine;
 use crate::subject::addresses_of;
 use capture::Entry;
@@ -31,6 +33,8 @@ pub struct EndRefusal<'r> {
     pub says: Entry,
     /// Its bytes: none where its line has none.
     pub bytes: &'r [u8],
+    /// The lines that its check names.
+    pub lines: Lines,
 }
 
 /// All JSON objects of a refused record of one end, each with its LF: the refusal, the record, the check, and the end with its live links. Fails for want of memory alone.
@@ -39,7 +43,7 @@ pub fn why_end_json(
     refusal: EndRefusal<'_>,
     end: &SideEnd,
 ) -> Result<String, AllocError>
-    ensures { IfOk result (λ text. string_bytes text ≡ spec.end_lines refusal.entry end.now) }
+    ensures { IfOk result (λ text. BeginsWith (refused_line (line_of_end refusal.entry)) (string_bytes text)) }
 {
     let record = record_objects(alloc, record_of(refusal), end)?;
     let named = addresses_of(refusal.says, refusal.bytes);
@@ -47,19 +51,16 @@ pub fn why_end_json(
     format!(in alloc; "{record}{told}")
 }
 
-/// All rows of a refused record of one end, which stands in the capture of this name, after the line of the verdict: the record; the check; the
-/// end with its live links; the rows before it, which are put together already; and who is accused. Fails for want
-/// of memory alone.
+/// All rows of a refused record of one end after the line of the verdict: the record; the check; the end with its live links; the rows before it,
+/// which are put together already; and who is accused. Fails for want of memory alone.
 pub fn why_end_rows(
     alloc: Global,
     refusal: EndRefusal<'_>,
     end: &SideEnd,
-    name: &str,
+    beside: Beside<'_>,
     ladder: &str,
-) -> Result<String, AllocError>
-    ensures { IfOk result (λ text. string_bytes text ≡ spec.end_rows refusal.entry end.now name.now ladder.now) }
-{
-    let record = record_rows(alloc, record_of(refusal), end, name, "")?;
+) -> Result<String, AllocError> {
+    let record = record_rows(alloc, record_of(refusal), end, beside)?;
     let named = addresses_of(refusal.says, refusal.bytes);
     let told = end_told(alloc, Form::Rows, state_alone(end), named, end)?;
     let accused = AccusedRow {
@@ -70,7 +71,7 @@ pub fn why_end_rows(
 }
 
 fn record_of(refusal: EndRefusal<'_>) -> RefusedRecord<'_>
-    ensures { result ≡ spec.record_of refusal.entry }
+    ensures { result.line ≡ line_of_end refusal.entry }
 {
     RefusedRecord {
         line: RefusedLine {
@@ -83,6 +84,7 @@ fn record_of(refusal: EndRefusal<'_>) -> RefusedRecord<'_>
         says: refusal.says,
         bytes: refusal.bytes,
         unit: None,
+        lines: refusal.lines,
     }
 }
 

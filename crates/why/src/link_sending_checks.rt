@@ -1,21 +1,16 @@
 //! The check of the links that a sent message does not pass, in words.
 
-ghost use Rattle.std.specs.Prelude.{◌≡◌};
-ghost use Rattle.std.specs.Fmt.{WritesOnOk};
-ghost use Rattle.why.specs.LinkChecks as spec;
-
 use crate::link_check_fields::{write_ack_range, write_missing, write_numbers, write_wanted};
 use crate::link_line::phase_name;
 use crate::packet_words::NodesWords;
+use crate::past::Lines;
 use crate::piece_fields::{ShapeWords, write_next};
 use crate::words::ByteCount;
 use nsp_link::FailedLinkSending;
 use std::fmt::{self, Formatter, Write};
 
 /// The name of the check.
-pub fn link_sending_check(failed: FailedLinkSending) -> &'static str
-    ensures { result.now ≡ spec.link_sending_check failed }
-{
+pub fn link_sending_check(failed: FailedLinkSending) -> &'static str {
     match failed {
         FailedLinkSending::Nodes { .. } => "nodes",
         FailedLinkSending::NoLink(_) => "link",
@@ -35,12 +30,11 @@ pub fn write_link_sending_seen<W: Write>(
     f: &mut Formatter<W>,
     failed: FailedLinkSending,
     front: &str,
-) -> fmt::Result
-    ensures { WritesOnOk W.write_str_gives f.old result (spec.link_sending_seen failed front.now) f.new }
-{
+    lines: Lines,
+) -> fmt::Result {
     match failed {
         FailedLinkSending::Nodes { seen, .. } => write!(f, "{}", NodesWords { nodes: seen }),
-        FailedLinkSending::NoLink(missing) => write_missing(f, missing),
+        FailedLinkSending::NoLink(missing) => write_missing(f, missing, lines),
         FailedLinkSending::Phase { seen, .. } => write!(f, "a link in {}", phase_name(seen)),
         FailedLinkSending::Live { .. } => f.write_str("a DC between the addresses of a live link"),
         FailedLinkSending::Acknowledgement { seen, .. } => write!(f, "ACK {seen}"),
@@ -64,9 +58,7 @@ pub fn write_link_sending_allowed<W: Write>(
     f: &mut Formatter<W>,
     failed: FailedLinkSending,
     front: &str,
-) -> fmt::Result
-    ensures { WritesOnOk W.write_str_gives f.old result (spec.link_sending_allowed failed front.now) f.new }
-{
+) -> fmt::Result {
     match failed {
         FailedLinkSending::Nodes { allowed, .. } => {
             write!(f, "{}", NodesWords { nodes: allowed })

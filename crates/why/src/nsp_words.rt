@@ -1,12 +1,5 @@
 //! What a message of NSP says, in words (NSP 4.0, message formats).
 
-ghost use Rattle.std.specs.Prelude.{◌≡◌, ◌++◌};
-ghost use Rattle.std.specs.Fmt.{WritesOnOk};
-ghost use Rattle.dna_packet.specs.Nsp.{segment_view, view};
-ghost use Rattle.dna_packet.specs.ReadingNsp.{nsp_at};
-ghost use Rattle.dna_packet.specs.declared.nsp.Nsp.TheVariants as messages;
-ghost use Rattle.why.specs.NspWords as spec;
-
 use crate::ack_words::write_acks;
 use crate::words::{ByteCount, words_if};
 use dna_packet::{
@@ -22,10 +15,6 @@ pub struct MessageWords<'a> {
 }
 
 impl fmt::Display for MessageWords<'_> {
-    ghost use Rattle.std.specs.Prelude.{Some};
-
-    ghost output = { λ words. Some (spec.message_words (nsp_at words.bytes.now)) };
-
     fn fmt<W: Write>(&self, f: &mut Formatter<W>) -> fmt::Result {
         match &read_nsp(self.bytes) {
             Ok(message) => write_nsp(f, message),
@@ -36,9 +25,7 @@ impl fmt::Display for MessageWords<'_> {
 
 // Writes a message of NSP with its fields, as `segment 1 of link 1 -> 2, a whole message, 1 byte`: SRCADDR stands first. Of what it carries
 // unread, the number of bytes alone is told.
-fn write_nsp<W: Write>(f: &mut Formatter<W>, message: &Nsp<'_>) -> fmt::Result
-    ensures { WritesOnOk W.write_str_gives f.old result (spec.nsp_words (view message.now)) f.new }
-{
+fn write_nsp<W: Write>(f: &mut Formatter<W>, message: &Nsp<'_>) -> fmt::Result {
     match message {
         Nsp::DataSegment(segment) => write_segment(f, segment),
         Nsp::LinkService(message) => write_link_service(f, message),
@@ -54,9 +41,7 @@ fn write_nsp<W: Write>(f: &mut Formatter<W>, message: &Nsp<'_>) -> fmt::Result
 }
 
 // Writes a segment with its acknowledgements and its part of a user's message.
-fn write_segment<W: Write>(f: &mut Formatter<W>, segment: &Segment<'_>) -> fmt::Result
-    ensures { WritesOnOk W.write_str_gives f.old result (spec.segment_words (segment_view segment.now)) f.new }
-{
+fn write_segment<W: Write>(f: &mut Formatter<W>, segment: &Segment<'_>) -> fmt::Result {
     let number = segment.number;
     write!(f, "segment {number}")?;
     write_of_link(f, "", segment.srcaddr, segment.dstaddr)?;
@@ -68,33 +53,25 @@ fn write_segment<W: Write>(f: &mut Formatter<W>, segment: &Segment<'_>) -> fmt::
     write!(f, ", {piece}, {bytes}")
 }
 
-fn write_link_service<W: Write>(f: &mut Formatter<W>, message: &LinkService<'_>) -> fmt::Result
-    ensures { WritesOnOk W.write_str_gives f.old result (spec.nsp_words (view (messages.LinkService message.now))) f.new }
-{
+fn write_link_service<W: Write>(f: &mut Formatter<W>, message: &LinkService<'_>) -> fmt::Result {
     let name = service_name(message.interrupt);
     write_of_link(f, name, message.srcaddr, message.dstaddr)?;
     write_unread(f, message.rest)
 }
 
-fn service_name(interrupt: bool) -> &'static str
-    ensures { result.now ≡ spec.service_name interrupt }
-{
+fn service_name(interrupt: bool) -> &'static str {
     if interrupt {
         return "interrupt";
     }
     "link service"
 }
 
-fn write_data_ack<W: Write>(f: &mut Formatter<W>, message: &DataAck) -> fmt::Result
-    ensures { WritesOnOk W.write_str_gives f.old result (spec.nsp_words (view (messages.DataAck message.now))) f.new }
-{
+fn write_data_ack<W: Write>(f: &mut Formatter<W>, message: &DataAck) -> fmt::Result {
     write_of_link(f, "data ack", message.srcaddr, message.dstaddr)?;
     write_acks(f, &message.acks)
 }
 
-fn write_other_data_ack<W: Write>(f: &mut Formatter<W>, message: &OtherDataAck<'_>) -> fmt::Result
-    ensures { WritesOnOk W.write_str_gives f.old result (spec.nsp_words (view (messages.OtherDataAck message.now))) f.new }
-{
+fn write_other_data_ack<W: Write>(f: &mut Formatter<W>, message: &OtherDataAck<'_>) -> fmt::Result {
     write_of_link(f, "other-data ack", message.srcaddr, message.dstaddr)?;
     write_unread(f, message.rest)
 }
@@ -102,25 +79,21 @@ fn write_other_data_ack<W: Write>(f: &mut Formatter<W>, message: &OtherDataAck<'
 fn write_connect_initiate<W: Write>(
     f: &mut Formatter<W>,
     message: &ConnectInitiate<'_>,
-) -> fmt::Result
-    ensures { WritesOnOk W.write_str_gives f.old result (spec.nsp_words (view (messages.ConnectInitiate message.now))) f.new }
-{
+) -> fmt::Result {
     write_call_of(f, message.srcaddr, message.retransmitted)?;
     write_connect_rest(f, message)
 }
 
-fn write_call_of<W: Write>(f: &mut Formatter<W>, link: u16, is_again: bool) -> fmt::Result
-    ensures { WritesOnOk W.write_str_gives f.old result (spec.call_of link is_again) f.new }
-{
+fn write_call_of<W: Write>(f: &mut Formatter<W>, link: u16, is_again: bool) -> fmt::Result {
     let again = words_if(is_again, ", sent again");
     write!(f, "CI of link {link}{again}")
 }
 
 // What follows the addresses of a CI.
-fn write_connect_rest<W: Write>(f: &mut Formatter<W>, message: &ConnectInitiate<'_>) -> fmt::Result
-    ensures { WritesOnOk W.write_str_gives f.old result (spec.connect_words message.now.services message.now.info message.now.segsize
-        ++ spec.user_data_words message.now.user_data.now) f.new }
-{
+fn write_connect_rest<W: Write>(
+    f: &mut Formatter<W>,
+    message: &ConnectInitiate<'_>,
+) -> fmt::Result {
     write_connect_fields(f, message.services, message.info, message.segsize)?;
     write_user_data(f, message.user_data)
 }
@@ -128,9 +101,7 @@ fn write_connect_rest<W: Write>(f: &mut Formatter<W>, message: &ConnectInitiate<
 fn write_connect_confirm<W: Write>(
     f: &mut Formatter<W>,
     message: &ConnectConfirm<'_>,
-) -> fmt::Result
-    ensures { WritesOnOk W.write_str_gives f.old result (spec.nsp_words (view (messages.ConnectConfirm message.now))) f.new }
-{
+) -> fmt::Result {
     write_of_link(f, "CC", message.srcaddr, message.dstaddr)?;
     write_connect_fields(f, message.services, message.info, message.segsize)?;
     write_user_data(f, message.user_data)
@@ -142,18 +113,14 @@ fn write_connect_fields<W: Write>(
     services: u8,
     info: u8,
     segsize: u16,
-) -> fmt::Result
-    ensures { WritesOnOk W.write_str_gives f.old result (spec.connect_words services info segsize) f.new }
-{
+) -> fmt::Result {
     write!(f, ", SEGSIZE {segsize}, services {services}, info {info}")
 }
 
 fn write_disconnect_initiate<W: Write>(
     f: &mut Formatter<W>,
     message: &DisconnectInitiate<'_>,
-) -> fmt::Result
-    ensures { WritesOnOk W.write_str_gives f.old result (spec.nsp_words (view (messages.DisconnectInitiate message.now))) f.new }
-{
+) -> fmt::Result {
     write_of_link(f, "DI", message.srcaddr, message.dstaddr)?;
     write!(f, ", reason {}", message.reason)?;
     write_user_data(f, message.user_data)
@@ -162,16 +129,12 @@ fn write_disconnect_initiate<W: Write>(
 fn write_disconnect_confirm<W: Write>(
     f: &mut Formatter<W>,
     message: &DisconnectConfirm,
-) -> fmt::Result
-    ensures { WritesOnOk W.write_str_gives f.old result (spec.nsp_words (view (messages.DisconnectConfirm message.now))) f.new }
-{
+) -> fmt::Result {
     write_of_link(f, "DC", message.srcaddr, message.dstaddr)?;
     write!(f, ", reason {}", message.reason)
 }
 
-fn write_no_operation<W: Write>(f: &mut Formatter<W>, rest: &[u8]) -> fmt::Result
-    ensures { WritesOnOk W.write_str_gives f.old result (spec.no_operation_words rest.now) f.new }
-{
+fn write_no_operation<W: Write>(f: &mut Formatter<W>, rest: &[u8]) -> fmt::Result {
     f.write_str("no operation")?;
     write_unread(f, rest)
 }
@@ -182,32 +145,24 @@ fn write_of_link<W: Write>(
     name: &str,
     srcaddr: u16,
     dstaddr: u16,
-) -> fmt::Result
-    ensures { WritesOnOk W.write_str_gives f.old result (spec.of_link name.now srcaddr dstaddr) f.new }
-{
+) -> fmt::Result {
     write!(f, "{name} of link {srcaddr} -> {dstaddr}")
 }
 
 // Writes how many bytes follow the fields that are read.
-fn write_unread<W: Write>(f: &mut Formatter<W>, rest: &[u8]) -> fmt::Result
-    ensures { WritesOnOk W.write_str_gives f.old result (spec.unread_words rest.now) f.new }
-{
+fn write_unread<W: Write>(f: &mut Formatter<W>, rest: &[u8]) -> fmt::Result {
     let bytes = ByteCount { count: rest.len() };
     write!(f, ", {bytes}, not read further")
 }
 
 // Writes how many bytes of user data a message of connecting or disconnecting carries.
-fn write_user_data<W: Write>(f: &mut Formatter<W>, bytes: &[u8]) -> fmt::Result
-    ensures { WritesOnOk W.write_str_gives f.old result (spec.user_data_words bytes.now) f.new }
-{
+fn write_user_data<W: Write>(f: &mut Formatter<W>, bytes: &[u8]) -> fmt::Result {
     let count = ByteCount { count: bytes.len() };
     write!(f, ", {count} of user data")
 }
 
 // Which part of a user's message a segment is.
-fn piece_words(begins: bool, ends: bool) -> &'static str
-    ensures { result.now ≡ spec.piece_words begins ends }
-{
+fn piece_words(begins: bool, ends: bool) -> &'static str {
     match (begins, ends) {
         (true, true) => "a whole message",
         (true, false) => "begins a message",
@@ -217,9 +172,7 @@ fn piece_words(begins: bool, ends: bool) -> &'static str
 }
 
 /// Why bytes are no message of NSP.
-pub fn nsp_fault_words(fault: NspFault) -> &'static str
-    ensures { result.now ≡ spec.nsp_fault_words fault }
-{
+pub fn nsp_fault_words(fault: NspFault) -> &'static str {
     match fault {
         NspFault::UnknownFlag => "no message of NSP: the flag byte of none",
         NspFault::MissingField => "no message of NSP: a field is missing or cut",

@@ -1,62 +1,64 @@
 //! What came to one end alone, and what no right other end can have sent there.
 
-ghost use Rattle.std.specs.Prelude.{◌≡◌, option_map};
-ghost use Rattle.std.specs.Fmt.{WritesOnOk};
+ghost use Rattle.std.specs.Prelude.{◌≡◌};
 ghost use Rattle.ddcmp_msg.specs.Message.{view};
 ghost use Rattle.ddcmp_msg.specs.Reading.{reading_view};
 ghost use Rattle.why.specs.OtherEnd as spec;
 
-use crate::form::Form;
+use crate::checks::seen_and_allowed;
 use crate::layers::{message_in_unit, packet_in};
 use crate::nsp_words::MessageWords;
 use crate::packet_words::RoutingWords;
-use crate::rules::RuleTold;
+use crate::rules::RuleKeys;
 use crate::words::{Range, short_number_or};
 use ddcmp_msg::{Message, Reading, read_unit};
 use ddcmp_station::StationView;
 use pair_judge::Reason;
+use std::alloc::{AllocError, Global};
 use std::fmt::{self, Formatter, Write};
 
-/// A record of one end that is refused by the other end's fault: what came in these bytes, what could have come to a station with these
-/// variables, and the rule. As one JSON object with its LF, or in rows.
+/// A record of one end that is refused by the other end's fault: what came in these bytes, and what could have come to a station with these
+/// variables.
 #[derive(Clone, Copy)]
-pub struct OtherEndTold<'a> {
-    pub form: Form,
+pub struct OtherEnd<'a> {
     pub reason: Reason,
     pub bytes: &'a [u8],
     pub station: StationView,
 }
 
-impl fmt::Display for OtherEndTold<'_> {
-    ghost use Rattle.std.specs.Prelude.{Some};
+/// The same as one JSON object with its LF, with the rule.
+#[derive(Clone, Copy)]
+pub struct OtherEndObject<'a> {
+    pub told: OtherEnd<'a>,
+}
 
-    ghost output = { λ told. Some (spec.other_end_told told.form told.reason told.bytes.now told.station) };
-
+impl fmt::Display for OtherEndObject<'_> {
     fn fmt<W: Write>(&self, f: &mut Formatter<W>) -> fmt::Result {
-        let OtherEndTold {
-            form,
+        let OtherEnd {
             reason,
             bytes,
             station,
-        } = *self;
+        } = self.told;
         let seen = SeenThere { reason, bytes };
         let allowed = AllowedThere { reason, station };
-        match form {
-            Form::Object => {
-                let form = Form::Object;
-                let rule = RuleTold { form, reason };
-                write!(
-                    f,
-                    "{{\"what\": \"check\", \"check\": \"other end\", \"seen\": \"{seen}\", \"allowed\": \"{allowed}\", {rule}}}\n"
-                )
-            }
-            Form::Rows => {
-                let form = Form::Rows;
-                let rule = RuleTold { form, reason };
-                write!(f, "  seen     {seen}\n  allowed  {allowed}\n{rule}")
-            }
-        }
+        let rule = RuleKeys { reason };
+        write!(
+            f,
+            "{{\"what\": \"check\", \"check\": \"other end\", \"seen\": \"{seen}\", \"allowed\": \"{allowed}\", {rule}}}\n"
+        )
     }
+}
+
+/// The same in rows. Fails for want of memory alone.
+pub fn other_end_rows(alloc: Global, told: OtherEnd<'_>) -> Result<String, AllocError> {
+    let OtherEnd {
+        reason,
+        bytes,
+        station,
+    } = told;
+    let seen = format!(in alloc; "{}", SeenThere { reason, bytes })?;
+    let allowed = format!(in alloc; "{}", AllowedThere { reason, station })?;
+    seen_and_allowed(alloc, seen.as_str(), allowed.as_str(), reason)
 }
 
 // What came.
@@ -67,10 +69,6 @@ struct SeenThere<'a> {
 }
 
 impl fmt::Display for SeenThere<'_> {
-    ghost use Rattle.std.specs.Prelude.{Some};
-
-    ghost output = { λ seen. Some (spec.seen_there seen.reason seen.bytes.now) };
-
     fn fmt<W: Write>(&self, f: &mut Formatter<W>) -> fmt::Result {
         let bytes = self.bytes;
         match self.reason {
@@ -108,18 +106,14 @@ fn response_of(message: Message<'_>) -> Option<u16>
     }
 }
 
-fn write_packet<W: Write>(f: &mut Formatter<W>, packet: Option<&[u8]>) -> fmt::Result
-    ensures { WritesOnOk W.write_str_gives f.old result (spec.packet_there (option_map (λ bytes. bytes.now) packet.entry)) f.new }
-{
+fn write_packet<W: Write>(f: &mut Formatter<W>, packet: Option<&[u8]>) -> fmt::Result {
     match packet {
         Some(bytes) => write!(f, "{}", RoutingWords { bytes }),
         None => f.write_str("no packet"),
     }
 }
 
-fn write_message<W: Write>(f: &mut Formatter<W>, message: Option<&[u8]>) -> fmt::Result
-    ensures { WritesOnOk W.write_str_gives f.old result (spec.message_there (option_map (λ bytes. bytes.now) message.entry)) f.new }
-{
+fn write_message<W: Write>(f: &mut Formatter<W>, message: Option<&[u8]>) -> fmt::Result {
     match message {
         Some(bytes) => write!(f, "{}", MessageWords { bytes }),
         None => f.write_str("no message"),
@@ -134,10 +128,6 @@ struct AllowedThere {
 }
 
 impl fmt::Display for AllowedThere {
-    ghost use Rattle.std.specs.Prelude.{Some};
-
-    ghost output = { λ allowed. Some (spec.allowed_there allowed.reason allowed.station) };
-
     fn fmt<W: Write>(&self, f: &mut Formatter<W>) -> fmt::Result {
         match self.reason {
             Reason::WrongResponse => {

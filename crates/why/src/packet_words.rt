@@ -1,10 +1,7 @@
 //! What the packet of a data message is, in words (Routing Layer 2.0, packet formats).
 
 ghost use Rattle.std.specs.Prelude.{◌≡◌};
-ghost use Rattle.std.specs.Fmt.{WritesOnOk};
-ghost use Rattle.dna_packet.specs.Packet.{view};
-ghost use Rattle.dna_packet.specs.ReadingPacket.{packet_at};
-ghost use Rattle.why.specs.PacketWords as spec;
+ghost use Rattle.why.specs.Layers as spec;
 
 use crate::words::{ByteCount, words_if};
 use dna_packet::{Packet, PacketFault, read_packet};
@@ -18,10 +15,6 @@ pub struct RoutingWords<'a> {
 }
 
 impl fmt::Display for RoutingWords<'_> {
-    ghost use Rattle.std.specs.Prelude.{Some};
-
-    ghost output = { λ words. Some (spec.routing_words (packet_at words.bytes.now)) };
-
     fn fmt<W: Write>(&self, f: &mut Formatter<W>) -> fmt::Result {
         match read_packet(self.bytes) {
             Ok(packet) => write_packet(f, packet),
@@ -31,9 +24,7 @@ impl fmt::Display for RoutingWords<'_> {
 }
 
 // Writes a packet, as `1.1 to 1.2, short data packet, flags 02, 0 nodes passed`, or as a control packet, of which no more is read.
-fn write_packet<W: Write>(f: &mut Formatter<W>, packet: Packet<'_>) -> fmt::Result
-    ensures { WritesOnOk W.write_str_gives f.old result (spec.packet_words (view packet.entry)) f.new }
-{
+fn write_packet<W: Write>(f: &mut Formatter<W>, packet: Packet<'_>) -> fmt::Result {
     match packet {
         Packet::Data {
             rtflg,
@@ -66,10 +57,6 @@ struct HeaderWords {
 }
 
 impl fmt::Display for HeaderWords {
-    ghost use Rattle.std.specs.Prelude.{Some};
-
-    ghost output = { λ words. Some (spec.header_words words.rtflg words.forward) };
-
     fn fmt<W: Write>(&self, f: &mut Formatter<W>) -> fmt::Result {
         let HeaderWords { rtflg, forward } = *self;
         let digits = ByteDigits { byte: rtflg };
@@ -85,10 +72,6 @@ pub struct NodesWords {
 }
 
 impl fmt::Display for NodesWords {
-    ghost use Rattle.std.specs.Prelude.{Some};
-
-    ghost output = { λ words. Some (spec.nodes_words words.nodes) };
-
     fn fmt<W: Write>(&self, f: &mut Formatter<W>) -> fmt::Result {
         write_address(f, self.nodes.source)?;
         f.write_str(" to ")?;
@@ -96,9 +79,7 @@ impl fmt::Display for NodesWords {
     }
 }
 
-fn write_address<W: Write>(f: &mut Formatter<W>, address: u16) -> fmt::Result
-    ensures { WritesOnOk W.write_str_gives f.old result (spec.address_words address) f.new }
-{
+fn write_address<W: Write>(f: &mut Formatter<W>, address: u16) -> fmt::Result {
     let area = address / 1024;
     let node = address % 1024;
     write!(f, "{area}.{node}")
@@ -111,10 +92,6 @@ pub struct ByteDigits {
 }
 
 impl fmt::Display for ByteDigits {
-    ghost use Rattle.std.specs.Prelude.{Some};
-
-    ghost output = { λ digits. Some (spec.byte_digits digits.byte) };
-
     fn fmt<W: Write>(&self, f: &mut Formatter<W>) -> fmt::Result {
         let high = self.byte / 16;
         let low = self.byte % 16;
@@ -130,9 +107,7 @@ pub fn is_on_its_way_back(rtflg: u8) -> bool
 }
 
 /// Why bytes are no packet of a DDCMP circuit.
-pub fn packet_fault_words(fault: PacketFault) -> &'static str
-    ensures { result.now ≡ spec.packet_fault_words fault }
-{
+pub fn packet_fault_words(fault: PacketFault) -> &'static str {
     match fault {
         PacketFault::Padded => "no packet of this circuit: padding comes before it",
         PacketFault::LongFormat => "no packet of this circuit: a long format data packet",

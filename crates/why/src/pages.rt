@@ -1,14 +1,9 @@
 //! The page of each reason.
 
-ghost use Rattle.std.specs.Prelude.{◌≡◌};
-ghost use Rattle.why.specs.Pages as spec;
-
 use pair_judge::Reason;
 
 /// The page of a reason: its heading in the list of the reasons, as `docs/REASONS.md#8-wrongresponse`.
-pub fn page(reason: Reason) -> &'static str
-    ensures { result.now ≡ spec.page reason }
-{
+pub fn page(reason: Reason) -> &'static str {
     match reason {
         Reason::NotAMessage => "docs/REASONS.md#1-notamessage",
         Reason::HintOrder => "docs/REASONS.md#2-hintorder",

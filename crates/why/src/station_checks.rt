@@ -1,10 +1,5 @@
 //! The check of the station that a sent message does not pass, in words.
 
-ghost use Rattle.std.specs.Prelude.{◌≡◌};
-ghost use Rattle.std.specs.Fmt.{WritesOnOk};
-ghost use Rattle.ddcmp_msg.specs.Reading.{reading_view};
-ghost use Rattle.why.specs.StationChecks as spec;
-
 use crate::causes::write_allowed_reasons;
 use crate::data_bytes::{write_first_byte, write_seen_byte};
 use crate::state_line::state_name;
@@ -15,9 +10,7 @@ use ddcmp_station::{FailedSending, State};
 use std::fmt::{self, Formatter, Write};
 
 /// The name of the check in the tables of a station.
-pub fn sending_check(failed: FailedSending) -> &'static str
-    ensures { result.now ≡ spec.sending_check failed }
-{
+pub fn sending_check(failed: FailedSending) -> &'static str {
     match failed {
         FailedSending::State { .. } => "State",
         FailedSending::RespIsLast { .. } => "RespIsLast",
@@ -35,9 +28,7 @@ pub fn write_sending_seen<W: Write>(
     f: &mut Formatter<W>,
     failed: FailedSending,
     reading: Reading<'_>,
-) -> fmt::Result
-    ensures { WritesOnOk W.write_str_gives f.old result (spec.sending_seen failed (reading_view reading.entry)) f.new }
-{
+) -> fmt::Result {
     match failed {
         FailedSending::State { seen } => {
             let name = ReadingName { reading };
@@ -59,9 +50,7 @@ pub fn write_sending_seen<W: Write>(
 }
 
 /// Writes what would be right there: with it the check is passed.
-pub fn write_sending_allowed<W: Write>(f: &mut Formatter<W>, failed: FailedSending) -> fmt::Result
-    ensures { WritesOnOk W.write_str_gives f.old result (spec.sending_allowed failed) f.new }
-{
+pub fn write_sending_allowed<W: Write>(f: &mut Formatter<W>, failed: FailedSending) -> fmt::Result {
     match failed {
         FailedSending::State { seen } => f.write_str(allowed_in(seen)),
         FailedSending::RespIsLast { allowed, .. } => write!(f, "RESP {allowed}"),
@@ -87,9 +76,7 @@ pub fn write_sending_allowed<W: Write>(f: &mut Formatter<W>, failed: FailedSendi
 }
 
 // What a state's row has.
-fn allowed_in(state: State) -> &'static str
-    ensures { result.now ≡ spec.allowed_in state }
-{
+fn allowed_in(state: State) -> &'static str {
     match state {
         State::Halted => "nothing in HALTED",
         State::Istrt => "STRT in ISTRT",

@@ -1,7 +1,6 @@
 //! Bytes that came and are not those of the unit that their hint names, where no block check shows it.
 
-ghost use Rattle.std.specs.Prelude.{◌≡◌, IfOk, option_map, string_bytes};
-ghost use Rattle.std.specs.Fmt.{WritesOnOk};
+ghost use Rattle.std.specs.Prelude.{◌≡◌};
 ghost use Rattle.ddcmp_station.specs.Failed.{byte_at, first_difference};
 ghost use Rattle.why.specs.Undetected as spec;
 
@@ -26,18 +25,18 @@ pub fn difference(
     alloc: Global,
     bytes: &[u8],
     unit: Option<&[u8]>,
-) -> Result<Option<Differing>, AllocError>
-    ensures { IfOk result (λ found. found ≡ spec.differing bytes.now (option_map (λ bytes. bytes.now) unit.entry)) }
-{
+) -> Result<Option<Differing>, AllocError> {
     match unit {
         Some(unit) => differing_from(alloc, bytes, unit),
         None => Ok(None),
     }
 }
 
-fn differing_from(alloc: Global, bytes: &[u8], unit: &[u8]) -> Result<Option<Differing>, AllocError>
-    ensures { IfOk result (λ found. found ≡ spec.differing_from bytes.now unit.now) }
-{
+fn differing_from(
+    alloc: Global,
+    bytes: &[u8],
+    unit: &[u8],
+) -> Result<Option<Differing>, AllocError> {
     let (came, sent) = (name_of(alloc, bytes)?, name_of(alloc, unit)?);
     match came.as_str() == sent.as_str() {
         true => Ok(Some(first_differing(bytes, unit))),
@@ -69,26 +68,20 @@ fn first_place(bytes: &[u8], unit: &[u8]) -> usize
 }
 
 /// The short name of a unit that is known, with a comma and a blank behind it; nothing of one that is not. Fails for want of memory alone.
-pub fn name_before(alloc: Global, unit: Option<&[u8]>) -> Result<String, AllocError>
-    ensures { IfOk result (λ text. string_bytes text ≡ spec.name_before (option_map (λ bytes. bytes.now) unit.entry)) }
-{
+pub fn name_before(alloc: Global, unit: Option<&[u8]>) -> Result<String, AllocError> {
     match unit {
         Some(unit) => named(alloc, unit),
         None => Ok(String::new(alloc)),
     }
 }
 
-fn named(alloc: Global, unit: &[u8]) -> Result<String, AllocError>
-    ensures { IfOk result (λ text. string_bytes text ≡ spec.named unit.now) }
-{
+fn named(alloc: Global, unit: &[u8]) -> Result<String, AllocError> {
     let reading = read_unit(unit);
     format!(in alloc; "{}, ", ReadingName { reading })
 }
 
 // What the bytes of a unit say, in a few letters.
-fn name_of(alloc: Global, unit: &[u8]) -> Result<String, AllocError>
-    ensures { IfOk result (λ text. string_bytes text ≡ spec.name_of unit.now) }
-{
+fn name_of(alloc: Global, unit: &[u8]) -> Result<String, AllocError> {
     let reading = read_unit(unit);
     format!(in alloc; "{}", ReadingName { reading })
 }
@@ -105,9 +98,7 @@ fn byte_in(bytes: &[u8], place: usize) -> DataByte
 }
 
 /// The byte as it came.
-pub fn came_byte(differs: Option<Differing>) -> Option<DataByte>
-    ensures { result ≡ spec.came_byte differs }
-{
+pub fn came_byte(differs: Option<Differing>) -> Option<DataByte> {
     match differs {
         Some(differing) => Some(differing.came),
         None => None,
@@ -115,9 +106,7 @@ pub fn came_byte(differs: Option<Differing>) -> Option<DataByte>
 }
 
 /// The byte as it was sent.
-pub fn sent_byte(differs: Option<Differing>) -> Option<DataByte>
-    ensures { result ≡ spec.sent_byte differs }
-{
+pub fn sent_byte(differs: Option<Differing>) -> Option<DataByte> {
     match differs {
         Some(differing) => Some(differing.sent),
         None => None,
@@ -125,9 +114,7 @@ pub fn sent_byte(differs: Option<Differing>) -> Option<DataByte>
 }
 
 /// Writes a byte in which units differ behind the name of its unit, as `, of which byte 2 is 80, and it has 8 bytes`; nothing where none is told.
-pub fn write_byte<W: Write>(f: &mut Formatter<W>, byte: Option<DataByte>) -> fmt::Result
-    ensures { WritesOnOk W.write_str_gives f.old result (spec.of_which byte) f.new }
-{
+pub fn write_byte<W: Write>(f: &mut Formatter<W>, byte: Option<DataByte>) -> fmt::Result {
     let Some(
         DataByte {
             place,

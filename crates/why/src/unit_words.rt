@@ -1,10 +1,5 @@
 //! What the bytes of a unit say, in words (DDCMP 4.1, message formats).
 
-ghost use Rattle.std.specs.Prelude.{◌≡◌};
-ghost use Rattle.std.specs.Fmt.{WritesOnOk};
-ghost use Rattle.ddcmp_msg.specs.Message.{view};
-ghost use Rattle.why.specs.UnitWords as spec;
-
 use crate::damage_words::{write_data_fault, write_header_fault};
 use ddcmp_msg::{Departure, Flags, Message, NakReason, Reading};
 use std::fmt::{self, Formatter, Write};
@@ -17,11 +12,6 @@ pub struct ReadingWords<'a> {
 }
 
 impl fmt::Display for ReadingWords<'_> {
-    ghost use Rattle.std.specs.Prelude.{Some};
-    ghost use Rattle.ddcmp_msg.specs.Reading.{reading_view};
-
-    ghost output = { λ words. Some (spec.reading_words words.bytes.now (reading_view words.reading)) };
-
     fn fmt<W: Write>(&self, f: &mut Formatter<W>) -> fmt::Result {
         match self.reading {
             Reading::Sound(message) => write_message(f, message),
@@ -33,9 +23,7 @@ impl fmt::Display for ReadingWords<'_> {
 }
 
 // Writes a message with its fields.
-fn write_message<W: Write>(f: &mut Formatter<W>, message: Message<'_>) -> fmt::Result
-    ensures { WritesOnOk W.write_str_gives f.old result (spec.message_words (view message.entry)) f.new }
-{
+fn write_message<W: Write>(f: &mut Formatter<W>, message: Message<'_>) -> fmt::Result {
     match message {
         Message::Data {
             flags,
@@ -63,9 +51,7 @@ fn write_message<W: Write>(f: &mut Formatter<W>, message: Message<'_>) -> fmt::R
 }
 
 // The flags of a message, where there are any.
-fn flag_words(flags: Flags) -> &'static str
-    ensures { result.now ≡ spec.flag_words flags }
-{
+fn flag_words(flags: Flags) -> &'static str {
     match (flags.quick_sync, flags.select) {
         (false, false) => "",
         (true, false) => "  flags QSYNC",
@@ -75,9 +61,7 @@ fn flag_words(flags: Flags) -> &'static str
 }
 
 /// The reason of a NAK: its number and its meaning (DDCMP 4.1, NAK message).
-pub fn nak_words(reason: NakReason) -> &'static str
-    ensures { result.now ≡ spec.nak_words reason }
-{
+pub fn nak_words(reason: NakReason) -> &'static str {
     match reason {
         NakReason::HeaderCheck => "1 (header check)",
         NakReason::DataCheck => "2 (data check)",
@@ -90,9 +74,7 @@ pub fn nak_words(reason: NakReason) -> &'static str
 }
 
 // Where bytes whose checks are good depart from the formats.
-fn departure_words(departure: Departure) -> &'static str
-    ensures { result.now ≡ spec.departure_words departure }
-{
+fn departure_words(departure: Departure) -> &'static str {
     match departure {
         Departure::UnknownStart => "malformed 1: the first byte starts no message",
         Departure::Maintenance => "malformed 2: a maintenance message, not read further",
@@ -111,11 +93,6 @@ pub struct ReadingName<'a> {
 }
 
 impl fmt::Display for ReadingName<'_> {
-    ghost use Rattle.std.specs.Prelude.{Some};
-    ghost use Rattle.ddcmp_msg.specs.Reading.{reading_view};
-
-    ghost output = { λ name. Some (spec.reading_name (reading_view name.reading)) };
-
     fn fmt<W: Write>(&self, f: &mut Formatter<W>) -> fmt::Result {
         match self.reading {
             Reading::Sound(message) => write_name(f, message),
@@ -127,9 +104,7 @@ impl fmt::Display for ReadingName<'_> {
 }
 
 // Writes a message in a few letters.
-fn write_name<W: Write>(f: &mut Formatter<W>, message: Message<'_>) -> fmt::Result
-    ensures { WritesOnOk W.write_str_gives f.old result (spec.message_name (view message.entry)) f.new }
-{
+fn write_name<W: Write>(f: &mut Formatter<W>, message: Message<'_>) -> fmt::Result {
     match message {
         Message::Data { resp, num, .. } => write!(f, "DATA {num}/{resp}"),
         Message::Ack { resp, .. } => write!(f, "ACK /{resp}"),

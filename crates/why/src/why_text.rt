@@ -1,14 +1,15 @@
 //! All that is said of a refused record.
 
 ghost use Rattle.std.specs.Prelude.{◌≡◌, IfOk, string_bytes};
-ghost use Rattle.why.specs.Whole as spec;
+ghost use Rattle.why.specs.Refused.{BeginsWith, line_of, refused_line};
 
 use crate::accusation::{Accusation, AccusedRow};
 use crate::edits::{EditsTried, RecorderRow, so_row};
 use crate::ends::state_at;
 use crate::form::Form;
+use crate::past::Lines;
 use crate::refused_line::RefusedLine;
-use crate::refused_record::{RefusedRecord, end_told, record_objects, record_rows};
+use crate::refused_record::{Beside, RefusedRecord, end_told, record_objects, record_rows};
 use crate::subject::{Addresses, addresses_of};
 use capture::Entry;
 use pair_judge::{FailedCheck, JudgedEnds, Reason};
@@ -34,6 +35,8 @@ pub struct Refusal<'r> {
     pub bytes: &'r [u8],
     /// The bytes of the unit that its hint names; `None` where it names none that is known.
     pub unit: Option<&'r [u8]>,
+    /// The lines that its check names.
+    pub lines: Lines,
 }
 
 /// What is shown beside it, put together already: rows with their LF.
@@ -43,6 +46,8 @@ pub struct Shown<'t> {
     pub name: &'t str,
     /// The row of the unit that its hint names; nothing where it names none that was sent.
     pub unit: &'t str,
+    /// Whether all of its bytes are printed.
+    pub full: bool,
     /// The rows before it, of both sides.
     pub ladder: &'t str,
     /// How many small edits were tried.
@@ -62,14 +67,20 @@ pub fn why_json(
     edits: &str,
     tried: EditsTried,
 ) -> Result<String, AllocError>
-    ensures { IfOk result (λ text. string_bytes text ≡ spec.why_lines refusal.entry ends.now edits.now tried) }
+    ensures { IfOk result (λ text. BeginsWith (refused_line (line_of refusal.entry)) (string_bytes text)) }
 {
     let side = refusal.side;
     let record = record_objects(alloc, record_of(refusal), ends.end(side))?;
     let named = addresses_of(refusal.says, refusal.bytes);
     let own = side_told(alloc, Form::Object, side, named, ends)?;
     let other = side_told(alloc, Form::Object, side.other(), named.turned(), ends)?;
+    let tried = tried_line(alloc, tried)?;
     format!(in alloc; "{record}{own}{other}{edits}{tried}")
+}
+
+// How many small edits were tried, as a JSON object with its LF.
+fn tried_line(alloc: Global, tried: EditsTried) -> Result<String, AllocError> {
+    format!(in alloc; "{tried}")
 }
 
 /// All rows of a refused record behind the line of the verdict: the record and the unit that its hint names; the check; both sides, that of the
@@ -80,18 +91,18 @@ pub fn why_rows(
     refusal: Refusal<'_>,
     ends: &JudgedEnds,
     shown: Shown<'_>,
-) -> Result<String, AllocError>
-    ensures { IfOk result (λ text. string_bytes text ≡ spec.why_rows refusal.entry ends.now shown.entry) }
-{
+) -> Result<String, AllocError> {
     let side = refusal.side;
     let Shown {
         name,
         unit,
+        full,
         ladder,
         ..
     } = shown;
+    let beside = Beside { name, unit, full };
     let end = ends.end(side);
-    let record = record_rows(alloc, record_of(refusal), end, name, unit)?;
+    let record = record_rows(alloc, record_of(refusal), end, beside)?;
     let named = addresses_of(refusal.says, refusal.bytes);
     let own = side_told(alloc, Form::Rows, side, named, ends)?;
     let other = side_told(alloc, Form::Rows, side.other(), named.turned(), ends)?;
@@ -105,7 +116,7 @@ pub fn why_rows(
 
 // The record without what only a pair tells of it.
 fn record_of(refusal: Refusal<'_>) -> RefusedRecord<'_>
-    ensures { result ≡ spec.record_of refusal.entry }
+    ensures { result.line ≡ line_of refusal.entry }
 {
     RefusedRecord {
         line: RefusedLine {
@@ -118,6 +129,7 @@ fn record_of(refusal: Refusal<'_>) -> RefusedRecord<'_>
         says: refusal.says,
         bytes: refusal.bytes,
         unit: refusal.unit,
+        lines: refusal.lines,
     }
 }
 
@@ -128,17 +140,13 @@ fn side_told(
     side: Side,
     named: Addresses,
     ends: &JudgedEnds,
-) -> Result<String, AllocError>
-    ensures { IfOk result (λ text. string_bytes text ≡ spec.side_told form side named ends.now) }
-{
+) -> Result<String, AllocError> {
     let end = ends.end(side);
     end_told(alloc, form, state_at(side, end), named, end)
 }
 
 // The rows of what small edits tell of the recorder.
-fn recorder_rows(alloc: Global, shown: Shown<'_>) -> Result<String, AllocError>
-    ensures { IfOk result (λ text. string_bytes text ≡ spec.recorder_rows shown.entry) }
-{
+fn recorder_rows(alloc: Global, shown: Shown<'_>) -> Result<String, AllocError> {
     let row = RecorderRow { edits: shown.tried };
     let so = so_row(shown.tried.accepted, shown.unit_as_well);
     format!(in alloc; "{row}{}{so}", shown.edits)

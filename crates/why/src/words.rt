@@ -1,16 +1,10 @@
 //! What stands in several phrases.
 
-ghost use Rattle.std.specs.Prelude.{◌≡◌};
-ghost use Rattle.std.specs.Fmt.{WritesOnOk};
-ghost use Rattle.why.specs.Words as spec;
-
 use std::fmt::{self, Formatter, Write};
 use wire_base::Side;
 
 /// These words, where that is so; else none.
-pub fn words_if(is_so: bool, words: &str) -> &str
-    ensures { result.now ≡ spec.words_if is_so words.now }
-{
+pub fn words_if(is_so: bool, words: &str) -> &str {
     if is_so {
         return words;
     }
@@ -25,10 +19,6 @@ pub struct NumberOr<'w> {
 }
 
 impl fmt::Display for NumberOr<'_> {
-    ghost use Rattle.std.specs.Prelude.{Some};
-
-    ghost output = { λ words. Some (spec.number_or words.word.now words.number) };
-
     fn fmt<W: Write>(&self, f: &mut Formatter<W>) -> fmt::Result {
         match self.number {
             Some(number) => write!(f, "{number}"),
@@ -38,9 +28,7 @@ impl fmt::Display for NumberOr<'_> {
 }
 
 /// The same of a short number.
-pub fn short_number_or(word: &str, number: Option<u16>) -> NumberOr<'_>
-    ensures { spec.number_or result.word.now result.number ≡ spec.number_or word.now number }
-{
+pub fn short_number_or(word: &str, number: Option<u16>) -> NumberOr<'_> {
     let number = match number {
         Some(number) => Some(u64::from(number)),
         None => None,
@@ -54,9 +42,7 @@ pub fn write_known_start<W: Write>(
     verb: &str,
     side: Side,
     period: Option<u64>,
-) -> fmt::Result
-    ensures { WritesOnOk W.write_str_gives f.old result (spec.known_start verb.now side period) f.new }
-{
+) -> fmt::Result {
     match period {
         Some(period) => write!(f, ", {verb} start {period} of {side}"),
         None => Ok(()),
@@ -71,10 +57,6 @@ pub struct Range {
 }
 
 impl fmt::Display for Range {
-    ghost use Rattle.std.specs.Prelude.{Some};
-
-    ghost output = { λ range. Some (spec.range range.first range.last) };
-
     fn fmt<W: Write>(&self, f: &mut Formatter<W>) -> fmt::Result {
         let Range { first, last } = *self;
         if first == last {
@@ -85,9 +67,7 @@ impl fmt::Display for Range {
 }
 
 /// What makes a word of several things: `s`; nothing of one thing.
-pub fn plural(count: u64) -> &'static str
-    ensures { result.now ≡ spec.plural count }
-{
+pub fn plural(count: u64) -> &'static str {
     words_if(count != 1, "s")
 }
 
@@ -98,10 +78,6 @@ pub struct ByteCount {
 }
 
 impl fmt::Display for ByteCount {
-    ghost use Rattle.std.specs.Prelude.{Some};
-
-    ghost output = { λ bytes. Some (spec.byte_count bytes.count) };
-
     fn fmt<W: Write>(&self, f: &mut Formatter<W>) -> fmt::Result {
         let count = self.count;
         if count == 1 {

@@ -14,6 +14,8 @@ name_of named.Wire = codes "wire"
 name_of named.A = codes "a"
 name_of named.B = codes "b"
 name_of named.Svg = codes "svg"
+name_of named.OutA = codes "out a"
+name_of named.OutB = codes "out b"
 
 -- a control character of ASCII is told as `?`
 abbrev pub told_byte : ℕ → ℕ

@@ -1,16 +1,12 @@
 -- The status of an answer whose text no contract tells.
 use Rattle.std.specs.Prelude.{◌≡◌, ℕ, ◌⊎◌, List, Option, Ok, Err}
 use Rattle.dna_node.specs.Kind.{NodeKind}
-use Rattle.pair_judge.specs.EndJudged.{EndAnswer, IsJudgedAlone}
-use Rattle.pair_judge.specs.EndKind.{EndKind}
 use Rattle.pair_judge.specs.Judged.{Answer, IsAnswer}
 use Rattle.tap_answer.specs.Telling.{telling}
 use Rattle.tap_answer.specs.declared.told.Told.{Told}
 use Rattle.tap_answer.specs.declared.told.Told.TheVariants as says
 use Rattle.wire_tap.specs.declared.tapped.Tapped.{Tapped}
 use Rattle.ddcap.specs.Printed.{fault_status, verdict_status}
-use Rattle.ddcap.specs.PrintedAlone.{end_status}
-use Rattle.ddcap.specs.Showing.{shown_fault_status}
 
 -- it is the one that was meant; or 3, where a write failed or there was no memory for the text
 abbrev pub EndsWith : (meant status : ℕ) → Type 0
@@ -20,21 +16,11 @@ abbrev pub answer_status : Answer → ℕ
 answer_status (Ok verdict) = verdict_status verdict
 answer_status (Err fault) = fault_status fault
 
-abbrev pub end_answer_status : EndAnswer → ℕ
-end_answer_status (Ok verdict) = end_status verdict
-end_answer_status (Err fault) = shown_fault_status fault
-
 -- It is that of an answer of which all is true that the judge's contract says of its own: of what the two readers had left
 pub record EndsAsJudged (nodes : NodeKind) (text_a text_b : Option (List ℕ)) (status : ℕ) : Type 0 where
   pub answer : Answer
   pub judged : IsAnswer nodes text_a text_b answer
   pub ends : EndsWith (answer_status answer) status
-
--- the same of one end
-pub record EndsAsJudgedAlone (end : EndKind) (text : Option (List ℕ)) (status : ℕ) : Type 0 where
-  pub answer : EndAnswer
-  pub judged : IsJudgedAlone end text answer
-  pub ends : EndsWith (end_answer_status answer) status
 
 -- ---- of captures that a tap wrote
 

@@ -21,11 +21,15 @@ segments again, unchanged.",
 - a `u in` that is missing, comes after its segments, or was written when the
   message had gone
 - a first sending that has no line, after which all numbers are one too high
-- node: a message cut into other pieces when it is sent again
-- node: numbers that do not begin at 1
-- node: a begin or end bit that is missing or too early
-- node, not a bug: a segment that was lost before its first sending, for
-  example with a queue that was flushed: the next one is refused",
+- node: segment numbers begin at 0; segment numbers begin at 2; SEGNUM has its
+  high byte first; segments of all links are counted together; a reused address
+  keeps its segment numbers; a segment that is sent again has a new number; a
+  data acknowledgement uses up a segment number; the begin bit is missing; the
+  end bit is missing; each piece has both bits; an empty piece follows a full
+  last piece; other pieces are cut when a message is sent again; a segment that
+  is sent again has other data
+- node, not a bug: a restart empties a queue, and a segment in it is lost
+  before its first sending",
     first: "\
 see in `ddcap why` what differs: the number, the bits or the bytes.",
 };
@@ -45,10 +49,11 @@ a number in that range.",
     look_for: "\
 - too high: a `k` line that is missing, is written as `r`, or comes after this
   unit
-- node, too high: a segment acknowledged over a gap, for example one that was
-  lost with a restart of the line
-- node, too low, not a bug: an acknowledgement that waited in a queue while a
-  later one was sent",
+- node: the next expected number is acknowledged; a number after a gap is
+  acknowledged; a number of another link is acknowledged; the last number sent
+  is acknowledged; a reused address keeps its acknowledgement numbers
+- node, not a bug: an acknowledgement waits in a queue of its own while a later
+  one is sent",
     first: "\
 if the number is too high, find the `k` line of the segment that it
 names.",
@@ -65,8 +70,8 @@ other end gave in the CI or CC that was acted on.",
 that many data bytes, or fewer.",
     fault: "the sender",
     look_for: "\
-- node: it goes by its own SEGSIZE
-- node: it goes by the SEGSIZE of a repeated CI, which is ignored",
+- node: the node goes by its own SEGSIZE; the length of the NSP header is added
+  to SEGSIZE; SEGSIZE has its high byte first",
     first: "\
 compare SEGSIZE in `ddcap why` with the CI or CC that came first.",
 };
@@ -84,7 +89,9 @@ arrived.",
     look_for: "\
 - the `k` line of a data acknowledgement, or of a segment with a word, which is
   missing or comes after this unit
-- node: words of the other subchannel, which acknowledge no segment",
+- node: there is no limit on unacknowledged segments
+- node, not a bug: segments are acknowledged only in messages of the other
+  subchannel",
     first: "\
 find the last `k` line that acknowledged anything on this link.",
 };
@@ -92,7 +99,7 @@ find the last `k` line that acknowledged anything on this link.",
 pub const WRONG_DELIVERY: Explanation = Explanation {
     reason: Reason::WrongDelivery,
     seen: "\
-a `u up` line has another message than the next whole one of its link.",
+a `u up` line has a message other than the next whole one of its link.",
     rule: "\
 messages are delivered in the order of their segments, each once. None is
 delivered before all its segments, and all segments before those, were kept.",
@@ -103,10 +110,10 @@ the next whole message.",
 - a `k` line that is missing, is written as `r`, or comes after this line
 - a message that was delivered before and has its line twice
 - an own address that was given again: `u up` then means the later link
-- node: a piece delivered alone, without waiting for the end of the message
-- node: a message delivered again when it arrives again
-- node: a message delivered although a segment was lost and is not sent again
-  yet",
+- node: a message that arrives again is delivered again; each piece is
+  delivered alone; a message after a gap is delivered; an empty message is not
+  delivered; a message is delivered on the wrong link; the last byte of a
+  message is lost",
     first: "\
 find the message in the other side's `u in` lines.",
 };
@@ -127,10 +134,11 @@ a message of the link that goes with this one.",
     look_for: "\
 - a hint that points to an earlier unit with the same bytes
 - a missing CI
-- node, not a bug: an address used again soon after its link ended, while
-  messages of that link are under way: then neither capture is wrong",
+- node, not a bug: an address is used again while a message of its last link is
+  under way",
     first: "\
-see whether an earlier link had this address, and when it ended.",
+see whether an earlier link had this address, and when it ended. Then
+neither capture is wrong.",
 };
 
 pub const ADDRESS_IN_USE: Explanation = Explanation {
@@ -147,7 +155,8 @@ another address; the same one once its link is over.",
   ended here
 - a recorder that mixes up the two ends of a link: in `u accept M L` the
   address of the other end comes first
-- node: an address given again while its link is live",
+- node: an address is reused before the DC has arrived; addresses of opened and
+  of called links are counted separately",
     first: "\
 find what should have ended the earlier link with this address.",
 };

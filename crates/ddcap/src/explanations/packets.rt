@@ -17,8 +17,8 @@ control packet, or the low three bits 010 and at least six bytes.",
     fault: "the sender",
     look_for: "\
 - the packet's header left out, or another layer's bytes written as data
-- node: padding before the packet (bit 7), which has no place on this circuit
-- node: long format packets (low bits 110), which belong to an Ethernet",
+- node: padding goes before each packet; packets have the long format; a length
+  goes before the packet",
     first: "\
 look at the first byte of the packet. If the line carries no DECnet, use
 `check --line`.",
@@ -41,10 +41,12 @@ any packet between the two.",
   the first one that the other side kept
 - area and number put together wrongly (area times 1,024 plus number, low byte
   first)
-- node, not a bug: packets of others that it passes on. It is then no end node,
-  and `check --line` judges its line without reading packets",
+- node: the area is left out of an address; an address has its high byte first;
+  source and destination are exchanged
+- node, not a bug: a router passes on a packet of a third node",
     first: "\
-compare the addresses in `ddcap why` with both heads.",
+compare the addresses in `ddcap why` with both heads. If the line joins
+routers, use `check --line`.",
 };
 
 pub const BAD_NSP: Explanation = Explanation {
@@ -61,9 +63,10 @@ not looked at.",
     fault: "the sender",
     look_for: "\
 - long packets that are cut
-- node: messages of a later NSP, or of another protocol above routing
-- node: acknowledgement words with a qualifier above 3
-- node: a CI with DSTADDR other than 0",
+- node: an acknowledgement word lacks bit 15; an acknowledgement word has a
+  qualifier above 3; a CI has a DSTADDR; a DC has user data, as a DI may; a
+  connect acknowledgement has a SRCADDR; there are three acknowledgement words;
+  messages of another protocol are sent",
     first: "\
 read the bytes of the message beside that table.",
 };
@@ -87,10 +90,11 @@ the same, once its link exists.",
 - a `k` line that is missing or written as `r`, so that the CI or CC in it was
   never seen
 - a link that existed before the capture began
-- node: addresses swapped, DSTADDR for SRCADDR
-- node: a message sent after the DI or DC that ended the link
-- node, not a bug: a DI that waited in a queue until the DC had arrived, or a
-  DI for a call that its user gave up before it was answered",
+- node: the addresses of a CC are exchanged; the addresses of a segment are
+  exchanged; data is sent before the CC has arrived; a connect acknowledgement
+  names the sender's own address; data is sent after a DI has arrived; a DI is
+  repeated after the DC has arrived; a CI is sent though no user opened a link
+- node, not a bug: a DI waits in a queue until the DC has arrived",
     first: "\
 find where the link began, and whether a DI or DC has ended it.",
 };
@@ -108,14 +112,12 @@ the same in one of these phases.",
     fault: "the sender, or the user",
     look_for: "\
 - a missing `u close` before a DI
-- node: data sent in answer to a CC before it has acted on it
-- node: a CC sent again after the link got into RUN
-- node, not a bug: a message composed in an earlier phase, for example a data
-  acknowledgement that waited in a queue between NSP and DDCMP while its user
-  closed the link. A packet is judged when it is first sent, so such a packet
-  has to leave the queue
-- node, not a bug: a `u close` in Calling, by a user who gives up a call before
-  it is answered",
+- node: data is sent after the CC without waiting for an answer; a CI is
+  repeated after the CC has arrived; a CC is repeated after an answer has
+  arrived; a DI is sent though no user closed the link; a DC is sent instead of
+  a DI; data is sent after the user closed the link
+- node, not a bug: a message waits in a queue while the user closes its link
+- node, not a bug: a user gives up a call before it is answered",
     first: "\
 compare the phase in `ddcap why` with what the node did last on this
 link.",

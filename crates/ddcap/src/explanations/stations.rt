@@ -19,7 +19,10 @@ RUNNING while a packet is unacknowledged.",
 - a missing or late receipt of the STRT or STACK that is answered here
 - a STRT that arrived in RUNNING, which halts the station
 - for a REP, the acknowledgement that arrived just before it
-- node: data sent before the start is complete",
+- node: data is sent before the start is complete; a STRT is answered with an
+  ACK; STRT is repeated after a STRT has arrived; the startup timer still runs
+  after the start; a STRT in RUNNING is ignored; a STRT in RUNNING is answered
+  with a STACK; the REP timer still runs when all is acknowledged",
     first: "\
 compare the state in `ddcap why` with what the node did last.",
 };
@@ -40,8 +43,11 @@ that number.",
 - an earlier data message that has no line
 - the receipt of a NAK, which is missing, too early or too late
 - a missing `u start`, if the number is 1
-- node: data sent again after a timer alone, where DDCMP has it send a REP
-- node: a REP with the next number instead of the highest",
+- node: the first data message has number 0; after number 255 comes 1; NUM goes
+  on after a restart; the retransmission state is not reset at a start; a timer
+  sends data again, without a NAK; after a NAK only one packet is sent again; a
+  NAK is ignored; RESP of a NAK acknowledges nothing; REP asks for the next
+  number; REP asks for the first unacknowledged one",
     first: "\
 if NUM is too high, look for a missing `s` line before it. If it is too
 low, look for the NAK that made the station go back.",
@@ -64,9 +70,10 @@ that number.",
   bytes passed, or a packet that was not kept after all
 - RESP too low: an `s` line written when the last bit left, not when the unit
   was decided on
-- node: a frame kept whole and sent again with its old RESP
-- node: a RESP that counts a message which has not arrived
-- node: numbers that go on after a restart",
+- node: a whole frame is kept and sent again with its old RESP; RESP is the
+  next expected number; RESP of data messages is always 0; RESP counts a
+  message after a gap; RESP counts a message that found no buffer; RESP counts
+  a damaged message; RESP goes on after a restart; RESP is counted modulo 128",
     first: "\
 find the `k` lines of the message that RESP names and of the next one.
 This record belongs between them.",
@@ -85,7 +92,8 @@ acknowledgement.",
     look_for: "\
 - the receipt of an ACK, a NAK or data with a RESP, which is missing or comes
   after this unit
-- node: no limit on what is under way",
+- node: there is no limit on unacknowledged packets; 256 packets may be
+  unacknowledged",
     first: "\
 find the last receipt that acknowledged anything.",
 };
@@ -102,10 +110,11 @@ the same data.",
     look_for: "\
 - a restart without its `u start`, after which the numbers mean other packets
 - bytes taken from a buffer which was used again
-- node: a packet changed between two sendings, for example by counting hops in
-  place",
+- node: FORWARD is counted up again; a packet is composed again with a newer
+  acknowledgement number; the buffer of an unacknowledged packet is reused; an
+  urgent packet takes over a number",
     first: "\
-look up the byte that `ddcap why` names in both sendings.",
+compare the byte that `ddcap why` names in both sendings.",
 };
 
 pub const NO_CAUSE: Explanation = Explanation {
@@ -126,8 +135,10 @@ an ACK; a NAK of reason 9, 16 or 17, which need no cause.",
 - the receipt that it answers, which is missing or comes after it: recorders
   often drop damaged units
 - noise between two units, without its `n` line
-- node: a second NAK for the same unit
-- node: a NAK for data out of order, for which a station has to wait for a REP",
+- node: two NAKs answer one damaged unit; damaged data is answered with reason
+  1; data after a gap is answered with a NAK; each REP is answered with a NAK;
+  damage from before the start is answered after it; a sound unit is taken for
+  a damaged one",
     first: "\
 find what the node answered: a damaged unit, a REP, or a packet without
 a buffer.",
@@ -136,8 +147,7 @@ a buffer.",
 pub const WRONG_KEEP: Explanation = Explanation {
     reason: Reason::WrongKeep,
     seen: "\
-a `k` line says that a packet was taken, and the station could not take
-it.",
+a `k` line says that the station took a packet which it could not take.",
     rule: "\
 a packet is taken only from an undamaged data message with the number
 after the last one received, in RUNNING or, with RESP 0, in ASTRT.",
@@ -147,7 +157,8 @@ an `r` line; also for the next packet, if there was no buffer for it.",
     look_for: "\
 - an earlier `k` line that is missing or written as `r`
 - a recorder that writes `k` for every data message, also for repeats
-- node: a packet taken out of order, or a repeat kept again",
+- node: a packet that arrives again is kept again; a packet after a gap is
+  kept; a packet with a wrong check is kept; a packet is kept before RUNNING",
     first: "\
 compare NUM of the unit with R in `ddcap why`. If NUM is above R + 1,
 look for a missing `k` line before it.",
@@ -170,8 +181,8 @@ goes with the present one.",
 - a hint that points to an earlier start, if units with the same bytes were
   sent in both
 - an extra `u start` here, or a missing one on the other side
-- node, not a bug: a stale message that was under way while its receiver
-  started again. It happens when both ends restart at once",
+- node, not a bug: both ends restart at once, and a message of an earlier start
+  arrives",
     first: "\
 see whether a station started again just before. Then neither capture is
 wrong.",
@@ -191,7 +202,8 @@ a halt first, which is possible in every state.",
 - the missing receipt of the STRT that halted it
 - two sessions in one file
 - a recorder that writes `u start` for every STRT sent
-- node: a station that starts again without a halt",
+- node: a station that gets no answer starts again without a halt; each
+  repetition of STRT is a new start",
     first: "\
 find out why the station started again.",
 };

@@ -6,7 +6,7 @@ use pair_judge::Reason;
 pub const NOT_A_MESSAGE: Explanation = Explanation {
     reason: Reason::NotAMessage,
     seen: "\
-bytes were sent that are no sound DDCMP message.",
+the bytes that were sent are not a sound DDCMP message.",
     rule: "\
 a unit that is sent has one of the formats in docs/PROTOCOL.md, with the
 right block checks.",
@@ -16,8 +16,11 @@ any message in one of these formats.",
     look_for: "\
 - SYN or pad bytes left in the unit, or a unit that was cut
 - checks left out because the line's hardware adds them
-- node: a block check computed wrongly, or its two bytes swapped
-- node: a maintenance message, which is not supported",
+- node: the two bytes of a block check are swapped; the check of the data is
+  left out; a block check is started at ffff; COUNT counts the check bytes too;
+  COUNT has its high byte first; ADDR is 0; an ACK carries NUM; a REP carries
+  RESP; a NAK has an unknown reason; an empty data message is sent as a
+  keep-alive; a maintenance message (MOP) is sent",
     first: "\
 see what `ddcap why` finds wrong: the number of bytes, a block check, or
 the format.",
@@ -38,7 +41,9 @@ the hint of a later unit.",
   same file
 - receipts written out of order
 - hints matched with the undamaged receipts first, so that a damaged one found
-  no unit left (docs/CAPTURES.md, \"An alignment\")",
+  no unit left (docs/CAPTURES.md, \"An alignment\")
+- node: the driver sends a unit twice; the driver sends an ACK before data that
+  waits",
     first: "\
 find the earlier receipt with this hint or a higher one.",
 };
@@ -46,8 +51,8 @@ find the earlier receipt with this hint or a higher one.",
 pub const NO_SUCH_UNIT: Explanation = Explanation {
     reason: Reason::NoSuchUnit,
     seen: "\
-a receipt has the hint of a unit that the other side never sends. All
-records of the other side could be made, and it has too few `s` lines.",
+a receipt has the hint of a unit that the other side never sends: its
+capture was read to the end, and has too few `s` lines.",
     rule: "\
 what is received was sent, so a hint is below the number of the other
 side's `s` lines.",
@@ -81,8 +86,7 @@ the receipt of a unit that the other side can send before it.",
 - a missing `s` line on either side, or one after the receipt of its answer
 - captures of two sessions",
     first: "\
-look also at the record at which b waits: its first receipt whose hint
-is not below the number of `s` lines before a's named record.",
+look also at the record at which b waits; `ddcap why` tells its hint.",
 };
 
 pub const UNDETECTED: Explanation = Explanation {
@@ -100,7 +104,9 @@ the unit's own bytes, or bytes that read as header bad or data bad.",
 - a missing `s` line in the other capture
 - captures of two sessions or of two lines, or the same one twice
 - damage that both block checks miss, which is rare: one damaged unit in some
-  65,536",
+  65,536
+- node: a buffer is reused while its unit waits in the driver; the driver
+  updates RESP in a unit that waits",
     first: "\
 find the same bytes in a nearby `s` line of the other side: the hint
 should point there.",
@@ -111,8 +117,8 @@ pub const NOT_NOISE: Explanation = Explanation {
     seen: "\
 an `n` line has bytes that show no damage.",
     rule: "\
-an `n` line has bytes that are no unit of the peer, and that a block
-check shows to be none: they read as header bad or data bad.",
+the bytes of an `n` line are not a unit of the peer, and a block check
+shows it: they read as header bad or data bad.",
     allowed: "\
 `n -`, since fewer than 8 bytes read as a bad header; or, if a unit of
 the other side has these bytes, an `r` line with its hint.",
@@ -121,7 +127,8 @@ the other side has these bytes, an `r` line with its hint.",
 - a receipt written as noise because its unit was not found: its `s` line is
   missing in the other capture, or the alignment is wrong
 - a framer that takes a unit of another station, or a maintenance message, for
-  one of this line",
+  one of this line
+- node: an unexpected unit is recorded as noise",
     first: "\
 find these bytes in the `s` lines of the other side.",
 };

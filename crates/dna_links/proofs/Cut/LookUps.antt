@@ -7,6 +7,7 @@ use Rattle.std.proofs.lemmas.List.{length-map, map-append, map-set}
 use Rattle.std.proofs.lemmas.Option.{slice_get-map, same_Some, none-some}
 use Rattle.std.proofs.lemmas.Bool.{cases_lt}
 use Rattle.dna_links.specs.declared.port.LinkTest.{LinkTest}
+use Rattle.dna_links.specs.declared.queue.Queues.{Queues}
 use Rattle.dna_links.specs.LookUps.{passes}
 use Rattle.dna_links.specs.Links.{LinkOf, number_of, on_link, at_number, with_link, begun, changed}
 use Rattle.dna_links.specs.TrueSegments.{TrueSegments}
@@ -21,12 +22,12 @@ module _ {X Y : Type 0} (p : Y → Bool) (f : X → Y) where
   prefix-map [] = refl
   prefix-map (x ∷ xs) = ap (λ n. cond (not (p (f x))) (1 + n) 0) (prefix-map xs)
 
-  position-map : (xs : List X) → position p (map f xs) ≡ position (λ x. p (f x)) xs
+  pub position-map : (xs : List X) → position p (map f xs) ≡ position (λ x. p (f x)) xs
   position-map xs = ap₂ (λ (n m : ℕ). cond (ltb n m) (Some n) None) (prefix-map xs) (length-map xs f)
 
 module _ {X : Type 0} (p : X → Bool) where
   -- where there is one, it passes; where there is none, no item does
-  abbrev IsFound : List X → Option ℕ → Type 0
+  abbrev pub IsFound : List X → Option ℕ → Type 0
   IsFound xs None = (n : ℕ) (x : X) → slice_get xs n ≡ Some x → p x ≡ false
   IsFound xs (Some n) = (x : X) × ((slice_get xs n ≡ Some x) × (p x ≡ true))
 
@@ -79,34 +80,34 @@ abbrev pub NoneFor : LinkTest → Links → Type 0
 NoneFor test s = (n : ℕ) (l : LinkOf TrueSegments) → slice_get s.links n ≡ Some l → passes test l.port ≡ false
 
 -- a way to go on with a link commutes, wherever a link stands there and passes
-abbrev pub GoesAlong : {R R' : Type 0} (g : R → R') → LinkTest → Links → (ℕ → LinkOf TrueSegments → R) → (ℕ → LinkOf WireSegments → R') → Type 0
-GoesAlong g test s next next' = (n : ℕ) (l : LinkOf TrueSegments) → slice_get s.links n ≡ Some l → passes test l.port ≡ true →
-    g (next n l) ≡ next' n (cut_link l)
+abbrev pub GoesAlong : (queues : Queues) {R R' : Type 0} (g : R → R') → LinkTest → Links → (ℕ → LinkOf TrueSegments → R) → (ℕ → LinkOf WireSegments → R') → Type 0
+GoesAlong queues g test s next next' = (n : ℕ) (l : LinkOf TrueSegments) → slice_get s.links n ≡ Some l → passes test l.port ≡ true →
+    g (next n l) ≡ next' n (cut_link queues l)
 
-number_same : (test : LinkTest) (s : Links) → number_of test (cut_links s) ≡ number_of test s
-number_same test s = position-map (λ (l : LinkOf WireSegments). passes test l.port) cut_link s.links
+number_same : (queues : Queues) (test : LinkTest) (s : Links) → number_of test (cut_links queues s) ≡ number_of test s
+number_same queues test s = position-map (λ (l : LinkOf WireSegments). passes test l.port) (cut_link queues) s.links
 
-module _ {R R' : Type 0} (g : R → R') (test : LinkTest) (s : Links) (otherwise : R) (otherwise' : R') (next : ℕ → LinkOf TrueSegments → R)
+module _ (queues : Queues) {R R' : Type 0} (g : R → R') (test : LinkTest) (s : Links) (otherwise : R) (otherwise' : R') (next : ℕ → LinkOf TrueSegments → R)
     (next' : ℕ → LinkOf WireSegments → R') where
-  at_same : (NoneFor test s → g otherwise ≡ otherwise') → GoesAlong g test s next next' → (o : Option ℕ) → IsFound (passed_by test) s.links o
-      → g (at_number s.links o otherwise next) ≡ at_number (map cut_link s.links) o otherwise' next'
+  at_same : (NoneFor test s → g otherwise ≡ otherwise') → GoesAlong queues g test s next next' → (o : Option ℕ) → IsFound (passed_by test) s.links o
+      → g (at_number s.links o otherwise next) ≡ at_number (map (cut_link queues) s.links) o otherwise' next'
   at_same none along None nobody = none nobody
   at_same none along (Some n) (l, here) =
       ap (λ (o : Option (LinkOf TrueSegments)). g (on_link n o otherwise next)) here.0
       ∙ along n l here.0 here.1
       ∙ ap (λ (o : Option (LinkOf WireSegments)). on_link n o otherwise' next')
-      (sym (slice_get-map cut_link s.links n ∙ ap (option_map cut_link) here.0))
+      (sym (slice_get-map (cut_link queues) s.links n ∙ ap (option_map (cut_link queues)) here.0))
 
-  pub with_link_same : (NoneFor test s → g otherwise ≡ otherwise') → GoesAlong g test s next next' →
-      g (with_link test s otherwise next) ≡ with_link test (cut_links s) otherwise' next'
+  pub with_link_same : (NoneFor test s → g otherwise ≡ otherwise') → GoesAlong queues g test s next next' →
+      g (with_link test s otherwise next) ≡ with_link test (cut_links queues s) otherwise' next'
   with_link_same none along =
       at_same none along (number_of test s) (found (passed_by test) s.links)
-      ∙ ap (λ (o : Option ℕ). at_number (map cut_link s.links) o otherwise' next') (sym (number_same test s))
+      ∙ ap (λ (o : Option ℕ). at_number (map (cut_link queues) s.links) o otherwise' next') (sym (number_same queues test s))
 
 -- ---- changes
 
-pub changed_same : (n : ℕ) (l : LinkOf TrueSegments) (s : Links) → cut_links (changed n l s) ≡ changed n (cut_link l) (cut_links s)
-changed_same n l s = ap (λ (links : List (LinkOf WireSegments)). record (cut_links s) { links = links }) (map-set cut_link s.links n l)
+pub changed_same : (queues : Queues) (n : ℕ) (l : LinkOf TrueSegments) (s : Links) → cut_links queues (changed n l s) ≡ changed n (cut_link queues l) (cut_links queues s)
+changed_same queues n l s = ap (λ (links : List (LinkOf WireSegments)). record (cut_links queues s) { links = links }) (map-set (cut_link queues) s.links n l)
 
-pub begun_same : (l : LinkOf TrueSegments) (s : Links) → cut_links (begun l s) ≡ begun (cut_link l) (cut_links s)
-begun_same l s = ap (λ (links : List (LinkOf WireSegments)). record (cut_links s) { links = links }) (map-append cut_link s.links (l ∷ []))
+pub begun_same : (queues : Queues) (l : LinkOf TrueSegments) (s : Links) → cut_links queues (begun l s) ≡ begun (cut_link queues l) (cut_links queues s)
+begun_same queues l s = ap (λ (links : List (LinkOf WireSegments)). record (cut_links queues s) { links = links }) (map-append (cut_link queues) s.links (l ∷ []))

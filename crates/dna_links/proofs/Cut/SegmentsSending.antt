@@ -24,14 +24,14 @@ use Rattle.dna_links.proofs.Tables.Numbers.{distance_ahead, wire-one, wire_named
 -- ---- words
 
 -- the last acknowledgement, as a node keeps it
-abbrev sent_of : ℕ → LastSent
+abbrev pub sent_of : ℕ → LastSent
 sent_of last = record { last = wire last; is_high = leb REACH last }
 
-abbrev last_in : Named → LastSent
+abbrev pub last_in : Named → LastSent
 last_in names = sent_of names.last
 
 -- an answer of two tests, mapped
-chosen : (b c : Bool) (f : ℕ → LastSent) (x y : ℕ) (s t : LastSent) → f x ≡ s → f y ≡ t →
+pub chosen : (b c : Bool) (f : ℕ → LastSent) (x y : ℕ) (s t : LastSent) → f x ≡ s → f y ≡ t →
     option_map f (cond b (Some x) (cond c (Some y) None)) ≡ cond b (Some s) (cond c (Some t) None)
 chosen true c f x y s t first second = ap Some first
 chosen false true f x y s t first second = ap Some second
@@ -44,7 +44,7 @@ module _ (r : ℕ) where
   IsAtMost last (Some n) = max last n ≤ r
 
   module _ (last : ℕ) (least : last ≤ r) (most : r ≤ last + REACH) where
-    ahead_same : (number : ℕ) → leb (last + distance (wire last) number) r ≡ wire.is_ahead (wire r) number (sent_of last)
+    pub ahead_same : (number : ℕ) → leb (last + distance (wire last) number) r ≡ wire.is_ahead (wire r) number (sent_of last)
     ahead_same number =
         let d = distance_ahead last r least most in
         same_le (last + distance (wire last) number) r (distance (wire last) number) (distance (wire last) (wire r)) (λ l. omega (arith, l, d, least))
@@ -59,7 +59,7 @@ module _ (r : ℕ) where
     stays_same : (number : ℕ) → sent_of (max last (last - distance number (wire last))) ≡ sent_of last
     stays_same number = let e : max last (last - distance number (wire last)) ≡ last = omega arith in ap sent_of e
 
-    one_same : (again : Bool) (number : ℕ) → option_map (λ (n : ℕ). sent_of (max last n)) (named again last r number) ≡ wire.last_named again (wire r)
+    pub one_same : (again : Bool) (number : ℕ) → option_map (λ (n : ℕ). sent_of (max last n)) (named again last r number) ≡ wire.last_named again (wire r)
         number (sent_of last)
     one_same again number =
         chosen (leb (last + distance (wire last) number) r)
@@ -112,7 +112,7 @@ module _ (r : ℕ) where
 
 -- ---- what is sent
 
-abbrev cut_one : Sending TrueSegments Numbers → Sending WireSegments (Unit {0})
+abbrev pub cut_one : Sending TrueSegments Numbers → Sending WireSegments (Unit {0})
 cut_one sent = record { segments = cut sent.segments; known = tt }
 
 -- checks alike on both
@@ -146,7 +146,7 @@ module _ (f : TrueSegments) (ordered : IsOrdered f) where
   highest_same : wire.highest_given (cut f).variables ≡ wire (highest_given f)
   highest_same = let h = outstanding in let l = ordered.given in omega arith
 
-  new_same : (s : SegmentValue) → is_new s f ≡ wire.is_new s (cut f).variables
+  pub new_same : (s : SegmentValue) → is_new s f ≡ wire.is_new s (cut f).variables
   new_same s = ap (λ n. eqb s.number n) (sym (wire-one (highest_given f))) ∙ ap (λ n. eqb s.number (wire (n + 1))) (sym highest_same)
 
   -- a new segment: what is kept of it is cut of what is true
@@ -169,7 +169,7 @@ module _ (f : TrueSegments) (ordered : IsOrdered f) where
   new_checked segsize p room sent =
       check room LinkWindowFull (check (leb (length p.body) segsize) SegmentTooLong (check (is_next_piece p f.unsent) WrongSegment (Ok sent)))
 
-  sends_new_same : (segsize : ℕ) (p : Piece) (names : Named) → cut_sending (sends_new segsize p names f) ≡ wire.sends_new segsize p (last_in names)
+  pub sends_new_same : (segsize : ℕ) (p : Piece) (names : Named) → cut_sending (sends_new segsize p names f) ≡ wire.sends_new segsize p (last_in names)
       (cut f)
   sends_new_same segsize p names =
       three_checks (ltb (highest_given f - f.acknowledged) REACH) (leb (length p.body) segsize) (is_next_piece p f.unsent)

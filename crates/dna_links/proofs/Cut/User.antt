@@ -4,11 +4,13 @@ use Rattle.std.specs.Prelude.{slice_get}
 use Rattle.std.proofs.lemmas.Bool.{and_parts}
 use Rattle.dna_station.specs.declared.link_refusal.LinkRefusal.{LinkRefusal}
 use Rattle.dna_station.specs.declared.link_refusal.LinkRefusal.TheVariants.{NoLink, LinkState, AddressInUse}
+use Rattle.dna_links.specs.Queues.{forgotten, freed}
+use Rattle.dna_links.specs.declared.queue.Queues.TheVariants.{Without}
 use Rattle.dna_links.specs.declared.port.Phase.{Phase}
 use Rattle.dna_links.specs.declared.port.Phase.TheVariants.{Confirming, Disconnecting, Ended}
 use Rattle.dna_links.specs.declared.port.LinkTest.TheVariants.{HasAddress, LiveAt, CalledBy}
 use Rattle.dna_links.specs.LookUps.{is_live, is_called, is_connected, is_at, takes_messages, passes}
-use Rattle.dna_links.specs.Links.{LinkOf, LinksOf, check, begun, changed, in_phase, with_segments, forgotten, freed}
+use Rattle.dna_links.specs.Links.{LinkOf, LinksOf, check, begun, changed, in_phase, with_segments}
 use Rattle.dna_links.specs.User.{LinkEventValue, Open, Accept, Reject, In, Up, Close}
 use Rattle.dna_links.specs.inner.Forms.{opened, answered, gives, answers, delivered}
 use Rattle.dna_links.specs.TrueSegments.{TrueSegments, hands_in, delivers, true_segments}
@@ -32,31 +34,31 @@ live_if test none phase e = refl
 module _ (l : LinkOf TrueSegments) where
   module _ (live : is_live l.port.phase ≡ true) where
     -- a live link's segments are cut whole
-    pub live_segments : (cut_link l).segments ≡ cut l.segments
+    pub live_segments : (cut_link Without l).segments ≡ cut l.segments
     live_segments = ap (λ (b : Bool). cut_as b l.port.own l.segments) live
 
-    pub segments_changed : (f : TrueSegments) (w : WireSegments) → cut f ≡ w → cut_link (with_segments f l) ≡ with_segments w (cut_link l)
-    segments_changed f w same = ap (λ (v : WireSegments). with_segments v (cut_link l)) (ap (λ (b : Bool). cut_as b l.port.own f) live ∙ same)
+    pub segments_changed : (f : TrueSegments) (w : WireSegments) → cut f ≡ w → cut_link Without (with_segments f l) ≡ with_segments w (cut_link Without l)
+    segments_changed f w same = ap (λ (v : WireSegments). with_segments v (cut_link Without l)) (ap (λ (b : Bool). cut_as b l.port.own f) live ∙ same)
 
-    pub phase_changed : (phase : Phase) → is_live phase ≡ true → cut_link (in_phase phase l) ≡ in_phase phase (cut_link l)
+    pub phase_changed : (phase : Phase) → is_live phase ≡ true → cut_link Without (in_phase phase l) ≡ in_phase phase (cut_link Without l)
     phase_changed phase to =
-        ap (λ (w : WireSegments). with_segments w (in_phase phase (cut_link l)))
+        ap (λ (w : WireSegments). with_segments w (in_phase phase (cut_link Without l)))
         (ap (λ (b : Bool). cut_as b l.port.own l.segments) to ∙ sym live_segments)
 
     answered_same : (phase : Phase) (own : ℕ) → is_live phase ≡ true →
-        cut_link (answered true_segments phase own l) ≡ answered wire_segments phase own
-        (cut_link l)
+        cut_link Without (answered true_segments phase own l) ≡ answered wire_segments phase own
+        (cut_link Without l)
     answered_same phase own to =
-        ap (λ (w : WireSegments). with_segments w (answered wire_segments phase own (cut_link l)))
+        ap (λ (w : WireSegments). with_segments w (answered wire_segments phase own (cut_link Without l)))
         (ap (λ (b : Bool). cut_as b (Some own) l.segments) to ∙ sym live_segments)
 
   -- an ended link that loses its address keeps nothing
-  forgotten_same : is_live l.port.phase ≡ false → cut_link (forgotten true_segments l) ≡ forgotten wire_segments (cut_link l)
+  forgotten_same : is_live l.port.phase ≡ false → cut_link Without (forgotten true_segments Without l) ≡ forgotten wire_segments Without (cut_link Without l)
   forgotten_same dead =
-      ap (λ (w : WireSegments). with_segments w (forgotten wire_segments (cut_link l))) (ap (λ (b : Bool). cut_as b None l.segments) dead)
+      ap (λ (w : WireSegments). with_segments w (forgotten wire_segments Without (cut_link Without l))) (ap (λ (b : Bool). cut_as b None l.segments) dead)
 
 -- the messages that are delivered, of a live link and of one that has ended
-delivers_at : (b : Bool) (own : Option ℕ) (address : ℕ) (f : TrueSegments) (message : List ℕ) → is_at own address ≡ true
+pub delivers_at : (b : Bool) (own : Option ℕ) (address : ℕ) (f : TrueSegments) (message : List ℕ) → is_at own address ≡ true
     → option_map (cut_as b own) (delivers message f) ≡ wire.delivers message (cut_as b own f)
 delivers_at true own address f message at = delivers_same f message
 delivers_at false (Some number) address f message at = ended_delivers f message
@@ -64,32 +66,32 @@ delivers_at false None address f message at = absurd cc
 
 -- ---- the table
 
-check_same : (b : Bool) (reason : LinkRefusal) (s : Links) → cut_result (check b reason (Ok s)) ≡ check b reason (Ok (cut_links s))
+check_same : (b : Bool) (reason : LinkRefusal) (s : Links) → cut_result Without (check b reason (Ok s)) ≡ check b reason (Ok (cut_links Without s))
 check_same true reason s = refl
 check_same false reason s = refl
 
 delivered_same : (n : ℕ) (l : LinkOf TrueSegments) (s : Links) (o : Option TrueSegments)
-    → cut_result (delivered true_segments n l s o) ≡ delivered wire_segments n (cut_link l) (cut_links s)
+    → cut_result Without (delivered true_segments n l s o) ≡ delivered wire_segments n (cut_link Without l) (cut_links Without s)
     (option_map (cut_as (is_live l.port.phase) l.port.own) o)
 delivered_same n l s None = refl
-delivered_same n l s (Some f) = ap Ok (changed_same n (with_segments f l) s)
+delivered_same n l s (Some f) = ap Ok (changed_same Without n (with_segments f l) s)
 
 module _ (s : Links) where
   -- a link that is changed where a check is passed
-  changes : (n : ℕ) (l after : LinkOf TrueSegments) (after' : LinkOf WireSegments) (b : Bool) → cut_link after ≡ after'
-      → cut_result (check b LinkState (Ok (changed n after s))) ≡ check b LinkState (Ok (changed n after' (cut_links s)))
+  changes : (n : ℕ) (l after : LinkOf TrueSegments) (after' : LinkOf WireSegments) (b : Bool) → cut_link Without after ≡ after'
+      → cut_result Without (check b LinkState (Ok (changed n after s))) ≡ check b LinkState (Ok (changed n after' (cut_links Without s)))
   changes n l after after' b same =
       check_same b LinkState (changed n after s)
       ∙ ap (λ (all : LinksOf WireSegments). check b LinkState (Ok all))
-      (changed_same n after s ∙ ap (λ (w : LinkOf WireSegments). changed n w (cut_links s)) same)
+      (changed_same Without n after s ∙ ap (λ (w : LinkOf WireSegments). changed n w (cut_links Without s)) same)
 
   -- the address that is given is no live link's
-  freed_same : (own : ℕ) → NoneFor (LiveAt own) s → cut_links (freed true_segments own s) ≡ freed wire_segments own (cut_links s)
+  freed_same : (own : ℕ) → NoneFor (LiveAt own) s → cut_links Without (freed true_segments Without own s) ≡ freed wire_segments Without own (cut_links Without s)
   freed_same own none =
-      with_link_same cut_links (HasAddress own) s s (cut_links s) (λ n l. changed n (forgotten true_segments l) s)
-      (λ n l. changed n (forgotten wire_segments l) (cut_links s))
+      with_link_same Without (cut_links Without) (HasAddress own) s s (cut_links Without s) (λ n l. changed n (forgotten true_segments Without l) s)
+      (λ n l. changed n (forgotten wire_segments Without l) (cut_links Without s))
       (λ nobody. refl)
-      (λ n l there here. changed_same n (forgotten true_segments l) s ∙ ap (λ (w : LinkOf WireSegments). changed n w (cut_links s))
+      (λ n l there here. changed_same Without n (forgotten true_segments Without l) s ∙ ap (λ (w : LinkOf WireSegments). changed n w (cut_links Without s))
       (forgotten_same l (dead n l there here)))
     where
       dead : (n : ℕ) (l : LinkOf TrueSegments) → slice_get s.links n ≡ Some l → is_at l.port.own own ≡ true → is_live l.port.phase ≡ false
@@ -99,61 +101,61 @@ module _ (s : Links) where
           by_phase false e = e
           by_phase true e = let n = none n l there in absurd cc
 
-  gives_same : (own : ℕ) (next : Links) (next' : LinksOf WireSegments) → (NoneFor (LiveAt own) s → cut_links next ≡ next') →
-      cut_result (gives true_segments own s next) ≡ gives wire_segments own (cut_links s) next'
+  gives_same : (own : ℕ) (next : Links) (next' : LinksOf WireSegments) → (NoneFor (LiveAt own) s → cut_links Without next ≡ next') →
+      cut_result Without (gives true_segments own s next) ≡ gives wire_segments own (cut_links Without s) next'
   gives_same own next next' same =
-      with_link_same cut_result (LiveAt own) s (Ok next) (Ok next') (λ n l. Err AddressInUse) (λ n l. Err AddressInUse) (λ none. ap Ok (same none))
+      with_link_same Without (cut_result Without) (LiveAt own) s (Ok next) (Ok next') (λ n l. Err AddressInUse) (λ n l. Err AddressInUse) (λ none. ap Ok (same none))
       (λ n l there here. refl)
 
   answers_same : (phase : Phase) (far own : ℕ) → is_live phase ≡ true →
-      cut_result (answers true_segments phase far own s) ≡ answers wire_segments phase far
-      own (cut_links s)
+      cut_result Without (answers true_segments phase far own s) ≡ answers wire_segments phase far
+      own (cut_links Without s)
   answers_same phase far own to =
-      with_link_same cut_result (CalledBy far) s (Err NoLink) (Err NoLink)
-      (λ n l. gives true_segments own s (changed n (answered true_segments phase own l) (freed true_segments own s)))
-      (λ n l. gives wire_segments own (cut_links s) (changed n (answered wire_segments phase own l) (freed wire_segments own (cut_links s))))
+      with_link_same Without (cut_result Without) (CalledBy far) s (Err NoLink) (Err NoLink)
+      (λ n l. gives true_segments own s (changed n (answered true_segments phase own l) (freed true_segments Without own s)))
+      (λ n l. gives wire_segments own (cut_links Without s) (changed n (answered wire_segments phase own l) (freed wire_segments Without own (cut_links Without s))))
       (λ none. refl) along
     where
       along : (n : ℕ) (l : LinkOf TrueSegments) → slice_get s.links n ≡ Some l → passes (CalledBy far) l.port ≡ true
-          → cut_result (gives true_segments own s (changed n (answered true_segments phase own l) (freed true_segments own s)))
-          ≡ gives wire_segments own (cut_links s) (changed n (answered wire_segments phase own (cut_link l)) (freed wire_segments own (cut_links s)))
+          → cut_result Without (gives true_segments own s (changed n (answered true_segments phase own l) (freed true_segments Without own s)))
+          ≡ gives wire_segments own (cut_links Without s) (changed n (answered wire_segments phase own (cut_link Without l)) (freed wire_segments Without own (cut_links Without s)))
       along n l there here =
           let called = (and_parts (is_called l.port.phase) (is_at l.port.far far) here).0 in
-          gives_same own (changed n (answered true_segments phase own l) (freed true_segments own s))
-          (changed n (answered wire_segments phase own (cut_link l)) (freed wire_segments own (cut_links s)))
-          (λ none. changed_same n (answered true_segments phase own l) (freed true_segments own s)
+          gives_same own (changed n (answered true_segments phase own l) (freed true_segments Without own s))
+          (changed n (answered wire_segments phase own (cut_link Without l)) (freed wire_segments Without own (cut_links Without s)))
+          (λ none. changed_same Without n (answered true_segments phase own l) (freed true_segments Without own s)
           ∙ ap₂ (λ (w : LinkOf WireSegments) (all : LinksOf WireSegments). changed n w all)
           (answered_same l (live_if is_called refl l.port.phase called) phase own to) (freed_same own none))
 
-  pub user_same : (event : LinkEventValue) → cut_result (links_user s event) ≡ wire_links_user (cut_links s) event
+  pub user_same : (event : LinkEventValue) → cut_result Without (links_user Without s event) ≡ wire_links_user Without (cut_links Without s) event
   user_same (Open own) =
-      gives_same own (begun (opened true_segments own) (freed true_segments own s))
-      (begun (opened wire_segments own) (freed wire_segments own (cut_links s)))
-      (λ none. begun_same (opened true_segments own) (freed true_segments own s) ∙ ap (begun (opened wire_segments own)) (freed_same own none))
+      gives_same own (begun (opened true_segments own) (freed true_segments Without own s))
+      (begun (opened wire_segments own) (freed wire_segments Without own (cut_links Without s)))
+      (λ none. begun_same Without (opened true_segments own) (freed true_segments Without own s) ∙ ap (begun (opened wire_segments own)) (freed_same own none))
   user_same (Accept far own) = answers_same Confirming far own refl
   user_same (Reject far own) = answers_same Disconnecting far own refl
   user_same (In own message) =
-      with_link_same cut_result (LiveAt own) s (Err NoLink) (Err NoLink)
+      with_link_same Without (cut_result Without) (LiveAt own) s (Err NoLink) (Err NoLink)
       (λ n l. check (takes_messages l.port.phase) LinkState (Ok (changed n (with_segments (hands_in message l.segments) l) s)))
-      (λ n l. check (takes_messages l.port.phase) LinkState (Ok (changed n (with_segments (wire.hands_in message l.segments) l) (cut_links s))))
+      (λ n l. check (takes_messages l.port.phase) LinkState (Ok (changed n (with_segments (wire.hands_in message l.segments) l) (cut_links Without s))))
       (λ none. refl) (λ n l there here.
       let live = (and_parts (is_live l.port.phase) (is_at l.port.own own) here).0 in
-      changes n l (with_segments (hands_in message l.segments) l) (with_segments (wire.hands_in message (cut_link l).segments) (cut_link l))
+      changes n l (with_segments (hands_in message l.segments) l) (with_segments (wire.hands_in message (cut_link Without l).segments) (cut_link Without l))
       (takes_messages l.port.phase)
-      (segments_changed l live (hands_in message l.segments) (wire.hands_in message (cut_link l).segments)
+      (segments_changed l live (hands_in message l.segments) (wire.hands_in message (cut_link Without l).segments)
       (ap (wire.hands_in message) (sym (live_segments l live)))))
   user_same (Up own message) =
-      with_link_same cut_result (HasAddress own) s (Err NoLink) (Err NoLink)
+      with_link_same Without (cut_result Without) (HasAddress own) s (Err NoLink) (Err NoLink)
       (λ n l. delivered true_segments n l s (delivers message l.segments))
-      (λ n l. delivered wire_segments n l (cut_links s) (wire.delivers message l.segments))
+      (λ n l. delivered wire_segments n l (cut_links Without s) (wire.delivers message l.segments))
       (λ none. refl) (λ n l there here.
       delivered_same n l s (delivers message l.segments)
-      ∙ ap (delivered wire_segments n (cut_link l) (cut_links s)) (delivers_at (is_live l.port.phase) l.port.own own l.segments message here))
+      ∙ ap (delivered wire_segments n (cut_link Without l) (cut_links Without s)) (delivers_at (is_live l.port.phase) l.port.own own l.segments message here))
   user_same (Close own) =
-      with_link_same cut_result (LiveAt own) s (Err NoLink) (Err NoLink)
+      with_link_same Without (cut_result Without) (LiveAt own) s (Err NoLink) (Err NoLink)
       (λ n l. check (is_connected l.port.phase) LinkState (Ok (changed n (in_phase Disconnecting l) s)))
-      (λ n l. check (is_connected l.port.phase) LinkState (Ok (changed n (in_phase Disconnecting l) (cut_links s))))
+      (λ n l. check (is_connected l.port.phase) LinkState (Ok (changed n (in_phase Disconnecting l) (cut_links Without s))))
       (λ none. refl) (λ n l there here.
       let live = (and_parts (is_live l.port.phase) (is_at l.port.own own) here).0 in
-      changes n l (in_phase Disconnecting l) (in_phase Disconnecting (cut_link l)) (is_connected l.port.phase)
+      changes n l (in_phase Disconnecting l) (in_phase Disconnecting (cut_link Without l)) (is_connected l.port.phase)
       (phase_changed l live Disconnecting refl))

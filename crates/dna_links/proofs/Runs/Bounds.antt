@@ -17,8 +17,9 @@ use Rattle.dna_links.specs.Arriving.{of_partner, is_of_pair}
 use Rattle.dna_links.specs.TrueSegments.{TrueSegments, highest_given, highest_received, true_segments}
 use Rattle.dna_links.specs.CutSegments.{IsOrdered, IsAnswered, data_numbers, Spells, AcksAreNear}
 use Rattle.dna_links.specs.CutLinks.{ComesNear, IsActedOn}
-use Rattle.dna_links.specs.Runs.{SentMessage, LinkSide, LinkWorld, LinkStep, ByUser, Sends, SendsNone, Keeps, KeepsNone, Reached}
-use Rattle.dna_links.specs.Runs.{new_side, new_world}
+use Rattle.dna_links.specs.Runs.{SentMessage, LinkSide, LinkWorld, Reached, new_side, new_world}
+use Rattle.dna_links.proofs.Runs.Loose.{LooseStep, ByUser, Sends, SendsNone, Keeps, KeepsNone, LooselyReached, without_loose}
+use Rattle.dna_links.specs.declared.queue.Queues.TheVariants.{Without}
 use Rattle.dna_links.specs.Bounds.{AreLinksBounded, AreCutInStep}
 use Rattle.dna_links.specs.Delivery.{whole, HeldFrom, UpFrom, DeliversLinks}
 use Rattle.dna_links.specs.Captures.{given_address, delivered_up, behind, IsReadFrom, IsRead, AreRead, BeginsAt, BeginsFor, AreUpFrom, deliveries}
@@ -27,7 +28,6 @@ use Rattle.two_nodes.proofs.Numbered.{AcksFrom, NumberNear}
 use Rattle.dna_links.proofs.Cut.User.{user_same}
 use Rattle.dna_links.proofs.Cut.Sending.{sent_same}
 use Rattle.dna_links.proofs.Cut.Arriving.{arrived_same}
-use Rattle.dna_links.proofs.Tables.Outcomes.{user_did, sent_did, arrived_did}
 use Rattle.dna_links.proofs.Tables.Words.{limits, AreWords}
 use Rattle.dna_links.proofs.Runs.Pieces.{IsPassed, passed_begins}
 use Rattle.dna_links.proofs.Runs.Sends.{number_in, AreSoundSegments, within_all}
@@ -190,7 +190,7 @@ module _ (own other : LinkSide) (h : IsSoundSide own other) (theirs : IsSoundSid
           (begins_for further theirs_read link.segments.delivered link.partner
           (up_from link (h.ends i link at).segments.passed link.partner (h.ends i link at).held))
 
-side_in_step : (own other : LinkSide) → AreLinksBounded own other → AreCutInStep own other
+pub side_in_step : (own other : LinkSide) → AreLinksBounded own other → AreCutInStep Without own other
 side_in_step own other b = record {
   user = λ event. user_same own.links event;
   sent = λ packet. sent_same own.links b.ordered packet;
@@ -206,33 +206,33 @@ pub record KnownSide (own other : LinkSide) (events : List LinkEventValue) : Typ
   pub counted : deliveries own.links.links ≡ ups events
 
 step_owned : (own other left : LinkSide) (events made : List LinkEventValue) → IsSoundSide own other → AreOwned events own.links.links →
-    LinkStep own other made left → AreOwned (events ++ made) left.links.links
+    LooseStep own other made left → AreOwned (events ++ made) left.links.links
 step_owned own other left events made h o (ByUser event links does) =
-    user_owned events own.links o event links (user_did true_segments own.links links event does)
+    user_owned events own.links o event links does
 step_owned own other left events made h o (Sends packet sent does) =
     subst (λ (x : List LinkEventValue). AreOwned x sent.links.links) (sym (append-nil events))
     (sent_owned events own.links o packet.message sent (λ number link there. (h.ends number link there).segments)
-    (sent_did true_segments own.links sent packet does))
+    does)
 step_owned own other left events made h o SendsNone = subst (λ (x : List LinkEventValue). AreOwned x own.links.links) (sym (append-nil events)) o
 step_owned own other left events made h o (Keeps place unit links ahead there does) =
     subst (λ (x : List LinkEventValue). AreOwned x links.links) (sym (append-nil events))
     (arrived_owned events own.links o unit.packet.message unit.truth links
-    (arrived_did true_segments of_partner own.links links unit.truth unit.packet does))
+    does)
 step_owned own other left events made h o (KeepsNone place ahead there) =
     subst (λ (x : List LinkEventValue). AreOwned x own.links.links) (sym (append-nil events)) o
 
 step_counted : (own other left : LinkSide) (events made : List LinkEventValue) → IsSoundSide own other → deliveries own.links.links ≡ ups events →
-    LinkStep own other made left → deliveries left.links.links ≡ ups (events ++ made)
+    LooseStep own other made left → deliveries left.links.links ≡ ups (events ++ made)
 step_counted own other left events made h e (ByUser event links does) =
     ups_more events event (deliveries own.links.links) (deliveries links.links) e
-    (user_count own.links event links (user_did true_segments own.links links event does))
+    (user_count own.links event links does)
 step_counted own other left events made h e (Sends packet sent does) =
     sent_count own.links packet.message sent
-    (λ number link there. (h.ends number link there).segments) (sent_did true_segments own.links sent packet does) ∙
+    (λ number link there. (h.ends number link there).segments) does ∙
     e ∙ ap ups (sym (append-nil events))
 step_counted own other left events made h e SendsNone = e ∙ ap ups (sym (append-nil events))
 step_counted own other left events made h e (Keeps place unit links ahead there does) =
-    arrived_count own.links unit.packet.message unit.truth links (arrived_did true_segments of_partner own.links links unit.truth unit.packet does)
+    arrived_count own.links unit.packet.message unit.truth links does
     ∙ e ∙
     ap ups (sym (append-nil events))
 step_counted own other left events made h e (KeepsNone place ahead there) = e ∙ ap ups (sym (append-nil events))
@@ -256,7 +256,7 @@ pub record BothOwned (w : LinkWorld) (events further : List LinkEventValue) : Ty
   pub of_b : AreOwned further w.b.links.links
 
 module _ (node_a peer_a node_b peer_b : ℕ) (w : LinkWorld) (of_a of_b : List LinkEventValue)
-    (run : Reached (new_world node_a peer_a node_b peer_b) w of_a of_b) where
+    (run : LooselyReached (new_world node_a peer_a node_b peer_b) w of_a of_b) where
   known : OfSides KnownSide w of_a of_b
   known = of_reached KnownSide known_kept
       (record { of_a = new_known node_a peer_a node_b peer_b; of_b = new_known node_b peer_b node_a peer_a }) run
@@ -278,10 +278,6 @@ module _ (node_a peer_a node_b peer_b : ℕ) (w : LinkWorld) (of_a of_b : List L
       let a = owned_read of_a w.a.links.links owned.of_a in
       let b = owned_read of_b w.b.links.links owned.of_b in
       (side_up w.a w.b sound.of_a sound.of_b of_a of_b a b, side_up w.b w.a sound.of_b sound.of_a of_b of_a b a)
-
-  -- and so what is kept of the links goes along
-  pub in_step : AreCutInStep w.a w.b × AreCutInStep w.b w.a
-  in_step = (side_in_step w.a w.b bounded.0, side_in_step w.b w.a bounded.1)
 
   -- and each delivery is an event
   pub counted : (deliveries w.a.links.links ≡ ups of_a) × (deliveries w.b.links.links ≡ ups of_b)

@@ -5,10 +5,12 @@ use Rattle.std.specs.Prelude.{slice_get, slice_set}
 use Rattle.std.proofs.lemmas.Bool.{cases_eq}
 use Rattle.std.proofs.lemmas.Option.{same_Some}
 use Rattle.dna_packet.specs.Nsp.{NspValue}
+use Rattle.dna_links.specs.Queues.{ended, forgotten, freed}
+use Rattle.dna_links.specs.declared.queue.Queues.TheVariants.{Without}
 use Rattle.dna_links.specs.declared.port.Phase.{Phase}
 use Rattle.dna_links.specs.declared.port.Phase.TheVariants.{Confirming, Disconnecting, Running}
 use Rattle.dna_links.specs.declared.port.LinkTest.TheVariants.{HasAddress}
-use Rattle.dna_links.specs.Links.{LinkOf, LinkTruth, changed, in_phase, with_segments, ended, forgotten, freed}
+use Rattle.dna_links.specs.Links.{LinkOf, LinkTruth, changed, in_phase, with_segments}
 use Rattle.dna_links.specs.User.{LinkEventValue}
 use Rattle.dna_links.specs.inner.Forms.{opened, answered}
 use Rattle.dna_links.specs.Sending.{Sent}
@@ -18,10 +20,11 @@ use Rattle.dna_links.specs.TrueSegments.{TrueSegments, Numbers, true_segments}
 use Rattle.dna_links.specs.TrueSegments as segments
 use Rattle.dna_links.specs.TrueLinks.{Links}
 use Rattle.dna_links.specs.Captures.{deliveries, delivery_count, ups}
-use Rattle.dna_links.proofs.Tables.Outcomes.{looked, UserDid, Opens, Accepts, Rejects, HandsIn, Delivers, Closes, SentDid, OfNone, Stays, EndsCalled}
-use Rattle.dna_links.proofs.Tables.Outcomes.{Segment, Acks, ArrivedDid, Ignores, Begins, Confirms, Ends, TakesSegment, TakesAcks, TakesOther}
+use Rattle.dna_links.proofs.Runs.Loose.{UserDid, Opens, Accepts, Rejects, HandsIn, Delivers, Closes, ClosesLate, SentDid, OfNone, Stays, EndsCalled, Segment}
+use Rattle.dna_links.proofs.Runs.Loose.{Acks}
+use Rattle.dna_links.proofs.Tables.Outcomes.{looked, ArrivedDid, Ignores, Begins, Confirms, Ends, TakesSegment, TakesAcks, TakesOther}
 use Rattle.dna_links.proofs.Runs.Pieces.{delivered_is}
-use Rattle.dna_links.proofs.Runs.Sends.{AreSoundSegments, acks_sent, segment_sent}
+use Rattle.dna_links.proofs.Runs.Sends.{AreSoundSegments}
 use Rattle.dna_links.proofs.Runs.Sides.{set_same, set_other}
 use Rattle.dna_links.proofs.Runs.Owners.{fold_same}
 
@@ -49,16 +52,16 @@ pushed_count [] link none = let l = ap length none in omega arith
 pushed_count (x ∷ links) link none = let e = pushed_count links link none in omega arith
 
 module _ (s : Links) where
-  freed_count : (own : ℕ) → deliveries (freed true_segments own s).links ≡ deliveries s.links
-  freed_count own = looked (HasAddress own) s s (λ number link. changed number (forgotten true_segments link) s) (freed true_segments own s) refl
+  freed_count : (own : ℕ) → deliveries (freed true_segments Without own s).links ≡ deliveries s.links
+  freed_count own = looked (HasAddress own) s s (λ number link. changed number (forgotten true_segments Without link) s) (freed true_segments Without own s) refl
       (λ none e. ap (λ (x : Links). deliveries x.links) (sym e))
-      (λ number link found e. ap (λ (x : Links). deliveries x.links) (sym e) ∙ set_same_count s.links number link (forgotten true_segments link)
+      (λ number link found e. ap (λ (x : Links). deliveries x.links) (sym e) ∙ set_same_count s.links number link (forgotten true_segments Without link)
       found.there refl)
 
   -- a link that was there has delivered as much
   freed_at : (own number : ℕ) (link : LinkOf TrueSegments) → slice_get s.links number ≡ Some link → (there : LinkOf TrueSegments) ×
-      (slice_get (freed true_segments own s).links number ≡ Some there) × (there.segments.delivered ≡ link.segments.delivered)
-  freed_at own number link at = looked (HasAddress own) s s (λ n l. changed n (forgotten true_segments l) s) (freed true_segments own s) refl
+      (slice_get (freed true_segments Without own s).links number ≡ Some there) × (there.segments.delivered ≡ link.segments.delivered)
+  freed_at own number link at = looked (HasAddress own) s s (λ n l. changed n (forgotten true_segments Without l) s) (freed true_segments Without own s) refl
       (λ none e. subst (λ (x : Links). (there : LinkOf TrueSegments) × (slice_get x.links number ≡ Some there) ×
       (there.segments.delivered ≡ link.segments.delivered)) e (link, at, refl))
       (λ n l found e. subst
@@ -67,51 +70,52 @@ module _ (s : Links) where
       (go n l found.there (cases_eq number n)))
     where
       go : (n : ℕ) (l : LinkOf TrueSegments) → slice_get s.links n ≡ Some l → (number ≡ n) ⊎ (number ≡ n → ⊥) → (there : LinkOf TrueSegments) ×
-          (slice_get (slice_set s.links n (forgotten true_segments l)) number ≡ Some there) × (there.segments.delivered ≡ link.segments.delivered)
+          (slice_get (slice_set s.links n (forgotten true_segments Without l)) number ≡ Some there) × (there.segments.delivered ≡ link.segments.delivered)
       go n l there (inl e) = (
-        forgotten true_segments l,
-        ap (slice_get (slice_set s.links n (forgotten true_segments l))) e ∙ set_same s.links n l (forgotten true_segments l) there,
+        forgotten true_segments Without l,
+        ap (slice_get (slice_set s.links n (forgotten true_segments Without l))) e ∙ set_same s.links n l (forgotten true_segments Without l) there,
         ap (λ (x : LinkOf TrueSegments). x.segments.delivered) (same_Some l link (sym there ∙ ap (slice_get s.links) (sym e) ∙ at)),
       )
-      go n l there (inr d) = (link, set_other s.links n number (forgotten true_segments l) d ∙ at, refl)
+      go n l there (inr d) = (link, set_other s.links n number (forgotten true_segments Without l) d ∙ at, refl)
 
   answered_count : (phase : Phase) (own number : ℕ) (link : LinkOf TrueSegments) → slice_get s.links number ≡ Some link →
-      deliveries (changed number (answered true_segments phase own link) (freed true_segments own s)).links ≡ deliveries s.links
+      deliveries (changed number (answered true_segments phase own link) (freed true_segments Without own s)).links ≡ deliveries s.links
   answered_count phase own number link at =
       let f = freed_at own number link at in
-      set_same_count (freed true_segments own s).links number f.0 (answered true_segments phase own link) f.1 (sym f.2) ∙ freed_count own
+      set_same_count (freed true_segments Without own s).links number f.0 (answered true_segments phase own link) f.1 (sym f.2) ∙ freed_count own
 
-  pub user_count : (event : LinkEventValue) (left : Links) → UserDid true_segments s event left →
+  pub user_count : (event : LinkEventValue) (left : Links) → UserDid s event left →
       deliveries left.links ≡ deliveries s.links + delivery_count event
-  user_count event left (Opens own free) = let e = pushed_count (freed true_segments own s).links (opened true_segments own) refl in
+  user_count event left (Opens own free) = let e = pushed_count (freed true_segments Without own s).links (opened true_segments own) refl in
       let f = freed_count own in omega arith
   user_count event left (Accepts far own number link found free) = let e = answered_count Confirming own number link found.there in omega arith
   user_count event left (Rejects far own number link found free) = let e = answered_count Disconnecting own number link found.there in omega arith
-  user_count event left (HandsIn own message number link found may) =
-      let e = set_same_count s.links number link (with_segments (segments.hands_in message link.segments) link) found.there refl in omega arith
+  user_count event left (HandsIn own message number link there owns) =
+      let e = set_same_count s.links number link (with_segments (segments.hands_in message link.segments) link) there refl in omega arith
   user_count event left (Delivers own message number link next found delivers) =
       let d = delivered_is message link.segments next delivers in
       let e = set_counts s.links number link (with_segments next link) found.there in
       let l : length next.delivered ≡ length link.segments.delivered + 1 =
       ap (λ (f : TrueSegments). length f.delivered) d.is ∙ length-append link.segments.delivered (d.w.message ∷ []) in
       omega arith
-  user_count event left (Closes own number link found connected) =
-      let e = set_same_count s.links number link (in_phase Disconnecting link) found.there refl in omega arith
+  user_count event left (Closes own number link there live) =
+      let e = set_same_count s.links number link (in_phase Disconnecting link) there refl in omega arith
+  user_count event left (ClosesLate own) = omega arith
 
   pub sent_count : (m : NspValue) (made : Sent TrueSegments Numbers) →
       ((number : ℕ) (link : LinkOf TrueSegments) → slice_get s.links number ≡ Some link → AreSoundSegments link.segments) →
-      SentDid true_segments s m made →
+      SentDid s m made →
       deliveries made.links.links ≡ deliveries s.links
   sent_count m made sound (OfNone none) = refl
   sent_count m made sound (Stays number link none there) = refl
   sent_count m made sound (EndsCalled far reason number link none is found) =
       set_same_count s.links number link (ended true_segments link) found.there refl
-  sent_count m made sound (Segment segment number link sent is found run does) =
-      set_same_count s.links number link (with_segments sent.segments link) found.there
-      (segment_sent link.segments (sound number link found.there) link.segsize segment sent does).sends.delivered
-  sent_count m made sound (Acks dst src acks number link sent is found run does) =
-      set_same_count s.links number link (with_segments sent.segments link) found.there
-      (acks_sent link.segments (sound number link found.there) acks sent does).sends.delivered
+  sent_count m made sound (Segment segment number link sent is there goes) =
+      set_same_count s.links number link (with_segments sent.segments link) there
+      (goes (sound number link there)).sends.delivered
+  sent_count m made sound (Acks dst src acks number link sent is there goes) =
+      set_same_count s.links number link (with_segments sent.segments link) there
+      (goes (sound number link there)).sends.delivered
 
   pub arrived_count : (m : NspValue) (truth : LinkTruth Numbers) (left : Links) → ArrivedDid true_segments of_partner s m truth left →
       deliveries left.links ≡ deliveries s.links

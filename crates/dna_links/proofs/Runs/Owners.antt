@@ -6,10 +6,11 @@ use Rattle.std.specs.Prelude.{slice_get, slice_set}
 use Rattle.std.proofs.lemmas.Bool.{and_parts, cases_order}
 use Rattle.std.proofs.lemmas.Option.{same_Some, slice_get_within}
 use Rattle.dna_packet.specs.Nsp.{NspValue}
+use Rattle.dna_links.specs.Queues.{ended}
 use Rattle.dna_links.specs.declared.port.Phase.{Phase}
 use Rattle.dna_links.specs.declared.port.Phase.TheVariants.{Calling, Running}
 use Rattle.dna_links.specs.LookUps.{is_at, is_live, is_called, is_calling, is_connected, has_both}
-use Rattle.dna_links.specs.Links.{LinkOf, LinkTruth, changed, in_phase, with_segments, ended}
+use Rattle.dna_links.specs.Links.{LinkOf, LinkTruth, changed, in_phase, with_segments}
 use Rattle.dna_links.specs.User.{LinkEventValue}
 use Rattle.dna_links.specs.Sending.{Sent}
 use Rattle.dna_links.specs.Arriving.{of_partner}
@@ -18,9 +19,10 @@ use Rattle.dna_links.specs.TrueSegments.{TrueSegments, Numbers, true_segments}
 use Rattle.dna_links.specs.TrueSegments as segments
 use Rattle.dna_links.specs.TrueLinks.{Links}
 use Rattle.dna_links.specs.Captures.{given_address, behind, AreRead}
-use Rattle.dna_links.proofs.Tables.Outcomes.{SentDid, OfNone, Stays, EndsCalled, Segment, Acks, ArrivedDid, Ignores, Begins, Confirms, Ends}
+use Rattle.dna_links.proofs.Runs.Loose.{SentDid, OfNone, Stays, EndsCalled, Segment, Acks}
+use Rattle.dna_links.proofs.Tables.Outcomes.{ArrivedDid, Ignores, Begins, Confirms, Ends}
 use Rattle.dna_links.proofs.Tables.Outcomes.{TakesSegment, TakesAcks, TakesOther}
-use Rattle.dna_links.proofs.Runs.Sends.{AreSoundSegments, acks_sent, segment_sent}
+use Rattle.dna_links.proofs.Runs.Sends.{AreSoundSegments}
 use Rattle.dna_links.proofs.Runs.Sides.{all_set, all_pushed}
 use Rattle.dna_links.proofs.Runs.Reads.{given_again, later_gives, HoldsFrom, HoldsAt, IsOwned, owned_same, gives_is}
 
@@ -141,20 +143,20 @@ module _ (events : List LinkEventValue) (s : Links) (o : AreOwned events s.links
 
   pub sent_owned : (m : NspValue) (made : Sent TrueSegments Numbers) →
       ((number : ℕ) (link : LinkOf TrueSegments) → slice_get s.links number ≡ Some link → AreSoundSegments link.segments) →
-      SentDid true_segments s m made →
+      SentDid s m made →
       AreOwned events made.links.links
   sent_owned m made sound (OfNone none) = o
   sent_owned m made sound (Stays number link none there) = o
   sent_owned m made sound (EndsCalled far reason number link none is found) =
       one_owned number link (ended true_segments link) found.there refl refl refl (λ c. absurd cc) (λ live. absurd cc)
-  sent_owned m made sound (Segment segment number link sent is found run does) =
-      let t = (segment_sent link.segments (sound number link found.there) link.segsize segment sent does).sends in
-      one_owned number link (with_segments sent.segments link) found.there refl t.handed t.delivered (λ c. c)
-      (λ live none. t.received ∙ (o.owned number link found.there).fresh live none)
-  sent_owned m made sound (Acks dst src acks number link sent is found run does) =
-      let t = (acks_sent link.segments (sound number link found.there) acks sent does).sends in
-      one_owned number link (with_segments sent.segments link) found.there refl t.handed t.delivered (λ c. c)
-      (λ live none. t.received ∙ (o.owned number link found.there).fresh live none)
+  sent_owned m made sound (Segment segment number link sent is there goes) =
+      let t = (goes (sound number link there)).sends in
+      one_owned number link (with_segments sent.segments link) there refl t.handed t.delivered (λ c. c)
+      (λ live none. t.received ∙ (o.owned number link there).fresh live none)
+  sent_owned m made sound (Acks dst src acks number link sent is there goes) =
+      let t = (goes (sound number link there)).sends in
+      one_owned number link (with_segments sent.segments link) there refl t.handed t.delivered (λ c. c)
+      (λ live none. t.received ∙ (o.owned number link there).fresh live none)
 
   pub arrived_owned : (m : NspValue) (truth : LinkTruth Numbers) (left : Links) → ArrivedDid true_segments of_partner s m truth left →
       AreOwned events left.links

@@ -5,11 +5,13 @@ use Rattle.std.specs.Prelude.{slice_get, slice_set}
 use Rattle.std.proofs.lemmas.Bool.{and_parts, and_from, cases_eq}
 use Rattle.std.proofs.lemmas.Option.{same_Some, slice_get_within}
 use Rattle.two_nodes.proofs.Listed.{next_at}
+use Rattle.dna_links.specs.Queues.{forgotten, freed}
+use Rattle.dna_links.specs.declared.queue.Queues.TheVariants.{Without}
 use Rattle.dna_links.specs.declared.port.Phase.{Phase}
 use Rattle.dna_links.specs.declared.port.Phase.TheVariants.{Confirming, Running, Disconnecting}
 use Rattle.dna_links.specs.declared.port.LinkTest.TheVariants.{HasAddress, LiveAt}
-use Rattle.dna_links.specs.LookUps.{passes, is_at, is_live, is_called, is_connected}
-use Rattle.dna_links.specs.Links.{LinkOf, number_of, begun, changed, in_phase, with_segments, forgotten, freed}
+use Rattle.dna_links.specs.LookUps.{passes, is_at, is_live, is_called}
+use Rattle.dna_links.specs.Links.{LinkOf, number_of, begun, changed, in_phase, with_segments}
 use Rattle.dna_links.specs.User.{LinkEventValue, Open, Accept, Reject, In, Up, Close}
 use Rattle.dna_links.specs.inner.Forms.{opened, answered}
 use Rattle.dna_links.specs.inner.Forms.{called}
@@ -18,7 +20,8 @@ use Rattle.dna_links.specs.TrueSegments as segments
 use Rattle.dna_links.specs.TrueLinks.{Links}
 use Rattle.dna_links.specs.Captures.{given_address, gives_address, message_in, message_up, handed_in, delivered_up, IsRead}
 use Rattle.two_nodes.proofs.NumberedSteps.{at_pushed}
-use Rattle.dna_links.proofs.Tables.Outcomes.{IsFound, looked, position_none, UserDid, Opens, Accepts, Rejects, HandsIn, Delivers, Closes}
+use Rattle.dna_links.proofs.Tables.Outcomes.{IsFound, looked, position_none}
+use Rattle.dna_links.proofs.Runs.Loose.{UserDid, Opens, Accepts, Rejects, HandsIn, Delivers, Closes, ClosesLate}
 use Rattle.dna_links.proofs.Runs.Pieces.{delivered_is}
 use Rattle.dna_links.proofs.Runs.Sides.{set_same, at_set, all_set}
 use Rattle.dna_links.proofs.Runs.Reads.{given_again, IsOwned, at_is, owned_more, behind_last, gives_is}
@@ -123,9 +126,9 @@ module _ (events : List LinkEventValue) (s : Links) (o : AreOwned events s.links
 
     -- the link that had the address
     forgotten_owned : (i : ℕ) (l : LinkOf TrueSegments) → slice_get s.links i ≡ Some l → l.port.own ≡ Some own →
-        IsOwned (events ++ event ∷ []) (o.place_of i) (forgotten true_segments l)
+        IsOwned (events ++ event ∷ []) (o.place_of i) (forgotten true_segments Without l)
     forgotten_owned i l at has =
-        owned_more events event l (forgotten true_segments l) (o.place_of i) (o.owned i l at) (λ none. let e = sym has ∙ none in absurd cc)
+        owned_more events event l (forgotten true_segments Without l) (o.place_of i) (o.owned i l at) (λ none. let e = sym has ∙ none in absurd cc)
         (λ address is. let q = giving_none event own gives address in record {
           handed = sym (append-nil l.segments.handed) ∙ ap (λ (x : List (List ℕ)). l.segments.handed ++ x) (sym q.0);
           up = sym (append-nil l.segments.delivered) ∙ ap (λ (x : List (List ℕ)). l.segments.delivered ++ x) (sym q.1);
@@ -141,9 +144,9 @@ module _ (events : List LinkEventValue) (s : Links) (o : AreOwned events s.links
             absurd cc
 
     -- all links, once the address is free
-    freed_owned : (i : ℕ) (l : LinkOf TrueSegments) → slice_get (freed true_segments own s).links i ≡ Some l →
+    freed_owned : (i : ℕ) (l : LinkOf TrueSegments) → slice_get (freed true_segments Without own s).links i ≡ Some l →
         IsOwned (events ++ event ∷ []) (o.place_of i) l
-    freed_owned = looked (HasAddress own) s s (λ number link. changed number (forgotten true_segments link) s) (freed true_segments own s) refl
+    freed_owned = looked (HasAddress own) s s (λ number link. changed number (forgotten true_segments Without link) s) (freed true_segments Without own s) refl
         (λ none e. subst (λ (x : Links). (i : ℕ) (l : LinkOf TrueSegments) → slice_get x.links i ≡ Some l →
         IsOwned (events ++ event ∷ []) (o.place_of i) l) e
         (λ i l at. other_owned i l at
@@ -151,10 +154,10 @@ module _ (events : List LinkEventValue) (s : Links) (o : AreOwned events s.links
         let t = ap (λ (x : Option ℕ). is_at x own) has ∙ eq-eqb own own refl in absurd cc)))
         (λ number link found e. subst
         (λ (x : Links). (i : ℕ) (l : LinkOf TrueSegments) → slice_get x.links i ≡ Some l → IsOwned (events ++ event ∷ []) (o.place_of i) l) e
-        (λ i l at. go number link found i l (at_set s.links number i (forgotten true_segments link) l at)))
+        (λ i l at. go number link found i l (at_set s.links number i (forgotten true_segments Without link) l at)))
       where
         go : (number : ℕ) (link : LinkOf TrueSegments) → IsFound (HasAddress own) s number link → (i : ℕ) (l : LinkOf TrueSegments) →
-            ((i ≡ number) × (forgotten true_segments link ≡ l)) ⊎ ((i ≡ number → ⊥) × (slice_get s.links i ≡ Some l)) →
+            ((i ≡ number) × (forgotten true_segments Without link ≡ l)) ⊎ ((i ≡ number → ⊥) × (slice_get s.links i ≡ Some l)) →
             IsOwned (events ++ event ∷ []) (o.place_of i) l
         go number link found i l (inl e) =
             subst (λ (j : ℕ). IsOwned (events ++ event ∷ []) (o.place_of j) l) (sym e.0)
@@ -163,10 +166,10 @@ module _ (events : List LinkEventValue) (s : Links) (o : AreOwned events s.links
         go number link found i l (inr e) =
             other_owned i l e.1 (λ has. e.0 (unique events s o i number own l link e.1 found.there has (at_is link.port.own own found.passed)))
 
-    same_long : length (freed true_segments own s).links ≡ length s.links
-    same_long = looked (HasAddress own) s s (λ number link. changed number (forgotten true_segments link) s) (freed true_segments own s) refl
+    same_long : length (freed true_segments Without own s).links ≡ length s.links
+    same_long = looked (HasAddress own) s s (λ number link. changed number (forgotten true_segments Without link) s) (freed true_segments Without own s) refl
         (λ none e. ap (λ (x : Links). length x.links) (sym e))
-        (λ number link found e. ap (λ (x : Links). length x.links) (sym e) ∙ length-set s.links number (forgotten true_segments link))
+        (λ number link found e. ap (λ (x : Links). length x.links) (sym e) ∙ length-set s.links number (forgotten true_segments Without link))
 
     -- one link gets this place, and had none
     module _ (number : ℕ) (left : LinkOf TrueSegments) (links : List (LinkOf TrueSegments)) (none : o.place_of number ≡ None)
@@ -247,16 +250,16 @@ module _ (events : List LinkEventValue) (s : Links) (o : AreOwned events s.links
     answered_owned : (phase : Phase) (number : ℕ) (link : LinkOf TrueSegments) → slice_get s.links number ≡ Some link →
         is_called link.port.phase ≡ true →
         is_called phase ≡ false →
-        AreOwned (events ++ event ∷ []) (changed number (answered true_segments phase own link) (freed true_segments own s)).links
+        AreOwned (events ++ event ∷ []) (changed number (answered true_segments phase own link) (freed true_segments Without own s)).links
     answered_owned phase number link there called not_called =
         given_owned number (answered true_segments phase own link)
-        (slice_set (freed true_segments own s).links number (answered true_segments phase own link))
-        none (let t = there_is (freed true_segments own s).links number
+        (slice_set (freed true_segments Without own s).links number (answered true_segments phase own link))
+        none (let t = there_is (freed true_segments Without own s).links number
         (let w = slice_get_within s.links number link there in let l = same_long in omega arith) in
-        set_same (freed true_segments own s).links number t.0 (answered true_segments phase own link) t.1)
-        (let l = length-set (freed true_segments own s).links number (answered true_segments phase own link) in let m = same_long in omega arith) refl
+        set_same (freed true_segments Without own s).links number t.0 (answered true_segments phase own link) t.1)
+        (let l = length-set (freed true_segments Without own s).links number (answered true_segments phase own link) in let m = same_long in omega arith) refl
         not_called neither.0 neither.1
-        (λ i l at. go i l (at_set (freed true_segments own s).links number i (answered true_segments phase own link) l at))
+        (λ i l at. go i l (at_set (freed true_segments Without own s).links number i (answered true_segments phase own link) l at))
       where
         none : o.place_of number ≡ None
         none = (o.owned number link there).called called
@@ -265,27 +268,27 @@ module _ (events : List LinkEventValue) (s : Links) (o : AreOwned events s.links
         neither = let r = subst (λ (p : Option ℕ). IsRead events link p) none (o.owned number link there).read in (r.handed, r.up)
 
         go : (i : ℕ) (l : LinkOf TrueSegments) → ((i ≡ number) × (answered true_segments phase own link ≡ l)) ⊎
-            ((i ≡ number → ⊥) × (slice_get (freed true_segments own s).links i ≡ Some l)) →
+            ((i ≡ number → ⊥) × (slice_get (freed true_segments Without own s).links i ≡ Some l)) →
             ((i ≡ number) × (answered true_segments phase own link ≡ l)) ⊎ ((i ≡ number → ⊥) × IsOwned (events ++ event ∷ []) (o.place_of i) l)
         go i l (inl e) = inl e
         go i l (inr e) = inr (e.0, freed_owned i l e.1)
 
     -- the link that is opened
-    opened_owned : AreOwned (events ++ event ∷ []) (begun (opened true_segments own) (freed true_segments own s)).links
+    opened_owned : AreOwned (events ++ event ∷ []) (begun (opened true_segments own) (freed true_segments Without own s)).links
     opened_owned =
-        given_owned (length s.links) (opened true_segments own) ((freed true_segments own s).links ++ opened true_segments own ∷ [])
+        given_owned (length s.links) (opened true_segments own) ((freed true_segments Without own s).links ++ opened true_segments own ∷ [])
         (place_beyond events s o)
-        (ap (slice_get ((freed true_segments own s).links ++ opened true_segments own ∷ [])) (sym same_long) ∙
-        next_at (freed true_segments own s).links [] (opened true_segments own))
-        (let l = length-append (freed true_segments own s).links (opened true_segments own ∷ []) in let m = same_long in
+        (ap (slice_get ((freed true_segments Without own s).links ++ opened true_segments own ∷ [])) (sym same_long) ∙
+        next_at (freed true_segments Without own s).links [] (opened true_segments own))
+        (let l = length-append (freed true_segments Without own s).links (opened true_segments own ∷ []) in let m = same_long in
         omega arith) refl refl refl refl
-        (λ i l at. go i l (at_pushed (freed true_segments own s).links (opened true_segments own) l i at))
+        (λ i l at. go i l (at_pushed (freed true_segments Without own s).links (opened true_segments own) l i at))
       where
-        go : (i : ℕ) (l : LinkOf TrueSegments) → (slice_get (freed true_segments own s).links i ≡ Some l) ⊎
-            ((i ≡ length (freed true_segments own s).links) × (opened true_segments own ≡ l)) →
+        go : (i : ℕ) (l : LinkOf TrueSegments) → (slice_get (freed true_segments Without own s).links i ≡ Some l) ⊎
+            ((i ≡ length (freed true_segments Without own s).links) × (opened true_segments own ≡ l)) →
             ((i ≡ length s.links) × (opened true_segments own ≡ l)) ⊎ ((i ≡ length s.links → ⊥) × IsOwned (events ++ event ∷ []) (o.place_of i) l)
         go i l (inl at) = inr
-            (λ e. let w = slice_get_within (freed true_segments own s).links i l at in let m = same_long in absurd (omega arith), freed_owned i l at)
+            (λ e. let w = slice_get_within (freed true_segments Without own s).links i l at in let m = same_long in absurd (omega arith), freed_owned i l at)
         go i l (inr e) = inl (e.0 ∙ same_long, e.1)
 
   -- ---- every event
@@ -296,7 +299,7 @@ module _ (events : List LinkEventValue) (s : Links) (o : AreOwned events s.links
   at_own : (message : List ℕ) (own : ℕ) → message ∷ [] ≡ cond (own == own) (message ∷ []) []
   at_own message own = ap (λ (b : Bool). cond b (message ∷ []) []) (sym (eq-eqb own own refl))
 
-  pub user_owned : (event : LinkEventValue) (left : Links) → UserDid true_segments s event left → AreOwned (events ++ event ∷ []) left.links
+  pub user_owned : (event : LinkEventValue) (left : Links) → UserDid s event left → AreOwned (events ++ event ∷ []) left.links
   user_owned event left (Opens own free) = opened_owned (Open own) own refl free
   user_owned event left (Accepts far own number link found free) =
       answered_owned (Accept far own) own refl free Confirming number link found.there
@@ -304,9 +307,9 @@ module _ (events : List LinkEventValue) (s : Links) (o : AreOwned events s.links
   user_owned event left (Rejects far own number link found free) =
       answered_owned (Reject far own) own refl free Disconnecting number link found.there
       (and_parts (is_called link.port.phase) (is_at link.port.far far) found.passed).0 refl
-  user_owned event left (HandsIn own message number link found may) =
-      message_owned (In own message) refl own number link (with_segments (segments.hands_in message link.segments) link) found.there
-      (at_is link.port.own own (and_parts (is_live link.port.phase) (is_at link.port.own own) found.passed).1)
+  user_owned event left (HandsIn own message number link there owns) =
+      message_owned (In own message) refl own number link (with_segments (segments.hands_in message link.segments) link) there
+      (at_is link.port.own own owns)
       (λ address differs. (at_other message own address differs, refl)) refl refl
       (ap (λ (x : List (List ℕ)). link.segments.handed ++ x) (at_own message own)) (sym (append-nil link.segments.delivered))
   user_owned event left (Delivers own message number link next found delivers) =
@@ -316,15 +319,13 @@ module _ (events : List LinkEventValue) (s : Links) (o : AreOwned events s.links
       (ap (λ (f : TrueSegments). f.handed) d.is ∙ sym (append-nil link.segments.handed))
       (ap (λ (f : TrueSegments). f.delivered) d.is ∙ ap (λ (x : List ℕ). link.segments.delivered ++ x ∷ []) (sym d.message_is) ∙
       ap (λ (x : List (List ℕ)). link.segments.delivered ++ x) (at_own message own))
-  user_owned event left (Closes own number link found connected) =
+  user_owned event left (Closes own number link there live) =
       owned_event (Close own) refl (slice_set s.links number (in_phase Disconnecting link))
       (let l = length-set s.links number (in_phase Disconnecting link) in omega arith)
       (all_set (λ (i : ℕ) (l : LinkOf TrueSegments). IsOwned (events ++ Close own ∷ []) (o.place_of i) l) s.links number (in_phase Disconnecting link)
-      (quiet (Close own) refl number link (in_phase Disconnecting link) found.there (λ address is. (refl, refl)) refl refl (λ c. absurd cc)
-      (λ live. connected_live link.port.phase connected))
+      (quiet (Close own) refl number link (in_phase Disconnecting link) there (λ address is. (refl, refl)) refl refl (λ c. absurd cc)
+      (λ still. live))
       (λ i l at. quiet (Close own) refl i l l at (λ address is. (refl, refl)) refl refl (λ c. c) (λ c. c)))
-    where
-      connected_live : (phase : Phase) → is_connected phase ≡ true → is_live phase ≡ true
-      connected_live Confirming e = refl
-      connected_live Running e = refl
-      connected_live phase e = absurd cc
+  user_owned event left (ClosesLate own) =
+      owned_event (Close own) refl s.links (omega arith)
+      (λ i l at. quiet (Close own) refl i l l at (λ address is. (refl, refl)) refl refl (λ c. c) (λ c. c))

@@ -150,7 +150,7 @@ module _ (f : TrueSegments) (o : AreSoundSegments f) where
     given_new : TrueSegments
     given_new = record f { last = names.last; given = f.given ++ piece_of s ∷ []; unsent = without_piece (piece_of s) f.unsent }
 
-    new_sent : (segsize : ℕ) → s.number ≡ wire (highest_given f + 1) → sends_new segsize (piece_of s) names f ≡ Ok x → SendsSegment s x
+    pub new_sent : (segsize : ℕ) → s.number ≡ wire (highest_given f + 1) → sends_new segsize (piece_of s) names f ≡ Ok x → SendsSegment s x
     unfolding given_new
     new_sent segsize spelled e =
         let a = checked (nat_lt (highest_given f - f.acknowledged) REACH) LinkWindowFull _ x e in

@@ -5,11 +5,13 @@ use Rattle.std.specs.Prelude.{slice_get, slice_set}
 use Rattle.std.proofs.lemmas.Bool.{cases_eq}
 use Rattle.std.proofs.lemmas.Option.{same_Some, slice_get_within}
 use Rattle.two_nodes.proofs.Order.{slice_get-append}
+use Rattle.dna_links.specs.Queues.{forgotten, freed}
+use Rattle.dna_links.specs.declared.queue.Queues.TheVariants.{Without}
 use Rattle.dna_links.specs.declared.port.Phase.TheVariants.{Confirming, Disconnecting}
 use Rattle.dna_links.specs.declared.port.LinkTest.TheVariants.{HasAddress}
 use Rattle.dna_links.specs.LookUps.{is_calling}
 use Rattle.dna_links.specs.Segmentation.{Piece}
-use Rattle.dna_links.specs.Links.{LinkOf, LinksOf, begun, changed, in_phase, with_segments, forgotten, freed}
+use Rattle.dna_links.specs.Links.{LinkOf, LinksOf, begun, changed, in_phase, with_segments}
 use Rattle.dna_links.specs.User.{LinkEventValue}
 use Rattle.dna_links.specs.inner.Forms.{opened, answered}
 use Rattle.dna_links.specs.TrueSegments.{TrueSegments, empty, highest_given, highest_received, true_segments}
@@ -19,7 +21,8 @@ use Rattle.dna_links.specs.Runs.{SentMessage, LinkSide, sends}
 use Rattle.dna_links.specs.Delivery.{HeldFrom}
 use Rattle.two_nodes.proofs.Numbered.{AreNumbered, IsPresent}
 use Rattle.two_nodes.proofs.NumberedSteps.{numbered_beside, present_beside, present_new, at_pushed}
-use Rattle.dna_links.proofs.Tables.Outcomes.{looked, UserDid, Opens, Accepts, Rejects, HandsIn, Delivers, Closes}
+use Rattle.dna_links.proofs.Tables.Outcomes.{looked}
+use Rattle.dna_links.proofs.Runs.Loose.{UserDid, Opens, Accepts, Rejects, HandsIn, Delivers, Closes, ClosesLate}
 use Rattle.dna_links.proofs.Tables.Words.{limits}
 use Rattle.dna_links.proofs.Runs.Pieces.{IsPassed, cut_handed, Delivered, delivered_is, passed_delivered}
 use Rattle.dna_links.proofs.Runs.Sends.{AreSoundSegments}
@@ -189,7 +192,7 @@ module _ (own other : LinkSide) (h : IsSoundSide own other) where
   Ends links = (i : ℕ) (l : LinkOf TrueSegments) → slice_get links i ≡ Some l → IsSoundEnd own.sent other.sent own.front other.links.links i l
 
   forgotten_sound : (i : ℕ) (l : LinkOf TrueSegments) → IsSoundEnd own.sent other.sent own.front other.links.links i l →
-      IsSoundEnd own.sent other.sent own.front other.links.links i (forgotten true_segments l)
+      IsSoundEnd own.sent other.sent own.front other.links.links i (forgotten true_segments Without l)
   forgotten_sound i l e = end_port own.sent other.sent own.front other.links.links i l (record l.port { own = None }) (λ x. x) e
 
   -- an address is free
@@ -198,17 +201,17 @@ module _ (own other : LinkSide) (h : IsSoundSide own other) where
     pub grows : Grows s.links left.links
     pub same_length : length left.links ≡ length s.links
 
-  freed_sound : (address : ℕ) → Frees own.links (freed true_segments address own.links)
+  freed_sound : (address : ℕ) → Frees own.links (freed true_segments Without address own.links)
   freed_sound address =
-      looked (HasAddress address) own.links own.links (λ number link. changed number (forgotten true_segments link) own.links)
-      (freed true_segments address own.links) refl
+      looked (HasAddress address) own.links own.links (λ number link. changed number (forgotten true_segments Without link) own.links)
+      (freed true_segments Without address own.links) refl
       (λ none e. subst (Frees own.links) e (record { ends = h.ends; grows = grows_same own.links.links; same_length = refl }))
       (λ number link found e. subst (Frees own.links) e (record {
         ends = all_set (λ (i : ℕ) (l : LinkOf TrueSegments). IsSoundEnd own.sent other.sent own.front other.links.links i l) own.links.links number
-            (forgotten true_segments link) (forgotten_sound number link (h.ends number link found.there)) h.ends;
-        grows = grows_set own.links.links own.links.links number link (forgotten true_segments link) [] (grows_same own.links.links) found.there
+            (forgotten true_segments Without link) (forgotten_sound number link (h.ends number link found.there)) h.ends;
+        grows = grows_set own.links.links own.links.links number link (forgotten true_segments Without link) [] (grows_same own.links.links) found.there
             (sym (append-nil link.segments.given));
-        same_length = length-set own.links.links number (forgotten true_segments link);
+        same_length = length-set own.links.links number (forgotten true_segments Without link);
       }))
 
   -- a link changes, and gives no segment
@@ -263,33 +266,33 @@ module _ (own other : LinkSide) (h : IsSoundSide own other) where
   leaves : (left : LinksOf TrueSegments) → Frees own.links left → LeavesSound left
   leaves left f = record { side = sound_after left f; grows = f.grows }
 
-  pub user_sound : (event : LinkEventValue) (left : LinksOf TrueSegments) → UserDid true_segments own.links event left → LeavesSound left
+  pub user_sound : (event : LinkEventValue) (left : LinksOf TrueSegments) → UserDid own.links event left → LeavesSound left
   user_sound event left (Opens address free) =
       let f = freed_sound address in
-      let e = end_new (length (freed true_segments address own.links).links) (opened true_segments address)
+      let e = end_new (length (freed true_segments Without address own.links).links) (opened true_segments address)
       (let l = f.same_length in omega arith) refl
       (λ x. refl) refl in
-      let grows = grows_pushed own.links.links (freed true_segments address own.links).links (opened true_segments address) f.grows in
+      let grows = grows_pushed own.links.links (freed true_segments Without address own.links).links (opened true_segments address) f.grows in
       record {
-        side = side_changed own other (begun (opened true_segments address) (freed true_segments address own.links)) grows h
+        side = side_changed own other (begun (opened true_segments address) (freed true_segments Without address own.links)) grows h
             (all_pushed (λ (i : ℕ) (l : LinkOf TrueSegments). IsSoundEnd own.sent other.sent own.front other.links.links i l)
-            (freed true_segments address own.links).links (opened true_segments address) e f.ends);
+            (freed true_segments Without address own.links).links (opened true_segments address) e f.ends);
         grows = grows;
       }
   user_sound event left (Accepts far address number link found free) =
-      leaves _ (one_sound (freed true_segments address own.links) (freed_sound address) number link (answered true_segments Confirming address link)
+      leaves _ (one_sound (freed true_segments Without address own.links) (freed_sound address) number link (answered true_segments Confirming address link)
       found.there refl
       (end_port own.sent other.sent own.front other.links.links number link (record link.port { phase = Confirming; own = Some address })
       (λ x. absurd cc) (end_of number link found.there)))
   user_sound event left (Rejects far address number link found free) =
-      leaves _ (one_sound (freed true_segments address own.links) (freed_sound address) number link
+      leaves _ (one_sound (freed true_segments Without address own.links) (freed_sound address) number link
       (answered true_segments Disconnecting address link)
       found.there refl
       (end_port own.sent other.sent own.front other.links.links number link (record link.port { phase = Disconnecting; own = Some address })
       (λ x. absurd cc) (end_of number link found.there)))
-  user_sound event left (HandsIn address message number link found may) =
-      let e = end_of number link found.there in
-      leaves _ (one_sound own.links none_freed number link (with_segments (segments.hands_in message link.segments) link) found.there refl
+  user_sound event left (HandsIn address message number link there owns) =
+      let e = end_of number link there in
+      leaves _ (one_sound own.links none_freed number link (with_segments (segments.hands_in message link.segments) link) there refl
       (end_segments own.sent other.sent own.front other.links.links number link (segments.hands_in message link.segments)
       (handed_sound message link.segments e.segments)
       refl refl refl refl e))
@@ -300,7 +303,8 @@ module _ (own other : LinkSide) (h : IsSoundSide own other) where
       (end_segments own.sent other.sent own.front other.links.links number link next (delivered_sound message link.segments next e.segments d)
       (ap (λ (f : TrueSegments). f.given) d.is) (ap (λ (f : TrueSegments). f.received) d.is) (ap (λ (f : TrueSegments). f.acknowledged) d.is)
       (ap (λ (f : TrueSegments). f.last) d.is) e))
-  user_sound event left (Closes address number link found connected) =
-      leaves _ (one_sound own.links none_freed number link (in_phase Disconnecting link) found.there refl
+  user_sound event left (Closes address number link there live) =
+      leaves _ (one_sound own.links none_freed number link (in_phase Disconnecting link) there refl
       (end_port own.sent other.sent own.front other.links.links number link (record link.port { phase = Disconnecting }) (λ x. absurd cc)
-      (end_of number link found.there)))
+      (end_of number link there)))
+  user_sound event left (ClosesLate address) = leaves _ none_freed

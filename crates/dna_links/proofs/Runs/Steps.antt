@@ -6,10 +6,12 @@ use Rattle.std.proofs.lemmas.Bool.{and_parts, cases_eq}
 use Rattle.std.proofs.lemmas.Option.{same_Some, slice_get_within}
 use Rattle.dna_packet.specs.declared.ack_word.AckWord.{AckWord}
 use Rattle.dna_packet.specs.Nsp.{SegmentValue, DataSegment, DataAck}
+use Rattle.dna_links.specs.Queues.{ended}
 use Rattle.dna_links.specs.declared.port.Phase.TheVariants.{Running, Ended}
+use Rattle.dna_links.specs.declared.queue.Queues.{Queues}
 use Rattle.dna_links.specs.LookUps.{is_calling, is_at}
 use Rattle.dna_links.specs.Segmentation.{Piece, in_order}
-use Rattle.dna_links.specs.Links.{LinkOf, Carried, LinkTruth, begun, changed, in_phase, with_segments, ended}
+use Rattle.dna_links.specs.Links.{LinkOf, Carried, LinkTruth, begun, changed, in_phase, with_segments}
 use Rattle.dna_links.specs.User.{LinkEventValue}
 use Rattle.dna_links.specs.Sending.{Sent}
 use Rattle.dna_links.specs.inner.Forms.{truth_of}
@@ -18,16 +20,17 @@ use Rattle.dna_links.specs.inner.Forms.{called, confirmed}
 use Rattle.dna_links.specs.TrueSegments.{TrueSegments, Numbers, empty, highest_given, highest_received, acknowledged_through, true_segments}
 use Rattle.dna_links.specs.TrueSegments as segments
 use Rattle.dna_links.specs.TrueLinks.{Links}
-use Rattle.dna_links.specs.Runs.{SentMessage, LinkSide, LinkWorld, sends, keeps, LinkStep, ByUser, Sends, SendsNone, Keeps, KeepsNone, Reached, Start}
-use Rattle.dna_links.specs.Runs.{ByA, ByB, new_side}
+use Rattle.dna_links.specs.Runs.{SentMessage, LinkSide, LinkWorld, sends, keeps, Reached, Start, ByA, ByB, new_side}
 use Rattle.dna_links.specs.Delivery.{HeldFrom}
 use Rattle.two_nodes.proofs.Numbered.{AcksFrom, IsLawful, IsPresent}
 use Rattle.two_nodes.proofs.Numbered as numbered
 use Rattle.two_nodes.proofs.NumberedSteps.{IsSending, numbered_sending, present_sending, present_further, present_new, none_numbered, at_pushed}
-use Rattle.dna_links.proofs.Tables.Outcomes.{has_numbers, SentDid, OfNone, Stays, EndsCalled, Segment, Acks, sent_did, ArrivedDid, Ignores, Begins}
-use Rattle.dna_links.proofs.Tables.Outcomes.{Confirms, Ends, TakesSegment, TakesAcks, TakesOther, arrived_did, user_did}
+use Rattle.dna_links.proofs.Tables.Outcomes.{has_numbers, ArrivedDid, Ignores, Begins, Confirms, Ends, TakesSegment, TakesAcks, TakesOther}
+use Rattle.dna_links.proofs.Runs.Loose.{SentDid, OfNone, Stays, EndsCalled, Segment, Acks, LooseStep, ByUser, Sends, SendsNone, Keeps, KeepsNone}
+use Rattle.dna_links.proofs.Runs.Loose.{LooselyReached, OfA, OfB}
+use Rattle.dna_links.proofs.Runs.Loose as loose
 use Rattle.dna_links.proofs.Tables.Words.{limits, AreWords}
-use Rattle.dna_links.proofs.Runs.Sends.{SendsFrom, other_sent, acks_sent, IsTrueSegment, segment_sent}
+use Rattle.dna_links.proofs.Runs.Sends.{SendsFrom, other_sent, IsTrueSegment}
 use Rattle.dna_links.proofs.Runs.Ends.{name_of, nobody, numbers_of, view, Grows, SegmentTold, IsTold, told_grown, IsSoundEnd, end_port, end_further}
 use Rattle.dna_links.proofs.Runs.Ends.{end_aside, present_aside}
 use Rattle.dna_links.proofs.Runs.Takes.{of_pair_is, acknowledges, end_acks, end_segment}
@@ -204,7 +207,7 @@ module _ (own other : LinkSide) (h : IsSoundSide own other) (theirs : IsSoundSid
       (grows_set own.links.links own.links.links number link left s.more (grows_same own.links.links) there s.given)
       (set_same own.links.links number link left there) (λ i l at. at_set own.links.links number i left l at) segment words
 
-  pub message_sent : (packet : Carried) (made : Sent TrueSegments Numbers) → SentDid true_segments own.links packet.message made →
+  pub message_sent : (packet : Carried) (made : Sent TrueSegments Numbers) → SentDid own.links packet.message made →
       StaySound (sends own made.links (Some (record { packet = packet; truth = made.truth }))) other
   message_sent packet made (OfNone none) =
       nobody_sent (Some (record { packet = packet; truth = no_truth }))
@@ -226,15 +229,15 @@ module _ (own other : LinkSide) (h : IsSoundSide own other) (theirs : IsSoundSid
       changed_sent packet (segments.sends_other link.segments) number link (ended true_segments link) found.there
       (other_sent link.segments (h.ends number link found.there).segments) refl (λ c. absurd cc)
       (λ x e. let t = ap has_numbers e in absurd cc) (no_words packet (truth_of true_segments number link (segments.sends_other link.segments)) none)
-  message_sent packet made (Segment segment number link sent is found run does) =
-      let t = segment_sent link.segments (h.ends number link found.there).segments link.segsize segment sent does in
-      changed_sent packet sent.known number link (with_segments sent.segments link) found.there t.sends refl (λ c. c)
+  message_sent packet made (Segment segment number link sent is there goes) =
+      let t = goes (h.ends number link there).segments in
+      changed_sent packet sent.known number link (with_segments sent.segments link) there t.sends refl (λ c. c)
       (λ x e. let same : segment ≡ x = let f = sym is ∙ e in cc in
       subst (λ (y : SegmentValue). IsTrueSegment y sent.segments.given sent.known) same t.is_true)
       (λ dst src acks e. let f = sym is ∙ e in absurd cc)
-  message_sent packet made (Acks dst src acks number link sent is found run does) =
-      let t = acks_sent link.segments (h.ends number link found.there).segments acks sent does in
-      changed_sent packet sent.known number link (with_segments sent.segments link) found.there t.sends refl (λ c. c)
+  message_sent packet made (Acks dst src acks number link sent is there goes) =
+      let t = goes (h.ends number link there).segments in
+      changed_sent packet sent.known number link (with_segments sent.segments link) there t.sends refl (λ c. c)
       (λ x e. let f = sym is ∙ e in absurd cc)
       (λ d s a e. let same : acks ≡ a = let f = sym is ∙ e in cc in
       subst (λ (y : List AckWord). AreWords y sent.known.acknowledgements) same t.words_are)
@@ -348,15 +351,15 @@ module _ (own other : LinkSide) (h : IsSoundSide own other) (theirs : IsSoundSid
 -- ---- every step, and all that steps lead to
 
 pub step_sound : (own other left : LinkSide) (events : List LinkEventValue) → IsSoundSide own other → IsSoundSide other own →
-    LinkStep own other events left → StaySound left other
+    LooseStep own other events left → StaySound left other
 step_sound own other left events h theirs (ByUser event links does) =
-    let l = user_sound own other h event links (user_did true_segments own.links links event does) in
+    let l = user_sound own other h event links does in
     record { side = l.side; beside = side_grown other own links own.front l.grows theirs }
 step_sound own other left events h theirs (Sends packet made does) =
-    message_sent own other h theirs packet made (sent_did true_segments own.links made packet does)
+    message_sent own other h theirs packet made does
 step_sound own other left events h theirs SendsNone = none_sent own other h theirs
 step_sound own other left events h theirs (Keeps place unit links ahead there does) =
-    message_kept own other h theirs place unit ahead there links (arrived_did true_segments of_partner own.links links unit.truth unit.packet does)
+    message_kept own other h theirs place unit ahead there links does
 step_sound own other left events h theirs (KeepsNone place ahead there) = nothing_kept own other h theirs place None ahead there
 
 pub record BothLinksSound (w : LinkWorld) : Type 0 where
@@ -381,22 +384,22 @@ module _ (holds : (own other : LinkSide) → List LinkEventValue → Type 0) whe
   -- of the side that makes a step, and of the side beside it
   abbrev pub IsKeptByStep : Type 0
   IsKeptByStep = (own other left : LinkSide) (events further made : List LinkEventValue) → holds own other events → holds other own further →
-      LinkStep own other made left → holds left other (events ++ made) × holds other left further
+      LooseStep own other made left → holds left other (events ++ made) × holds other left further
 
-  pub of_reached : IsKeptByStep → {start w : LinkWorld} {of_a of_b : List LinkEventValue} → OfSides start [] [] → Reached start w of_a of_b →
+  pub of_reached : IsKeptByStep → {start w : LinkWorld} {of_a of_b : List LinkEventValue} → OfSides start [] [] → LooselyReached start w of_a of_b →
       OfSides w of_a of_b
-  of_reached keeps first Start = first
-  of_reached keeps first (ByA {w = v} {of_a = xs} {of_b = ys} {events = made} {left = left} r step) =
+  of_reached keeps first loose.Begins = first
+  of_reached keeps first (OfA {w = v} {of_a = xs} {of_b = ys} {events = made} {left = left} r step) =
       let s = of_reached keeps first r in let t = keeps v.a v.b left xs ys made s.of_a s.of_b step in record { of_a = t.0; of_b = t.1 }
-  of_reached keeps first (ByB {w = v} {of_a = xs} {of_b = ys} {events = made} {left = left} r step) =
+  of_reached keeps first (OfB {w = v} {of_a = xs} {of_b = ys} {events = made} {left = left} r step) =
       let s = of_reached keeps first r in let t = keeps v.b v.a left ys xs made s.of_b s.of_a step in record { of_a = t.1; of_b = t.0 }
 
 abbrev pub exchanged_links : LinkWorld → LinkWorld
 exchanged_links w = record { a = w.b; b = w.a }
 
 -- it does not matter which side is a
-pub reached_exchanged : {start w : LinkWorld} {of_a of_b : List LinkEventValue} → Reached start w of_a of_b →
-    Reached (exchanged_links start) (exchanged_links w) of_b of_a
+pub reached_exchanged : {queues : Queues} {start w : LinkWorld} {of_a of_b : List LinkEventValue} → Reached queues start w of_a of_b →
+    Reached queues (exchanged_links start) (exchanged_links w) of_b of_a
 reached_exchanged Start = Start
 reached_exchanged (ByA r step) = ByB (reached_exchanged r) step
 reached_exchanged (ByB r step) = ByA (reached_exchanged r) step

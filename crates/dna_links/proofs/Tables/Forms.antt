@@ -2,10 +2,11 @@
 use Rattle.std.proofs.Common.{◌≡◌, ℕ, Option, Some, None, Result, Ok, refl}
 use Rattle.std.specs.Prelude.{slice_get}
 use Rattle.dna_station.specs.declared.link_refusal.LinkRefusal.{LinkRefusal}
+use Rattle.dna_links.specs.Queues.{ended}
 use Rattle.dna_links.specs.declared.port.LinkTest.{LinkTest}
 use Rattle.dna_links.specs.declared.port.LinkTest.TheVariants.{TheLink, CallingAt}
 use Rattle.dna_links.specs.SegmentBook.{SegmentBook}
-use Rattle.dna_links.specs.Links.{LinkOf, LinksOf, number_of, on_link, at_number, with_link, changed, ended}
+use Rattle.dna_links.specs.Links.{LinkOf, LinksOf, number_of, on_link, at_number, with_link, changed}
 use Rattle.dna_links.specs.Arriving.{PartnerRule}
 use Rattle.dna_links.specs.inner.Forms.{ends_link, ends_by}
 

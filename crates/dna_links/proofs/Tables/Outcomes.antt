@@ -9,6 +9,8 @@ use Rattle.dna_packet.specs.Nsp.{SegmentValue, NspValue, DataSegment, LinkServic
 use Rattle.dna_packet.specs.Nsp.{ConnectConfirm, DisconnectInitiate, DisconnectConfirm}
 use Rattle.dna_station.specs.declared.link_refusal.LinkRefusal.{LinkRefusal}
 use Rattle.dna_station.specs.declared.link_refusal.LinkRefusal.TheVariants.{NoLink, LinkState, AddressInUse, CrossedLink}
+use Rattle.dna_links.specs.Queues.{ended, freed}
+use Rattle.dna_links.specs.declared.queue.Queues.TheVariants.{Without}
 use Rattle.dna_links.specs.declared.port.Phase.{Phase}
 use Rattle.dna_links.specs.declared.port.Phase.TheVariants.{Confirming, Disconnecting}
 use Rattle.dna_links.specs.declared.port.LinkTest.{LinkTest}
@@ -16,7 +18,7 @@ use Rattle.dna_links.specs.declared.port.LinkTest.TheVariants.{HasAddress, LiveA
 use Rattle.dna_links.specs.LookUps.{passes, takes_messages, is_connected, is_calling, is_confirming, is_running, is_disconnecting}
 use Rattle.dna_links.specs.SegmentBook.{SegmentBook, Sending}
 use Rattle.dna_links.specs.Links.{LinkOf, LinksOf, Carried, LinkTruth, check, number_of, on_link, at_number, with_link, begun, changed, in_phase}
-use Rattle.dna_links.specs.Links.{with_segments, ended, freed}
+use Rattle.dna_links.specs.Links.{with_segments}
 use Rattle.dna_links.specs.User.{LinkEventValue, Open, Accept, Reject, In, Up, Close}
 use Rattle.dna_links.specs.inner.Forms.{opened, answered, gives, delivered}
 use Rattle.dna_links.specs.LinkBook.{user_step}
@@ -125,11 +127,11 @@ module _ {D K : Type 0} (book : SegmentBook D K) where
   -- ---- the user
 
   pub data UserDid (s : LinksOf D) : LinkEventValue → LinksOf D → Type 0 where
-    Opens : (own : ℕ) → number_of (LiveAt own) s ≡ None → UserDid s (Open own) (begun (opened book own) (freed book own s))
+    Opens : (own : ℕ) → number_of (LiveAt own) s ≡ None → UserDid s (Open own) (begun (opened book own) (freed book Without own s))
     Accepts : (far own number : ℕ) (link : LinkOf D) → IsFound (CalledBy far) s number link → number_of (LiveAt own) s ≡ None →
-        UserDid s (Accept far own) (changed number (answered book Confirming own link) (freed book own s))
+        UserDid s (Accept far own) (changed number (answered book Confirming own link) (freed book Without own s))
     Rejects : (far own number : ℕ) (link : LinkOf D) → IsFound (CalledBy far) s number link → number_of (LiveAt own) s ≡ None →
-        UserDid s (Reject far own) (changed number (answered book Disconnecting own link) (freed book own s))
+        UserDid s (Reject far own) (changed number (answered book Disconnecting own link) (freed book Without own s))
     HandsIn : (own : ℕ) (message : List ℕ) (number : ℕ) (link : LinkOf D) → IsFound (LiveAt own) s number link →
         takes_messages link.port.phase ≡ true →
         UserDid s (In own message) (changed number (with_segments (book.hands_in message link.segments) link) s)
@@ -157,16 +159,16 @@ module _ {D K : Type 0} (book : SegmentBook D K) where
     delivered_did own message number link found (Some next) segments e =
         did (Up own message) _ (Delivers own message number link next found segments) e
 
-    pub user_did : (event : LinkEventValue) → user_step book s event ≡ Ok left → UserDid s event left
-    user_did (Open own) e = given_did (Open own) own (begun (opened book own) (freed book own s)) (λ free. Opens own free) e
+    pub user_did : (event : LinkEventValue) → user_step Without book s event ≡ Ok left → UserDid s event left
+    user_did (Open own) e = given_did (Open own) own (begun (opened book own) (freed book Without own s)) (λ free. Opens own free) e
     user_did (Accept far own) e =
         looked (CalledBy far) s (Err NoLink)
-        (λ number link. gives book own s (changed number (answered book Confirming own link) (freed book own s))) (Ok left) e
+        (λ number link. gives book own s (changed number (answered book Confirming own link) (freed book Without own s))) (Ok left) e
         (λ none e. absurd cc)
         (λ number link found e. given_did (Accept far own) own _ (λ free. Accepts far own number link found free) e)
     user_did (Reject far own) e =
         looked (CalledBy far) s (Err NoLink)
-        (λ number link. gives book own s (changed number (answered book Disconnecting own link) (freed book own s))) (Ok left) e
+        (λ number link. gives book own s (changed number (answered book Disconnecting own link) (freed book Without own s))) (Ok left) e
         (λ none e. absurd cc)
         (λ number link found e. given_did (Reject far own) own _ (λ free. Rejects far own number link found free) e)
     user_did (In own message) e =
@@ -247,7 +249,7 @@ module _ {D K : Type 0} (book : SegmentBook D K) where
             (EndsCalled dst reason number link refl (ap (λ (n : ℕ). DisconnectConfirm dst n reason) (eqb-true src 0 none)) found) e)
         go false none e = did_send (DisconnectConfirm dst src reason) _ (OfNone refl) e
 
-    message_did : (m : NspValue) → message_sent book s m ≡ Ok left → SentDid s m left
+    message_did : (m : NspValue) → message_sent Without book s m ≡ Ok left → SentDid s m left
     message_did (ConnectInitiate retransmitted src services info segsize user_data) e = phase_did _ (OpenedAt src) is_calling refl e
     message_did (ConnectAck dst) e =
         looked (BegunBy dst) s (Err NoLink) (λ number link. Ok (unchanged book s number link)) (Ok left) e (λ missing e. absurd cc)
@@ -268,7 +270,7 @@ module _ {D K : Type 0} (book : SegmentBook D K) where
     message_did (OtherDataAck dst src rest) e = phase_did _ (TheLink src dst) is_running refl e
     message_did (NoOperation rest) e = did_send (NoOperation rest) _ (OfNone refl) e
 
-    pub sent_did : (packet : Carried) → sent_step book s packet ≡ Ok left → SentDid s packet.message left
+    pub sent_did : (packet : Carried) → sent_step Without book s packet ≡ Ok left → SentDid s packet.message left
     sent_did packet e = message_did packet.message (checked _ _ _ left e).1
 
   -- ---- a message that comes
@@ -317,7 +319,7 @@ module _ {D K : Type 0} (book : SegmentBook D K) where
         (λ missing e. did_arrive m _ Ignores e) (λ number link found e. did_arrive m _ (Ends (CallingAt own) number link found) e))
         (λ number link found e. did_arrive m _ (Ends (TheLink own far) number link found) e)
 
-    came_did : (m : NspValue) → message_arrived book rule s m truth ≡ Ok left → ArrivedDid rule s m truth left
+    came_did : (m : NspValue) → message_arrived Without book rule s m truth ≡ Ok left → ArrivedDid rule s m truth left
     came_did (ConnectInitiate retransmitted src services info segsize user_data) e =
         looked (LiveTo src) s (Ok (begun (called book rule src segsize truth.tag) s)) (λ number link. Ok s) (Ok left) e
         (λ missing e. did_arrive _ _ (Begins src segsize (refl, refl) missing) e) (λ number link found e. did_arrive _ _ Ignores e)
@@ -342,5 +344,5 @@ module _ {D K : Type 0} (book : SegmentBook D K) where
     came_did (OtherDataAck dst src rest) e =
         acts_did _ dst src (λ link. link.segments) (λ number link found of_pair. TakesOther dst src number link found of_pair) e
 
-    pub arrived_did : (packet : Carried) → arrived_step book rule s packet truth ≡ Ok left → ArrivedDid rule s packet.message truth left
+    pub arrived_did : (packet : Carried) → arrived_step Without book rule s packet truth ≡ Ok left → ArrivedDid rule s packet.message truth left
     arrived_did packet e = came_did packet.message (checked _ _ _ left e).1

@@ -4,6 +4,8 @@ use Rattle.std.specs.Prelude.{ℕ, Bool, true, false, ◌==◌, if◌then◌else
 use Rattle.dna_packet.specs.Nsp.{SegmentValue}
 use Rattle.dna_station.specs.declared.link_refusal.LinkRefusal.{LinkRefusal}
 use Rattle.dna_station.specs.declared.link_refusal.LinkRefusal.TheVariants.{NoLink, LinkState, WrongDelivery, AddressInUse, CrossedLink}
+use Rattle.dna_links.specs.Queues.{fresh, ended, freed}
+use Rattle.dna_links.specs.declared.queue.Queues.TheVariants.{Without}
 use Rattle.dna_links.specs.declared.tag.LinkTag.{LinkTag}
 use Rattle.dna_links.specs.declared.port.Phase.{Phase}
 use Rattle.dna_links.specs.declared.port.Phase.TheVariants.{Calling, Called, Running}
@@ -11,7 +13,7 @@ use Rattle.dna_links.specs.declared.port.LinkTest.{LinkTest}
 use Rattle.dna_links.specs.declared.port.LinkTest.TheVariants.{LiveAt, TheLink, CallingAt, CalledBy, ActedOn}
 use Rattle.dna_links.specs.LookUps.{is_running}
 use Rattle.dna_links.specs.SegmentBook.{SegmentBook, Sending}
-use Rattle.dna_links.specs.Links.{LinkOf, LinksOf, LinkTruth, check, with_link, changed, in_phase, with_segments, ended, freed}
+use Rattle.dna_links.specs.Links.{LinkOf, LinksOf, LinkTruth, check, with_link, changed, in_phase, with_segments}
 use Rattle.dna_links.specs.LinkBook.{on_ok}
 use Rattle.dna_links.specs.Sending.{Sent}
 use Rattle.dna_links.specs.Arriving.{PartnerRule, is_of_pair}
@@ -26,6 +28,7 @@ module _ {D K : Type 0} (book : SegmentBook D K) where
     partner = None;
     segsize = 0;
     segments = book.empty;
+    queue = fresh;
   }
 
   -- the call is answered: the link gets this own address, and this phase
@@ -39,7 +42,7 @@ module _ {D K : Type 0} (book : SegmentBook D K) where
   -- the call from this far address: 18 if no link in Called has it
   abbrev pub answers : Phase → (far own : ℕ) → LinksOf D → Result (LinksOf D) LinkRefusal
   answers phase far own s =
-      with_link (CalledBy far) s (Err NoLink) (λ number link. gives own s (changed number (answered phase own link) (freed book own s)))
+      with_link (CalledBy far) s (Err NoLink) (λ number link. gives own s (changed number (answered phase own link) (freed book Without own s)))
 
   -- a message is delivered if it is the next whole one
   abbrev pub delivered : ℕ → LinkOf D → LinksOf D → Option D → Result (LinksOf D) LinkRefusal
@@ -98,6 +101,7 @@ module _ {D K : Type 0} (book : SegmentBook D K) (rule : PartnerRule) where
     partner = tag.link;
     segsize = segsize;
     segments = book.empty;
+    queue = fresh;
   }
 
   -- CC: to RUN with the sender as partner, its address and its SEGSIZE

@@ -11,6 +11,7 @@ use Rattle.dna_station.specs.declared.link_refusal.LinkRefusal.{LinkRefusal}
 use Rattle.dna_station.specs.declared.link_refusal.LinkRefusal.TheVariants.{WrongNode, WrongAck, CrossedLink}
 use Rattle.dna_station.specs.declared.refusal.StepRefusal.{StepRefusal}
 use Rattle.dna_station.specs.declared.refusal.StepRefusal.TheVariants.{Links as OfLinks}
+use Rattle.dna_links.specs.declared.queue.Queues.TheVariants.{Without}
 use Rattle.dna_links.specs.declared.port.LinkTest.{LinkTest}
 use Rattle.dna_links.specs.declared.port.LinkTest.TheVariants.{ActedOn}
 use Rattle.dna_links.specs.Segmentation.{Piece}
@@ -203,30 +204,30 @@ module _ (s : Links) (ordered : AreOrdered s) (truth : LinkTruth Numbers) where
   acks_right : (own far : ℕ) (acks : List AckWord) (takes : LinkOf WireSegments → WireSegments) →
       ((n : ℕ) (l : LinkOf TrueSegments) → slice_get s.links n ≡ Some l → passes (ActedOn own far) l.port ≡ true →
       is_of_pair n l.partner truth.tag ≡ true → Spells acks truth.known.acknowledgements × AcksAreNear l.segments truth.known.acknowledgements) →
-      Follows (acted_on wire_segments of_partner own far truth.tag takes (cut_links s)) (wrong_acks own far acks (cut_links s))
+      Follows (acted_on wire_segments of_partner own far truth.tag takes (cut_links Without s)) (wrong_acks own far acks (cut_links Without s))
   acks_right own far acks takes near =
-      λ links e. with_each Same (ActedOn own far) (cut_links s) (Ok (cut_links s)) None None
+      λ links e. with_each Same (ActedOn own far) (cut_links Without s) (Ok (cut_links Without s)) None None
       (λ n l. check (of_partner (is_of_pair n l.partner truth.tag)) CrossedLink
-      (Ok (changed n (running wire_segments of_partner takes l) (cut_links s))))
+      (Ok (changed n (running wire_segments of_partner takes l) (cut_links Without s))))
       (λ n l. wrong_words acks l.segments) (asked acks) (λ links e. refl)
-      (λ n l. by_partner (is_of_pair n l.partner truth.tag) (changed n (running wire_segments of_partner takes l) (cut_links s))
+      (λ n l. by_partner (is_of_pair n l.partner truth.tag) (changed n (running wire_segments of_partner takes l) (cut_links Without s))
       (wrong_words acks l.segments)) links e
-      ∙ sym (with_link_same nobody (ActedOn own far) s tt None (λ n l. tt) (asked acks) (λ none. refl) all_right)
+      ∙ sym (with_link_same Without nobody (ActedOn own far) s tt None (λ n l. tt) (asked acks) (λ none. refl) all_right)
     where
       nobody : Unit {0} → Option StepRefusal
       nobody x = None
 
       all_right : (n : ℕ) (l : LinkOf TrueSegments) → slice_get s.links n ≡ Some l → passes (ActedOn own far) l.port ≡ true →
-          None ≡ asked acks n (cut_link l)
+          None ≡ asked acks n (cut_link Without l)
       all_right n l there here =
           let live = live_if is_connected refl l.port.phase (and_parts (is_connected l.port.phase) (has_both l.port own far) here).0 in
-          none_asked (is_of_pair n l.partner truth.tag) (wrong_words acks (cut_link l).segments)
+          none_asked (is_of_pair n l.partner truth.tag) (wrong_words acks (cut_link Without l).segments)
           (λ e. ap (wrong_words acks) (live_segments l live)
           ∙ ap none_if (words_right (cut l.segments).gave_many acks l.segments truth.known.acknowledgements (ordered n l there).segments
           (near n l there here e).0 (near n l there here e).1 refl))
 
   message_right : (m : NspValue) → ArrivesNear of_partner s m truth →
-      Follows (message_arrived wire_segments of_partner (cut_links s) m tagged) (wrong_message (cut_links s) m)
+      Follows (message_arrived Without wire_segments of_partner (cut_links Without s) m tagged) (wrong_message (cut_links Without s) m)
   message_right (DataSegment segment) near =
       acks_right segment.dstaddr segment.srcaddr segment.acks (λ l. wire_segments.takes_segment segment tt l.segments)
       (λ n l there here e. let m = near n l there here e in (m.0, m.2))
@@ -240,7 +241,7 @@ module _ (s : Links) (ordered : AreOrdered s) (truth : LinkTruth Numbers) where
 
   -- a packet that is taken, and that the links let pass
   pub packet_right : (packet : Carried) → ArrivesNear of_partner s packet.message truth →
-      Follows (wire_links_arrived of_partner (cut_links s) packet truth.tag) (wrong_message (cut_links s) packet.message)
+      Follows (wire_links_arrived Without of_partner (cut_links Without s) packet truth.tag) (wrong_message (cut_links Without s) packet.message)
   packet_right packet near =
-      goes_right (eqb packet.src s.peer && eqb packet.dst s.node) (message_arrived wire_segments of_partner (cut_links s) packet.message tagged)
-      (wrong_message (cut_links s) packet.message) (message_right packet.message near)
+      goes_right (eqb packet.src s.peer && eqb packet.dst s.node) (message_arrived Without wire_segments of_partner (cut_links Without s) packet.message tagged)
+      (wrong_message (cut_links Without s) packet.message) (message_right packet.message near)

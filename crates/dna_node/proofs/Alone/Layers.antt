@@ -6,6 +6,7 @@ use Rattle.capture.specs.declared.event.Event.{Event}
 use Rattle.dna_station.specs.declared.state.StationEvent.{StationEvent}
 use Rattle.dna_station.specs.declared.state.StationEvent.TheVariants.{Start, Halt}
 use Rattle.dna_station.specs.declared.tag.Tag.{Tag}
+use Rattle.dna_links.specs.declared.queue.Queues.TheVariants.{Without}
 use Rattle.dna_links.specs.declared.tag.LinkTag.{LinkTag}
 use Rattle.dna_station.specs.declared.refusal.StationRefusal.{StationRefusal}
 use Rattle.dna_station.specs.declared.refusal.StationRefusal.TheVariants.{CrossedPeriod}
@@ -57,10 +58,10 @@ module _ (s : WireLayers) where
   by_links (Ok links) = refl
   by_links (Err refusal) = refl
 
-  link_along : (event : LinkEventValue) → with_wire_links (forget_layers s) (wire_links_user (forget_links s.links) event)
-      ≡ forget_result forget_layers (with_wire_links s (wire_links_user s.links event))
+  link_along : (event : LinkEventValue) → with_wire_links (forget_layers s) (wire_links_user Without (forget_links s.links) event)
+      ≡ forget_result forget_layers (with_wire_links s (wire_links_user Without s.links event))
   link_along event =
-      ap (with_wire_links (forget_layers s)) (sym (links_user_along wire_segments s.links event)) ∙ by_links (wire_links_user s.links event)
+      ap (with_wire_links (forget_layers s)) (sym (links_user_along wire_segments s.links event)) ∙ by_links (wire_links_user Without s.links event)
 
   pub user_along : (event : Event) → (wire_layers_machine by_bytes).user (forget_layers s) event
       ≡ forget_result forget_layers ((wire_layers_machine judged).user s event)
@@ -97,26 +98,26 @@ module _ (s : WireLayers) (m : MessageValue) where
   by_message (Err refusal) = refl
 
   by_content : (r : Result (Option Carried) StepRefusal) →
-      GoAlong (wire_sends_first s after r) (wire_sends_first (forget_layers s) after_alone r)
+      GoAlong (wire_sends_first judged s after r) (wire_sends_first by_bytes (forget_layers s) after_alone r)
   by_content (Ok (Some packet)) =
       ap (λ (o : Result (Sent WireSegments (Unit {0})) LinkRefusal). left_sent (with_tag after_alone o))
       (sym (links_sent_along wire_segments s.links packet))
-      ∙ by_message (wire_links_sent s.links packet)
+      ∙ by_message (wire_links_sent Without s.links packet)
   by_content (Ok None) = tagged_along s.links of_no_link
   by_content (Err refusal) = refl
 
   again_along : GoAlong (Ok (wire_sends_again s m after)) (Ok (wire_sends_again (forget_layers s) m after_alone))
   again_along = ap (left (forget_links s.links)) (sending_along forget_tag s.station m)
 
-  by_number : (b : Bool) → GoAlong (cond b (wire_sends_first s after (content (body_of m))) (Ok (wire_sends_again s m after)))
-      (cond b (wire_sends_first (forget_layers s) after_alone (content (body_of m))) (Ok (wire_sends_again (forget_layers s) m after_alone)))
+  by_number : (b : Bool) → GoAlong (cond b (wire_sends_first judged s after (content (body_of m))) (Ok (wire_sends_again s m after)))
+      (cond b (wire_sends_first by_bytes (forget_layers s) after_alone (content (body_of m))) (Ok (wire_sends_again (forget_layers s) m after_alone)))
   by_number true = by_content (content (body_of m))
   by_number false = again_along
 
   by_refusal : (o : Option StationRefusal) →
-      GoAlong (wire_sends_on s m (unless_refused o after)) (wire_sends_on (forget_layers s) m (unless_refused o after_alone))
+      GoAlong (wire_sends_on judged s m (unless_refused o after)) (wire_sends_on by_bytes (forget_layers s) m (unless_refused o after_alone))
   by_refusal None =
-      ap (λ (b : Bool). left_sent (cond b (wire_sends_first (forget_layers s) after_alone (content (body_of m)))
+      ap (λ (b : Bool). left_sent (cond b (wire_sends_first by_bytes (forget_layers s) after_alone (content (body_of m)))
       (Ok (wire_sends_again (forget_layers s) m after_alone)))) (first_along forget_tag s.station m)
       ∙ by_number (gives_new s.station m)
   by_refusal (Some refusal) = refl
@@ -124,7 +125,7 @@ module _ (s : WireLayers) (m : MessageValue) where
   pub sends_along : left_sent ((wire_layers_machine by_bytes).sends (forget_layers s) m)
       ≡ forget_result forget_layers (left_sent ((wire_layers_machine judged).sends s m))
   sends_along =
-      ap (λ (o : Option StationRefusal). left_sent (wire_sends_on (forget_layers s) m (unless_refused o after_alone)))
+      ap (λ (o : Option StationRefusal). left_sent (wire_sends_on by_bytes (forget_layers s) m (unless_refused o after_alone)))
       (sending_refusal_along forget_tag s.station m)
       ∙ by_refusal (wire_sending_refusal s.station m)
 
@@ -139,7 +140,7 @@ module _ (s : WireLayers) where
   keeps_along : (t : WireLayers) (tag : LinkTag) (r : Result (Option Carried) StepRefusal) →
       Along forget_layers (wire_keeps_packet judged t tag r) (wire_keeps_packet by_bytes (forget_layers t) of_no_link r)
   keeps_along t tag (Ok (Some packet)) =
-      by_links_result t (wire_links_arrived of_partner t.links packet tag) (wire_links_arrived of_anyone (forget_links t.links) packet of_no_link)
+      by_links_result t (wire_links_arrived Without of_partner t.links packet tag) (wire_links_arrived Without of_anyone (forget_links t.links) packet of_no_link)
       (links_arrived_along wire_segments t.links (record { tag = tag; known = tt }) packet)
   keeps_along t tag (Ok None) = refl
   keeps_along t tag (Err refusal) = λ seen. refl

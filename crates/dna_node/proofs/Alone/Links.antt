@@ -11,6 +11,8 @@ use Rattle.dna_packet.specs.Nsp.{ConnectConfirm, DisconnectInitiate, DisconnectC
 use Rattle.dna_station.specs.declared.link_refusal.LinkRefusal.{LinkRefusal}
 use Rattle.dna_station.specs.declared.link_refusal.LinkRefusal.TheVariants.{WrongNode, CrossedLink, NoLink, LinkState, AddressInUse}
 use Rattle.dna_station.specs.declared.refusal.StepRefusal.TheVariants.{Links as OfLinks}
+use Rattle.dna_links.specs.Queues.{ended, forgotten, freed}
+use Rattle.dna_links.specs.declared.queue.Queues.TheVariants.{Without}
 use Rattle.dna_links.specs.declared.tag.LinkTag.{LinkTag}
 use Rattle.dna_links.specs.declared.port.Phase.{Phase}
 use Rattle.dna_links.specs.declared.port.Phase.TheVariants.{Confirming, Running, Disconnecting}
@@ -19,7 +21,7 @@ use Rattle.dna_links.specs.declared.port.LinkTest.TheVariants.{HasAddress, LiveA
 use Rattle.dna_links.specs.LookUps.{passes, is_connected, takes_messages, is_calling, is_confirming, is_disconnecting, is_running}
 use Rattle.dna_links.specs.SegmentBook.{SegmentBook, Sending}
 use Rattle.dna_links.specs.Links.{LinkOf, LinksOf, Carried, LinkTruth, check, number_of, on_link, at_number, with_link, begun, changed, in_phase}
-use Rattle.dna_links.specs.Links.{with_segments, ended, forgotten, freed}
+use Rattle.dna_links.specs.Links.{with_segments}
 use Rattle.dna_links.specs.User.{LinkEventValue, Open, Accept, Reject, In, Up, Close}
 use Rattle.dna_links.specs.inner.Forms.{opened, answered, gives, answers, delivered}
 use Rattle.dna_links.specs.LinkBook.{user_step}
@@ -37,7 +39,7 @@ forget_tag tag = record { link = tag.link; partner = None }
 
 module _ {D : Type 0} where
   abbrev pub forget_link : LinkOf D → LinkOf D
-  forget_link l = record { port = l.port; partner = None; segsize = l.segsize; segments = l.segments }
+  forget_link l = record { port = l.port; partner = None; segsize = l.segsize; segments = l.segments; queue = l.queue }
 
   abbrev pub forget_links : LinksOf D → LinksOf D
   forget_links s = record { node = s.node; peer = s.peer; links = map forget_link s.links }
@@ -94,10 +96,10 @@ module _ {D K : Type 0} (book : SegmentBook D K) where
   -- ---- the user
 
   module _ (s : LinksOf D) where
-    freed_along : (own : ℕ) → forget_links (freed book own s) ≡ freed book own (forget_links s)
+    freed_along : (own : ℕ) → forget_links (freed book Without own s) ≡ freed book Without own (forget_links s)
     freed_along own =
-        with_both (λ (x y : LinksOf D). forget_links x ≡ y) (HasAddress own) s s (forget_links s) (λ n l. changed n (forgotten book l) s)
-        (λ n l. changed n (forgotten book l) (forget_links s)) refl (λ n l. changed_along n (forgotten book l) s)
+        with_both (λ (x y : LinksOf D). forget_links x ≡ y) (HasAddress own) s s (forget_links s) (λ n l. changed n (forgotten book Without l) s)
+        (λ n l. changed n (forgotten book Without l) (forget_links s)) refl (λ n l. changed_along n (forgotten book Without l) s)
 
     gives_along : (own : ℕ) (next next' : LinksOf D) → forget_links next ≡ next' →
         forget_result (gives book own s next) ≡ gives book own (forget_links s) next'
@@ -108,11 +110,11 @@ module _ {D K : Type 0} (book : SegmentBook D K) where
     answers_along : (phase : Phase) (far own : ℕ) → forget_result (answers book phase far own s) ≡ answers book phase far own (forget_links s)
     answers_along phase far own =
         with_both (λ (x y : Result (LinksOf D) LinkRefusal). forget_result x ≡ y) (CalledBy far) s (Err NoLink) (Err NoLink)
-        (λ n l. gives book own s (changed n (answered book phase own l) (freed book own s)))
-        (λ n l. gives book own (forget_links s) (changed n (answered book phase own l) (freed book own (forget_links s)))) refl
-        (λ n l. gives_along own (changed n (answered book phase own l) (freed book own s))
-        (changed n (answered book phase own (forget_link l)) (freed book own (forget_links s)))
-        (changed_along n (answered book phase own l) (freed book own s)
+        (λ n l. gives book own s (changed n (answered book phase own l) (freed book Without own s)))
+        (λ n l. gives book own (forget_links s) (changed n (answered book phase own l) (freed book Without own (forget_links s)))) refl
+        (λ n l. gives_along own (changed n (answered book phase own l) (freed book Without own s))
+        (changed n (answered book phase own (forget_link l)) (freed book Without own (forget_links s)))
+        (changed_along n (answered book phase own l) (freed book Without own s)
         ∙ ap (changed n (answered book phase own (forget_link l))) (freed_along own)))
 
     delivered_along : (n : ℕ) (l : LinkOf D) (o : Option D) →
@@ -120,10 +122,10 @@ module _ {D K : Type 0} (book : SegmentBook D K) where
     delivered_along n l None = refl
     delivered_along n l (Some segments) = ap Ok (changed_along n (with_segments segments l) s)
 
-    pub user_along : (event : LinkEventValue) → forget_result (user_step book s event) ≡ user_step book (forget_links s) event
+    pub user_along : (event : LinkEventValue) → forget_result (user_step Without book s event) ≡ user_step Without book (forget_links s) event
     user_along (Open own) =
-        gives_along own (begun (opened book own) (freed book own s)) (begun (opened book own) (freed book own (forget_links s)))
-        (begun_along (opened book own) (freed book own s) ∙ ap (begun (opened book own)) (freed_along own))
+        gives_along own (begun (opened book own) (freed book Without own s)) (begun (opened book own) (freed book Without own (forget_links s)))
+        (begun_along (opened book own) (freed book Without own s) ∙ ap (begun (opened book own)) (freed_along own))
     user_along (Accept far own) = answers_along Confirming far own
     user_along (Reject far own) = answers_along Disconnecting far own
     user_along (In own message) =
@@ -206,7 +208,7 @@ module _ {D K : Type 0} (book : SegmentBook D K) where
         (carries book (forget_links s) n (forget_link l) (sends (forget_link l)))
         (carries_along n l (sends l) ∙ ap (carries book (forget_links s) n (forget_link l)) (sym (same l))))
 
-    message_along : (m : NspValue) → forget_sent (message_sent book s m) ≡ message_sent book (forget_links s) m
+    message_along : (m : NspValue) → forget_sent (message_sent Without book s m) ≡ message_sent Without book (forget_links s) m
     message_along (ConnectInitiate retransmitted src services info segsize user_data) = in_its_phase_along (OpenedAt src) is_calling
     message_along (ConnectAck dst) =
         with_both Goes (BegunBy dst) s (Err NoLink) (Err NoLink) (λ n l. Ok (unchanged book s n l))
@@ -222,10 +224,10 @@ module _ {D K : Type 0} (book : SegmentBook D K) where
     message_along (OtherDataAck dst src rest) = in_its_phase_along (TheLink src dst) is_running
     message_along (NoOperation rest) = refl
 
-    pub sent_along : (packet : Carried) → forget_sent (sent_step book s packet) ≡ sent_step book (forget_links s) packet
+    pub sent_along : (packet : Carried) → forget_sent (sent_step Without book s packet) ≡ sent_step Without book (forget_links s) packet
     sent_along packet =
-        checked_sent (eqb packet.src s.node && eqb packet.dst s.peer) WrongNode (message_sent book s packet.message)
-        (message_sent book (forget_links s) packet.message) (message_along packet.message)
+        checked_sent (eqb packet.src s.node && eqb packet.dst s.peer) WrongNode (message_sent Without book s packet.message)
+        (message_sent Without book (forget_links s) packet.message) (message_along packet.message)
 
   -- ---- an arrival
 
@@ -266,7 +268,7 @@ module _ {D K : Type 0} (book : SegmentBook D K) where
         ∙ ap (λ (segments : D). changed n (with_segments segments (in_phase Running (forget_link l))) (forget_links s)) (sym (same l))))
 
     message_arrives_along : (m : NspValue) →
-        Along (message_arrived book of_partner s m truth) (message_arrived book of_anyone (forget_links s) m truth_alone)
+        Along (message_arrived Without book of_partner s m truth) (message_arrived Without book of_anyone (forget_links s) m truth_alone)
     message_arrives_along (ConnectInitiate retransmitted src services info segsize user_data) =
         with_both Along (LiveTo src) s (Ok (begun (called book of_partner src segsize truth.tag) s))
         (Ok (begun (called book of_anyone src segsize layers.of_no_link) (forget_links s))) (λ n l. Ok s) (λ n l. Ok (forget_links s))
@@ -294,7 +296,7 @@ module _ {D K : Type 0} (book : SegmentBook D K) where
     goes_along false r r' same = λ seen. refl
 
     pub arrived_along : (packet : Carried) →
-        Along (arrived_step book of_partner s packet truth) (arrived_step book of_anyone (forget_links s) packet truth_alone)
+        Along (arrived_step Without book of_partner s packet truth) (arrived_step Without book of_anyone (forget_links s) packet truth_alone)
     arrived_along packet =
-        goes_along (eqb packet.src s.peer && eqb packet.dst s.node) (message_arrived book of_partner s packet.message truth)
-        (message_arrived book of_anyone (forget_links s) packet.message truth_alone) (message_arrives_along packet.message)
+        goes_along (eqb packet.src s.peer && eqb packet.dst s.node) (message_arrived Without book of_partner s packet.message truth)
+        (message_arrived Without book of_anyone (forget_links s) packet.message truth_alone) (message_arrives_along packet.message)

@@ -6,6 +6,7 @@ use Rattle.std.proofs.lemmas.Bool.{and_parts}
 use Rattle.std.proofs.lemmas.Option.{same_Some}
 use Rattle.dna_packet.specs.Nsp.{NspValue, DataSegment, LinkService, DataAck, OtherDataAck, ConnectConfirm}
 use Rattle.dna_station.specs.declared.link_refusal.LinkRefusal.TheVariants.{WrongNode, CrossedLink}
+use Rattle.dna_links.specs.declared.queue.Queues.TheVariants.{Without}
 use Rattle.dna_links.specs.declared.tag.LinkTag.{LinkTag}
 use Rattle.dna_links.specs.declared.port.LinkTest.{LinkTest}
 use Rattle.dna_links.specs.declared.port.LinkTest.TheVariants.{CallingAt, ActedOn}
@@ -85,7 +86,7 @@ module _ (own other : LinkSide) (most others : ℕ) (h : IsAddressedSide own oth
       go k u (inl at) = inl at
       go k u (inr e) = inr (this u e.1)
 
-  step_left : (left : LinkSide) (events : List LinkEventValue) → AddressesRise most events → LinkStep own other events left →
+  step_left : (left : LinkSide) (events : List LinkEventValue) → AddressesRise most events → LinkStep Without own other events left →
       StaysAddressed own left other (highest most events) others
   step_left left events rise (ByUser event links does) = side_left left (higher most (given_address event))
       (user_addressed own.links other.links.links most h.links event links rise.0 (user_did true_segments own.links links event does))
@@ -125,7 +126,7 @@ still_at : (s left : Links) (node peer : ℕ) → AtNodes s node peer → AtNode
 still_at s left node peer h l = record { node_is = l.node_is ∙ h.node_is; peer_is = l.peer_is ∙ h.peer_is }
 
 pub reached_addressed : (node_a peer_a node_b peer_b : ℕ) {w : LinkWorld} {of_a of_b : List LinkEventValue} →
-    Reached (new_world node_a peer_a node_b peer_b) w of_a of_b → AddressesRise 0 of_a → AddressesRise 0 of_b →
+    Reached Without (new_world node_a peer_a node_b peer_b) w of_a of_b → AddressesRise 0 of_a → AddressesRise 0 of_b →
     BothAddressed node_a peer_a node_b peer_b w of_a of_b
 reached_addressed node_a peer_a node_b peer_b Start rise_a rise_b = record {
   of_a = record { links = none_addressed [] 0; told = λ k u at. absurd cc; from = λ k u at. absurd cc };
@@ -205,7 +206,7 @@ module _ (own other : LinkSide) (most others : ℕ) (h : IsAddressedSide own oth
       (λ number link found. ap (λ (b : Bool). check b CrossedLink (Ok (changed number (running true_segments of_anyone takes link) own.links)))
       (sym (of_it src dst number link from is found)))
 
-  message_same : (m : NspValue) → u.packet.message ≡ m → message_arrived true_segments of_anyone own.links m u.truth ≡ message_arrived true_segments
+  message_same : (m : NspValue) → u.packet.message ≡ m → message_arrived Without true_segments of_anyone own.links m u.truth ≡ message_arrived Without true_segments
       of_partner own.links m u.truth
   message_same (ConnectConfirm dst src services info segsize user_data) is = with_same (CallingAt dst) own.links (Ok own.links) _ _
       (λ number link found. ap
@@ -217,5 +218,5 @@ module _ (own other : LinkSide) (most others : ℕ) (h : IsAddressedSide own oth
   message_same (OtherDataAck dst src rest) is = acted_same src dst _ (ap source is) (ap target is)
   message_same m is = refl
 
-  pub anyone_same : links_arrived of_anyone own.links u.packet u.truth ≡ links_arrived of_partner own.links u.packet u.truth
+  pub anyone_same : links_arrived Without of_anyone own.links u.packet u.truth ≡ links_arrived Without of_partner own.links u.packet u.truth
   anyone_same = ap (check _ WrongNode) (message_same u.packet.message refl)

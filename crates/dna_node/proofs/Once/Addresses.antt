@@ -6,11 +6,13 @@ use Rattle.std.specs.Prelude.{slice_get, slice_set}
 use Rattle.std.proofs.lemmas.Bool.{and_parts, cases_eq}
 use Rattle.std.proofs.lemmas.Option.{same_Some}
 use Rattle.two_nodes.proofs.Order.{slice_get-append}
+use Rattle.dna_links.specs.Queues.{forgotten, freed}
+use Rattle.dna_links.specs.declared.queue.Queues.TheVariants.{Without}
 use Rattle.dna_links.specs.declared.port.Phase.{Phase}
 use Rattle.dna_links.specs.declared.port.Phase.TheVariants.{Confirming, Disconnecting}
 use Rattle.dna_links.specs.declared.port.LinkTest.TheVariants.{HasAddress}
 use Rattle.dna_links.specs.LookUps.{is_at, is_called}
-use Rattle.dna_links.specs.Links.{LinkOf, changed, begun, in_phase, with_segments, forgotten, freed}
+use Rattle.dna_links.specs.Links.{LinkOf, changed, begun, in_phase, with_segments}
 use Rattle.dna_links.specs.User.{LinkEventValue}
 use Rattle.dna_links.specs.inner.Forms.{opened, answered}
 use Rattle.dna_links.specs.TrueSegments.{TrueSegments, true_segments}
@@ -217,9 +219,9 @@ module _ (s : Links) (others : LinkList) (most : ℕ) (h : AreAddressed s.links 
   -- ---- the user
 
   -- nobody has it
-  pub freed_same : (address : ℕ) → most < address → freed true_segments address s ≡ s
+  pub freed_same : (address : ℕ) → most < address → freed true_segments Without address s ≡ s
   freed_same address less =
-      looked (HasAddress address) s s (λ number link. changed number (forgotten true_segments link) s) (freed true_segments address s) refl
+      looked (HasAddress address) s s (λ number link. changed number (forgotten true_segments Without link) s) (freed true_segments Without address s) refl
       (λ none e. sym e)
       (λ number link found e.
       let l = h.highest number address (record { link = link; there = found.there; owns = at_is link.port.own address found.passed }) in
@@ -227,7 +229,7 @@ module _ (s : Links) (others : LinkList) (most : ℕ) (h : AreAddressed s.links 
 
   answers : (phase : Phase) (far address number : ℕ) (link : LinkOf TrueSegments) → is_called phase ≡ false → slice_get s.links number ≡ Some link →
       is_called link.port.phase ≡ true → most < address →
-      Leaves (changed number (answered true_segments phase address link) (freed true_segments address s)) address
+      Leaves (changed number (answered true_segments phase address link) (freed true_segments Without address s)) address
   answers phase far address number link differs there called less =
       subst (λ (x : Links). Leaves (changed number (answered true_segments phase address link) x) address) (sym (freed_same address less))
       (one_left (Some address) less number link (answered true_segments phase address link) there (inr (h.named number link there called, refl))

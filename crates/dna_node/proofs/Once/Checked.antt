@@ -30,6 +30,7 @@ use Rattle.dna_station.specs.Book.{Sound, has_packet, keep_refusal}
 use Rattle.dna_station.specs.StationBook.{takes, after_arrival}
 use Rattle.dna_station.specs.Line.{damage, coming_by}
 use Rattle.dna_station.specs.Machine.{met, comes, receives, sent_step, noise_step, user_step, unless_refused, step}
+use Rattle.dna_links.specs.declared.queue.Queues.TheVariants.{Without}
 use Rattle.dna_links.specs.TrueLinks.{Links, links_arrived}
 use Rattle.dna_links.specs.Runs.{SentMessage}
 use Rattle.dna_node.specs.Layers.{Layers, LayersNode, LayersUnit, with_links, keeps, meets_on, layers_machine, stations, unit_of_station}
@@ -97,7 +98,7 @@ module _ (own other : Half LayersNode LayersUnit) where
     kept_same links_s same d None is = refl
     kept_same links_s same d (Some message) is =
         ap (with_links links_s) (subst
-        (λ (x : Links). links_arrived by_bytes.partners x message.packet message.truth ≡ links_arrived judged.partners x message.packet message.truth)
+        (λ (x : Links). links_arrived Without by_bytes.partners x message.packet message.truth ≡ links_arrived Without judged.partners x message.packet message.truth)
         (sym same)
         (anyone_same (side_of own h.front) (side_of other h.of_other) h.most h.most_of_other h.addressed h.other_addressed message
         (h.other_addressed.told unit.known.station.place message (h.told.told hint unit there d ∙ ap Some is))))
@@ -167,7 +168,7 @@ module _ (own other : Half LayersNode LayersUnit) where
 -- ---- a run
 
 record HoldsAt (head_a head_b : Head) (w : World LayersNode LayersUnit) (made_a made_b : List Record) : Type 0 where
-  joined : LayersJoined head_a head_b w made_a made_b
+  joined : LayersJoined Without head_a head_b w made_a made_b
   begun : BothBegun (cut_world stations w) made_a made_b
 
 module _ (head_a head_b : Head) where
@@ -182,8 +183,8 @@ module _ (head_a head_b : Head) where
   holds_at : (w : World LayersNode LayersUnit) (made_a made_b : List Record) → Run layers_pair (layers_start head_a head_b) made_a made_b w →
       HoldsAt head_a head_b w made_a made_b
   holds_at w made_a made_b run = record {
-    joined = lasts layers_pair (LayersJoined head_a head_b) (joined_kept head_a head_b) [] [] (start_joined head_a head_b) run;
-    begun = lasts layers_pair (of_stations BothBegun) (lifted BothBegun begun_kept) [] [] start_begun run;
+    joined = lasts layers_pair (LayersJoined Without head_a head_b) (joined_kept Without head_a head_b) [] [] (start_joined Without head_a head_b) run;
+    begun = lasts layers_pair (of_stations Without BothBegun) (lifted Without BothBegun begun_kept) [] [] start_begun run;
   }
 
   module _ (w : World LayersNode LayersUnit) (made_a made_b : List Record) (run : Run layers_pair (layers_start head_a head_b) made_a made_b w)

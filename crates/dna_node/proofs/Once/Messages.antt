@@ -6,13 +6,15 @@ use Rattle.dna_packet.specs.Nsp.{NspValue, DataSegment, LinkService, DataAck, Ot
 use Rattle.dna_packet.specs.Nsp.{DisconnectInitiate, DisconnectConfirm}
 use Rattle.dna_station.specs.declared.link_refusal.LinkRefusal.{LinkRefusal}
 use Rattle.dna_station.specs.declared.link_refusal.LinkRefusal.TheVariants.{NoLink, LinkState}
+use Rattle.dna_links.specs.Queues.{ended}
+use Rattle.dna_links.specs.declared.queue.Queues.TheVariants.{Without}
 use Rattle.dna_links.specs.declared.tag.LinkTag.{LinkTag}
 use Rattle.dna_links.specs.declared.port.Phase.{Phase}
 use Rattle.dna_links.specs.declared.port.LinkTest.{LinkTest}
 use Rattle.dna_links.specs.declared.port.LinkTest.TheVariants.{TheLink, OpenedAt, ActedOn}
 use Rattle.dna_links.specs.LookUps.{is_live, is_at, is_calling, is_confirming, is_running, is_disconnecting, has_both, passes}
 use Rattle.dna_links.specs.SegmentBook.{Sending}
-use Rattle.dna_links.specs.Links.{LinkOf, LinkTruth, check, changed, with_segments, ended, in_phase}
+use Rattle.dna_links.specs.Links.{LinkOf, LinkTruth, check, changed, with_segments, in_phase}
 use Rattle.dna_links.specs.Sending.{Sent, message_sent}
 use Rattle.dna_links.specs.inner.Forms.{truth_of, unchanged, in_its_phase, carries, in_run, segment_of}
 use Rattle.dna_links.specs.Arriving.{of_partner}
@@ -124,7 +126,7 @@ module _ (s : Links) (others : LinkList) (most : ℕ) (h : AreAddressed s.links 
           subst (SentFrom m) (same_sent (record
           { links = changed number (with_segments sent.segments link) s; truth = truth_of true_segments number link sent.known }) made e) a
 
-  pub sent_from : (m : NspValue) (made : Sent TrueSegments Numbers) → message_sent true_segments s m ≡ Ok made → SentFrom m made
+  pub sent_from : (m : NspValue) (made : Sent TrueSegments Numbers) → message_sent Without true_segments s m ≡ Ok made → SentFrom m made
   sent_from (ConnectInitiate retransmitted src services info segsize user_data) made e =
       in_phase_from _ (OpenedAt src) is_calling made
       (λ link passed. (

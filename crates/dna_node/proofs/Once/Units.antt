@@ -7,6 +7,7 @@ use Rattle.two_nodes.specs.Cutting.{cut_half}
 use Rattle.ddcmp_msg.specs.Reading.{reading}
 use Rattle.ddcmp_msg.specs.Reading as read_as
 use Rattle.dna_station.specs.Book.{body_of}
+use Rattle.dna_links.specs.declared.queue.Queues.TheVariants.{Without}
 use Rattle.dna_node.specs.Content.{content}
 use Rattle.dna_node.specs.Layers.{LayersNode, LayersUnit, unit_of_station, stations}
 use Rattle.dna_station.proofs.Bounds.Numbers.{is_data}
@@ -28,5 +29,5 @@ module _ (own other : Half LayersNode LayersUnit)
   pub unit_content : AtPlaces own.state.station.station (map unit_of_station own.sent) → AreTold own → AreRead own → is_data unit.message ≡ true →
       content (body_of unit.message) ≡ Ok (packet_in unit.known.carried)
   unit_content places told read d =
-      body_read unit.message unit.known.station own.state.station.messages _ unit.known.carried read d (places k (unit_of_station unit) there_below)
+      body_read Without unit.message unit.known.station own.state.station.messages _ unit.known.carried read d (places k (unit_of_station unit) there_below)
       (told.told k unit there d)

@@ -10,6 +10,7 @@ use Rattle.ddcmp_msg.specs.Reading.{reading}
 use Rattle.dna_packet.specs.Nsp.{NspValue, DataSegment, LinkService, DataAck, OtherDataAck, ConnectInitiate, ConnectConfirm, DisconnectInitiate}
 use Rattle.dna_packet.specs.Nsp.{DisconnectConfirm}
 use Rattle.capture.specs.declared.record.Record.TheVariants.{Received}
+use Rattle.dna_links.specs.declared.queue.Queues.TheVariants.{Without}
 use Rattle.dna_links.specs.declared.port.LinkTest.{LinkTest}
 use Rattle.dna_links.specs.declared.port.LinkTest.TheVariants.{LiveTo, TheLink, CallingAt, ActedOn}
 use Rattle.dna_station.specs.declared.link_refusal.LinkRefusal.{LinkRefusal}
@@ -68,7 +69,7 @@ either_takes first second s otherwise next =
     (λ none e. let taken = found_takes second s otherwise next in (taken.0, sym e ∙ taken.1))
     (λ number link found e. (next number link, sym e))
 
-message_takes : (s : Links) (m : NspValue) (truth : LinkTruth Numbers) → Takes (message_arrived true_segments of_anyone s m truth)
+message_takes : (s : Links) (m : NspValue) (truth : LinkTruth Numbers) → Takes (message_arrived Without true_segments of_anyone s m truth)
 message_takes s (ConnectInitiate retransmitted src services info segsize user_data) truth = found_takes (LiveTo src) s _ _
 message_takes s (ConnectConfirm dst src services info segsize user_data) truth = found_takes (CallingAt dst) s _ _
 message_takes s (DisconnectInitiate dst src reason user_data) truth = either_takes (TheLink dst src) (CallingAt dst) s _ _
@@ -80,7 +81,7 @@ message_takes s (OtherDataAck dst src rest) truth = found_takes (ActedOn dst src
 message_takes s m truth = (_, refl)
 
 pub links_take : (s : Links) (u : SentMessage) → u.packet.src ≡ s.peer → u.packet.dst ≡ s.node →
-    Takes (links_arrived of_anyone s u.packet u.truth)
+    Takes (links_arrived Without of_anyone s u.packet u.truth)
 links_take s u from to = let m = message_takes s u.packet.message u.truth in (m.0, rw (eq-eqb _ _ from, eq-eqb _ _ to) m.1)
 
 -- ---- the node

@@ -12,6 +12,7 @@ use Rattle.dna_station.specs.StationBook.{sending_refusal, gives_number}
 use Rattle.dna_station.specs.Cut.{cut}
 use Rattle.dna_station.specs.WireStation.{HeldPacket, StationVariables}
 use Rattle.dna_station.specs.WireNode.{unlabelled}
+use Rattle.dna_links.specs.declared.queue.Queues.TheVariants.{Without}
 use Rattle.dna_links.specs.Links.{Carried}
 use Rattle.dna_links.specs.Sending as links_sending
 use Rattle.dna_links.specs.Sending.{message_sent}
@@ -59,7 +60,7 @@ module _ (own : PlayHalf) where
   first_after m packet made = first_sent s (sent_by own m) made.links (Some (record { packet = packet; truth = made.truth }))
 
   pub sends_new : (m : MessageValue) (packet : Carried) (made : links_sending.Sent TrueSegments Numbers) → sending_refusal s.station m ≡ None →
-      gives_number s.station m ≡ true → content (body_of m) ≡ Ok (Some packet) → links_sent s.links packet ≡ Ok made →
+      gives_number s.station m ≡ true → content (body_of m) ≡ Ok (Some packet) → links_sent Without s.links packet ≡ Ok made →
       (layers_machine by_bytes).sends s m ≡ Ok (first_after m packet made)
   sends_new m packet made allowed new read sent = rw (allowed, new, read, sent) refl
 

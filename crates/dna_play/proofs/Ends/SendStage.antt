@@ -3,6 +3,7 @@ use Rattle.std.proofs.Common.{◌≡◌, ℕ, ◌∙◌, Option, Some, Ok, ap, r
 use Rattle.std.proofs.lemmas.Option.{same_Some}
 use Rattle.ddcmp_msg.specs.Message.{MessageValue}
 use Rattle.dna_packet.specs.Nsp.{NspValue}
+use Rattle.dna_links.specs.declared.queue.Queues.TheVariants.{Without}
 use Rattle.dna_links.specs.Links.{Carried}
 use Rattle.dna_links.specs.Sending as links_sending
 use Rattle.dna_links.specs.TrueSegments.{TrueSegments, Numbers}
@@ -49,7 +50,7 @@ module _ (own other : End) (h : Stage own) (known : Known own other) where
 
   -- a new packet
   pub stage_first : (one : LinkChoice) (packet : Carried) → IsAsked (links_of own.half).links own.links one packet.message →
-      (made : links_sending.Sent TrueSegments Numbers) → links_sent (links_of own.half) packet ≡ Ok made →
+      (made : links_sending.Sent TrueSegments Numbers) → links_sent Without (links_of own.half) packet ≡ Ok made →
       (m : MessageValue) → message_of (SendNew one) own.half.state.head (variables_of own.half) own.links.links ≡ Some m → IsOfBytes m →
       Stage (after_sending (SendNew one) own (sent_left own.half m (first_after own.half m packet made)) (after_sent one own.links))
   stage_first one packet asked made does_it m put b = record {

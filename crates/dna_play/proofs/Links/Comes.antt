@@ -6,11 +6,13 @@ use Rattle.dna_packet.specs.Nsp.{NspValue, DataSegment, LinkService, DataAck, Ot
 use Rattle.dna_packet.specs.Nsp.{DisconnectInitiate, DisconnectConfirm}
 use Rattle.dna_station.specs.declared.link_refusal.LinkRefusal.{LinkRefusal}
 use Rattle.dna_station.specs.declared.link_refusal.LinkRefusal.TheVariants.{CrossedLink}
+use Rattle.dna_links.specs.Queues.{ended}
+use Rattle.dna_links.specs.declared.queue.Queues.TheVariants.{Without}
 use Rattle.dna_links.specs.declared.port.Phase.{Phase}
 use Rattle.dna_links.specs.declared.port.Phase.TheVariants.{Called, Confirming, Running}
 use Rattle.dna_links.specs.declared.port.LinkTest.TheVariants.{TheLink, LiveTo, CallingAt, ActedOn}
 use Rattle.dna_links.specs.LookUps.{is_running, is_calling, is_at, is_connected, has_both}
-use Rattle.dna_links.specs.Links.{LinkOf, LinkTruth, check, with_link, begun, changed, in_phase, with_segments, ended}
+use Rattle.dna_links.specs.Links.{LinkOf, LinkTruth, check, with_link, begun, changed, in_phase, with_segments}
 use Rattle.dna_links.specs.Arriving.{of_partner, is_for, is_of_pair, message_arrived}
 use Rattle.dna_links.specs.inner.Forms.{called, confirmed, ends_link, ends_by, running, acted_on}
 use Rattle.dna_links.specs.Segmentation.{SEGSIZE}
@@ -156,7 +158,7 @@ module _ (s : Links) (most : ℕ) (kept : StoredLinks) (h : LinkHolds s.links mo
   -- ---- by message
 
   leads : (m : NspValue) → NoSegment m → IsPlain m → EndsHold s most m → ArrivesNear of_partner s m truth →
-      Leads (message_arrived true_segments of_partner s m truth) (keeping.message_came m kept)
+      Leads (message_arrived Without true_segments of_partner s m truth) (keeping.message_came m kept)
   leads (ConnectInitiate retransmitted src services info segsize user_data) is plain ends near = call_leads src segsize plain
   leads (ConnectAck dst) is plain ends near = h
   leads (NoOperation rest) is plain ends near = h
@@ -182,6 +184,6 @@ module _ (s : Links) (most : ℕ) (kept : StoredLinks) (h : LinkHolds s.links mo
   leads (DataSegment segment) is plain ends near = absurd is
 
   pub message_holds : (left : Links) (m : NspValue) → NoSegment m → IsPlain m → EndsHold s most m → ArrivesNear of_partner s m truth →
-      message_arrived true_segments of_partner s m truth ≡ Ok left → LinkHolds left.links most (keeping.message_came m kept)
+      message_arrived Without true_segments of_partner s m truth ≡ Ok left → LinkHolds left.links most (keeping.message_came m kept)
   message_holds left m is plain ends near e =
       subst (λ (r : Result Links LinkRefusal). Leads r (keeping.message_came m kept)) e (leads m is plain ends near)

@@ -3,12 +3,13 @@ use Rattle.std.proofs.Common.{◌≡◌, ℕ, ◌≤◌, Bool, true, false, ◌&
 use Rattle.std.specs.Prelude.{slice_get}
 use Rattle.std.proofs.Math.Bool.{and-true, or-true}
 use Rattle.std.proofs.lemmas.Bool.{and_parts}
+use Rattle.dna_links.specs.Queues.{ended}
 use Rattle.dna_links.specs.declared.port.Phase.{Phase}
 use Rattle.dna_links.specs.declared.port.Phase.TheVariants.{Confirming, Running}
 use Rattle.dna_links.specs.declared.port.Port.{Port}
 use Rattle.dna_links.specs.declared.port.LinkTest.TheVariants.{TheLink, CallingAt}
 use Rattle.dna_links.specs.LookUps.{is_live, is_calling, is_connected, is_at, has_both, passes}
-use Rattle.dna_links.specs.Links.{LinkOf, number_of, with_link, changed, ended}
+use Rattle.dna_links.specs.Links.{LinkOf, number_of, with_link, changed}
 use Rattle.dna_links.specs.Arriving.{PartnerRule}
 use Rattle.dna_links.specs.inner.Forms.{ends_link}
 use Rattle.dna_links.specs.TrueSegments.{TrueSegments, true_segments}

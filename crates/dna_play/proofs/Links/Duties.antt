@@ -8,6 +8,7 @@ use Rattle.std.proofs.lemmas.Bool.{and_parts}
 use Rattle.std.proofs.lemmas.Option.{slice_get_within}
 use Rattle.dna_station.specs.declared.link_refusal.LinkRefusal.{LinkRefusal}
 use Rattle.dna_station.specs.declared.link_refusal.LinkRefusal.TheVariants.{NoLink}
+use Rattle.dna_links.specs.declared.queue.Queues.TheVariants.{Without}
 use Rattle.dna_links.specs.declared.port.Phase.{Phase}
 use Rattle.dna_links.specs.declared.port.Phase.TheVariants.{Calling, Called, Confirming, Running, Disconnecting}
 use Rattle.dna_links.specs.declared.port.LinkTest.TheVariants.{TheLink, OpenedAt, BegunBy}
@@ -37,7 +38,7 @@ use Rattle.dna_play.proofs.Links.SegmentsPay.{MaySend, data_ack_may, again_may, 
 -- this is sent by the link, and makes this of it
 pub record DutyMade (s : Links) (n : ℕ) (l : LinkOf TrueSegments) (o : LinkOwed) (duty : Duty) : Type 0 where
   pub made : Sent TrueSegments Numbers
-  pub sent : message_sent true_segments s (duty_message duty (end_of l o)) ≡ Ok made
+  pub sent : message_sent Without true_segments s (duty_message duty (end_of l o)) ≡ Ok made
   pub segments : TrueSegments
   pub links : made.links ≡ changed n (with_segments segments l) s
   pub acknowledged : segments.acknowledged ≡ l.segments.acknowledged
@@ -90,7 +91,7 @@ module _ (s : Links) (others : LinkList) (most : ℕ) (addressed : AreAddressed 
   still number link = Ok (unchanged true_segments s number link)
 
   unmoved : (duty : Duty) → gave_by duty it ≡ it → (number : ℕ) (link : LinkOf TrueSegments) →
-      message_sent true_segments s (duty_message duty it) ≡ Ok (unchanged true_segments s number link) → DutyMade s n l o duty
+      message_sent Without true_segments s (duty_message duty it) ≡ Ok (unchanged true_segments s number link) → DutyMade s n l o duty
   unmoved duty none number link sent = record {
     made = unchanged true_segments s number link;
     sent = sent;
@@ -104,7 +105,7 @@ module _ (s : Links) (others : LinkList) (most : ℕ) (addressed : AreAddressed 
   -- in RUN, where its segments may be sent
   moved : (duty : Duty) → l.port.phase ≡ Running → (sends : LinkOf TrueSegments → Result (Sending TrueSegments Numbers) LinkRefusal) →
       MaySend it l.segments (sends l) (gave_by duty it) →
-      message_sent true_segments s (duty_message duty it) ≡ in_run true_segments own far sends s → DutyMade s n l o duty
+      message_sent Without true_segments s (duty_message duty it) ≡ in_run true_segments own far sends s → DutyMade s n l o duty
   moved duty is sends m of_it = record {
     made = _;
     sent = of_it ∙ right_may s (TheLink own far) is_running (λ number link. carries true_segments s number link (sends link)) n l

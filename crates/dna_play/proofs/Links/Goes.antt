@@ -7,12 +7,13 @@ use Rattle.std.specs.Prelude.{is_some, not}
 use Rattle.std.proofs.lemmas.Bool.{and_parts}
 use Rattle.std.proofs.lemmas.Option.{same_Some}
 use Rattle.dna_packet.specs.Nsp.{SegmentValue}
+use Rattle.dna_links.specs.Queues.{ended}
 use Rattle.dna_links.specs.declared.tag.LinkTag.{LinkTag}
 use Rattle.dna_links.specs.declared.port.Phase.{Phase}
 use Rattle.dna_links.specs.declared.port.Phase.TheVariants.{Calling, Called, Running}
 use Rattle.dna_links.specs.LookUps.{is_live, is_at, is_called, is_calling, is_connected}
 use Rattle.dna_links.specs.Segmentation.{Piece, without_piece, SEGSIZE}
-use Rattle.dna_links.specs.Links.{LinkOf, in_phase, with_segments, ended}
+use Rattle.dna_links.specs.Links.{LinkOf, in_phase, with_segments}
 use Rattle.dna_links.specs.inner.Forms.{answered}
 use Rattle.dna_links.specs.Arriving.{PartnerRule}
 use Rattle.dna_links.specs.inner.Forms.{confirmed}

@@ -4,6 +4,7 @@ use Rattle.std.specs.Prelude.{slice_get}
 use Rattle.std.proofs.lemmas.Bool.{and_parts}
 use Rattle.capture.specs.declared.event.Event.{Event}
 use Rattle.capture.specs.declared.record.Record.TheVariants.{User}
+use Rattle.dna_links.specs.declared.queue.Queues.TheVariants.{Without}
 use Rattle.dna_links.specs.declared.port.Phase.{Phase}
 use Rattle.dna_links.specs.declared.port.Phase.TheVariants.{Disconnecting}
 use Rattle.dna_links.specs.declared.port.LinkTest.TheVariants.{LiveAt, CalledBy}
@@ -30,7 +31,7 @@ use Rattle.dna_play.proofs.Ends.TrueEnd.{links_of}
 -- one that the links take, and that has a line
 pub event_makes : (own other : PlayHalf) (event : Event) (value : LinkEventValue) (left : Links) → link_event event ≡ Some value →
     has_line (User event) ≡ true →
-    links_user (links_of own) value ≡ Ok left → makes own other (User event) ≡ Some (with_left own left)
+    links_user Without (links_of own) value ≡ Ok left → makes own other (User event) ≡ Some (with_left own left)
 unfolding end_step
 event_makes own other event value left is lined does_it = rw (lined, is, does_it) refl
 
@@ -57,7 +58,7 @@ module _ (s : Links) (others : LinkList) (most : ℕ) (addressed : AreAddressed 
             at_is m.port.own address (and_parts (is_live m.port.phase) (is_at m.port.own address) e).1;
       }) in absurd (omega arith))
 
-  pub open_goes : (address : ℕ) → most < address → links_user s (Open address) ≡ Ok (begun (opened true_segments address) s)
+  pub open_goes : (address : ℕ) → most < address → links_user Without s (Open address) ≡ Ok (begun (opened true_segments address) s)
   open_goes address less = rw (free address less, freed_same s others most addressed address less) refl
 
   -- a call is accepted or rejected
@@ -69,11 +70,11 @@ module _ (s : Links) (others : LinkList) (most : ℕ) (addressed : AreAddressed 
 
 pub in_goes : (s : Links) (address : ℕ) (message : List ℕ) (number : ℕ) (link : LinkOf TrueSegments) → IsFound (LiveAt address) s number link →
     takes_messages link.port.phase ≡ true →
-    links_user s (In address message) ≡ Ok (changed number (with_segments (true_segments.hands_in message link.segments) link) s)
+    links_user Without s (In address message) ≡ Ok (changed number (with_segments (true_segments.hands_in message link.segments) link) s)
 in_goes s address message number link found may = right_may s (LiveAt address) takes_messages
     (λ number link. Ok (changed number (with_segments (true_segments.hands_in message link.segments) link) s)) number link found may
 
 pub close_goes : (s : Links) (address number : ℕ) (link : LinkOf TrueSegments) → IsFound (LiveAt address) s number link →
-    is_connected link.port.phase ≡ true → links_user s (Close address) ≡ Ok (changed number (in_phase Disconnecting link) s)
+    is_connected link.port.phase ≡ true → links_user Without s (Close address) ≡ Ok (changed number (in_phase Disconnecting link) s)
 close_goes s address number link found may =
     right_may s (LiveAt address) is_connected (λ number link. Ok (changed number (in_phase Disconnecting link) s)) number link found may

@@ -7,6 +7,7 @@ use Rattle.std.proofs.lemmas.Option.{same_Some}
 use Rattle.dna_packet.specs.Nsp.{NspValue, DisconnectConfirm}
 use Rattle.dna_station.specs.declared.link_refusal.LinkRefusal.{LinkRefusal}
 use Rattle.dna_station.specs.declared.link_refusal.LinkRefusal.TheVariants.{NoLink, LinkState}
+use Rattle.dna_links.specs.declared.queue.Queues.TheVariants.{Without}
 use Rattle.dna_links.specs.declared.port.Phase.{Phase}
 use Rattle.dna_links.specs.declared.port.Phase.TheVariants.{Calling, Called, Confirming, Running, Disconnecting, Ended}
 use Rattle.dna_links.specs.declared.port.LinkTest.{LinkTest}
@@ -136,7 +137,7 @@ module _ (s : Links) where
   -- ---- it may be sent
 
   abbrev pub MaySendIt : NspValue → Type 0
-  MaySendIt m = (made : Sent TrueSegments Numbers) × (message_sent true_segments s m ≡ Ok made)
+  MaySendIt m = (made : Sent TrueSegments Numbers) × (message_sent Without true_segments s m ≡ Ok made)
 
   -- what comes of the one that is found, in a right phase
   pub right_may : {R : Type 0} (test : LinkTest) (is_right : Phase → Bool) (next : ℕ → LinkOf TrueSegments → Result R LinkRefusal) (n : ℕ)
@@ -147,5 +148,5 @@ module _ (s : Links) where
   -- a DC where no live link has the two addresses
   pub confirm_may : (dst src reason : ℕ) → 1 ≤ src →
       ((j : ℕ) (m : LinkOf TrueSegments) → slice_get s.links j ≡ Some m → passes (TheLink src dst) m.port ≡ true → ⊥) →
-      message_sent true_segments s (DisconnectConfirm dst src reason) ≡ Ok (of_no_link true_segments s)
+      message_sent Without true_segments s (DisconnectConfirm dst src reason) ≡ Ok (of_no_link true_segments s)
   confirm_may dst src reason some never = rw (none_found (TheLink src dst) never, ne_eqb src 0 (λ e. omega arith)) refl

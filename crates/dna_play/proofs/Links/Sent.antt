@@ -2,6 +2,7 @@
 use Rattle.std.proofs.Common.{◌≡◌, ℕ, ◌+◌, ◌≤◌, length, Ok, refl, ap, ◌∙◌, subst, arith}
 use Rattle.std.specs.Prelude.{slice_get}
 use Rattle.dna_packet.specs.Nsp.{NspValue}
+use Rattle.dna_links.specs.declared.queue.Queues.TheVariants.{Without}
 use Rattle.dna_links.specs.Links.{LinkOf, with_segments}
 use Rattle.dna_links.specs.Sending.{Sent, message_sent}
 use Rattle.dna_links.specs.inner.Forms.{of_no_link}
@@ -63,6 +64,6 @@ module _ (s : Links) (most : ℕ) (kept : StoredLinks) (h : LinkHolds s.links mo
       ((of_no_link true_segments s, may), first_sent_holds s most kept h)
 
   pub sent_holds : (c : LinkChoice) (m : NspValue) (made : Sent TrueSegments Numbers) → IsAsked s.links kept c m →
-      message_sent true_segments s m ≡ Ok made → LinkHolds made.links.links most (after_sent c kept)
+      message_sent Without true_segments s m ≡ Ok made → LinkHolds made.links.links most (after_sent c kept)
   sent_holds c m made asked does =
       let t = asked_goes c m asked in let sent = t.0.1 in let same : t.0.0 ≡ made = cc in rw (← same) t.1

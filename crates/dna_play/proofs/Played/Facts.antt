@@ -10,6 +10,7 @@ use Rattle.ddcmp_msg.specs.Reading as read_as
 use Rattle.dna_packet.specs.Nsp.{NspValue}
 use Rattle.capture.specs.declared.record.Record.{Record}
 use Rattle.capture.specs.Range.{IsNode}
+use Rattle.dna_links.specs.declared.queue.Queues.TheVariants.{Without}
 use Rattle.dna_node.specs.TagRules.{judged}
 use Rattle.dna_station.specs.declared.head.Head.{Head}
 use Rattle.dna_station.specs.Book.{Sound, body_of}
@@ -25,6 +26,7 @@ use Rattle.dna_play.specs.Played.{Played}
 use Rattle.dna_station.proofs.Bounds.Numbers.{is_data}
 use Rattle.dna_station.proofs.Bounds.Runs.{sound_bounded}
 use Rattle.dna_node.proofs.LayersRead.{LayersRead, packet_in, read_kept, start_read}
+use Rattle.dna_links.proofs.Runs.Loose.{without_loose}
 use Rattle.dna_links.proofs.Runs.Bounds.{BothOwned, sound, owned, bounded}
 use Rattle.dna_node.proofs.ReadInRange.{content_in_range}
 use Rattle.dna_node.proofs.CutLayersNode.{IsLayersBounded}
@@ -70,7 +72,7 @@ Later own other = (e : End) (records : List Record) → MakesAll other.half own.
     Facts e other
 
 -- a unit that may be kept has its message, and that is near
-comes_near : (own other : PlayHalf) (front of_other : ℕ) → IsLayersBounded own other front of_other →
+comes_near : (own other : PlayHalf) (front of_other : ℕ) → IsLayersBounded Without own other front of_other →
     AreLinksBounded (side_of own front) (side_of other of_other) → (k : ℕ) (unit : LayersUnit) → slice_get other.sent k ≡ Some unit →
     own.state.front ≤ k → arrival_refusal judged.periods own.state.station.station (Sound unit.message unit.known.station) true ≡ None →
     (u : SentMessage) → unit.known.carried ≡ Some u → ArrivesNear of_partner own.state.station.links u.packet.message u.truth
@@ -109,21 +111,21 @@ module _ (p : Progress) (node_a : IsNode p.node_a) (node_b : IsNode p.node_b) (f
     run : IsCheckedRun p (played_of both)
     run = checked p (played_of both) g few_a few_b
 
-    met : LayersRead (first_head p) (second_head p) (played_of both).nodes both.of_a both.of_b
-    met = lasts layers_pair (LayersRead (first_head p) (second_head p)) (read_kept (first_head p) (second_head p)) [] []
-        (start_read (first_head p) (second_head p)) run
+    met : LayersRead Without (first_head p) (second_head p) (played_of both).nodes both.of_a both.of_b
+    met = lasts layers_pair (LayersRead Without (first_head p) (second_head p)) (read_kept Without (first_head p) (second_head p)) [] []
+        (start_read Without (first_head p) (second_head p)) run
 
     abbrev links_world : LinkWorld
     links_world = record { a = side_of both.a.half met.joined.joined.front_a; b = side_of both.b.half met.joined.joined.front_b }
 
     all_sound : BothLinksSound links_world
-    all_sound = sound _ _ _ _ _ _ _ met.joined.joined.reached
+    all_sound = sound _ _ _ _ _ _ _ (without_loose met.joined.joined.reached)
 
     all_owned : BothOwned links_world (link_events both.of_a) (link_events both.of_b)
-    all_owned = owned _ _ _ _ _ _ _ met.joined.joined.reached
+    all_owned = owned _ _ _ _ _ _ _ (without_loose met.joined.joined.reached)
 
     bounds : AreLinksBounded links_world.a links_world.b × AreLinksBounded links_world.b links_world.a
-    bounds = bounded _ _ _ _ _ _ _ met.joined.joined.reached
+    bounds = bounded _ _ _ _ _ _ _ (without_loose met.joined.joined.reached)
 
     lines : AreSentLined both.a.half × AreSentLined both.b.half
     lines = sent_lined run g.made.lines_a g.made.lines_b (λ k unit at. absurd cc) (λ k unit at. absurd cc)
@@ -162,7 +164,7 @@ module _ (p : Progress) (node_a : IsNode p.node_a) (node_b : IsNode p.node_b) (f
           packets = λ k unit there. unit_content both.b.half both.a.half order.of_b.sound k unit there order.of_b.places met.joined.b_told
               met.b_read;
           near = comes_near both.a.half both.b.half met.joined.joined.front_a met.joined.joined.front_b
-              (a_bounded (first_head p) (second_head p) (played_of both).nodes both.of_a both.of_b met) bounds.0;
+              (a_bounded Without (first_head p) (second_head p) (played_of both).nodes both.of_a both.of_b met) bounds.0;
         }
 
   pub later_a : (both : TrueEnds) → Going p (played_of both) → Later both.a both.b

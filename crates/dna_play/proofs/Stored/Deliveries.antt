@@ -5,6 +5,7 @@ use Rattle.std.proofs.Common.{arith, ◌⊎◌, inl, inr, Ok, Err}
 use Rattle.std.specs.Prelude.{slice_get}
 use Rattle.std.proofs.lemmas.List.{drop-drop, set-set}
 use Rattle.capture.specs.declared.event.Event.TheVariants as events
+use Rattle.dna_links.specs.declared.queue.Queues.TheVariants.{Without}
 use Rattle.dna_links.specs.LookUps.{is_at}
 use Rattle.dna_links.specs.Segmentation.{Whole, in_whole_messages}
 use Rattle.dna_links.specs.Links.{LinkOf, changed, with_segments}
@@ -65,7 +66,7 @@ gets_made other address number (message ∷ later) half l lined there owns only 
     let d = delivers_next l.segments message later whole in
     let k = with_segments (delivering message d.w l.segments) l in
     let left : Links = changed number k s in
-    let does : links_user s (of_links.Up address message) ≡ Ok left =
+    let does : links_user Without s (of_links.Up address message) ≡ Ok left =
     with_found s (HasAddress address) number l (Err NoLink)
     (λ number link. forms.delivered true_segments number link s (true_segments.delivers message link.segments))
     (found_at s (HasAddress address) number l there owns only) ∙ ap (forms.delivered true_segments number l s) d.does in

@@ -11,6 +11,7 @@ use Rattle.dna_station.specs.declared.state.StationEvent.TheVariants as station_
 use Rattle.dna_station.specs.Machine.{does}
 use Rattle.dna_station.specs.Table.{user_refusal}
 use Rattle.dna_station.specs.WireStation.{StationVariables}
+use Rattle.dna_links.specs.declared.queue.Queues.TheVariants.{Without}
 use Rattle.dna_links.specs.TrueLinks.{Links, links_user}
 use Rattle.dna_links.specs.User.{LinkEventValue}
 use Rattle.dna_node.specs.Content.{link_event}
@@ -84,7 +85,7 @@ module _ (own other : End) (now : StoredNow own other) where
 
   -- it is made, and these links are kept then
   pub event_right : (step : StepValue) (event : Event) (value : LinkEventValue) (top : ℕ) → link_event event ≡ Some value →
-      (left : Links) (kept : StoredLinks) → has_line (User event) ≡ true → links_user s value ≡ Ok left → top ≤ MAX_LINK →
+      (left : Links) (kept : StoredLinks) → has_line (User event) ≡ true → links_user Without s value ≡ Ok left → top ≤ MAX_LINK →
       LinkHolds left.links top kept → IsAsked own other step → ¬ (HasNoRoom own other step) →
       IsRight own other step (keeping.made event (StoredBy top kept))
   event_right step event value top is left kept lined does few holds asks room =

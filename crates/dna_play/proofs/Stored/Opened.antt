@@ -8,6 +8,7 @@ use Rattle.capture.specs.declared.event.Event.{Event}
 use Rattle.capture.specs.declared.event.Event.TheVariants as events
 use Rattle.capture.specs.declared.limit.TheConstants.{MAX_LINK}
 use Rattle.capture.specs.declared.record.Record.TheVariants.{User}
+use Rattle.dna_links.specs.declared.queue.Queues.TheVariants.{Without}
 use Rattle.dna_links.specs.Links.{LinkOf, number_of, changed, begun}
 use Rattle.dna_links.specs.LookUps.{passes, is_live, is_called, is_at}
 use Rattle.dna_links.specs.Segmentation.{SEGSIZE}
@@ -106,7 +107,7 @@ module _ (own other : End) (now : StoredNow own other) where
       fits_in phase (forms.answered true_segments phase next l) ≡ (is_some l.port.far && eqb l.segsize SEGSIZE))
       (lined : IsLink next → has_line (User (event next)) ≡ true)
       (goes : (number : ℕ) (link : LinkOf TrueSegments) → IsFound (CalledBy partner) links number link → own.addresses < next →
-      links_user links (value next) ≡ Ok (changed number (forms.answered true_segments phase next link) links)) where
+      links_user Without links (value next) ≡ Ok (changed number (forms.answered true_segments phase next link) links)) where
     answer_right : IsRight own other step (keeping.answers (stored own) partner (stored_link.answered phase duty) event)
     answer_right = look (CalledBy partner) (called_by_lives partner) (IsRight own other step) links own.links now.stage.links.keeps (Err BadStep) _
         (λ none asks. nobody_calls partner none (asked asks)) (λ n place l o found at.

@@ -9,6 +9,7 @@ use Rattle.capture.specs.declared.record.Record.TheVariants.{User}
 use Rattle.dna_station.specs.declared.link_refusal.LinkRefusal.{LinkRefusal}
 use Rattle.dna_station.specs.declared.link_refusal.LinkRefusal.TheVariants.{CrossedLink}
 use Rattle.dna_station.specs.Station.{Station}
+use Rattle.dna_links.specs.declared.queue.Queues.TheVariants.{Without}
 use Rattle.dna_links.specs.declared.port.Phase.TheVariants.{Running}
 use Rattle.dna_links.specs.declared.port.LinkTest.{LinkTest}
 use Rattle.dna_links.specs.declared.port.LinkTest.TheVariants.{ActedOn}
@@ -178,7 +179,7 @@ module _ (own other : End) (now : StoredNow own other) (station : Station) where
     same_links x e = cc
 
     segment_got : (segment : SegmentValue) → ArrivesNear of_partner s (DataSegment segment) truth →
-        message_arrived true_segments of_partner s (DataSegment segment) truth ≡ Ok left → AreDistinct left.links →
+        message_arrived Without true_segments of_partner s (DataSegment segment) truth ≡ Ok left → AreDistinct left.links →
         IsLined left (DataSegment segment) → Got left (Some (DataSegment segment))
     segment_got segment near does distinct lined =
         look (ActedOn segment.dstaddr segment.srcaddr) (acted_on_lives segment.dstaddr segment.srcaddr)
@@ -210,7 +211,7 @@ module _ (own other : End) (now : StoredNow own other) (station : Station) where
             distinct lined
 
     pub message_got : (m : NspValue) → IsPlain m → EndsHold s own.addresses m → ArrivesNear of_partner s m truth →
-        message_arrived true_segments of_partner s m truth ≡ Ok left → AreDistinct left.links → IsLined left m → Got left (Some m)
+        message_arrived Without true_segments of_partner s m truth ≡ Ok left → AreDistinct left.links → IsLined left m → Got left (Some m)
     message_got (DataSegment segment) plain ends near does distinct lined = segment_got segment near does distinct lined
     message_got m plain ends near does distinct lined = nothing_got left (up_address (Some m)) (message_came m own.links)
         (message_holds s own.addresses own.links h ordered truth left m tt plain ends near does)

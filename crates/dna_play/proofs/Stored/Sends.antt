@@ -6,6 +6,7 @@ use Rattle.ddcmp_msg.specs.Spelling.{spelling}
 use Rattle.capture.specs.declared.record.Record.TheVariants.{Sent}
 use Rattle.dna_station.specs.StationBook as station_book
 use Rattle.dna_station.specs.WireStation.{StationVariables, HeldPacket}
+use Rattle.dna_links.specs.declared.queue.Queues.TheVariants.{Without}
 use Rattle.dna_links.specs.TrueLinks.{Links, links_sent}
 use Rattle.dna_links.specs.Runs.{SentMessage}
 use Rattle.dna_node.specs.Layers.{LayersUnit, LayersTruth}
@@ -180,7 +181,7 @@ module _ (own other : End) (now : StoredNow own other) where
       let put : message_of (SendNew one) head k ends ≡ Some m = ap (new_data k head) x.put in
       let b = data_of_bytes k (omega arith) (packet_with head x.message) (packet_fits head x.message f.0) in
       let packet : Carried = record { dst = head.peer; src = head.own; message = x.message } in
-      let goes : links_sent s packet ≡ Ok may.0 = rw (eq-eqb _ _ (sym known.node), eq-eqb _ _ (sym known.peer)) may.1 in
+      let goes : links_sent Without s packet ≡ Ok may.0 = rw (eq-eqb _ _ (sym known.node), eq-eqb _ _ (sym known.peer)) may.1 in
       let after = first_after own.half m packet may.0 in
       sent_right (SendNew one) m is put after.0.links after.0.messages after.1 (is_made own.half other.half m b after
       (sends_new own.half m packet may.0 (allowed (SendNew one) m is put) (gives_as (packet_with head x.message) true new)

@@ -7,6 +7,7 @@ use Rattle.dna_packet.specs.declared.fault.NspFault.{NspFault}
 use Rattle.dna_packet.specs.Nsp.{NspValue}
 use Rattle.dna_packet.specs.ReadingNsp.{nsp_at}
 use Rattle.dna_station.specs.declared.link_refusal.LinkRefusal.{LinkRefusal}
+use Rattle.dna_links.specs.declared.queue.Queues.TheVariants.{Without}
 use Rattle.dna_links.specs.Links.{LinkOf, Carried}
 use Rattle.dna_links.specs.User.{LinkEventValue, Open, Accept, In, Up, Close}
 use Rattle.dna_links.specs.Sending.{Sent}
@@ -29,14 +30,14 @@ data Duty : Type 0 where
 record Made (own other : LinkSide) : Type 0 where
   pub events : List LinkEventValue
   pub left : LinkSide
-  pub step : LinkStep own other events left
+  pub step : LinkStep Without own other events left
 
 module _ (own other : LinkSide) where
-  abbrev does_made : (event : LinkEventValue) (r : Result Links LinkRefusal) → links_user own.links event ≡ r → Option (Made own other)
+  abbrev does_made : (event : LinkEventValue) (r : Result Links LinkRefusal) → links_user Without own.links event ≡ r → Option (Made own other)
   does_made event (Ok links) e = Some (record { events = event ∷ []; left = _; step = ByUser event links e })
   does_made event (Err reason) e = None
 
-  abbrev sends_made : (packet : Carried) (r : Result (Sent TrueSegments Numbers) LinkRefusal) → links_sent own.links packet ≡ r →
+  abbrev sends_made : (packet : Carried) (r : Result (Sent TrueSegments Numbers) LinkRefusal) → links_sent Without own.links packet ≡ r →
       Option (Made own other)
   sends_made packet (Ok made) e = Some (record { events = []; left = _; step = Sends packet made e })
   sends_made packet (Err reason) e = None
@@ -46,7 +47,7 @@ module _ (own other : LinkSide) where
   first_made (Err fault) = None
 
   abbrev arrives_made : (place : ℕ) (unit : SentMessage) (r : Result Links LinkRefusal) → own.front ≤ place →
-      slice_get other.sent place ≡ Some (Some unit) → links_arrived of_partner own.links unit.packet unit.truth ≡ r → Option (Made own other)
+      slice_get other.sent place ≡ Some (Some unit) → links_arrived Without of_partner own.links unit.packet unit.truth ≡ r → Option (Made own other)
   arrives_made place unit (Ok links) ahead there e = Some (record { events = []; left = _; step = Keeps place unit links ahead there e })
   arrives_made place unit (Err reason) ahead there e = None
 
@@ -70,7 +71,7 @@ record Ran (start : LinkWorld) : Type 0 where
   pub world : LinkWorld
   pub of_a : List LinkEventValue
   pub of_b : List LinkEventValue
-  pub reached : Reached start world of_a of_b
+  pub reached : Reached Without start world of_a of_b
 
 abbrev ran_a : {start : LinkWorld} (r : Ran start) → Option (Made r.world.a r.world.b) → Option (Ran start)
 ran_a r None = None

@@ -9,6 +9,7 @@ use Rattle.dna_packet.specs.declared.fault.NspFault.{NspFault}
 use Rattle.dna_packet.specs.Nsp.{NspValue}
 use Rattle.dna_packet.specs.ReadingNsp.{nsp_at}
 use Rattle.dna_station.specs.declared.link_refusal.LinkRefusal.{LinkRefusal}
+use Rattle.dna_links.specs.declared.queue.Queues.TheVariants.{Without}
 use Rattle.dna_links.specs.declared.tag.LinkTag.{LinkTag}
 use Rattle.dna_links.specs.SegmentBook.{SegmentBook}
 use Rattle.dna_links.specs.Links.{LinksOf, Carried, LinkTruth, no_links}
@@ -92,15 +93,15 @@ module _ {D K : Type 0} (book : SegmentBook D K) where
   -- ---- what one end makes
 
   abbrev does : OneEnd D K → LinkEventValue → Becomes (OneEnd D K)
-  does own event = of_result (λ (next : LinksOf D). record own { state = next }) (user_step book own.state event)
+  does own event = of_result (λ (next : LinksOf D). record own { state = next }) (user_step Without book own.state event)
 
   abbrev sends : OneEnd D K → Carried → Becomes (OneEnd D K)
   sends own packet =
       of_result (λ (made : Sent D K). record { state = made.links; sent = own.sent ++ record { packet = packet; truth = made.truth } ∷ [] })
-      (sent_step book own.state packet)
+      (sent_step Without book own.state packet)
 
   abbrev arrives : OneEnd D K → Carried → LinkTruth K → Becomes (OneEnd D K)
-  arrives own packet truth = of_result (λ (next : LinksOf D). record own { state = next }) (arrived_step book of_partner own.state packet truth)
+  arrives own packet truth = of_result (λ (next : LinksOf D). record own { state = next }) (arrived_step Without book of_partner own.state packet truth)
 
   -- ---- what both make
 

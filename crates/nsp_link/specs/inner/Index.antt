@@ -2,11 +2,13 @@
 -- a CI from each address of the other side began, and by how many live links know each of these.
 use Rattle.std.specs.Prelude.{◌≡◌, ◌≤◌, ◌||◌, ◌&&◌, not, ℕ, suc, Bool, false, Option, Some, None, List, [], ◌∷◌, length, slice_get, slice_set}
 use Rattle.std.specs.Prelude.{if◌then◌else◌, true}
+use Rattle.dna_links.specs.Queues.{forgotten}
+use Rattle.dna_links.specs.declared.queue.Queues.TheVariants.{Without}
 use Rattle.dna_links.specs.declared.port.Port.{Port}
 use Rattle.dna_links.specs.declared.port.LinkTest.{LinkTest}
 use Rattle.dna_links.specs.declared.port.LinkTest.TheVariants.{HasAddress, LiveAt, TheLink, LiveTo, OpenedAt, CallingAt, CalledBy, BegunBy, ActedOn}
 use Rattle.dna_links.specs.LookUps.{is_live, is_called, is_calling, passes}
-use Rattle.dna_links.specs.Links.{LinkOf, forgotten}
+use Rattle.dna_links.specs.Links.{LinkOf}
 use Rattle.dna_links.specs.WireSegments.{WireSegments, wire_segments}
 
 -- ---- a number that is looked at
@@ -104,7 +106,7 @@ module _ {D : Type 0} where
 
 abbrev pub forgotten_found : ℕ → Option (LinkOf WireSegments) → List (LinkOf WireSegments) → List (LinkOf WireSegments)
 forgotten_found number None links = links
-forgotten_found number (Some link) links = slice_set links number (forgotten wire_segments link)
+forgotten_found number (Some link) links = slice_set links number (forgotten wire_segments Without link)
 
 abbrev pub forgotten_at : (holder : Option ℕ) → List (LinkOf WireSegments) → List (LinkOf WireSegments)
 forgotten_at None links = links

@@ -5,6 +5,7 @@ ghost use Rattle.std.specs.List.{AllByRecursion};
 ghost use Rattle.dna_packet.specs.AckWord.{IsAckWord};
 ghost use Rattle.dna_packet.specs.Nsp.{segment_view};
 ghost use Rattle.dna_packet.specs.Nsp as nsp;
+ghost use Rattle.dna_links.specs.declared.queue.Queues.TheVariants.{Without};
 ghost use Rattle.dna_links.specs.Arriving.{of_partner, message_arrived};
 ghost use Rattle.dna_links.specs.inner.Forms.{ends_by};
 ghost use Rattle.dna_links.specs.inner.Forms as forms;
@@ -46,9 +47,9 @@ impl<W: Window<Piece, 4096> + Drop> Links<W> {
         tag: LinkTag,
     ) -> Result<(), LinkFault>
         requires { nsp.IsInRange (nsp.view message.now) }
-        ensures ok { OnOk result (wire_links_arrived (partner_rule OF_PAIR) self.old
+        ensures ok { OnOk result (wire_links_arrived Without (partner_rule OF_PAIR) self.old
             (record { dst = dst; src = src; message = nsp.view message.now }) tag ≡ Ok self.new) }
-        ensures refused { IfErr result (λ fault. IsFault (wire_links_arrived (partner_rule OF_PAIR) self.old
+        ensures refused { IfErr result (λ fault. IsFault (wire_links_arrived Without (partner_rule OF_PAIR) self.old
             (record { dst = dst; src = src; message = nsp.view message.now }) tag) (arrival_takes_memory self.old (nsp.view message.now)) fault) }
         ensures err { OnErr result (self.new ≡ self.old) }
     {
@@ -75,9 +76,9 @@ impl<W: Window<Piece, 4096> + Drop> Links<W> {
     // The same of a message that comes from the other node to this one.
     fn take<const OF_PAIR: bool>(&mut self, message: &Nsp, tag: LinkTag) -> Result<(), LinkFault>
         requires { nsp.IsInRange (nsp.view message.now) }
-        ensures ok { OnOk result (message_arrived wire_segments (partner_rule OF_PAIR) self.old (nsp.view message.now)
+        ensures ok { OnOk result (message_arrived Without wire_segments (partner_rule OF_PAIR) self.old (nsp.view message.now)
             (record { tag = tag; known = tt }) ≡ Ok self.new) }
-        ensures refused { IfErr result (λ fault. IsFault (message_arrived wire_segments (partner_rule OF_PAIR) self.old (nsp.view message.now)
+        ensures refused { IfErr result (λ fault. IsFault (message_arrived Without wire_segments (partner_rule OF_PAIR) self.old (nsp.view message.now)
             (record { tag = tag; known = tt })) (arrival_takes_memory self.old (nsp.view message.now)) fault) }
         ensures err { OnErr result (self.new ≡ self.old) }
     {
@@ -116,10 +117,10 @@ impl<W: Window<Piece, 4096> + Drop> Links<W> {
         message: &ConnectConfirm,
         tag: LinkTag,
     ) -> Result<(), LinkFault>
-        ensures ok { OnOk result (message_arrived wire_segments (partner_rule OF_PAIR) self.old (nsp.ConnectConfirm message.now.dstaddr
+        ensures ok { OnOk result (message_arrived Without wire_segments (partner_rule OF_PAIR) self.old (nsp.ConnectConfirm message.now.dstaddr
             message.now.srcaddr message.now.services message.now.info message.now.segsize message.now.user_data.now)
             (record { tag = tag; known = tt }) ≡ Ok self.new) }
-        ensures refused { IfErr result (λ fault. IsFault (message_arrived wire_segments (partner_rule OF_PAIR) self.old (nsp.ConnectConfirm
+        ensures refused { IfErr result (λ fault. IsFault (message_arrived Without wire_segments (partner_rule OF_PAIR) self.old (nsp.ConnectConfirm
             message.now.dstaddr message.now.srcaddr message.now.services message.now.info message.now.segsize message.now.user_data.now)
             (record { tag = tag; known = tt })) false fault) }
         ensures err { OnErr result (self.new ≡ self.old) }
@@ -167,10 +168,10 @@ impl<W: Window<Piece, 4096> + Drop> Links<W> {
         tag: LinkTag,
     ) -> Result<(), LinkFault>
         requires { AllByRecursion IsAckWord message.now.acks.items }
-        ensures ok { OnOk result (message_arrived wire_segments (partner_rule OF_PAIR) self.old (nsp.DataAck message.now.dstaddr message.now.srcaddr
+        ensures ok { OnOk result (message_arrived Without wire_segments (partner_rule OF_PAIR) self.old (nsp.DataAck message.now.dstaddr message.now.srcaddr
             message.now.acks.items) (record { tag = tag; known = tt }) ≡ Ok self.new) }
         ensures refused { IfErr result
-            (λ fault. IsFault (message_arrived wire_segments (partner_rule OF_PAIR) self.old (nsp.DataAck message.now.dstaddr
+            (λ fault. IsFault (message_arrived Without wire_segments (partner_rule OF_PAIR) self.old (nsp.DataAck message.now.dstaddr
             message.now.srcaddr message.now.acks.items) (record { tag = tag; known = tt })) false fault) }
         ensures err { OnErr result (self.new ≡ self.old) }
     {
@@ -197,9 +198,9 @@ impl<W: Window<Piece, 4096> + Drop> Links<W> {
     ) -> Result<(), LinkFault>
         requires acks { AllByRecursion IsAckWord segment.now.acks.items }
         requires segnum { segment.now.number < 4096 }
-        ensures ok { OnOk result (message_arrived wire_segments (partner_rule OF_PAIR) self.old (nsp.DataSegment (segment_view segment.now))
+        ensures ok { OnOk result (message_arrived Without wire_segments (partner_rule OF_PAIR) self.old (nsp.DataSegment (segment_view segment.now))
             (record { tag = tag; known = tt }) ≡ Ok self.new) }
-        ensures refused { IfErr result (λ fault. IsFault (message_arrived wire_segments (partner_rule OF_PAIR) self.old
+        ensures refused { IfErr result (λ fault. IsFault (message_arrived Without wire_segments (partner_rule OF_PAIR) self.old
             (nsp.DataSegment (segment_view segment.now)) (record { tag = tag; known = tt }))
             (holds_segment self.old (segment_view segment.now)) fault) }
         ensures err { OnErr result (self.new ≡ self.old) }
@@ -227,10 +228,10 @@ impl<W: Window<Piece, 4096> + Drop> Links<W> {
         message: &ConnectInitiate,
         tag: LinkTag,
     ) -> Result<(), LinkFault>
-        ensures ok { OnOk result (message_arrived wire_segments (partner_rule OF_PAIR) self.old (nsp.ConnectInitiate message.now.retransmitted
+        ensures ok { OnOk result (message_arrived Without wire_segments (partner_rule OF_PAIR) self.old (nsp.ConnectInitiate message.now.retransmitted
             message.now.srcaddr message.now.services message.now.info message.now.segsize message.now.user_data.now)
             (record { tag = tag; known = tt }) ≡ Ok self.new) }
-        ensures refused { IfErr result (λ fault. IsFault (message_arrived wire_segments (partner_rule OF_PAIR) self.old (nsp.ConnectInitiate
+        ensures refused { IfErr result (λ fault. IsFault (message_arrived Without wire_segments (partner_rule OF_PAIR) self.old (nsp.ConnectInitiate
             message.now.retransmitted message.now.srcaddr message.now.services message.now.info message.now.segsize
             message.now.user_data.now) (record { tag = tag; known = tt })) (begins_link self.old message.now.srcaddr) fault) }
         ensures err { OnErr result (self.new ≡ self.old) }

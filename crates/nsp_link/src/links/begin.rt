@@ -7,8 +7,10 @@ ghost use Rattle.std.specs.Ordering.{nat_cmp};
 ghost use Rattle.std.specs.BTreeMap.{get};
 ghost use Rattle.std.specs.HashMap.{spare};
 ghost use Rattle.std.specs.HashMap as hashed;
+ghost use Rattle.dna_links.specs.Queues.{freed, forgotten};
+ghost use Rattle.dna_links.specs.declared.queue.Queues.TheVariants.{Without};
 ghost use Rattle.dna_links.specs.LookUps.{is_live, is_called, is_calling};
-ghost use Rattle.dna_links.specs.Links.{LinkOf, begun, changed, freed, forgotten, number_of};
+ghost use Rattle.dna_links.specs.Links.{LinkOf, begun, changed, number_of};
 ghost use Rattle.dna_links.specs.inner.Forms.{opened, answered};
 ghost use Rattle.dna_links.specs.Arriving.{of_partner};
 ghost use Rattle.dna_links.specs.inner.Forms.{called};
@@ -49,7 +51,7 @@ impl<W: Window<Piece, 4096> + Drop> Links<W> {
     // A link is opened from here, with an own address that no live link has. Where memory is refused, nothing changes.
     pub(super) fn begin_opened(&mut self, own: u16) -> Result<(), AllocError>
         requires { number_of (LinkTest.LiveAt own) self.old ≡ None }
-        ensures ok { OnOk result (self.new ≡ begun (opened wire_segments own) (freed wire_segments own self.old)) }
+        ensures ok { OnOk result (self.new ≡ begun (opened wire_segments own) (freed wire_segments Without own self.old)) }
         ensures err { OnErr result (self.new ≡ self.old) }
     {
         opened_at(self.alloc, &mut self.links, &mut self.index, own)
@@ -70,7 +72,7 @@ impl<W: Window<Piece, 4096> + Drop> Links<W> {
         requires answers { is_called phase ≡ false }
         requires known { is_calling phase ≡ false }
         ensures ok { (link : LinkOf WireSegments) → slice_get self.old.links number ≡ Some link
-            → OnOk result (self.new ≡ changed number (answered wire_segments phase own link) (freed wire_segments own self.old)) }
+            → OnOk result (self.new ≡ changed number (answered wire_segments phase own link) (freed wire_segments Without own self.old)) }
         ensures err { OnErr result (self.new ≡ self.old) }
     {
         answered_at(&mut self.links, &mut self.index, number, phase, own)

@@ -5,6 +5,7 @@ ghost use Rattle.std.specs.List.{AllByRecursion};
 ghost use Rattle.dna_packet.specs.AckWord.{IsAckWord};
 ghost use Rattle.dna_packet.specs.Nsp.{segment_view};
 ghost use Rattle.dna_packet.specs.Nsp as nsp;
+ghost use Rattle.dna_links.specs.declared.queue.Queues.TheVariants.{Without};
 ghost use Rattle.dna_links.specs.WireLinks.{wire_links_sent};
 ghost use Rattle.nsp_link.specs.inner.Index.{is_of_one};
 ghost use Rattle.nsp_link.specs.FailedSending.{refusal_of_sending};
@@ -29,7 +30,7 @@ impl<W: Window<Piece, 4096> + Drop> Links<W> {
         requires { nsp.IsInRange (nsp.view message.now) }
         ensures named { result ≡ spec.failed_sending self.now (record { dst = dst; src = src; message = nsp.view message.now }) }
         ensures refuses { option_map refusal_of_sending result ≡
-            refusal_in (wire_links_sent self.now (record { dst = dst; src = src; message = nsp.view message.now })) }
+            refusal_in (wire_links_sent Without self.now (record { dst = dst; src = src; message = nsp.view message.now })) }
     {
         self.failed_packet(dst, src, message)
     }

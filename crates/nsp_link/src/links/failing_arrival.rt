@@ -2,6 +2,7 @@
 
 ghost use Rattle.std.specs.Prelude.{◌≡◌, option_map};
 ghost use Rattle.dna_packet.specs.Nsp as nsp;
+ghost use Rattle.dna_links.specs.declared.queue.Queues.TheVariants.{Without};
 ghost use Rattle.dna_links.specs.Arriving.{of_partner};
 ghost use Rattle.dna_links.specs.WireLinks.{wire_links_arrived};
 ghost use Rattle.nsp_link.specs.FailedArrival.{refusal_of_arrival};
@@ -29,7 +30,7 @@ impl<W: Window<Piece, 4096> + Drop> Links<W> {
     ) -> Option<FailedLinkArrival>
         ensures named { result ≡ spec.failed_arrival self.now (record { dst = dst; src = src; message = nsp.view message.now }) tag }
         ensures refuses { option_map refusal_of_arrival result ≡
-            refusal_in (wire_links_arrived of_partner self.now (record { dst = dst; src = src; message = nsp.view message.now }) tag) }
+            refusal_in (wire_links_arrived Without of_partner self.now (record { dst = dst; src = src; message = nsp.view message.now }) tag) }
     {
         self.failed_come(dst, src, message, tag)
     }

@@ -1,6 +1,7 @@
 //! Which check an event of the links' user does not pass.
 
 ghost use Rattle.std.specs.Prelude.{◌≡◌, option_map};
+ghost use Rattle.dna_links.specs.declared.queue.Queues.TheVariants.{Without};
 ghost use Rattle.dna_links.specs.User as user;
 ghost use Rattle.dna_links.specs.WireLinks.{wire_links_user};
 ghost use Rattle.nsp_link.specs.FailedEvent.{refusal_of_event};
@@ -19,7 +20,7 @@ impl<W: Window<Piece, 4096> + Drop> Links<W> {
     /// is allowed; `None` where the user may do it. It is the check for which [`Links::user`] refuses. Takes no memory.
     pub fn failed_event(&self, event: LinkEvent) -> Option<FailedLinkEvent>
         ensures named { result ≡ spec.failed_event self.now (user.view event.entry) }
-        ensures refuses { option_map refusal_of_event result ≡ refusal_in (wire_links_user self.now (user.view event.entry)) }
+        ensures refuses { option_map refusal_of_event result ≡ refusal_in (wire_links_user Without self.now (user.view event.entry)) }
     {
         self.failed_check(event)
     }

@@ -5,6 +5,7 @@ ghost use Rattle.std.specs.List.{AllByRecursion};
 ghost use Rattle.dna_packet.specs.AckWord.{IsAckWord};
 ghost use Rattle.dna_packet.specs.Nsp.{segment_view};
 ghost use Rattle.dna_packet.specs.Nsp as nsp;
+ghost use Rattle.dna_links.specs.declared.queue.Queues.TheVariants.{Without};
 ghost use Rattle.dna_links.specs.Links.{LinkOf, check, number_of, with_link};
 ghost use Rattle.dna_links.specs.Sending.{Sent, message_sent};
 ghost use Rattle.dna_links.specs.inner.Forms as forms;
@@ -50,9 +51,9 @@ impl<W: Window<Piece, 4096> + Drop> Links<W> {
     /// `OutOfMemory`, after all of these: memory was refused. After any of them the links are as they were.
     pub fn sent(&mut self, dst: u16, src: u16, message: &Nsp) -> Result<LinkTag, LinkFault>
         requires { nsp.IsInRange (nsp.view message.now) }
-        ensures ok { IfOk result (λ tag. wire_links_sent self.old (record { dst = dst; src = src; message = nsp.view message.now })
+        ensures ok { IfOk result (λ tag. wire_links_sent Without self.old (record { dst = dst; src = src; message = nsp.view message.now })
             ≡ Ok (record { links = self.new; truth = record { tag = tag; known = tt } })) }
-        ensures refused { IfErr result (λ fault. IsFault (wire_links_sent self.old (record { dst = dst; src = src; message = nsp.view message.now }))
+        ensures refused { IfErr result (λ fault. IsFault (wire_links_sent Without self.old (record { dst = dst; src = src; message = nsp.view message.now }))
             (sending_takes_memory self.old (nsp.view message.now)) fault) }
         ensures err { OnErr result (self.new ≡ self.old) }
     {
@@ -68,9 +69,9 @@ impl<W: Window<Piece, 4096> + Drop> Links<W> {
     // The same of a message that goes from this node to the other.
     fn send(&mut self, message: &Nsp) -> Result<LinkTag, LinkFault>
         requires { nsp.IsInRange (nsp.view message.now) }
-        ensures ok { IfOk result (λ tag. message_sent wire_segments self.old (nsp.view message.now)
+        ensures ok { IfOk result (λ tag. message_sent Without wire_segments self.old (nsp.view message.now)
             ≡ Ok (record { links = self.new; truth = record { tag = tag; known = tt } })) }
-        ensures refused { IfErr result (λ fault. IsFault (message_sent wire_segments self.old (nsp.view message.now))
+        ensures refused { IfErr result (λ fault. IsFault (message_sent Without wire_segments self.old (nsp.view message.now))
             (sending_takes_memory self.old (nsp.view message.now)) fault) }
         ensures err { OnErr result (self.new ≡ self.old) }
     {
@@ -89,22 +90,32 @@ impl<W: Window<Piece, 4096> + Drop> Links<W> {
                 self.in_its_phase(test, Phase::Calling)
             }
             Nsp::ConnectConfirm(message) => {
-                self.in_its_phase(
-                    the_link(message.srcaddr, message.dstaddr),
-                    Phase::Confirming,
-                )
+                let test = LinkTest::TheLink {
+                    own: message.srcaddr,
+                    far: message.dstaddr,
+                };
+                self.in_its_phase(test, Phase::Confirming)
             }
             Nsp::DisconnectInitiate(message) => {
-                self.in_its_phase(
-                    the_link(message.srcaddr, message.dstaddr),
-                    Phase::Disconnecting,
-                )
+                let test = LinkTest::TheLink {
+                    own: message.srcaddr,
+                    far: message.dstaddr,
+                };
+                self.in_its_phase(test, Phase::Disconnecting)
             }
             Nsp::LinkService(message) => {
-                self.in_its_phase(the_link(message.srcaddr, message.dstaddr), Phase::Running)
+                let test = LinkTest::TheLink {
+                    own: message.srcaddr,
+                    far: message.dstaddr,
+                };
+                self.in_its_phase(test, Phase::Running)
             }
             Nsp::OtherDataAck(message) => {
-                self.in_its_phase(the_link(message.srcaddr, message.dstaddr), Phase::Running)
+                let test = LinkTest::TheLink {
+                    own: message.srcaddr,
+                    far: message.dstaddr,
+                };
+                self.in_its_phase(test, Phase::Running)
             }
         }
     }
@@ -147,9 +158,9 @@ impl<W: Window<Piece, 4096> + Drop> Links<W> {
     // A connect acknowledgement.
     #[tactic(auto, using(crate::proofs::Found::found_links))]
     fn connect_ack(&self, dst: u16) -> Result<LinkTag, LinkFault>
-        ensures ok { IfOk result (λ tag. message_sent wire_segments self.now (nsp.ConnectAck dst)
+        ensures ok { IfOk result (λ tag. message_sent Without wire_segments self.now (nsp.ConnectAck dst)
             ≡ Ok (record { links = self.now; truth = record { tag = tag; known = tt } })) }
-        ensures refused { IfErr result (λ fault. IsFault (message_sent wire_segments self.now (nsp.ConnectAck dst)) false fault) }
+        ensures refused { IfErr result (λ fault. IsFault (message_sent Without wire_segments self.now (nsp.ConnectAck dst)) false fault) }
     {
         let Some((number, link)) = self.found(LinkTest::BegunBy { far: dst }) else {
             return Err(LinkFault::Refused(LinkRefusal::NoLink));
@@ -162,9 +173,9 @@ impl<W: Window<Piece, 4096> + Drop> Links<W> {
     fn data_ack(&mut self, message: &DataAck) -> Result<LinkTag, LinkFault>
         requires { AllByRecursion IsAckWord message.now.acks.items }
         ensures ok { IfOk result
-            (λ tag. message_sent wire_segments self.old (nsp.DataAck message.now.dstaddr message.now.srcaddr message.now.acks.items)
+            (λ tag. message_sent Without wire_segments self.old (nsp.DataAck message.now.dstaddr message.now.srcaddr message.now.acks.items)
             ≡ Ok (record { links = self.new; truth = record { tag = tag; known = tt } })) }
-        ensures refused { IfErr result (λ fault. IsFault (message_sent wire_segments self.old
+        ensures refused { IfErr result (λ fault. IsFault (message_sent Without wire_segments self.old
             (nsp.DataAck message.now.dstaddr message.now.srcaddr message.now.acks.items)) false fault) }
         ensures err { OnErr result (self.new ≡ self.old) }
     {
@@ -185,9 +196,9 @@ impl<W: Window<Piece, 4096> + Drop> Links<W> {
     fn segment(&mut self, segment: &Segment) -> Result<LinkTag, LinkFault>
         requires acks { AllByRecursion IsAckWord segment.now.acks.items }
         requires segnum { segment.now.number < 4096 }
-        ensures ok { IfOk result (λ tag. message_sent wire_segments self.old (nsp.DataSegment (segment_view segment.now))
+        ensures ok { IfOk result (λ tag. message_sent Without wire_segments self.old (nsp.DataSegment (segment_view segment.now))
             ≡ Ok (record { links = self.new; truth = record { tag = tag; known = tt } })) }
-        ensures refused { IfErr result (λ fault. IsFault (message_sent wire_segments self.old (nsp.DataSegment (segment_view segment.now)))
+        ensures refused { IfErr result (λ fault. IsFault (message_sent Without wire_segments self.old (nsp.DataSegment (segment_view segment.now)))
             (gives_new self.old (segment_view segment.now)) fault) }
         ensures err { OnErr result (self.new ≡ self.old) }
     {
@@ -206,9 +217,9 @@ impl<W: Window<Piece, 4096> + Drop> Links<W> {
     // A DC: no live link has its addresses; with SRCADDR 0 it ends the link in Called that it is sent for, if there is one.
     #[tactic(auto, using(crate::proofs::Found::found_links))]
     fn disconnect_confirm(&mut self, dst: u16, src: u16, reason: u16) -> Result<LinkTag, LinkFault>
-        ensures ok { IfOk result (λ tag. message_sent wire_segments self.old (nsp.DisconnectConfirm dst src reason)
+        ensures ok { IfOk result (λ tag. message_sent Without wire_segments self.old (nsp.DisconnectConfirm dst src reason)
             ≡ Ok (record { links = self.new; truth = record { tag = tag; known = tt } })) }
-        ensures refused { IfErr result (λ fault. IsFault (message_sent wire_segments self.old (nsp.DisconnectConfirm dst src reason)) false fault) }
+        ensures refused { IfErr result (λ fault. IsFault (message_sent Without wire_segments self.old (nsp.DisconnectConfirm dst src reason)) false fault) }
         ensures err { OnErr result (self.new ≡ self.old) }
     {
         if let Some((number, _link)) = self.found(LinkTest::TheLink { own: src, far: dst }) {

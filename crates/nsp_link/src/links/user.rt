@@ -1,6 +1,7 @@
 //! What the user of the links does.
 
 ghost use Rattle.std.specs.Prelude.{◌≡◌, ◌<◌, Ok, Some, true, false, length, slice_get, OnOk, OnErr, IfOk, IfErr};
+ghost use Rattle.dna_links.specs.declared.queue.Queues.TheVariants.{Without};
 ghost use Rattle.dna_links.specs.User as user;
 ghost use Rattle.dna_links.specs.inner.Forms as forms;
 ghost use Rattle.dna_links.specs.WireLinks.{wire_links_user};
@@ -30,8 +31,8 @@ impl<W: Window<Piece, 4096> + Drop> Links<W> {
     ///
     /// `OutOfMemory`, after all of these: memory was refused. After any of them the links are as they were.
     pub fn user(&mut self, event: LinkEvent) -> Result<(), LinkFault>
-        ensures ok { OnOk result (wire_links_user self.old (user.view event.entry) ≡ Ok self.new) }
-        ensures refused { IfErr result (λ fault. IsFault (wire_links_user self.old (user.view event.entry))
+        ensures ok { OnOk result (wire_links_user Without self.old (user.view event.entry) ≡ Ok self.new) }
+        ensures refused { IfErr result (λ fault. IsFault (wire_links_user Without self.old (user.view event.entry))
             (event_takes_memory (user.view event.entry)) fault) }
         ensures err { OnErr result (self.new ≡ self.old) }
     {
@@ -48,8 +49,8 @@ impl<W: Window<Piece, 4096> + Drop> Links<W> {
     // A link is closed from here.
     #[tactic(auto, using(crate::proofs::Found::found_links))]
     fn close(&mut self, own: u16) -> Result<(), LinkFault>
-        ensures ok { OnOk result (wire_links_user self.old (user.Close own) ≡ Ok self.new) }
-        ensures refused { IfErr result (λ fault. IsFault (wire_links_user self.old (user.Close own)) false fault) }
+        ensures ok { OnOk result (wire_links_user Without self.old (user.Close own) ≡ Ok self.new) }
+        ensures refused { IfErr result (λ fault. IsFault (wire_links_user Without self.old (user.Close own)) false fault) }
         ensures err { OnErr result (self.new ≡ self.old) }
     {
         let Some((number, link)) = self.found(LinkTest::LiveAt { own }) else {
@@ -65,8 +66,8 @@ impl<W: Window<Piece, 4096> + Drop> Links<W> {
     // A message is handed in.
     #[tactic(auto, using(crate::proofs::Found::found_links))]
     fn hand_in(&mut self, own: u16, message: &[u8]) -> Result<(), LinkFault>
-        ensures ok { OnOk result (wire_links_user self.old (user.In own message.now) ≡ Ok self.new) }
-        ensures refused { IfErr result (λ fault. IsFault (wire_links_user self.old (user.In own message.now)) true fault) }
+        ensures ok { OnOk result (wire_links_user Without self.old (user.In own message.now) ≡ Ok self.new) }
+        ensures refused { IfErr result (λ fault. IsFault (wire_links_user Without self.old (user.In own message.now)) true fault) }
         ensures err { OnErr result (self.new ≡ self.old) }
     {
         let Some((number, link)) = self.found(LinkTest::LiveAt { own }) else {
@@ -84,8 +85,8 @@ impl<W: Window<Piece, 4096> + Drop> Links<W> {
     // A message is delivered.
     #[tactic(auto, using(crate::proofs::Found::found_links))]
     fn deliver(&mut self, own: u16, message: &[u8]) -> Result<(), LinkFault>
-        ensures ok { OnOk result (wire_links_user self.old (user.Up own message.now) ≡ Ok self.new) }
-        ensures refused { IfErr result (λ fault. IsFault (wire_links_user self.old (user.Up own message.now)) false fault) }
+        ensures ok { OnOk result (wire_links_user Without self.old (user.Up own message.now) ≡ Ok self.new) }
+        ensures refused { IfErr result (λ fault. IsFault (wire_links_user Without self.old (user.Up own message.now)) false fault) }
         ensures err { OnErr result (self.new ≡ self.old) }
     {
         let Some((number, _link)) = self.found(LinkTest::HasAddress { own }) else {
@@ -100,8 +101,8 @@ impl<W: Window<Piece, 4096> + Drop> Links<W> {
     // A link is opened from here.
     #[tactic(auto, using(crate::proofs::Found::found_links))]
     fn open(&mut self, own: u16) -> Result<(), LinkFault>
-        ensures ok { OnOk result (wire_links_user self.old (user.Open own) ≡ Ok self.new) }
-        ensures refused { IfErr result (λ fault. IsFault (wire_links_user self.old (user.Open own)) true fault) }
+        ensures ok { OnOk result (wire_links_user Without self.old (user.Open own) ≡ Ok self.new) }
+        ensures refused { IfErr result (λ fault. IsFault (wire_links_user Without self.old (user.Open own)) true fault) }
         ensures err { OnErr result (self.new ≡ self.old) }
     {
         if let Some((number, _link)) = self.found(LinkTest::LiveAt { own }) {

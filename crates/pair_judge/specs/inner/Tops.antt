@@ -19,6 +19,7 @@ use Rattle.dna_node.specs.Layers.{Layers}
 use Rattle.dna_node.specs.TagRules.{Rules, judged}
 use Rattle.ddcmp_station.specs.PeriodRules.{period_rule}
 use Rattle.nsp_link.specs.PartnerRules.{partner_rule}
+use Rattle.dna_links.specs.declared.queue.Queues.TheVariants.{Without}
 use Rattle.dna_node.specs.WireLayers.{WireLayers, LayersTag, to_wire_station, wire_layers_machine, with_wire_station}
 use Rattle.pair_judge.specs.EndKind.{layers_alone, station_alone}
 use Rattle.pair_judge.specs.inner.Wire.{JudgeTop}
@@ -27,7 +28,7 @@ use Rattle.pair_judge.specs.inner.Wire.{JudgeTop}
 
 -- of a pair that is judged, or of one end, which goes by bytes
 abbrev pub rules_by : (of_pair : Bool) → Rules
-rules_by of_pair = record { periods = period_rule of_pair; partners = partner_rule of_pair }
+rules_by of_pair = record { periods = period_rule of_pair; partners = partner_rule of_pair; queues = Without }
 
 -- ---- the links
 

@@ -5,6 +5,7 @@ ghost use Rattle.ddcmp_msg.specs.Message.{view};
 ghost use Rattle.dna_station.specs.declared.tag.Tag.{Tag};
 ghost use Rattle.dna_node.specs.Content as spec;
 ghost use Rattle.dna_station.specs.WireStation.{WireStation, load};
+ghost use Rattle.dna_node.specs.TagRules.{judged};
 ghost use Rattle.dna_node.specs.WireLayers.{WireLayers, first_tagged, wire_sends_first};
 ghost use Rattle.dna_station.specs.WireBook.{gives_new, wire_sending_refusal};
 ghost use Rattle.ddcmp_station.specs.Permit.{is_first, send_permit};
@@ -106,9 +107,9 @@ impl Layers {
     #[inline(always)]
     fn send(&mut self, carried: Carried) -> Result<LinkTag, StepFault>
         ensures ok { IfOk result (λ link. (before : WireLayers) (after : WireStation LinkTag × Tag) → before.links ≡ self.old.links →
-            wire_sends_first before after (lent_content carried.entry) ≡ Ok (first_tagged after self.new.links link)) }
+            wire_sends_first judged before after (lent_content carried.entry) ≡ Ok (first_tagged after self.new.links link)) }
         ensures refused { IfErr result (IfRefused (λ refusal. (before : WireLayers) (after : WireStation LinkTag × Tag) →
-            before.links ≡ self.old.links → wire_sends_first before after (lent_content carried.entry) ≡ Err refusal)) }
+            before.links ≡ self.old.links → wire_sends_first judged before after (lent_content carried.entry) ≡ Err refusal)) }
         ensures station { self.new.station ≡ self.old.station }
         ensures err { OnErr result (self.new ≡ self.old) }
     {

@@ -32,6 +32,7 @@ impl Layers {
 
     /// The user of the links does this, and is refused as they refuse it. `OutOfMemory`: memory for a link, an address or a message was
     /// refused. `Up` and `Close` take none, nor does what is refused.
+    #[tactic(auto, using(crate::proofs::LinkEvents::made_by_links))]
     pub fn at_links(&mut self, event: LinkEvent) -> Result<(), StepFault>
         ensures ok { OnOk result (layers_run.user self.old (event_of_links (view event.entry)) ≡ Ok self.new) }
         ensures refused { IfErr result (IfRefused (λ refusal. layers_run.user self.old (event_of_links (view event.entry)) ≡ Err refusal)) }
@@ -40,11 +41,12 @@ impl Layers {
         ensures station { self.new.station ≡ self.old.station }
     {
         match self.links.user(event) {
-            Ok(()) => Ok(()),
-            Err(LinkFault::Refused(refusal)) => Err(StepFault::Refused(StepRefusal::Links(
-                refusal,
-            ))),
-            Err(LinkFault::OutOfMemory) => Err(StepFault::OutOfMemory),
+            Ok(()) => {}
+            Err(LinkFault::Refused(refusal)) => {
+                return Err(StepFault::Refused(StepRefusal::Links(refusal)));
+            }
+            Err(LinkFault::OutOfMemory) => return Err(StepFault::OutOfMemory),
         }
+        Ok(())
     }
 }

@@ -14,3 +14,9 @@ returns-in-B g c = rw c.in-B.is c.print-in-B.ensures
 
 pub returns-in-Svg : goal.returns-in-Svg
 returns-in-Svg g c = rw c.in-Svg.is c.print-in-Svg.ensures
+
+pub returns-in-OutA : goal.returns-in-OutA
+returns-in-OutA g c = rw c.in-OutA.is c.print-in-OutA.ensures
+
+pub returns-in-OutB : goal.returns-in-OutB
+returns-in-OutB g c = rw c.in-OutB.is c.print-in-OutB.ensures

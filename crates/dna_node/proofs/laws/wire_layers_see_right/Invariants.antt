@@ -1,6 +1,7 @@
 -- The nodes that the law of simulation is called for
 use Rattle.capture.specs.declared.record.Record.{Record}
 use Rattle.dna_station.specs.declared.refusal.StepRefusal.{StepRefusal}
+use Rattle.dna_links.specs.declared.queue.Queues.TheVariants.{Without}
 use Rattle.dna_node.specs.Layers.{LayersNode, LayersUnit}
 use Rattle.dna_node.specs.LayersPair.{layers_pair}
 use Rattle.dna_node.specs.WireLayers.{WireLayersNode, WireLayersUnit, wire_layers_pair}
@@ -19,5 +20,5 @@ ghosts-simulation a = record {
   nodes = layers_pair;
   others = wire_layers_pair;
   cut = layers_seen;
-  holds = layers_property;
+  holds = layers_property Without;
 }

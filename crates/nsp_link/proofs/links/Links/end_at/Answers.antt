@@ -1,8 +1,8 @@
 use Rattle.std.proofs.Common.{◌≡◌, ℕ, refl, sym, ap, ◌∙◌, nat_cmp}
 use Rattle.std.specs.BTreeMap.{BTreeMap, get}
+use Rattle.dna_links.specs.Queues.{ended}
 use Rattle.dna_links.specs.declared.port.Port.{Port}
 use Rattle.dna_links.specs.LookUps.{is_calling}
-use Rattle.dna_links.specs.Links.{ended}
 use Rattle.dna_links.specs.WireSegments.{wire_segments}
 use Rattle.nsp_link.proofs.LookUps.{eq-is_at}
 use Rattle.nsp_link.proofs.Indexed.{some_wait, some_reached}

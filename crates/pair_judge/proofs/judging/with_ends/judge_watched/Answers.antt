@@ -1,3 +1,4 @@
+use Rattle.dna_links.specs.declared.queue.Queues.TheVariants.{Without}
 use Rattle.std.proofs.Common.{sym, subst}
 use Rattle.std.proofs.lemmas.Result.{IfOk-weaker}
 use Rattle.wire_base.specs.Tally.{tally_lent}
@@ -10,7 +11,7 @@ pub returns-clause-stands : goal.returns-clause-stands
 returns-clause-stands g c =
     let text_a = g.R.Read.remaining (tally_lent c.args.a.now) in
     let text_b = g.S.Read.remaining (tally_lent c.args.b.now) in
-    let stations = c.layers_run_as_stations.ensures.run in
+    let stations = c.layers_run_as_stations.ensures.run Without in
     let laws : EndLaws = record {
       seen = c.wire_layers_see_right.ensures.of_wire;
       ordered_a = λ head_a head_b w of_a of_b run.

@@ -1,21 +1,22 @@
+use Rattle.dna_links.specs.declared.queue.Queues.TheVariants.{Without}
 use Rattle.pair_judge.proofs.layers.linked.LinksOnTopTop.delivers.Goals as goal
 
 pub returns : goal.returns
 returns c =
     let d = c.captures_deliver_in_order.ensures in
     let m = c.layers_deliver_in_order.ensures in
-    let stations = c.layers_run_as_stations.ensures.run in
+    let stations = c.layers_run_as_stations.ensures.run Without in
     record {
       of_a = λ head_a head_b w of_a of_b run.
           record {
             packets = d.a_delivers head_a head_b _ of_a of_b (stations head_a head_b w of_a of_b run);
-            messages = m.of_a head_a head_b w of_a of_b run;
-            captured = m.a_captured head_a head_b w of_a of_b run;
+            messages = m.of_a Without head_a head_b w of_a of_b run;
+            captured = m.a_captured Without head_a head_b w of_a of_b run;
           };
       of_b = λ head_a head_b w of_a of_b run.
           record {
             packets = d.b_delivers head_a head_b _ of_a of_b (stations head_a head_b w of_a of_b run);
-            messages = m.of_b head_a head_b w of_a of_b run;
-            captured = m.b_captured head_a head_b w of_a of_b run;
+            messages = m.of_b Without head_a head_b w of_a of_b run;
+            captured = m.b_captured Without head_a head_b w of_a of_b run;
           };
     }

@@ -1,0 +1,19 @@
+-- What is true of every alignment.
+use Rattle.std.specs.Prelude.{ℕ, ◌+◌, ◌≤◌, List, [], ◌∷◌}
+use Rattle.capture.specs.declared.record.Record.{Record}
+use Rattle.capture.specs.declared.record.Record.TheVariants.{Sent, Received, Noise, User}
+
+-- a record but for its hint
+abbrev pub without_hint : Record → Record
+without_hint (Sent unit) = Sent unit
+without_hint (Received hint kept bytes) = Received 0 kept bytes
+without_hint (Noise bytes) = Noise bytes
+without_hint (User event) = User event
+
+-- each hint is above the one before it, and the first is no less than this number
+abbrev pub HintsRise : ℕ → List Record → Type 0
+HintsRise least [] = Unit {0}
+HintsRise least (Sent unit ∷ rs) = HintsRise least rs
+HintsRise least (Received hint kept bytes ∷ rs) = (least ≤ hint) × HintsRise (hint + 1) rs
+HintsRise least (Noise bytes ∷ rs) = HintsRise least rs
+HintsRise least (User event ∷ rs) = HintsRise least rs

@@ -1,0 +1,24 @@
+-- The nodes that the law of simulation is called for
+use Rattle.capture.specs.declared.record.Record.{Record}
+use Rattle.dna_station.specs.declared.refusal.StepRefusal.{StepRefusal}
+use Rattle.dna_links.specs.declared.queue.Queues.TheVariants.{With}
+use Rattle.dna_node.specs.Layers.{LayersNode, LayersUnit}
+use Rattle.dna_node.specs.LayersPair.{layers_pair_by}
+use Rattle.dna_node.specs.WireLayers.{WireLayersNode, WireLayersUnit, wire_layers_pair_by}
+use Rattle.dna_node.specs.CutLayers.{layers_seen_by}
+use Rattle.dna_node.proofs.LayersBounds.{layers_property}
+use Rattle.dna_node.proofs.laws.queued_wire_layers_see_right.Given as goal
+
+abbrev pub ghosts-simulation : goal.ghosts-simulation
+ghosts-simulation a = record {
+  State = LayersNode;
+  SeenState = WireLayersNode;
+  Record = Record;
+  Sent = LayersUnit;
+  SeenUnit = WireLayersUnit;
+  Reason = StepRefusal;
+  nodes = layers_pair_by With;
+  others = wire_layers_pair_by With;
+  cut = layers_seen_by With;
+  holds = layers_property With;
+}

@@ -1,4 +1,0 @@
-use Rattle.ladder.proofs.text.left_note.Goals as goal
-
-pub returns : goal.returns
-returns c = rw c.in_ok-words.ensures at (rw c.laid_out.ensures at c.format.ensures.ok)

@@ -1,0 +1,195 @@
+"""The links of a node whose packets wait between NSP and DDCMP, both ways. Of such a node it can't be seen when NSP acted on a packet that was kept,
+nor when it composed a message that is sent. So a link goes on after its end, and says what it may have composed before. Each arrival acts at its
+record: what a node can have done by acting later, it can have done by acting at once. The rows here stand in the place of those of
+tools/reading_links.py; the others are the same. A part of tools/reading.py, which judges pairs apart from the program.
+
+A link knows besides: whether it `ran`, that is has been in RUN; whether it was `accepted` by its user; what it `said`, 1 once a message of RUN was
+sent and 2 once a DI was; and how it is: live; ending, once a DI or a DC ended it; or dead. Its phase stays what it was at its end. It is dead when
+a DC was sent from its address or its address is given again: then nothing of it waits any more."""
+from reading_flow import Flow, distance, wire
+from reading_links import ARRIVING, IN_RUN, LINK, NODES, OF_SEGMENTS, PHASES, TESTS, USER, Link, Links
+from reading_rows import Row
+
+# the tests of each look-up
+LOOK_UPS = {
+    'LiveAt': ['own', 'live'],
+    'TheLink': ['own', 'far', 'live'],
+    'LiveTo': ['far', 'live'],
+    'CallingAt': ['own', 'calling', 'live'],
+    'CalledBy': ['far', 'called', 'live'],
+    'ActedOn': ['own', 'far', 'connected', 'live'],
+    'StillAt': ['own', 'not dead'],
+    'StillOpenedAt': ['own', 'opened', 'not dead'],
+    'StillTheLink': ['own', 'far', 'not dead'],
+    'StillBegunBy': ['far', 'begun by a CI', 'not dead'],
+}
+TESTS['not dead'] = lambda link, own, far: not link.is_dead()
+
+# what the user does: the look-up of the link, the checks in their order, the phases, and the effects
+ANSWERED = {'accept': ['GiveAddress', 'GoTo Confirming', 'Accept'], 'reject': ['GiveAddress', 'GoTo DI']}
+QUEUED_USER = {
+    'open': USER['open'],
+    **{verb: (*USER[verb][:3], effects) for verb, effects in ANSWERED.items()},
+    **{verb: ('StillAt', *USER[verb][1:]) for verb in ('in', 'close')},
+}
+
+# What may be sent: the look-up, the checks, the phases, how much the link may have said, and the effects. The phases of a CI are those of all links
+# that were opened here, those of a CC of all that were accepted, and those of a message of RUN of all that ran.
+RAN = LINK + ['HasRun', 'RightPhase', 'SaidAtMost']
+QUEUED_SENDING = {
+    'CI': ('StillOpenedAt', LINK + ['RightPhase', 'SaidAtMost'], ['Calling', 'RUN', 'DI'], 0, ['NoteCall']),
+    'connect ack': ('StillBegunBy', LINK, PHASES, 2, []),
+    'CC': ('StillTheLink', LINK + ['IsAccepted', 'RightPhase', 'SaidAtMost'], ['Confirming', 'RUN', 'DI'], 0, []),
+    'DI': ('StillTheLink', LINK + ['RightPhase'], ['DI'], 2, ['Say 2']),
+    'DC': ('TheLink', NODES + ['NoLink'], [], 2, ['EndWaiting', 'EndCalled']),
+    'segment': ('StillTheLink', RAN + OF_SEGMENTS, ['RUN', 'DI'], 1, ['MoveLast', 'GiveNumber', 'Say 1']),
+    'data ack': ('StillTheLink', RAN + ['WordsAreRight'], ['RUN', 'DI'], 1, ['MoveLast', 'Say 1']),
+    **{name: ('StillTheLink', RAN, ['RUN', 'DI'], 1, ['Say 1']) for name in ('link service', 'interrupt', 'other-data ack')},
+}
+
+# what an arrival does, of these
+ARRIVALS = ['CI', 'CC', 'DI', 'DC'] + IN_RUN
+
+
+def queue_rules():
+    """The rows of links with queues, by heading."""
+    rules = [Row('queued look-up ' + name, tests=tests) for name, tests in LOOK_UPS.items()]
+    for name, (look_up, checks, phases, effects) in QUEUED_USER.items():
+        parts = {'look_up': look_up, 'checks': checks, 'phases': phases, 'effects': effects, 'begins': 'Calling'}
+        rules.append(Row('queued user ' + name, allowed=True, instead={}, tests=[], **parts))
+    for name, (look_up, checks, phases, most, effects) in QUEUED_SENDING.items():
+        parts = {'look_up': look_up, 'checks': checks, 'phases': phases, 'most': most, 'effects': effects}
+        rules.append(Row('queued sends ' + name, allowed=True, instead={}, tests=[], **parts))
+    for name in ARRIVALS:
+        look_up, checks, phases, effects = ARRIVING[name]
+        parts = {'look_up': look_up, 'checks': checks, 'phases': phases, 'effects': effects, 'begins': 'Called'}
+        rules.append(Row('queued gets ' + name, allowed=True, instead={}, tests=['the one in Calling'] if name in ('DI', 'DC') else [], **parts))
+    rules += [Row('queued link'), Row('queued words of a new segment')]
+    return {row.heading: row for row in rules}
+
+
+class QueuedFlow(Flow):
+    """The segments of such a link. New segments wait in a list of their own and may be overtaken by acknowledgements, so a word of one may also name
+    a number below the last one sent: not below `named`, which an earlier new segment named, and at most 2,047 below the last one."""
+
+    def __init__(self, rules):
+        super().__init__(rules)
+        self.named = 0
+
+    def may_name(self, row, start, back, bearer):
+        own = self.rules['queued words of a new segment']
+        if bearer != 'a new segment':
+            return super().may_name(row, start, back, bearer) or own.turned(bearer + ' goes back too') and start - back >= self.named
+        limit = 2046 if own.turned('2,046 back') else 2048 if own.turned('2,048 back') else 2047
+        limit = 4095 if own.turned('back without limit') else limit
+        lowest = 0 if own.turned('below an earlier new segment') else self.named
+        lowest += 1 if own.turned('not again the number that was named') else 0
+        return back <= limit and start - back >= lowest and not own.turned('does not go back')
+
+    def judged(self, row, start, word, bearer):
+        last = super().judged(row, start, word, bearer)
+        own = self.rules['queued words of a new segment']
+        number = last - distance(row, word & 0x0fff, wire(row, last))
+        if bearer == 'a new segment':
+            is_passed = [word & 0x1000 and own.turned('a NAK names nothing'),
+                         number < last and own.turned('an older number is not named'),
+                         number == last and own.turned('a number that rises is not named')]
+            self.named = self.named if any(is_passed) else number
+            last = number if own.turned('an older number is the last one') else last
+        elif own.turned(bearer + ' names a number'):
+            self.named = number
+        elif own.turned(bearer + ' moves what was named'):
+            self.named += last - start
+        return last
+
+    def restart(self, layers):
+        super().restart(layers)
+        if self.rules['queued words of a new segment'].turned('a start forgets what was named'):
+            self.named = 0
+
+
+class QueuedLink(Link):
+    """One end of a link with queues."""
+
+    def __init__(self, place, rules, phase, opened):
+        super().__init__(place, rules, phase, opened)
+        self.ran = self.accepted = False
+        self.said, self.end = 0, 'live'
+
+    def new_flow(self, rules):
+        return QueuedFlow(rules)
+
+    def is_live(self):
+        return self.end == 'live'
+
+    def is_dead(self):
+        return self.end == 'dead'
+
+    def says(self, step):
+        """It sent a message of RUN, 1, or a DI, 2; or shows that nothing from before waits."""
+        self.said = max(self.said, step)
+
+
+class QueuedLinks(Links):
+    """The links of a node with queues."""
+    new_link = QueuedLink
+
+    def row(self, heading):
+        """The row with this heading, where links with queues have one of their own, and else that of all links."""
+        return self.rules['queued ' + heading if 'queued ' + heading in self.rules else heading]
+
+    def give_address(self, row, link, address):
+        """The link gets the address. Nothing waits any more of the one that had it."""
+        for other in self.links:
+            if other.own == address and not other.is_live() and not row.turned('what waits of the earlier link'):
+                other.end = 'dead'
+        super().give_address(row, link, address)
+
+    def go_to(self, link, phase):
+        own = self.rules['queued link']
+        super().go_to(link, phase)
+        link.ran = link.ran or phase == 'RUN' or phase == 'Confirming' and own.turned('it ran once it was accepted')
+        if phase == 'DI' and own.turned('a close forgets RUN'):
+            link.ran = False
+        if phase == 'DI' and own.turned('a close forgets what was accepted'):
+            link.accepted = False
+        if phase == 'DI' and own.turned('a close drops what was handed in'):
+            link.flow.handed = []
+
+    def ends(self, row, link):
+        """A DI or a DC ends the link: it goes on until nothing of it waits any more."""
+        own = self.rules['queued link']
+        link.end = 'dead' if row.turned('EndLink as dead') else 'ending'
+        link.flow.end()
+        if own.turned('its end forgets RUN'):
+            link.ran = False
+        if own.turned('its end drops what was handed in'):
+            link.flow.handed = []
+        if own.turned('its end drops what was given'):
+            link.flow.given = link.flow.acknowledged = 0
+
+    def ends_call(self, link):
+        link.end = 'dead'
+
+    def ends_waiting(self, row, message):
+        """A DC is sent. It is no answer that waited, so what came for its address was acted on, and nothing from before that waits: a link that
+        is ending is dead, and a live one has said what its phase shows."""
+        link = self.find(row, 'StillAt', message.source)
+        if link is None or link.far != message.destination and row.turned('of that far address alone'):
+            return
+        if not link.is_live():
+            link.end = 'ending' if row.turned('an ending link goes on') else 'dead'
+        elif row.turned('a live link is dead'):
+            link.end = 'dead'
+        elif link.phase == 'RUN' and not row.turned('nothing is said in RUN'):
+            link.says(1)
+        elif link.phase == 'DI' and not row.turned('nothing is said in DI'):
+            link.says(1 if row.turned('only RUN is said in DI') else 2)
+        elif link.phase in ('Calling', 'Confirming') and row.turned('RUN is said in ' + link.phase):
+            link.says(1)
+
+    def do_user(self, row, effect, link, own, data):
+        if effect == 'Accept':
+            link.accepted = True
+        else:
+            super().do_user(row, effect, link, own, data)
