@@ -123,9 +123,9 @@ def covered(a, b):
     return 'accepted\n', counts
 
 
-def table(counts):
-    """What is printed of the counts of both sides, behind the first line."""
-    lines = ['%s went through %d of 80 rows' % (letter, sum(n > 0 for n in of.values())) for letter, of in zip('ab', counts)]
+def table(counts, rows=80):
+    """What is printed of the counts of both sides, of so many rows that are counted, behind the first line."""
+    lines = ['%s went through %d of %d rows' % (letter, sum(n > 0 for n in of.values()), rows) for letter, of in zip('ab', counts)]
     lines.append('%-34s %6s %6s' % ('row', 'a', 'b'))
     for row in ROWS:
         if any(of[row] for of in counts):

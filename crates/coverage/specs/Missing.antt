@@ -1,5 +1,5 @@
 -- What is printed of the rows that neither side went through.
-use Rattle.std.specs.Prelude.{ℕ, if◌then◌else◌, List, [], ◌++◌, codes}
+use Rattle.std.specs.Prelude.{ℕ, if◌then◌else◌, List, [], ◌++◌, codes, length}
 use Rattle.std.specs.List.{flat_map}
 use Rattle.wire_base.specs.declared.side.Side.TheVariants.{A, B}
 use Rattle.coverage.specs.declared.hints.Hint.{Hint}
@@ -32,9 +32,9 @@ unfoldable pub missing_headings : List ℕ
 missing_headings = left (codes "row") ++ (codes " " ++ (codes "what meets it" ++ codes "\n"))
 
 -- a line a side, and one of headings
-unfoldable pub missing_head : (a b : List ℕ) → List ℕ
-missing_head a b = side_line A a ++ (side_line B b ++ missing_headings)
+unfoldable pub missing_head : (rows : ℕ) → (a b : List ℕ) → List ℕ
+missing_head rows a b = side_line rows A a ++ (side_line rows B b ++ missing_headings)
 
 -- after these the rows that are missing, and what the names stand for
 abbrev pub missing : List Hint → List Setup → (a b : List ℕ) → List ℕ
-missing hints setups a b = (missing_head a b ++ hint_lines a b hints) ++ setup_lines setups
+missing hints setups a b = (missing_head (length hints) a b ++ hint_lines a b hints) ++ setup_lines setups

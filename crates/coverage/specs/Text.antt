@@ -44,21 +44,22 @@ row_line a b row =
 abbrev pub met_rows : List ℕ → ℕ
 met_rows counts = length (filter (λ (count : ℕ). nat_lt 0 count) counts)
 
--- `a went through 21 of 80 rows`
-abbrev pub side_line : Side → List ℕ → List ℕ
-side_line side counts = side_letter side ++ (codes " went through " ++ (decimal (met_rows counts) ++ codes " of 80 rows\n"))
+-- `a went through 21 of 80 rows`: of so many rows that are counted
+abbrev pub side_line : (rows : ℕ) → Side → List ℕ → List ℕ
+side_line rows side counts =
+    side_letter side ++ (codes " went through " ++ (decimal (met_rows counts) ++ (codes " of " ++ (decimal rows ++ codes " rows\n"))))
 
 -- above the rows
 unfoldable pub headings : List ℕ
 headings = line (codes "row") (codes "a") (codes "b")
 
-unfoldable pub head : (a b : List ℕ) → List ℕ
-head a b = side_line A a ++ (side_line B b ++ headings)
+unfoldable pub head : (rows : ℕ) → (a b : List ℕ) → List ℕ
+head rows a b = side_line rows A a ++ (side_line rows B b ++ headings)
 
 -- the lines of these rows
 unfoldable pub row_lines : (a b : List ℕ) → List Row → List ℕ
 row_lines a b rows = flat_map (row_line a b) rows
 
 -- a line a side, one of headings, and the rows in their order
-abbrev pub table : (a b : List ℕ) → List ℕ
-table a b = head a b ++ row_lines a b ORDER
+abbrev pub table : (rows : ℕ) → (a b : List ℕ) → List ℕ
+table rows a b = head rows a b ++ row_lines a b ORDER

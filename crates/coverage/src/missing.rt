@@ -21,7 +21,7 @@ pub fn missing_text(
 ) -> Result<String, AllocError>
     ensures { IfOk result (λ text. string_bytes text ≡ spec.missing hints.now setups.now a.now.met b.now.met) }
 {
-    let mut text = head(alloc, a, b)?;
+    let mut text = head(alloc, hints.len(), a, b)?;
     put_hints(alloc, &mut text, hints, a, b)?;
     put_setups(alloc, &mut text, setups)?;
     Ok(text)
@@ -29,11 +29,11 @@ pub fn missing_text(
 
 // The lines before the rows.
 #[tactic(auto, unfolding(crate::specs::Missing::missing_head))]
-fn head(alloc: Global, a: &Counts, b: &Counts) -> Result<String, AllocError>
-    ensures { IfOk result (λ text. string_bytes text ≡ spec.missing_head a.now.met b.now.met) }
+fn head(alloc: Global, rows: usize, a: &Counts, b: &Counts) -> Result<String, AllocError>
+    ensures { IfOk result (λ text. string_bytes text ≡ spec.missing_head rows a.now.met b.now.met) }
 {
-    let of_a = side_line(alloc, Side::A, a)?;
-    let of_b = side_line(alloc, Side::B, b)?;
+    let of_a = side_line(alloc, rows, Side::A, a)?;
+    let of_b = side_line(alloc, rows, Side::B, b)?;
     let headings = headings(alloc)?;
     format!(in alloc; "{of_a}{of_b}{headings}")
 }

@@ -9,22 +9,23 @@ use crate::row::Row;
 use std::alloc::{AllocError, Global};
 use wire_base::Side;
 
-/// The table of both sides: a line a side, one of headings, and the rows that were met, each line with its LF. Fails for want of memory alone.
-pub fn table(alloc: Global, a: &Counts, b: &Counts) -> Result<String, AllocError>
-    ensures { IfOk result (λ text. string_bytes text ≡ spec.table a.now.met b.now.met) }
+/// The table of both sides: a line a side, with how many rows are counted; one of headings; and the rows that were met, each line with its LF. Fails
+/// for want of memory alone.
+pub fn table(alloc: Global, rows: usize, a: &Counts, b: &Counts) -> Result<String, AllocError>
+    ensures { IfOk result (λ text. string_bytes text ≡ spec.table rows a.now.met b.now.met) }
 {
-    let mut text = head(alloc, a, b)?;
+    let mut text = head(alloc, rows, a, b)?;
     put_rows(alloc, &mut text, &ORDER, a, b)?;
     Ok(text)
 }
 
 // The lines before the rows.
 #[tactic(auto, unfolding(crate::specs::Text::head))]
-fn head(alloc: Global, a: &Counts, b: &Counts) -> Result<String, AllocError>
-    ensures { IfOk result (λ text. string_bytes text ≡ spec.head a.now.met b.now.met) }
+fn head(alloc: Global, rows: usize, a: &Counts, b: &Counts) -> Result<String, AllocError>
+    ensures { IfOk result (λ text. string_bytes text ≡ spec.head rows a.now.met b.now.met) }
 {
-    let of_a = side_line(alloc, Side::A, a)?;
-    let of_b = side_line(alloc, Side::B, b)?;
+    let of_a = side_line(alloc, rows, Side::A, a)?;
+    let of_b = side_line(alloc, rows, Side::B, b)?;
     let headings = headings(alloc)?;
     format!(in alloc; "{of_a}{of_b}{headings}")
 }
@@ -37,12 +38,17 @@ fn headings(alloc: Global) -> Result<String, AllocError>
     line(alloc, "row", "a", "b")
 }
 
-/// How many rows a side went through.
-pub fn side_line(alloc: Global, side: Side, counts: &Counts) -> Result<String, AllocError>
-    ensures { IfOk result (λ text. string_bytes text ≡ spec.side_line side counts.now.met) }
+/// How many rows a side went through, of so many that are counted.
+pub fn side_line(
+    alloc: Global,
+    rows: usize,
+    side: Side,
+    counts: &Counts,
+) -> Result<String, AllocError>
+    ensures { IfOk result (λ text. string_bytes text ≡ spec.side_line rows side counts.now.met) }
 {
     let met = counts.met_rows();
-    format!(in alloc; "{side} went through {met} of 80 rows\n")
+    format!(in alloc; "{side} went through {met} of {rows} rows\n")
 }
 
 // Appends the lines of these rows.

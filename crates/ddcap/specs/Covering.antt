@@ -69,13 +69,13 @@ pub record CoversPair (pair : PairMoved) (old new : CoveredView) (err : Moved) (
 
 -- ---- what is printed
 
--- a line for each pair, and the table of all
-abbrev pub covered_text : CoveredView → List ℕ
-covered_text covered = covered.lines ++ table covered.a covered.b
+-- a line for each pair, and the table of all, of so many rows that are counted
+abbrev pub covered_text : (rows : ℕ) → CoveredView → List ℕ
+covered_text rows covered = covered.lines ++ table rows covered.a covered.b
 
-abbrev pub PrintsCovered : CoveredView → (out err : Moved) → ℕ → Type 0
-PrintsCovered covered out err status =
-    (Writes out.old out.new (covered_text covered) covered.status status × (err.new ≡ err.old))
+abbrev pub PrintsCovered : (rows : ℕ) → CoveredView → (out err : Moved) → ℕ → Type 0
+PrintsCovered rows covered out err status =
+    (Writes out.old out.new (covered_text rows covered) covered.status status × (err.new ≡ err.old))
     ⊎ (Writes err.old err.new (fault_text OutOfMemory) 3 status × (out.new ≡ out.old))
 
 -- a line for each pair, and the rows that are missing in all

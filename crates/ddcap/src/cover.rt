@@ -118,27 +118,28 @@ pub fn cover_line_pair<A: Read, B: Read, E: Write>(
     }
 }
 
-/// Prints what was found of all pairs, and answers the status: 0 where all are accepted, 1 where one is refused, and 3 where there is no memory
-/// for the text or a write failed. The whole text is put together before the first write.
+/// Prints what was found of all pairs, of so many rows that are counted, and answers the status: 0 where all are accepted, 1 where one is refused, and
+/// 3 where there is no memory for the text or a write failed. The whole text is put together before the first write.
 pub fn print_covered<O: Write, E: Write>(
     alloc: Global,
+    rows: usize,
     covered: &Covered,
     out: &mut Tally<O>,
     err: &mut Tally<E>,
 ) -> u8
-    ensures { spec.PrintsCovered covered.now (moved O.contents out.old out.new) (moved E.contents err.old err.new) result }
+    ensures { spec.PrintsCovered rows covered.now (moved O.contents out.old out.new) (moved E.contents err.old err.new) result }
 {
-    match covered_text(alloc, covered) {
+    match covered_text(alloc, rows, covered) {
         Ok(text) => print(out, text.as_bytes(), covered.status),
         Err(_) => print_out_of_memory(err),
     }
 }
 
 // The first lines, and the table.
-fn covered_text(alloc: Global, covered: &Covered) -> Result<String, AllocError>
-    ensures { IfOk result (λ text. string_bytes text ≡ spec.covered_text covered.now) }
+fn covered_text(alloc: Global, rows: usize, covered: &Covered) -> Result<String, AllocError>
+    ensures { IfOk result (λ text. string_bytes text ≡ spec.covered_text rows covered.now) }
 {
-    let table = table(alloc, &covered.a, &covered.b)?;
+    let table = table(alloc, rows, &covered.a, &covered.b)?;
     let lines = &covered.lines;
     format!(in alloc; "{lines}{table}")
 }

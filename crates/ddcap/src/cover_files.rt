@@ -86,7 +86,7 @@ fn cover_in_rows<R: Files + AllocGlobal, O: Write, E: Write>(
     }
     match hints {
         Some(hints) => print_missing(rt.alloc(), &covered, hints, all_setups(), out, err),
-        None => print_covered(rt.alloc(), &covered, out, err),
+        None => print_covered(rt.alloc(), hints_of(layers).len(), &covered, out, err),
     }
 }
 

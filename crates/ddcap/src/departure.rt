@@ -8,7 +8,7 @@ use std::io::{Read, Seek, Write};
 use why::{FaultyLine, faulty_line_rows};
 use wire_base::{Side, Tally, write_whole};
 
-// How many bytes of a text are kept from its beginning.
+// How many bytes of a text are kept from its beginning, at least.
 const FIRST: usize = 8;
 
 // The bytes of a line, without its LF, as far as they are kept.
@@ -16,7 +16,6 @@ const FIRST: usize = 8;
 struct KeptLine {
     bytes: Vec<u8>,
     has_lf: bool,
-    first: Vec<u8>,
 }
 
 /// Writes rows on the line by which the captures of a pair depart from the format, over these layers. It reads both files again from their beginning:
@@ -79,6 +78,12 @@ fn explain<R: Read + Seek, E: Write>(
     if file.rewind().is_err() {
         return;
     }
+    let Ok(Some(first)) = first_bytes(alloc, file) else {
+        return;
+    };
+    if file.rewind().is_err() {
+        return;
+    }
     let Ok(Some(kept)) = kept_line(alloc, file, number) else {
         return;
     };
@@ -87,14 +92,28 @@ fn explain<R: Read + Seek, E: Write>(
         number,
         bytes: kept.bytes.as_slice(),
         has_lf: kept.has_lf,
-        first: kept.first.as_slice(),
+        first: first.as_slice(),
     };
     if let Ok(rows) = faulty_line_rows(alloc, line) {
         let _ = write_whole(err, rows.as_bytes());
     }
 }
 
-// The line with this number, counted from 1, and the first bytes of the text; `None` where a read fails.
+// The first bytes of the text; `None` where a read fails.
+fn first_bytes<R: Read>(alloc: Global, file: &mut R) -> Result<Option<Vec<u8>>, AllocError> {
+    let mut first = Vec::new(alloc);
+    let mut block = [0; FIRST];
+    for _ in 0..FIRST {
+        match file.read(&mut block) {
+            Ok(0) => return Ok(Some(first)),
+            Ok(count) => first.extend_from_slice(&block[..count])?,
+            Err(_) => return Ok(None),
+        }
+    }
+    Ok(Some(first))
+}
+
+// The line with this number, counted from 1; `None` where a read fails.
 fn kept_line<R: Read>(
     alloc: Global,
     file: &mut R,
@@ -103,7 +122,6 @@ fn kept_line<R: Read>(
     let mut kept = KeptLine {
         bytes: Vec::new(alloc),
         has_lf: false,
-        first: Vec::new(alloc),
     };
     let mut block = [0; 4096];
     let mut at: u64 = 1;
@@ -114,9 +132,6 @@ fn kept_line<R: Read>(
             Err(_) => return Ok(None),
         };
         for byte in &block[..count] {
-            if kept.first.len() < FIRST {
-                kept.first.push(*byte)?;
-            }
             if *byte == b'\n' {
                 if at == number {
                     kept.has_lf = true;

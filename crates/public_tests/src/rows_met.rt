@@ -1,4 +1,4 @@
-use coverage::{Row, Sending, judge_covered, table};
+use coverage::{ROWS, Row, Sending, judge_covered, table};
 use std::alloc::AllocError;
 use wire_base::{Side, Tally};
 
@@ -31,7 +31,7 @@ fn rows_of_both_sides_are_counted(rt: HostRuntime) -> Result<(), AllocError> {
     };
     let of_a = watched.observer.of_side(Side::A);
     let of_b = watched.observer.of_side(Side::B);
-    let text = table(rt.alloc(), &of_a, &of_b)?;
+    let text = table(rt.alloc(), ROWS, &of_a, &of_b)?;
     assert_eq!(rt; text.as_str(), TABLE);
     let mut sum = of_a;
     sum.add(&of_a);

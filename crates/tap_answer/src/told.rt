@@ -13,7 +13,7 @@ pub enum Told {
     Accepted,
     /// They end with this unit, and are refused for this reason.
     Unexplained { passed: Passed, reason: Reason },
-    /// They hold all that passed, and are refused behind the last unit of a side, for this reason.
+    /// They hold all that passed, and are refused after the last unit of a side, for this reason.
     UnexplainedEnd { reason: Reason },
     /// They end with this unit, before which there were too many states to try; or are accepted, though the search did not go on from there.
     TooWide(Passed),

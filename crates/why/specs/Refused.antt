@@ -5,7 +5,7 @@ use Rattle.wire_base.specs.Side.{side_letter}
 use Rattle.wire_base.specs.declared.side.Side.{Side}
 use Rattle.wire_base.specs.declared.side.Side.TheVariants.{A}
 use Rattle.capture.specs.declared.entry.Entry.{Entry}
-use Rattle.capture.specs.declared.entry.Entry.TheVariants.{Received}
+use Rattle.capture.specs.declared.entry.Entry.TheVariants.{Sent, Received, Noise}
 use Rattle.pair_judge.specs.Reason.{reason_name, reason_number}
 use Rattle.pair_judge.specs.declared.end_verdict.Accused.{Accused}
 use Rattle.pair_judge.specs.declared.end_verdict.Accused.TheVariants as ends
@@ -17,10 +17,16 @@ use Rattle.pair_judge.specs.declared.reason.Reason.TheVariants.{SegmentTooLong, 
 use Rattle.why.specs.declared.accusation.Accusation.{Accusation}
 use Rattle.why.specs.declared.accusation.Accusation.TheVariants.{Sender, OtherSender, Hints, Line, Claim, Nobody, User}
 use Rattle.why.specs.declared.accusation.Accusation.TheVariants.{Starter, Chooser, OtherEnd}
-use Rattle.why.specs.Ends.{is_of_user}
 use Rattle.why.specs.declared.end_text.EndRefusal.{EndRefusal}
 use Rattle.why.specs.declared.refused_line.RefusedLine.{RefusedLine}
 use Rattle.why.specs.declared.why_text.Refusal.{Refusal}
+
+-- a user's record begins with `u`
+abbrev pub is_of_user : Entry → Bool
+is_of_user Sent = false
+is_of_user (Received kept hint) = false
+is_of_user Noise = false
+is_of_user entry = true
 
 -- a link that is not there, or not in the right phase, is the sender's fault, or the user's in a user's record
 abbrev pub sender_or_user : (of_user : Bool) → Accusation

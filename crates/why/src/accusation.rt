@@ -1,10 +1,8 @@
 //! Who is accused.
 
-ghost use Rattle.why.specs.Ends as of_ends;
 ghost use Rattle.std.specs.Prelude.{◌≡◌};
 ghost use Rattle.why.specs.Refused as spec;
 
-use crate::ends::is_of_user;
 use capture::Entry;
 use pair_judge::{Accused, Reason};
 use std::fmt;
@@ -86,7 +84,7 @@ impl Accusation {
     }
 
     fn of_link(entry: Entry) -> Accusation
-        ensures { result ≡ spec.sender_or_user (of_ends.is_of_user entry) }
+        ensures { result ≡ spec.sender_or_user (spec.is_of_user entry) }
     {
         if is_of_user(entry) {
             return Accusation::User;
@@ -152,5 +150,22 @@ impl fmt::Display for AccusedRow {
             ),
             Accusation::OtherEnd => f.write_str("accused  the other end\n"),
         }
+    }
+}
+
+// Whether the record of this entry is a user's (`u`).
+fn is_of_user(entry: Entry) -> bool
+    ensures { result ≡ spec.is_of_user entry }
+{
+    match entry {
+        Entry::Sent | Entry::Received { .. } | Entry::Noise => false,
+        Entry::Start
+        | Entry::Halt
+        | Entry::Open { .. }
+        | Entry::Accept { .. }
+        | Entry::Reject { .. }
+        | Entry::In { .. }
+        | Entry::Up { .. }
+        | Entry::Close { .. } => true,
     }
 }

@@ -1,7 +1,7 @@
 //! The open causes of NAKs, in a list.
 
 ghost use Rattle.std.specs.Prelude.{◌≡◌};
-ghost use Rattle.why.specs.Causes as spec;
+ghost use Rattle.why.specs.inner.Causes as spec;
 
 use crate::form::Form;
 use crate::unit_words::nak_words;

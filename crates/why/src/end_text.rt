@@ -1,7 +1,7 @@
 //! All that is said of a refused record of one end, of whose other side nothing is known.
 
 ghost use Rattle.std.specs.Prelude.{◌≡◌, IfOk, string_bytes};
-ghost use Rattle.why.specs.EndAlone as spec;
+ghost use Rattle.why.specs.inner.EndAlone as spec;
 ghost use Rattle.why.specs.Refused.{BeginsWith, line_of_end, refused_line};
 
 use crate::accusation::{Accusation, AccusedRow};

@@ -1,11 +1,10 @@
 //! What both ends show where a record is refused.
 
 ghost use Rattle.std.specs.Prelude.{◌≡◌, ◌++◌, IfOk, OnOk};
-ghost use Rattle.why.specs.Ends as spec;
+ghost use Rattle.why.specs.inner.Ends as spec;
 
 use crate::link_line::is_live;
 use crate::state_line::StateLine;
-use capture::Entry;
 use nsp_link::LinkView;
 use pair_judge::SideEnd;
 use std::alloc::{AllocError, Global};
@@ -47,21 +46,4 @@ fn push_live(live: &mut Vec<LinkView>, link: LinkView) -> Result<(), AllocError>
         live.push(link)?;
     }
     Ok(())
-}
-
-/// Whether the record of this entry is a user's (`u`).
-pub fn is_of_user(entry: Entry) -> bool
-    ensures { result ≡ spec.is_of_user entry }
-{
-    match entry {
-        Entry::Sent | Entry::Received { .. } | Entry::Noise => false,
-        Entry::Start
-        | Entry::Halt
-        | Entry::Open { .. }
-        | Entry::Accept { .. }
-        | Entry::Reject { .. }
-        | Entry::In { .. }
-        | Entry::Up { .. }
-        | Entry::Close { .. } => true,
-    }
 }

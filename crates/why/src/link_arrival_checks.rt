@@ -53,14 +53,14 @@ fn write_tag<W: Write>(f: &mut Formatter<W>, side: Side, tag: LinkTag) -> fmt::R
     write_link_number(f, side, tag.partner)
 }
 
-// Writes a link of a side by its number, counted from 0 in the order in which they began; or none.
+// Writes a link of a side by its number, counted from 1 in the order in which they began, as starts are; or none.
 fn write_link_number<W: Write>(
     f: &mut Formatter<W>,
     side: Side,
     number: Option<u64>,
 ) -> fmt::Result {
     match number {
-        Some(number) => write!(f, "link number {number} of {side}"),
+        Some(link) => write!(f, "link number {} of {side}", counted(link)),
         None => write!(f, "no link of {side}"),
     }
 }
@@ -72,15 +72,22 @@ fn write_goes_with<W: Write>(
     link: u64,
     partner: Option<u64>,
 ) -> fmt::Result {
-    let other = side.other();
+    let number = counted(link);
     match partner {
         Some(partner) => write!(
             f,
-            "a message of link number {partner} of {other}, which goes with link number {link} of {side}"
+            "a message of link number {} of {}, which goes with link number {number} of {side}",
+            counted(partner),
+            side.other()
         ),
         None => write!(
             f,
-            "a message of a link that goes with link number {link} of {side}"
+            "a message of a link that goes with link number {number} of {side}"
         ),
     }
+}
+
+// The number of the link before which so many began.
+fn counted(link: u64) -> u64 {
+    link.saturating_add(1)
 }

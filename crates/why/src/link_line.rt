@@ -1,7 +1,7 @@
 //! A live link, as a JSON object and in rows.
 
 ghost use Rattle.std.specs.Prelude.{◌≡◌, ◌||◌, ◌==◌, nat_lt, not};
-ghost use Rattle.why.specs.LinkLine as spec;
+ghost use Rattle.why.specs.inner.LinkLine as spec;
 
 use crate::form::Form;
 use crate::words::short_number_or;

@@ -3,7 +3,7 @@
 ghost use Rattle.std.specs.Prelude.{◌≡◌};
 ghost use Rattle.ddcmp_msg.specs.Message.{view};
 ghost use Rattle.ddcmp_msg.specs.Reading.{reading_view};
-ghost use Rattle.why.specs.OtherEnd as spec;
+ghost use Rattle.why.specs.inner.OtherEnd as spec;
 
 use crate::checks::seen_and_allowed;
 use crate::layers::{message_in_unit, packet_in};

@@ -2,7 +2,7 @@
 
 ghost use Rattle.std.specs.Prelude.{◌≡◌, ◌≤◌, IfOk, length, take};
 ghost use Rattle.std.specs.List.{filter};
-ghost use Rattle.why.specs.Sides as spec;
+ghost use Rattle.why.specs.inner.Sides as spec;
 
 use crate::form::Form;
 use crate::link_line::{LinkTold, has_open};

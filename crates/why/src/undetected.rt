@@ -2,7 +2,7 @@
 
 ghost use Rattle.std.specs.Prelude.{◌≡◌};
 ghost use Rattle.ddcmp_station.specs.Failed.{byte_at, first_difference};
-ghost use Rattle.why.specs.Undetected as spec;
+ghost use Rattle.why.specs.inner.Undetected as spec;
 
 use crate::data_bytes::ByteWords;
 use crate::unit_words::ReadingName;

@@ -2,7 +2,7 @@ use Rattle.std.proofs.Common.{List, ◌++◌, sym, ap, ◌∙◌}
 use Rattle.std.specs.List.{filter}
 use Rattle.nsp_link.specs.View.{view_of}
 use Rattle.nsp_link.specs.declared.view.LinkView.{LinkView}
-use Rattle.why.specs.Ends.{if_live, is_live_view}
+use Rattle.why.specs.inner.Ends.{if_live, is_live_view}
 use Rattle.why.proofs.Kept.{seen_all, seen_more}
 use Rattle.why.proofs.ends.live_links.Goals as goal
 

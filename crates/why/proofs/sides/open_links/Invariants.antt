@@ -1,6 +1,6 @@
 use Rattle.std.proofs.Common.{◌≡◌, take}
 use Rattle.std.specs.List.{filter}
-use Rattle.why.specs.Sides as spec
+use Rattle.why.specs.inner.Sides as spec
 use Rattle.why.proofs.sides.open_links.Given as goal
 
 abbrev pub invariant-loop-link : goal.invariant-loop-link

@@ -1,14 +1,12 @@
 -- What both ends show where a record is refused.
-use Rattle.std.specs.Prelude.{Bool, true, false, if◌then◌else◌, List, [], ◌∷◌, map}
+use Rattle.std.specs.Prelude.{Bool, if◌then◌else◌, List, [], ◌∷◌, map}
 use Rattle.std.specs.List.{filter}
 use Rattle.wire_base.specs.declared.side.Side.{Side}
-use Rattle.capture.specs.declared.entry.Entry.{Entry}
-use Rattle.capture.specs.declared.entry.Entry.TheVariants.{Sent, Received, Noise}
 use Rattle.nsp_link.specs.View.{view_of}
 use Rattle.nsp_link.specs.declared.view.LinkView.{LinkView}
 use Rattle.pair_judge.specs.Ends.{ShownEnd}
 use Rattle.why.specs.declared.state_line.StateLine.{StateLine}
-use Rattle.why.specs.LinkLine.{is_live}
+use Rattle.why.specs.inner.LinkLine.{is_live}
 
 -- ---- what the ends show
 
@@ -24,10 +22,3 @@ if_live v = if is_live_view v then v ∷ [] else []
 
 abbrev pub live_by : ShownEnd → List LinkView
 live_by e = filter is_live_view (map view_of e.links.links)
-
--- a user's record stands behind `u`
-abbrev pub is_of_user : Entry → Bool
-is_of_user Sent = false
-is_of_user (Received kept hint) = false
-is_of_user Noise = false
-is_of_user entry = true
