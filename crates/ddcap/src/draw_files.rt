@@ -8,12 +8,12 @@ use crate::draw::draw_rows_to;
 use crate::fault_told::FaultTold;
 use crate::files::{Named, Wanted, opened_plain};
 use crate::picture::picture_of;
-use crate::text::verdict_status;
+use crate::text::{FAILED, verdict_status};
 use crate::written::written_beside_pair;
 use drawing::Range;
 use std::io::Write;
 use std::rt::Files;
-use wire_base::Tally;
+use wire_base::{Tally, write_whole};
 
 /// What is drawn of two files.
 #[derive(Clone, Copy, Debug, PartialEq, Eq)]
@@ -45,11 +45,10 @@ pub fn draw_files<R: Files + AllocGlobal, O: Write, E: Write>(
     match picture_of(rt.alloc(), &mut a, &mut b, asked.range, title.as_str()) {
         Ok(picture) => {
             let mut svg = written_beside_pair(rt, &a, &b, Wanted::by_path(Named::Svg, path), err)?;
-            Ok(print(
-                &mut svg,
-                picture.svg.as_slice(),
-                verdict_status(picture.verdict),
-            ))
+            match write_whole(&mut svg, picture.svg.as_slice()) {
+                Ok(()) => Ok(verdict_status(picture.verdict)),
+                Err(_) => Ok(print(err, b"svg: write failed\n", FAILED)),
+            }
         }
         Err(fault) => Ok(print_fault(rt.alloc(), fault, err)),
     }

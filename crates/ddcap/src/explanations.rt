@@ -1,10 +1,11 @@
 //! What there is to say of each reason, as docs/REASONS.md has it, line breaks and links apart.
 
-ghost use Rattle.std.specs.Prelude.{◌≡◌, IfSome};
+ghost use Rattle.std.specs.Prelude.{◌≡◌, IfOk, IfSome};
 ghost use Rattle.std.specs.Fmt.{decimal};
-ghost use Rattle.pair_judge.specs.Reason.{reason_number};
+ghost use Rattle.pair_judge.specs.Reason.{reason_name, reason_number};
 
 use pair_judge::Reason;
+use std::alloc::{AllocError, Global};
 
 mod links;
 mod packets;
@@ -107,4 +108,17 @@ pub fn reason_spelled(word: &str) -> Option<Reason>
         }
     }
     None
+}
+
+/// The reason with this name. `AllocError` where there is no memory for a name to be compared.
+pub fn reason_named(alloc: Global, word: &str) -> Result<Option<Reason>, AllocError>
+    ensures { IfOk result (λ found. IfSome found (λ reason. word.now ≡ reason_name reason)) }
+{
+    for reason in &REASONS {
+        let name = format!(in alloc; "{reason}")?;
+        if name.as_str() == word {
+            return Ok(Some(*reason));
+        }
+    }
+    Ok(None)
 }

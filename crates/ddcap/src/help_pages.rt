@@ -19,7 +19,8 @@ pub const PROGRAM: &str = "\
 
 Status:
   0  done; from check, alone, why, cover, draw, tap: accepted or passed
-  1  from check, alone, why, cover, draw: refused; from tap: unexplained
+  1  from check, alone, why, cover, draw: refused; from tap: unexplained;
+     from align: a receipt is of no unit
   2  the words of the command, or a line of a file, are faulty
   3  a file failed, or memory ran out
 
@@ -167,7 +168,8 @@ ddcap explain N
 
 Says what reason N of a refusal means: what was seen, the rule, what would have
 been allowed, by whose fault it is, what usually causes it, and what to do
-first. N is 1 to 27, the number before the name in what check prints.
+first. N is 1 to 27, the number before the name in what check prints, or that
+name.
 
 Example, in the top folder of the sources:
 

@@ -20,7 +20,7 @@ const TAP: &str = "usage: ddcap tap [--line] [--json] WIRE A B\n";
 
 const TOPIC: &str = "usage: ddcap help [WORD]\n";
 
-const EXPLAIN: &str = "usage: ddcap explain N, with N from 1 to 27\n";
+const EXPLAIN: &str = "usage: ddcap explain N, with N from 1 to 27, or the name of a reason\n";
 
 /// The line that is told after `bad words` of these, of which the first is the program's name: how the word is used, or where to read of all words.
 /// `None` where nothing more is told: of `show`, `play` and `convert`, and of `check` with no new option and at most two files.

@@ -5,7 +5,7 @@ use crate::commands::program;
 use crate::cover_files::Listed;
 use crate::draw_files::Asked;
 use crate::draw_words::drawing_asked;
-use crate::explanations::reason_spelled;
+use crate::explanations::{reason_named, reason_spelled};
 use crate::help::Topic;
 use crate::judging_words::{checked_of, covered_of, explained_of, judged_alone_of, tapped_of};
 use crate::layers::Layers;
@@ -120,7 +120,7 @@ pub fn task_of<'a, S: AsStr>(alloc: Global, words: &'a [S]) -> Result<Task<'a>, 
             Some(("align", found)) => alignment_asked(found),
             Some(("tap", found)) => tapped_of(found),
             Some(("help", found)) => help_of(found),
-            Some(("explain", found)) => explanation_asked(found),
+            Some(("explain", found)) => explanation_asked(alloc, found),
             _ => Err(WordsFault::BadWords),
         },
         Err(error) => match error.kind() {
@@ -213,13 +213,17 @@ fn help_of<'a>(found: &ArgMatches<'a>) -> Result<Task<'a>, WordsFault> {
     Ok(Task::Help { topic })
 }
 
-// The reason that the word behind `explain` names by its number, which has one spelling.
-fn explanation_asked<'a>(found: &ArgMatches<'a>) -> Result<Task<'a>, WordsFault> {
-    let Some(number) = found.get_str("N") else {
+// The reason that the word behind `explain` names, by its number, which has one spelling, or by its name.
+fn explanation_asked<'a>(alloc: Global, found: &ArgMatches<'a>) -> Result<Task<'a>, WordsFault> {
+    let Some(word) = found.get_str("N") else {
         return Err(WordsFault::BadWords);
     };
-    match reason_spelled(number) {
-        Some(reason) => Ok(Task::Explain { reason }),
-        None => Err(WordsFault::BadWords),
+    if let Some(reason) = reason_spelled(word) {
+        return Ok(Task::Explain { reason });
+    }
+    match reason_named(alloc, word) {
+        Ok(Some(reason)) => Ok(Task::Explain { reason }),
+        Ok(None) => Err(WordsFault::BadWords),
+        Err(_) => Err(WordsFault::OutOfMemory),
     }
 }

@@ -116,9 +116,10 @@ fn likely(line: FaultyLine<'_>) -> Option<&'static str> {
             false => Some("an empty file, or one that was not written to its end"),
         },
         [b'#', ..] | [b';', ..] | [b'/', ..] => Some("a comment: a capture has none"),
+        [b'0'..=b'9', ..] | [b'[', ..] => Some("a time before the record: a capture has none"),
         _ => match line.has_lf {
             true => None,
-            false => Some("a recorder that was stopped, or that writes no LF behind the last line"),
+            false => Some("a recorder that was stopped, or that writes no LF after the last line"),
         },
     }
 }
