@@ -1,5 +1,6 @@
 -- What one end alone makes of its records, beside what the pair makes: what is forgotten of a node goes along
 pub mod Along
+pub mod LinkEffects
 pub mod Links
 pub mod Station
 pub mod Forgotten

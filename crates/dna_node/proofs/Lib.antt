@@ -10,6 +10,8 @@ pub mod ReadInRange
 -- within the bounds the same becomes of what a program keeps, and every run is within them
 pub mod CutLayersNode
 pub mod LayersBounds
+-- what nodes without queues make, nodes with queues make as well
+pub mod AsMuch
 -- nodes that go by neither rule on tags, where no side starts twice and no link address is given twice
 pub mod Once
 -- one end alone, beside the pair

@@ -8,6 +8,8 @@ use Rattle.capture.specs.declared.record.Record.{Record}
 use Rattle.capture.specs.declared.record.Record.TheVariants.{Sent, Received, Noise, User}
 use Rattle.dna_station.specs.declared.head.Head.{Head}
 use Rattle.dna_station.specs.declared.tag.Tag.{Tag}
+use Rattle.dna_links.specs.declared.queue.Queues.{Queues}
+use Rattle.dna_links.specs.declared.queue.Queues.TheVariants.{Without}
 use Rattle.dna_links.specs.declared.tag.LinkTag.{LinkTag}
 use Rattle.dna_station.specs.declared.refusal.StationRefusal.TheVariants.{CrossedPeriod}
 use Rattle.dna_station.specs.declared.refusal.StepRefusal.{StepRefusal}
@@ -19,7 +21,7 @@ use Rattle.dna_station.specs.Machine.{Machine, NodeOf, noise_comes}
 use Rattle.dna_station.specs.PeriodRule.{of_any_period}
 use Rattle.dna_station.specs.WireStation.{WireStation}
 use Rattle.dna_station.specs.WireNode.{WireNode, wire_machine, new_wire_node}
-use Rattle.dna_node.specs.TagRules.{by_bytes}
+use Rattle.dna_node.specs.TagRules.{by_bytes_with}
 use Rattle.dna_node.specs.WireLayers.{WireLayers, LayersTag, WireLayersNode, of_no_link, wire_layers_machine, new_wire_layers_node}
 use Rattle.dna_node.specs.Accusing.{wrong_unit, wrong_taken, wrong_response_of}
 
@@ -133,12 +135,24 @@ unknown_period = record { period = 0; partner = None }
 abbrev pub unknown_tag : LayersTag
 unknown_tag = record { station = unknown_period; link = Some of_no_link }
 
+-- With queues too all that is asked of the other end is asked at the receipt; an acknowledgement (21) of the live link that acts on the message
+abbrev pub layers_end_by : Queues → EndOf WireLayers LayersTag
+layers_end_by queues = record {
+  machine = wire_layers_machine (by_bytes_with queues);
+  unknown = unknown_tag;
+  wrong_unit = wrong_unit;
+  wrong_taken = wrong_taken;
+}
+
 abbrev pub layers_end : EndOf WireLayers LayersTag
-layers_end = record { machine = wire_layers_machine by_bytes; unknown = unknown_tag; wrong_unit = wrong_unit; wrong_taken = wrong_taken }
+layers_end = layers_end_by Without
 
 -- the capture with this head and these records
+abbrev pub judged_alone_by : Queues → Head → List Record → EndingAlone WireLayers
+judged_alone_by queues head records = ends_from (layers_end_by queues) (new_wire_layers_node head) 0 records
+
 abbrev pub judged_alone : Head → List Record → EndingAlone WireLayers
-judged_alone head records = ends_from layers_end (new_wire_layers_node head) 0 records
+judged_alone head records = judged_alone_by Without head records
 
 -- ---- the end over its station alone: a packet is any bytes and is not read, and the links' events change nothing
 
@@ -158,8 +172,11 @@ judged_station_alone head records = ends_from station_end (new_wire_node head) 0
 -- ---- what is said of both
 
 -- all of them are made
+abbrev pub PassesBy : Queues → Head → List Record → Type 0
+PassesBy queues head records = (node : WireLayersNode) × (judged_alone_by queues head records ≡ Passed node)
+
 abbrev pub Passes : Head → List Record → Type 0
-Passes head records = (node : WireLayersNode) × (judged_alone head records ≡ Passed node)
+Passes head records = PassesBy Without head records
 
 abbrev pub StationPasses : Head → List Record → Type 0
 StationPasses head records = (node : WireNode LinkTag) × (judged_station_alone head records ≡ Passed node)

@@ -11,6 +11,8 @@ pub mod Seen
 -- what a judge takes the ends of a line for, and what a finding says of two captures
 pub mod Kind
 pub mod Verdict
+-- a run of nodes with queues, beside that of nodes without
+pub mod AsMuch
 -- one end alone: what a right other end can have sent, and what this end makes of its capture
 pub mod Accusing
 pub mod Alone

@@ -19,5 +19,8 @@ abbrev pub judged : Rules
 judged = judged_by Without
 
 -- a node that knows of a message nothing but its bytes goes by neither
+abbrev pub by_bytes_with : Queues → Rules
+by_bytes_with queues = record { periods = of_any_period; partners = of_anyone; queues = queues }
+
 abbrev pub by_bytes : Rules
-by_bytes = record { periods = of_any_period; partners = of_anyone; queues = Without }
+by_bytes = by_bytes_with Without

@@ -8,36 +8,41 @@ ghost use Rattle.dna_station.specs.declared.head.Head.{Head};
 ghost use Rattle.dna_station.specs.declared.refusal.StepRefusal.{StepRefusal};
 ghost use Rattle.dna_node.specs.declared.finding.Cause.TheVariants.{Step};
 ghost use Rattle.dna_node.specs.declared.finding.Finding.TheVariants as findings;
-ghost use Rattle.dna_node.specs.LayersPair.{layers_pair, layers_start, IsLayersRun};
-ghost use Rattle.dna_node.specs.Kind.{both_layers, stations_alone, kind_pair, kind_start, IsRunOf};
+ghost use Rattle.dna_links.specs.declared.queue.Queues.{Queues};
+ghost use Rattle.dna_node.specs.LayersPair.{layers_pair_by, layers_start};
+ghost use Rattle.dna_node.specs.Kind.{layers_kind, stations_alone, kind_pair, kind_start, IsRunOf};
 ghost use Rattle.dna_node.specs.Verdict.{IsVerdict};
-ghost use Rattle.dna_node.specs.Alone.{Accused, ThisEnd, accused_of, Refused, judged_alone, judged_station_alone, Passes, StationPasses};
+ghost use Rattle.dna_node.specs.Alone.{Accused, ThisEnd, accused_of, Refused, judged_alone_by, judged_station_alone, PassesBy, StationPasses};
 ghost use Rattle.dna_node.specs.Alone.{is_seen_alone};
 
-/// Refused is final: in a run of two captures the end alone makes all records of either side. So a capture of which it refuses a record is a
-/// side of no run, whatever the other one is, and however it goes on behind that record.
+/// Refused is final, with queues or without: in a run of two captures the end alone makes all records of either side. So a capture of which it
+/// refuses a record is a side of no run, whatever the other one is, and however it goes on behind that record.
 pub fn refused_alone_is_final()
-    ensures a_passes { (head_a head_b : Head) (of_a of_b : List Record) → IsLayersRun head_a head_b of_a of_b → Passes head_a of_a }
-    ensures b_passes { (head_a head_b : Head) (of_a of_b : List Record) → IsLayersRun head_a head_b of_a of_b → Passes head_b of_b }
-    ensures of_a { (head_a head_b : Head) (of_a further of_b : List Record) (place : ℕ) (accused : Accused) (reason : StepRefusal)
-        → judged_alone head_a of_a ≡ Refused place accused reason → ¬ IsLayersRun head_a head_b (of_a ++ further) of_b }
-    ensures of_b { (head_a head_b : Head) (of_a of_b further : List Record) (place : ℕ) (accused : Accused) (reason : StepRefusal)
-        → judged_alone head_b of_b ≡ Refused place accused reason → ¬ IsLayersRun head_a head_b of_a (of_b ++ further) }
+    ensures a_passes { (queues : Queues) (head_a head_b : Head) (of_a of_b : List Record)
+        → IsRunOf (layers_kind queues) head_a head_b of_a of_b → PassesBy queues head_a of_a }
+    ensures b_passes { (queues : Queues) (head_a head_b : Head) (of_a of_b : List Record)
+        → IsRunOf (layers_kind queues) head_a head_b of_a of_b → PassesBy queues head_b of_b }
+    ensures of_a { (queues : Queues) (head_a head_b : Head) (of_a further of_b : List Record) (place : ℕ) (accused : Accused) (reason : StepRefusal)
+        → judged_alone_by queues head_a of_a ≡ Refused place accused reason
+        → ¬ IsRunOf (layers_kind queues) head_a head_b (of_a ++ further) of_b }
+    ensures of_b { (queues : Queues) (head_a head_b : Head) (of_a of_b further : List Record) (place : ℕ) (accused : Accused) (reason : StepRefusal)
+        → judged_alone_by queues head_b of_b ≡ Refused place accused reason
+        → ¬ IsRunOf (layers_kind queues) head_a head_b of_a (of_b ++ further) }
 {}
 
 /// It misses nothing that is the side's own: where a record offends in a pair, for a reason that does not speak of what the other end alone has,
 /// the end alone makes all records before it, and refuses this one for that reason; and it accuses this end, but where the links refuse a packet
 /// that came. So where such a record is named in a verdict, the end alone names it for the same reason.
 pub fn alone_misses_nothing_of_its_own()
-    ensures offender { (head_own head_other : Head) (own other : List Record) (place : ℕ) (reason : StepRefusal)
-        → (offends : Offends layers_pair (layers_start head_own head_other) own other place reason) → is_seen_alone reason ≡ true
-        → judged_alone head_own own ≡ Refused place (accused_of offends.offender reason) reason }
-    ensures named_of_a { (head_a head_b : Head) (of_a of_b : List Record) (place : ℕ) (reason : StepRefusal)
-        → IsVerdict both_layers head_a head_b of_a of_b (findings.Refused A place (Step reason)) → is_seen_alone reason ≡ true
-        → (accused : Accused) × (judged_alone head_a of_a ≡ Refused place accused reason) }
-    ensures named_of_b { (head_a head_b : Head) (of_a of_b : List Record) (place : ℕ) (reason : StepRefusal)
-        → IsVerdict both_layers head_a head_b of_a of_b (findings.Refused B place (Step reason)) → is_seen_alone reason ≡ true
-        → (accused : Accused) × (judged_alone head_b of_b ≡ Refused place accused reason) }
+    ensures offender { (queues : Queues) (head_own head_other : Head) (own other : List Record) (place : ℕ) (reason : StepRefusal)
+        → (offends : Offends (layers_pair_by queues) (layers_start head_own head_other) own other place reason) → is_seen_alone reason ≡ true
+        → judged_alone_by queues head_own own ≡ Refused place (accused_of offends.offender reason) reason }
+    ensures named_of_a { (queues : Queues) (head_a head_b : Head) (of_a of_b : List Record) (place : ℕ) (reason : StepRefusal)
+        → IsVerdict (layers_kind queues) head_a head_b of_a of_b (findings.Refused A place (Step reason)) → is_seen_alone reason ≡ true
+        → (accused : Accused) × (judged_alone_by queues head_a of_a ≡ Refused place accused reason) }
+    ensures named_of_b { (queues : Queues) (head_a head_b : Head) (of_a of_b : List Record) (place : ℕ) (reason : StepRefusal)
+        → IsVerdict (layers_kind queues) head_a head_b of_a of_b (findings.Refused B place (Step reason)) → is_seen_alone reason ≡ true
+        → (accused : Accused) × (judged_alone_by queues head_b of_b ≡ Refused place accused reason) }
 {}
 
 /// Refused is final for a station alone too: in a run of two captures as stations alone, which read no packet and go by no event of the links,

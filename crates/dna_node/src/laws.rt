@@ -13,6 +13,8 @@ ghost use Rattle.dna_node.specs.LayersPair.{layers_pair, layers_pair_by, layers_
 ghost use Rattle.dna_node.specs.WireLayers.{WireLayersNode, WireLayersUnit, wire_layers_pair, wire_layers_pair_by, wire_layers_start};
 ghost use Rattle.dna_node.specs.CutLayers.{layers_seen, layers_seen_by};
 ghost use Rattle.dna_node.specs.Seen.{IsSeenLayers, IsSeenLayersBy};
+ghost use Rattle.dna_node.specs.Kind.{both_layers, layers_kind, IsRunOf};
+ghost use Rattle.dna_node.specs.AsMuch.{IsRunWithQueues};
 ghost use Rattle.dna_links.specs.Delivery.{DeliversLinks};
 ghost use Rattle.dna_links.specs.Captures.{AreUpFrom, deliveries, ups};
 
@@ -74,3 +76,12 @@ pub fn queued_wire_layers_see_right()
 {
     simulation::<Brand>();
 }
+
+/// Nodes with queues do as much as nodes without: they make each run of two captures that those make, and what they leave is the same but for
+/// what the queues leave open of the links. As many links begin at each, and as many messages are delivered.
+pub fn layers_with_queues_do_as_much()
+    ensures run { (head_a head_b : Head) (end : World LayersNode LayersUnit) (of_a of_b : List Record)
+        → Run layers_pair (layers_start head_a head_b) of_a of_b end → IsRunWithQueues head_a head_b end of_a of_b }
+    ensures accepted { (head_a head_b : Head) (of_a of_b : List Record)
+        → IsRunOf both_layers head_a head_b of_a of_b → IsRunOf (layers_kind With) head_a head_b of_a of_b }
+{}

@@ -14,7 +14,7 @@ pub use alone_laws::{
 };
 pub use finding::{Cause, Finding};
 pub use laws::{
-    layers_deliver_in_order, layers_run_as_stations, links_meet_packets_in_order,
-    queued_wire_layers_see_right, wire_layers_see_right,
+    layers_deliver_in_order, layers_run_as_stations, layers_with_queues_do_as_much,
+    links_meet_packets_in_order, queued_wire_layers_see_right, wire_layers_see_right,
 };
 pub use nodes::{TrueLayersNodes, WireLayersNodes};

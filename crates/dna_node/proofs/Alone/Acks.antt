@@ -11,15 +11,16 @@ use Rattle.dna_station.specs.declared.link_refusal.LinkRefusal.{LinkRefusal}
 use Rattle.dna_station.specs.declared.link_refusal.LinkRefusal.TheVariants.{WrongNode, WrongAck, CrossedLink}
 use Rattle.dna_station.specs.declared.refusal.StepRefusal.{StepRefusal}
 use Rattle.dna_station.specs.declared.refusal.StepRefusal.TheVariants.{Links as OfLinks}
-use Rattle.dna_links.specs.declared.queue.Queues.TheVariants.{Without}
+use Rattle.dna_links.specs.declared.queue.Queues.{Queues}
+use Rattle.dna_links.specs.declared.queue.Queues.TheVariants.{Without, With}
+use Rattle.dna_links.specs.Queues.{has_waiting}
 use Rattle.dna_links.specs.declared.port.LinkTest.{LinkTest}
 use Rattle.dna_links.specs.declared.port.LinkTest.TheVariants.{ActedOn}
 use Rattle.dna_links.specs.Segmentation.{Piece}
-use Rattle.dna_links.specs.LookUps.{passes, is_connected, has_both}
+use Rattle.dna_links.specs.LookUps.{passes, is_live, is_connected, has_both}
 use Rattle.dna_links.specs.SegmentBook.{REACH, wire, distance, is_of_data}
-use Rattle.dna_links.specs.Links.{LinkOf, Carried, LinkTruth, check, number_of, on_link, at_number, with_link, changed}
+use Rattle.dna_links.specs.Links.{LinkOf, Carried, LinkTruth, check, number_of, on_link, at_number, with_link}
 use Rattle.dna_links.specs.Arriving.{of_partner, is_of_pair, message_arrived}
-use Rattle.dna_links.specs.inner.Forms.{running, acted_on}
 use Rattle.dna_links.specs.TrueSegments.{TrueSegments, Numbers, highest_given, acknowledged_through, numbers_of}
 use Rattle.dna_links.specs.TrueLinks.{Links}
 use Rattle.dna_links.specs.WireSegments.{LinkVariables, WireSegments, acknowledged_by, acknowledged_to, wire_segments}
@@ -30,6 +31,7 @@ use Rattle.dna_links.proofs.Tables.Numbers.{distance_ahead, wire-low}
 use Rattle.dna_links.proofs.Cut.SegmentsArriving.{takes_acks_same, all_ordered}
 use Rattle.dna_links.proofs.Cut.LookUps.{with_link_same}
 use Rattle.dna_links.proofs.Cut.User.{live_if, live_segments}
+use Rattle.dna_links.proofs.Cut.LateLinks.{kept_segments}
 use Rattle.dna_node.specs.Accusing.{may_acknowledge, may_acknowledge_all, wrong_words, wrong_acks, wrong_message}
 
 -- ---- one number
@@ -179,7 +181,12 @@ module _ {A B C : Type 0} (P : A → B → C → Type 0) (test : LinkTest) (s : 
 abbrev Follows : Result WireLinks LinkRefusal → Option StepRefusal → Type 0
 Follows x y = (links : WireLinks) → x ≡ Ok links → y ≡ None
 
-module _ (s : Links) (ordered : AreOrdered s) (truth : LinkTruth Numbers) where
+-- a live link keeps its segments
+cut_live : (queues : Queues) (l : LinkOf TrueSegments) → is_live l.port.phase ≡ true → (cut_link queues l).segments ≡ cut l.segments
+cut_live Without l live = live_segments l live
+cut_live With l live = kept_segments l (or_left (is_live l.port.phase) (has_waiting l.queue.waits l.queue.said) live)
+
+module _ (queues : Queues) (s : Links) (ordered : AreOrdered s) (truth : LinkTruth Numbers) where
   abbrev tagged : LinkTruth (Unit {0})
   tagged = record { tag = truth.tag; known = tt }
 
@@ -201,38 +208,37 @@ module _ (s : Links) (ordered : AreOrdered s) (truth : LinkTruth Numbers) where
   abbrev none_if : Bool → Option StepRefusal
   none_if b = cond b None (Some (OfLinks WrongAck))
 
-  acks_right : (own far : ℕ) (acks : List AckWord) (takes : LinkOf WireSegments → WireSegments) →
+  acks_right : (own far : ℕ) (acks : List AckWord) (made : ℕ → LinkOf WireSegments → WireLinks) →
       ((n : ℕ) (l : LinkOf TrueSegments) → slice_get s.links n ≡ Some l → passes (ActedOn own far) l.port ≡ true →
       is_of_pair n l.partner truth.tag ≡ true → Spells acks truth.known.acknowledgements × AcksAreNear l.segments truth.known.acknowledgements) →
-      Follows (acted_on wire_segments of_partner own far truth.tag takes (cut_links Without s)) (wrong_acks own far acks (cut_links Without s))
-  acks_right own far acks takes near =
-      λ links e. with_each Same (ActedOn own far) (cut_links Without s) (Ok (cut_links Without s)) None None
-      (λ n l. check (of_partner (is_of_pair n l.partner truth.tag)) CrossedLink
-      (Ok (changed n (running wire_segments of_partner takes l) (cut_links Without s))))
+      Follows (with_link (ActedOn own far) (cut_links queues s) (Ok (cut_links queues s))
+      (λ n l. check (of_partner (is_of_pair n l.partner truth.tag)) CrossedLink (Ok (made n l)))) (wrong_acks own far acks (cut_links queues s))
+  acks_right own far acks made near =
+      λ links e. with_each Same (ActedOn own far) (cut_links queues s) (Ok (cut_links queues s)) None None
+      (λ n l. check (of_partner (is_of_pair n l.partner truth.tag)) CrossedLink (Ok (made n l)))
       (λ n l. wrong_words acks l.segments) (asked acks) (λ links e. refl)
-      (λ n l. by_partner (is_of_pair n l.partner truth.tag) (changed n (running wire_segments of_partner takes l) (cut_links Without s))
-      (wrong_words acks l.segments)) links e
-      ∙ sym (with_link_same Without nobody (ActedOn own far) s tt None (λ n l. tt) (asked acks) (λ none. refl) all_right)
+      (λ n l. by_partner (is_of_pair n l.partner truth.tag) (made n l) (wrong_words acks l.segments)) links e
+      ∙ sym (with_link_same queues nobody (ActedOn own far) s tt None (λ n l. tt) (asked acks) (λ none. refl) all_right)
     where
       nobody : Unit {0} → Option StepRefusal
       nobody x = None
 
       all_right : (n : ℕ) (l : LinkOf TrueSegments) → slice_get s.links n ≡ Some l → passes (ActedOn own far) l.port ≡ true →
-          None ≡ asked acks n (cut_link Without l)
+          None ≡ asked acks n (cut_link queues l)
       all_right n l there here =
           let live = live_if is_connected refl l.port.phase (and_parts (is_connected l.port.phase) (has_both l.port own far) here).0 in
-          none_asked (is_of_pair n l.partner truth.tag) (wrong_words acks (cut_link Without l).segments)
-          (λ e. ap (wrong_words acks) (live_segments l live)
+          none_asked (is_of_pair n l.partner truth.tag) (wrong_words acks (cut_link queues l).segments)
+          (λ e. ap (wrong_words acks) (cut_live queues l live)
           ∙ ap none_if (words_right (cut l.segments).gave_many acks l.segments truth.known.acknowledgements (ordered n l there).segments
           (near n l there here e).0 (near n l there here e).1 refl))
 
   message_right : (m : NspValue) → ArrivesNear of_partner s m truth →
-      Follows (message_arrived Without wire_segments of_partner (cut_links Without s) m tagged) (wrong_message (cut_links Without s) m)
+      Follows (message_arrived queues wire_segments of_partner (cut_links queues s) m tagged) (wrong_message (cut_links queues s) m)
   message_right (DataSegment segment) near =
-      acks_right segment.dstaddr segment.srcaddr segment.acks (λ l. wire_segments.takes_segment segment tt l.segments)
+      acks_right segment.dstaddr segment.srcaddr segment.acks _
       (λ n l there here e. let m = near n l there here e in (m.0, m.2))
   message_right (DataAck dst src acks) near =
-      acks_right dst src acks (λ l. wire_segments.takes_acks acks tt l.segments) (λ n l there here e. let m = near n l there here e in (m.0, m.1))
+      acks_right dst src acks _ (λ n l there here e. let m = near n l there here e in (m.0, m.1))
   message_right m near = λ links e. refl
 
   goes_right : (b : Bool) (r : Result WireLinks LinkRefusal) (y : Option StepRefusal) → Follows r y → Follows (check b WrongNode r) y
@@ -241,7 +247,8 @@ module _ (s : Links) (ordered : AreOrdered s) (truth : LinkTruth Numbers) where
 
   -- a packet that is taken, and that the links let pass
   pub packet_right : (packet : Carried) → ArrivesNear of_partner s packet.message truth →
-      Follows (wire_links_arrived Without of_partner (cut_links Without s) packet truth.tag) (wrong_message (cut_links Without s) packet.message)
+      Follows (wire_links_arrived queues of_partner (cut_links queues s) packet truth.tag) (wrong_message (cut_links queues s) packet.message)
   packet_right packet near =
-      goes_right (eqb packet.src s.peer && eqb packet.dst s.node) (message_arrived Without wire_segments of_partner (cut_links Without s) packet.message tagged)
-      (wrong_message (cut_links Without s) packet.message) (message_right packet.message near)
+      goes_right (eqb packet.src s.peer && eqb packet.dst s.node)
+      (message_arrived queues wire_segments of_partner (cut_links queues s) packet.message tagged)
+      (wrong_message (cut_links queues s) packet.message) (message_right packet.message near)

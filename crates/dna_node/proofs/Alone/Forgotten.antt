@@ -18,7 +18,7 @@ use Rattle.dna_node.specs.Content.{content}
 use Rattle.dna_node.specs.WireLayers.{WireLayers}
 use Rattle.dna_node.specs.Accusing.{wrong_response_in, wrong_response, wrong_response_of, wrong_content, or_else, wrong_unit, wrong_words}
 use Rattle.dna_node.specs.Accusing.{wrong_acks, wrong_message, wrong_carried, wrong_taken}
-use Rattle.dna_node.proofs.Alone.Links.{forget_tag, forget_links, with_both}
+use Rattle.dna_node.proofs.Alone.LinkEffects.{forget_tag, forget_links, with_both}
 use Rattle.dna_node.proofs.Alone.Station.{forget_variables, forget_station, as_many}
 
 abbrev pub forget_layers : WireLayers → WireLayers
@@ -56,9 +56,8 @@ wrong_unit_along s other = refl
 
 wrong_acks_along : (own far : ℕ) (acks : List AckWord) (s : WireLinks) → wrong_acks own far acks (forget_links s) ≡ wrong_acks own far acks s
 wrong_acks_along own far acks s =
-    with_both (λ (x y : Option StepRefusal). y ≡ x) (ActedOn own far) s None None (λ n l. wrong_words acks l.segments)
-    (λ n l. wrong_words acks l.segments)
-    refl (λ n l. refl)
+    with_both (λ (x y : Option StepRefusal). y ≡ x) s None None (λ n l. wrong_words acks l.segments) (λ n l. wrong_words acks l.segments)
+    refl (λ n l. refl) (ActedOn own far)
 
 wrong_message_along : (s : WireLinks) (m : NspValue) → wrong_message (forget_links s) m ≡ wrong_message s m
 wrong_message_along s (DataSegment segment) = wrong_acks_along segment.dstaddr segment.srcaddr segment.acks s

@@ -6,7 +6,7 @@ use Rattle.capture.specs.declared.event.Event.{Event}
 use Rattle.dna_station.specs.declared.state.StationEvent.{StationEvent}
 use Rattle.dna_station.specs.declared.state.StationEvent.TheVariants.{Start, Halt}
 use Rattle.dna_station.specs.declared.tag.Tag.{Tag}
-use Rattle.dna_links.specs.declared.queue.Queues.TheVariants.{Without}
+use Rattle.dna_links.specs.declared.queue.Queues.{Queues}
 use Rattle.dna_links.specs.declared.tag.LinkTag.{LinkTag}
 use Rattle.dna_station.specs.declared.refusal.StationRefusal.{StationRefusal}
 use Rattle.dna_station.specs.declared.refusal.StationRefusal.TheVariants.{CrossedPeriod}
@@ -26,15 +26,16 @@ use Rattle.dna_links.specs.Arriving.{of_partner, of_anyone}
 use Rattle.dna_links.specs.WireSegments.{WireSegments, wire_segments}
 use Rattle.dna_links.specs.WireLinks.{WireLinks, wire_links_user, wire_links_sent, wire_links_arrived}
 use Rattle.dna_node.proofs.Events.{by_event}
-use Rattle.dna_node.specs.TagRules.{judged, by_bytes}
+use Rattle.dna_node.specs.TagRules.{judged_by, by_bytes_with}
 use Rattle.dna_node.specs.Content.{content}
 use Rattle.dna_node.specs.WireLayers.{WireLayers, LayersTag, of_no_link, with_wire_station, with_wire_links, first_tagged, with_tag}
 use Rattle.dna_node.specs.WireLayers.{wire_sends_first}
 use Rattle.dna_node.specs.WireLayers.{wire_sends_again, wire_sends_on, tag_or_none, wire_keeps_packet, wire_meets_on, wire_layers_machine}
-use Rattle.dna_node.specs.Alone.{unknown_period, unknown_tag, layers_end}
+use Rattle.dna_node.specs.Alone.{unknown_period, unknown_tag, layers_end_by}
 use Rattle.dna_node.proofs.Alone.Along.{forget_result, Along, left_sent, GoesAlong}
-use Rattle.dna_node.proofs.Alone.Links.{forget_tag, forget_links, forget_sent, user_along as links_user_along}
-use Rattle.dna_node.proofs.Alone.Links.{sent_along as links_sent_along, arrived_along as links_arrived_along}
+use Rattle.dna_node.proofs.Alone.LinkEffects.{forget_tag, forget_links, forget_sent}
+use Rattle.dna_node.proofs.Alone.LinkEffects as effects
+use Rattle.dna_node.proofs.Alone.Links.{user_along as links_user_along, sent_along as links_sent_along, arrived_along as links_arrived_along}
 use Rattle.dna_node.proofs.Alone.Links as of_links
 use Rattle.dna_node.proofs.Alone.Station.{forget_station, sending_refusal_along, sending_along, first_along, label_along}
 use Rattle.dna_node.proofs.Alone.Station.{arrival_along, header_along, data_bad_along}
@@ -43,7 +44,7 @@ use Rattle.dna_node.proofs.Alone.Forgotten.{forget_layers, wrong_unit_along, wro
 abbrev left : WireLinks → WireStation LinkTag → Result WireLayers StepRefusal
 left links station = Ok (record { station = station; links = links })
 
-module _ (s : WireLayers) where
+module _ (queues : Queues) (s : WireLayers) where
   -- ---- the user
 
   by_station : (event : StationEvent) (o : Option StationRefusal) →
@@ -54,25 +55,26 @@ module _ (s : WireLayers) where
   by_station event (Some refusal) = refl
 
   by_links : (o : Result WireLinks LinkRefusal) →
-      with_wire_links (forget_layers s) (of_links.forget_result o) ≡ forget_result forget_layers (with_wire_links s o)
+      with_wire_links (forget_layers s) (effects.forget_result o) ≡ forget_result forget_layers (with_wire_links s o)
   by_links (Ok links) = refl
   by_links (Err refusal) = refl
 
-  link_along : (event : LinkEventValue) → with_wire_links (forget_layers s) (wire_links_user Without (forget_links s.links) event)
-      ≡ forget_result forget_layers (with_wire_links s (wire_links_user Without s.links event))
+  link_along : (event : LinkEventValue) → with_wire_links (forget_layers s) (wire_links_user queues (forget_links s.links) event)
+      ≡ forget_result forget_layers (with_wire_links s (wire_links_user queues s.links event))
   link_along event =
-      ap (with_wire_links (forget_layers s)) (sym (links_user_along wire_segments s.links event)) ∙ by_links (wire_links_user Without s.links event)
+      ap (with_wire_links (forget_layers s)) (sym (links_user_along queues wire_segments s.links event))
+      ∙ by_links (wire_links_user queues s.links event)
 
-  pub user_along : (event : Event) → (wire_layers_machine by_bytes).user (forget_layers s) event
-      ≡ forget_result forget_layers ((wire_layers_machine judged).user s event)
-  user_along = by_event (λ event. (wire_layers_machine by_bytes).user (forget_layers s) event
-      ≡ forget_result forget_layers ((wire_layers_machine judged).user s event))
+  pub user_along : (event : Event) → (wire_layers_machine (by_bytes_with queues)).user (forget_layers s) event
+      ≡ forget_result forget_layers ((wire_layers_machine (judged_by queues)).user s event)
+  user_along = by_event (λ event. (wire_layers_machine (by_bytes_with queues)).user (forget_layers s) event
+      ≡ forget_result forget_layers ((wire_layers_machine (judged_by queues)).user s event))
       (by_station Start (user_refusal s.station.variables.state Start)) (by_station Halt (user_refusal s.station.variables.state Halt))
       (λ event link e. rw e (link_along link))
 
 -- ---- a message is sent: what is left of the node, whatever is known of the unit
 
-module _ (s : WireLayers) (m : MessageValue) where
+module _ (queues : Queues) (s : WireLayers) (m : MessageValue) where
   abbrev v : WireStation LinkTag
   v = forget_station forget_tag s.station
 
@@ -93,55 +95,58 @@ module _ (s : WireLayers) (m : MessageValue) where
       ∙ label_along forget_tag (wire_after_sending s.station m) tag)
 
   by_message : (o : Result (Sent WireSegments (Unit {0})) LinkRefusal) →
-      GoAlong (with_tag after o) (with_tag after_alone (forget_sent wire_segments o))
+      GoAlong (with_tag after o) (with_tag after_alone (forget_sent o))
   by_message (Ok made) = tagged_along made.links made.truth.tag
   by_message (Err refusal) = refl
 
   by_content : (r : Result (Option Carried) StepRefusal) →
-      GoAlong (wire_sends_first judged s after r) (wire_sends_first by_bytes (forget_layers s) after_alone r)
+      GoAlong (wire_sends_first (judged_by queues) s after r) (wire_sends_first (by_bytes_with queues) (forget_layers s) after_alone r)
   by_content (Ok (Some packet)) =
       ap (λ (o : Result (Sent WireSegments (Unit {0})) LinkRefusal). left_sent (with_tag after_alone o))
-      (sym (links_sent_along wire_segments s.links packet))
-      ∙ by_message (wire_links_sent Without s.links packet)
+      (sym (links_sent_along queues wire_segments s.links packet))
+      ∙ by_message (wire_links_sent queues s.links packet)
   by_content (Ok None) = tagged_along s.links of_no_link
   by_content (Err refusal) = refl
 
   again_along : GoAlong (Ok (wire_sends_again s m after)) (Ok (wire_sends_again (forget_layers s) m after_alone))
   again_along = ap (left (forget_links s.links)) (sending_along forget_tag s.station m)
 
-  by_number : (b : Bool) → GoAlong (cond b (wire_sends_first judged s after (content (body_of m))) (Ok (wire_sends_again s m after)))
-      (cond b (wire_sends_first by_bytes (forget_layers s) after_alone (content (body_of m))) (Ok (wire_sends_again (forget_layers s) m after_alone)))
+  by_number : (b : Bool) → GoAlong (cond b (wire_sends_first (judged_by queues) s after (content (body_of m))) (Ok (wire_sends_again s m after)))
+      (cond b (wire_sends_first (by_bytes_with queues) (forget_layers s) after_alone (content (body_of m)))
+      (Ok (wire_sends_again (forget_layers s) m after_alone)))
   by_number true = by_content (content (body_of m))
   by_number false = again_along
 
   by_refusal : (o : Option StationRefusal) →
-      GoAlong (wire_sends_on judged s m (unless_refused o after)) (wire_sends_on by_bytes (forget_layers s) m (unless_refused o after_alone))
+      GoAlong (wire_sends_on (judged_by queues) s m (unless_refused o after))
+      (wire_sends_on (by_bytes_with queues) (forget_layers s) m (unless_refused o after_alone))
   by_refusal None =
-      ap (λ (b : Bool). left_sent (cond b (wire_sends_first by_bytes (forget_layers s) after_alone (content (body_of m)))
+      ap (λ (b : Bool). left_sent (cond b (wire_sends_first (by_bytes_with queues) (forget_layers s) after_alone (content (body_of m)))
       (Ok (wire_sends_again (forget_layers s) m after_alone)))) (first_along forget_tag s.station m)
       ∙ by_number (gives_new s.station m)
   by_refusal (Some refusal) = refl
 
-  pub sends_along : left_sent ((wire_layers_machine by_bytes).sends (forget_layers s) m)
-      ≡ forget_result forget_layers (left_sent ((wire_layers_machine judged).sends s m))
+  pub sends_along : left_sent ((wire_layers_machine (by_bytes_with queues)).sends (forget_layers s) m)
+      ≡ forget_result forget_layers (left_sent ((wire_layers_machine (judged_by queues)).sends s m))
   sends_along =
-      ap (λ (o : Option StationRefusal). left_sent (wire_sends_on by_bytes (forget_layers s) m (unless_refused o after_alone)))
+      ap (λ (o : Option StationRefusal). left_sent (wire_sends_on (by_bytes_with queues) (forget_layers s) m (unless_refused o after_alone)))
       (sending_refusal_along forget_tag s.station m)
       ∙ by_refusal (wire_sending_refusal s.station m)
 
 -- ---- an arrival
 
-module _ (s : WireLayers) where
-  by_links_result : (t : WireLayers) (o o' : Result WireLinks LinkRefusal) → of_links.Along wire_segments o o' →
+module _ (queues : Queues) (s : WireLayers) where
+  by_links_result : (t : WireLayers) (o o' : Result WireLinks LinkRefusal) → of_links.Along o o' →
       Along forget_layers (with_wire_links t o) (with_wire_links (forget_layers t) o')
   by_links_result t (Ok links) o' same = ap (with_wire_links (forget_layers t)) same
   by_links_result t (Err refusal) o' same = λ seen. ap (with_wire_links (forget_layers t)) (same seen)
 
   keeps_along : (t : WireLayers) (tag : LinkTag) (r : Result (Option Carried) StepRefusal) →
-      Along forget_layers (wire_keeps_packet judged t tag r) (wire_keeps_packet by_bytes (forget_layers t) of_no_link r)
+      Along forget_layers (wire_keeps_packet (judged_by queues) t tag r) (wire_keeps_packet (by_bytes_with queues) (forget_layers t) of_no_link r)
   keeps_along t tag (Ok (Some packet)) =
-      by_links_result t (wire_links_arrived Without of_partner t.links packet tag) (wire_links_arrived Without of_anyone (forget_links t.links) packet of_no_link)
-      (links_arrived_along wire_segments t.links (record { tag = tag; known = tt }) packet)
+      by_links_result t (wire_links_arrived queues of_partner t.links packet tag)
+      (wire_links_arrived queues of_anyone (forget_links t.links) packet of_no_link)
+      (links_arrived_along queues wire_segments t.links (record { tag = tag; known = tt }) packet)
   keeps_along t tag (Ok None) = refl
   keeps_along t tag (Err refusal) = λ seen. refl
 
@@ -151,61 +156,62 @@ module _ (s : WireLayers) where
 
     -- the packets that are kept
     by_kept : (k : Bool) (station : WireStation LinkTag) →
-        Along forget_layers (wire_meets_on judged s (Sound m known) k (Ok station))
-        (wire_meets_on by_bytes (forget_layers s) (Sound m unknown_tag) k (Ok (forget_station forget_tag station)))
+        Along forget_layers (wire_meets_on (judged_by queues) s (Sound m known) k (Ok station))
+        (wire_meets_on (by_bytes_with queues) (forget_layers s) (Sound m unknown_tag) k (Ok (forget_station forget_tag station)))
     by_kept true station = keeps_along (record s { station = station }) (tag_or_none known.link) (content (body_of m))
     by_kept false station = refl
 
     by_taking : (o : Option StationRefusal) →
         Along forget_layers
-        (wire_meets_on judged s (Sound m known) kept (unless_refused o (wire_after_arrival s.station (Sound m known.station) kept)))
-        (wire_meets_on by_bytes (forget_layers s) (Sound m unknown_tag) kept (unless_refused o (wire_after_arrival w (Sound m unknown_period) kept)))
+        (wire_meets_on (judged_by queues) s (Sound m known) kept (unless_refused o (wire_after_arrival s.station (Sound m known.station) kept)))
+        (wire_meets_on (by_bytes_with queues) (forget_layers s) (Sound m unknown_tag) kept
+        (unless_refused o (wire_after_arrival w (Sound m unknown_period) kept)))
     by_taking None =
-        subst (λ (t : WireStation LinkTag). Along forget_layers (wire_meets_on judged s (Sound m known) kept
+        subst (λ (t : WireStation LinkTag). Along forget_layers (wire_meets_on (judged_by queues) s (Sound m known) kept
         (Ok (wire_after_arrival s.station (Sound m known.station) kept)))
-        (wire_meets_on by_bytes (forget_layers s) (Sound m unknown_tag) kept (Ok t)))
+        (wire_meets_on (by_bytes_with queues) (forget_layers s) (Sound m unknown_tag) kept (Ok t)))
         (sym (arrival_along forget_tag m known.station kept s.station)) (by_kept kept (wire_after_arrival s.station (Sound m known.station) kept))
     by_taking (Some refusal) = λ seen. refl
 
     by_period : (met : Bool) →
-        Along forget_layers (wire_meets_on judged s (Sound m known) kept (unless_refused
+        Along forget_layers (wire_meets_on (judged_by queues) s (Sound m known) kept (unless_refused
         (cond met (keep_refusal (takes_by wire_book s.station m known.station) kept) (Some CrossedPeriod))
         (wire_after_arrival s.station (Sound m known.station) kept)))
-        ((wire_layers_machine by_bytes).arrives (forget_layers s) (Sound m unknown_tag) kept)
+        ((wire_layers_machine (by_bytes_with queues)).arrives (forget_layers s) (Sound m unknown_tag) kept)
     by_period true = by_taking (keep_refusal (takes_by wire_book s.station m known.station) kept)
     by_period false = λ seen. absurd cc
 
-    pub sound_along : Along forget_layers ((wire_layers_machine judged).arrives s (Sound m known) kept)
-        ((wire_layers_machine by_bytes).arrives (forget_layers s) (Sound m unknown_tag) kept)
+    pub sound_along : Along forget_layers ((wire_layers_machine (judged_by queues)).arrives s (Sound m known) kept)
+        ((wire_layers_machine (by_bytes_with queues)).arrives (forget_layers s) (Sound m unknown_tag) kept)
     sound_along = by_period (meets_by wire_book of_period s.station m known.station)
 
-  pub unit_header_bad_along : (kept : Bool) → (wire_layers_machine by_bytes).arrives (forget_layers s) HeaderBad kept
-      ≡ forget_result forget_layers ((wire_layers_machine judged).arrives s HeaderBad kept)
+  pub unit_header_bad_along : (kept : Bool) → (wire_layers_machine (by_bytes_with queues)).arrives (forget_layers s) HeaderBad kept
+      ≡ forget_result forget_layers ((wire_layers_machine (judged_by queues)).arrives s HeaderBad kept)
   unit_header_bad_along true = refl
   unit_header_bad_along false = ap (left (forget_links s.links)) (header_along forget_tag s.station false)
 
-  pub unit_data_bad_along : (kept : Bool) → (wire_layers_machine by_bytes).arrives (forget_layers s) DataBad kept
-      ≡ forget_result forget_layers ((wire_layers_machine judged).arrives s DataBad kept)
+  pub unit_data_bad_along : (kept : Bool) → (wire_layers_machine (by_bytes_with queues)).arrives (forget_layers s) DataBad kept
+      ≡ forget_result forget_layers ((wire_layers_machine (judged_by queues)).arrives s DataBad kept)
   unit_data_bad_along true = refl
   unit_data_bad_along false = ap (left (forget_links s.links)) (data_bad_along forget_tag s.station false)
 
   -- what the rule on periods refuses
   pub unit_crossed : (m : MessageValue) (known : LayersTag) (kept : Bool) → meets_by wire_book of_period s.station m known.station ≡ false →
-      (wire_layers_machine judged).arrives s (Sound m known) kept ≡ Err (OfStation CrossedPeriod)
+      (wire_layers_machine (judged_by queues)).arrives s (Sound m known) kept ≡ Err (OfStation CrossedPeriod)
   unit_crossed m known kept e =
-      ap (λ (b : Bool). wire_meets_on judged s (Sound m known) kept (unless_refused
+      ap (λ (b : Bool). wire_meets_on (judged_by queues) s (Sound m known) kept (unless_refused
       (cond b (keep_refusal (takes_by wire_book s.station m known.station) kept) (Some CrossedPeriod))
       (wire_after_arrival s.station (Sound m known.station) kept))) e
 
-abbrev pub layers_along : GoesAlong (wire_layers_machine judged) layers_end forget_layers
-layers_along = record {
+abbrev pub layers_along : (queues : Queues) → GoesAlong (wire_layers_machine (judged_by queues)) (layers_end_by queues) forget_layers
+layers_along queues = record {
   meets = λ (s : WireLayers) (m : MessageValue) (known : LayersTag). meets_by wire_book of_period s.station m known.station;
-  crossed = unit_crossed;
-  user = user_along;
-  sends = sends_along;
-  sound = sound_along;
-  header_bad = unit_header_bad_along;
-  data_bad = unit_data_bad_along;
+  crossed = unit_crossed queues;
+  user = user_along queues;
+  sends = sends_along queues;
+  sound = sound_along queues;
+  header_bad = unit_header_bad_along queues;
+  data_bad = unit_data_bad_along queues;
   wrong_unit = wrong_unit_along;
   wrong_taken = wrong_taken_along;
 }

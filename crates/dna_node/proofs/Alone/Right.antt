@@ -9,7 +9,7 @@ use Rattle.dna_station.specs.declared.head.Head.{Head}
 use Rattle.dna_station.specs.declared.refusal.StationRefusal.{StationRefusal}
 use Rattle.dna_station.specs.declared.refusal.StepRefusal.{StepRefusal}
 use Rattle.dna_station.specs.declared.link_refusal.LinkRefusal.{LinkRefusal}
-use Rattle.dna_links.specs.declared.queue.Queues.TheVariants.{Without}
+use Rattle.dna_links.specs.declared.queue.Queues.{Queues}
 use Rattle.dna_links.specs.declared.tag.LinkTag.{LinkTag}
 use Rattle.dna_station.specs.Table.{Change, change_of}
 use Rattle.dna_station.specs.Station.{all_given}
@@ -27,13 +27,13 @@ use Rattle.dna_links.specs.Runs.{SentMessage}
 use Rattle.dna_links.specs.Arriving.{of_partner}
 use Rattle.dna_links.specs.CutLinks.{cut_links}
 use Rattle.dna_links.specs.WireLinks.{WireLinks, wire_links_arrived}
-use Rattle.dna_node.specs.TagRules.{judged}
+use Rattle.dna_node.specs.TagRules.{judged_by}
 use Rattle.dna_node.specs.Content.{content}
 use Rattle.dna_node.specs.Layers.{Layers, LayersNode, LayersUnit, unit_of_station}
 use Rattle.dna_node.specs.WireLayers.{WireLayers, with_wire_links, tag_or_none, wire_keeps_packet, wire_meets_on}
 use Rattle.dna_node.specs.WireLayers.{wire_layers_machine}
 use Rattle.dna_node.specs.LayersPair.{side_of}
-use Rattle.dna_node.specs.CutLayers.{tag_of_packet, tagged_packets, cut_layers, tag_by, cut_truth, cut_layers_node, cut_layers_unit}
+use Rattle.dna_node.specs.CutLayers.{tag_of_packet, tagged_packets, cut_layers_by, tag_by, cut_truth, cut_layers_node, cut_layers_unit}
 use Rattle.dna_node.specs.Accusing.{wrong_content, or_else, wrong_unit, wrong_carried, wrong_taken}
 use Rattle.dna_station.proofs.Bounds.Numbers.{is_data}
 use Rattle.dna_station.proofs.Cut.Arriving.{arrival_refusal_same}
@@ -50,9 +50,9 @@ use Rattle.dna_node.proofs.Alone.Steps.{IsRight}
 
 -- ---- any unit
 
-module _ (s : Layers) (ordered : IsOrdered s.station) where
+module _ (queues : Queues) (s : Layers) (ordered : IsOrdered s.station) where
   unit_right : (m : MessageValue) (u : Truth) (carried : Option SentMessage) → IsWithin s.station m u →
-      (is_data m ≡ true → content (body_of m) ≡ Ok (packet_in carried)) → wrong_unit (cut_layers s) m ≡ None
+      (is_data m ≡ true → content (body_of m) ≡ Ok (packet_in carried)) → wrong_unit (cut_layers_by queues s) m ≡ None
   unit_right (Data flags resp num body) u carried within reads =
       ap₂ or_else (message_right (tagged_packets s) s.station (layers_labelled s) ordered (Data flags resp num body) u within)
       (ap wrong_content (reads refl))
@@ -69,7 +69,7 @@ links_left : (t left : WireLayers) (o : Result WireLinks LinkRefusal) → with_w
 links_left t left (Ok links) e = (links, refl)
 links_left t left (Err refusal) e = absurd cc
 
-module _ (own other : Half LayersNode LayersUnit) (front of_other : ℕ) (c : IsLayersBounded Without own other front of_other)
+module _ (queues : Queues) (own other : Half LayersNode LayersUnit) (front of_other : ℕ) (c : IsLayersBounded queues own other front of_other)
     (links : AreLinksBounded (side_of own front) (side_of other of_other)) (hint : ℕ) (unit : LayersUnit)
     (there : slice_get other.sent hint ≡ Some unit) (ahead : own.state.front ≤ hint) where
   abbrev s : Layers
@@ -84,61 +84,66 @@ module _ (own other : Half LayersNode LayersUnit) (front of_other : ℕ) (c : Is
   abbrev u : Truth
   u = unit.known.station
 
-  within : meets_needs judged.periods s.station m u ≡ true → IsWithin s.station m u
+  within : meets_needs (judged_by queues).periods s.station m u ≡ true → IsWithin s.station m u
   within = c.station.within hint (unit_of_station unit) (slice_get-map unit_of_station other.sent hint ∙ ap (option_map unit_of_station) there) ahead
 
-  by_carried : (t left : WireLayers) → HasItsMessage other front unit → t.links ≡ cut_links Without s.links → (carried : Option SentMessage) →
-      unit.known.carried ≡ carried → wire_keeps_packet judged t (tag_of_packet carried) (Ok (packet_in carried)) ≡ Ok left →
-      wrong_carried (cut_links Without s.links) (Ok (packet_in carried)) ≡ None
+  by_carried : (t left : WireLayers) → HasItsMessage other front unit → t.links ≡ cut_links queues s.links → (carried : Option SentMessage) →
+      unit.known.carried ≡ carried → wire_keeps_packet (judged_by queues) t (tag_of_packet carried) (Ok (packet_in carried)) ≡ Ok left →
+      wrong_carried (cut_links queues s.links) (Ok (packet_in carried)) ≡ None
   by_carried t left h same None is made = refl
   by_carried t left h same (Some message) is made =
       let small = content_in_range (body_of m) message.packet (h.read ∙ ap (λ (x : Option SentMessage). Ok (packet_in x)) is) in
       let near = links.near u.place message h.ahead (h.told ∙ ap Some is) small in
-      let l = links_left t left (wire_links_arrived Without of_partner t.links message.packet message.truth.tag) made in
-      packet_right s.links links.ordered message.truth message.packet near l.0
-      (ap (λ (x : WireLinks). wire_links_arrived Without of_partner x message.packet message.truth.tag) (sym same) ∙ l.1)
+      let l = links_left t left (wire_links_arrived queues of_partner t.links message.packet message.truth.tag) made in
+      packet_right queues s.links links.ordered message.truth message.packet near l.0
+      (ap (λ (x : WireLinks). wire_links_arrived queues of_partner x message.packet message.truth.tag) (sym same) ∙ l.1)
 
-  by_kept : (t left : WireLayers) → HasItsMessage other front unit → t.links ≡ cut_links Without s.links →
-      wire_keeps_packet judged t (tag_or_none (tag_by (change_of m) unit.known.carried)) (content (body_of m)) ≡ Ok left →
-      wrong_taken (cut_layers s) m ≡ None
+  by_kept : (t left : WireLayers) → HasItsMessage other front unit → t.links ≡ cut_links queues s.links →
+      wire_keeps_packet (judged_by queues) t (tag_or_none (tag_by (change_of m) unit.known.carried)) (content (body_of m)) ≡ Ok left →
+      wrong_taken (cut_layers_by queues s) m ≡ None
   by_kept t left h same made =
-      ap (wrong_carried (cut_links Without s.links)) h.read
+      ap (wrong_carried (cut_links queues s.links)) h.read
       ∙ by_carried t left h same unit.known.carried refl
-      (sym (ap₂ (λ (change : Change) (r : Result (Option Carried) StepRefusal). wire_keeps_packet judged t
+      (sym (ap₂ (λ (change : Change) (r : Result (Option Carried) StepRefusal). wire_keeps_packet (judged_by queues) t
       (tag_or_none (tag_by change unit.known.carried)) r) h.packet h.read) ∙ made)
 
   abbrev met : Option StationRefusal → Result WireLayers StepRefusal
-  met o = wire_meets_on judged (cut_layers s) (Sound m (cut_truth m unit.known)) true (unless_refused o (wire_after_arrival w (Sound m u.tag) true))
+  met o =
+      wire_meets_on (judged_by queues) (cut_layers_by queues s) (Sound m (cut_truth m unit.known)) true
+      (unless_refused o (wire_after_arrival w (Sound m u.tag) true))
 
-  by_refusal : (left : WireLayers) (o : Option StationRefusal) → arrival_refusal judged.periods s.station (Sound m u) true ≡ o → met o ≡ Ok left →
-      wrong_taken (cut_layers s) m ≡ None
+  by_refusal : (left : WireLayers) (o : Option StationRefusal) → arrival_refusal (judged_by queues).periods s.station (Sound m u) true ≡ o →
+      met o ≡ Ok left → wrong_taken (cut_layers_by queues s) m ≡ None
   by_refusal left None allowed made =
-      by_kept (record (cut_layers s) { station = wire_after_arrival w (Sound m u.tag) true }) left (c.kept hint unit there ahead allowed) refl made
+      by_kept (record (cut_layers_by queues s) { station = wire_after_arrival w (Sound m u.tag) true }) left (c.kept hint unit there ahead allowed)
+      refl made
   by_refusal left (Some refusal) allowed made = absurd cc
 
-  taken_right : (left : WireLayers) → (wire_layers_machine judged).arrives (cut_layers s) (Sound m (cut_truth m unit.known)) true ≡ Ok left →
-      wrong_taken (cut_layers s) m ≡ None
+  taken_right : (left : WireLayers) →
+      (wire_layers_machine (judged_by queues)).arrives (cut_layers_by queues s) (Sound m (cut_truth m unit.known)) true ≡ Ok left →
+      wrong_taken (cut_layers_by queues s) m ≡ None
   taken_right left made =
-      by_refusal left (wire_arrival_refusal judged.periods w (Sound m u.tag) true)
-      (arrival_refusal_same {L = LinkTag} (tagged_packets s) judged.periods s.station m u true within) made
+      by_refusal left (wire_arrival_refusal (judged_by queues).periods w (Sound m u.tag) true)
+      (arrival_refusal_same {L = LinkTag} (tagged_packets s) (judged_by queues).periods s.station m u true within) made
 
 -- ---- in every run
 
-module _ (head_a head_b : Head) (w : World LayersNode LayersUnit) (of_a of_b : List Record) (c : LayersRead Without head_a head_b w of_a of_b) where
+module _ (queues : Queues) (head_a head_b : Head) (w : World LayersNode LayersUnit) (of_a of_b : List Record)
+    (c : LayersRead queues head_a head_b w of_a of_b) where
   pub a_right : (hint : ℕ) (unit : LayersUnit) → slice_get w.b.sent hint ≡ Some unit → w.a.state.front ≤ hint →
-      IsRight layers_along (cut_layers_node Without w.a.state) (cut_layers_unit unit)
+      IsRight (layers_along queues) (cut_layers_node queues w.a.state) (cut_layers_unit unit)
   a_right hint unit there ahead =
-      let b = a_bounded Without head_a head_b w of_a of_b c in
+      let b = a_bounded queues head_a head_b w of_a of_b c in
       let order = c.joined.placed.order in
       let low : slice_get (map unit_of_station w.b.sent) hint ≡ Some (unit_of_station unit) =
       slice_get-map unit_of_station w.b.sent hint ∙ ap (option_map unit_of_station) there in
-      let l = (bounded head_a.own head_a.peer head_b.own head_b.peer _ _ _ Without c.joined.joined.reached).0 in
+      let l = (bounded head_a.own head_a.peer head_b.own head_b.peer _ _ _ queues c.joined.joined.reached).0 in
       record {
         spelled = (order.of_b.sound.told hint (unit_of_station unit) low).reads;
-        sent = λ met. unit_right w.a.state.station b.station.ordered unit.message unit.known.station unit.known.carried
-            (within w.a w.b c.joined.joined.front_a c.joined.joined.front_b b l hint unit there ahead met)
-            (λ d. body_read Without unit.message unit.known.station w.b.state.station.messages (all_given w.b.state.station.station)
+        sent = λ met. unit_right queues w.a.state.station b.station.ordered unit.message unit.known.station unit.known.carried
+            (within queues w.a w.b c.joined.joined.front_a c.joined.joined.front_b b l hint unit there ahead met)
+            (λ d. body_read queues unit.message unit.known.station w.b.state.station.messages (all_given w.b.state.station.station)
             unit.known.carried c.b_read d
             (order.of_b.places hint (unit_of_station unit) low) (c.joined.b_told.told hint unit there d));
-        taken = taken_right w.a w.b c.joined.joined.front_a c.joined.joined.front_b b l hint unit there ahead;
+        taken = taken_right queues w.a w.b c.joined.joined.front_a c.joined.joined.front_b b l hint unit there ahead;
       }

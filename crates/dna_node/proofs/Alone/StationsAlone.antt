@@ -35,7 +35,7 @@ use Rattle.dna_node.specs.Alone.{is_seen_alone}
 use Rattle.dna_station.proofs.Bounds.Runs.{BothSound, both_sound_kept, start_sound, sound_bounded}
 use Rattle.dna_station.proofs.Cut.Node.{unlabelled_bodies, record_same}
 use Rattle.dna_node.proofs.Alone.Along.{forget_result, Along, left_sent, GoesAlong}
-use Rattle.dna_node.proofs.Alone.Links.{forget_tag}
+use Rattle.dna_node.proofs.Alone.LinkEffects.{forget_tag}
 use Rattle.dna_node.proofs.Alone.Station.{forget_station, event_along, sending_refusal_along, sending_along, arrival_along, header_along}
 use Rattle.dna_node.proofs.Alone.Station.{data_bad_along}
 use Rattle.dna_node.proofs.Alone.Forgotten.{wrong_response_of_along}

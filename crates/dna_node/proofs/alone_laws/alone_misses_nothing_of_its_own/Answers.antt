@@ -5,9 +5,9 @@ use Rattle.dna_node.proofs.alone_laws.alone_misses_nothing_of_its_own.Goals as g
 
 pub returns : goal.returns
 returns c = record {
-  offender = misses_nothing layers_see;
-  named_of_a = λ head_a head_b of_a of_b place reason verdict seen.
-      (accused_of (verdict.1).offender reason, misses_nothing layers_see head_a head_b of_a of_b place reason verdict.1 seen);
-  named_of_b = λ head_a head_b of_a of_b place reason verdict seen.
-      (accused_of (verdict.1).offender reason, misses_nothing layers_see head_b head_a of_b of_a place reason verdict.1 seen);
+  offender = λ queues. misses_nothing (layers_see queues);
+  named_of_a = λ queues head_a head_b of_a of_b place reason verdict seen.
+      (accused_of (verdict.1).offender reason, misses_nothing (layers_see queues) head_a head_b of_a of_b place reason verdict.1 seen);
+  named_of_b = λ queues head_a head_b of_a of_b place reason verdict seen.
+      (accused_of (verdict.1).offender reason, misses_nothing (layers_see queues) head_b head_a of_b of_a place reason verdict.1 seen);
 }

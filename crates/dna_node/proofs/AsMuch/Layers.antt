@@ -1,0 +1,224 @@
+-- Nodes over both layers with queues make whatever nodes without make, and are left the same but for what the queues leave open.
+use Rattle.std.proofs.Common.{◌≡◌, Bool, true, false, cond, Option, Some, None, Result, Ok, Err, List, [], ◌∷◌, ◌++◌, length, refl, sym, ap, ◌∙◌}
+use Rattle.std.proofs.Common.{subst}
+use Rattle.std.proofs.lemmas.List.{length-map}
+use Rattle.two_nodes.specs.Nodes.{World, Run}
+use Rattle.ddcmp_msg.specs.Message.{MessageValue}
+use Rattle.capture.specs.declared.record.Record.{Record}
+use Rattle.capture.specs.declared.event.Event.{Event}
+use Rattle.capture.specs.declared.event.Event.TheVariants as events
+use Rattle.dna_station.specs.declared.head.Head.{Head}
+use Rattle.dna_station.specs.declared.refusal.StepRefusal.{StepRefusal}
+use Rattle.dna_station.specs.declared.link_refusal.LinkRefusal.{LinkRefusal}
+use Rattle.dna_station.specs.Table.{Change, SendPacket, change_of}
+use Rattle.dna_station.specs.PeriodRule.{of_period}
+use Rattle.dna_station.specs.Station.{Station}
+use Rattle.dna_station.specs.StationBook.{gives_number}
+use Rattle.dna_station.specs.Truth.{Truth}
+use Rattle.dna_station.specs.Book.{ArrivalValue, body_of}
+use Rattle.dna_station.specs.Node.{station_machine}
+use Rattle.dna_links.specs.declared.queue.Queues.TheVariants.{Without, With}
+use Rattle.dna_links.specs.Links.{Carried, LinkTruth}
+use Rattle.dna_links.specs.User.{LinkEventValue}
+use Rattle.dna_links.specs.Sending as links_sending
+use Rattle.dna_links.specs.Arriving.{of_partner}
+use Rattle.dna_links.specs.TrueSegments.{TrueSegments, Numbers, true_segments}
+use Rattle.dna_links.specs.TrueLinks.{Links, links_user, links_sent, links_arrived}
+use Rattle.dna_links.specs.Captures.{deliveries}
+use Rattle.dna_links.specs.Runs.{SentMessage}
+use Rattle.dna_links.specs.Alike.{bare, bare_links}
+use Rattle.dna_links.proofs.Tables.Outcomes.{user_did}
+use Rattle.dna_links.proofs.Runs.Bared.{deliveries_bare}
+use Rattle.dna_links.proofs.Runs.Wider.{AllFit, user_follows, sent_follows, arrived_follows}
+use Rattle.dna_node.specs.TagRules.{judged, judged_by}
+use Rattle.dna_node.specs.Content.{content}
+use Rattle.dna_node.specs.Layers.{Layers, LayersTruth, LayersNode, LayersUnit, with_station, with_links, first_sent, with_message, carried_again}
+use Rattle.dna_node.specs.Layers.{sends_again, to_station, carried_by, sends_first, sends_on, keeps, meets_on, layers_machine, new_layers_node}
+use Rattle.dna_node.specs.LayersPair.{layers_pair, layers_start}
+use Rattle.dna_node.specs.AsMuch.{bare_layers, CountsAlike, IsRunWithQueues}
+use Rattle.dna_node.proofs.Events.{by_event}
+use Rattle.dna_node.proofs.AsMuch.Nodes.{IsDone, IsSent, DoesAsMuch, runs_with}
+
+-- a node with queues beside one without
+pub record Stands (s t : Layers) : Type 0 where
+  pub same : bare_layers t ≡ s
+  pub fits : AllFit t.links
+
+-- ---- what becomes of the links
+
+pub record LinksLeft (links : Links) (o : Result Links LinkRefusal) : Type 0 where
+  pub left : Links
+  pub is : o ≡ Ok left
+  pub same : bare_links left ≡ links
+  pub fits : AllFit left
+
+abbrev AreDone : Result Links LinkRefusal → Result Links LinkRefusal → Type 0
+AreDone (Ok links) o = LinksLeft links o
+AreDone (Err refusal) o = Unit {0}
+
+module _ (links : Links) (fits : AllFit links) where
+  user_links : (event : LinkEventValue) (o : Result Links LinkRefusal) → links_user Without (bare_links links) event ≡ o →
+      AreDone o (links_user With links event)
+  user_links event (Ok left) done =
+      let f = user_follows links fits event left (user_did true_segments (bare_links links) left event done) in
+      record { left = f.links; is = f.does; same = f.same; fits = f.fit }
+  user_links event (Err refusal) done = tt
+
+  arrived_links : (message : SentMessage) (o : Result Links LinkRefusal) →
+      links_arrived Without of_partner (bare_links links) message.packet message.truth ≡ o →
+      AreDone o (links_arrived With of_partner links message.packet message.truth)
+  arrived_links message (Ok left) done =
+      let f = arrived_follows of_partner links fits message.truth message.packet left done in
+      record { left = f.links; is = f.does; same = f.same; fits = f.fit }
+  arrived_links message (Err refusal) done = tt
+
+with_links_done : (t : Layers) (o o' : Result Links LinkRefusal) → AreDone o o' → IsDone Stands (with_links (bare_layers t) o) (with_links t o')
+with_links_done t (Ok links) o' done = record {
+  left = record t { links = done.left };
+  is = ap (with_links t) done.is;
+  beside = record { same = ap (λ (x : Links). record (bare_layers t) { links = x }) done.same; fits = done.fits };
+}
+with_links_done t (Err refusal) o' done = tt
+
+-- a packet is kept
+keeps_done : (t : Layers) → AllFit t.links → (carried : Option SentMessage) →
+    IsDone Stands (keeps judged (bare_layers t) carried) (keeps (judged_by With) t carried)
+keeps_done t fits (Some message) =
+    with_links_done t (links_arrived Without of_partner (bare_links t.links) message.packet message.truth)
+    (links_arrived With of_partner t.links message.packet message.truth) (arrived_links t.links fits message _ refl)
+keeps_done t fits None = record { left = t; is = refl; beside = record { same = refl; fits = fits } }
+
+-- ---- the node
+
+module _ (t : Layers) (fits : AllFit t.links) where
+  -- ---- the user
+
+  by_station : (o : Result Station StepRefusal) → IsDone Stands (with_station (bare_layers t) o) (with_station t o)
+  by_station (Ok station) =
+      record { left = record t { station = station }; is = refl; beside = record { same = refl; fits = fits } }
+  by_station (Err refusal) = tt
+
+  user_done : (event : Event) → IsDone Stands ((layers_machine judged).user (bare_layers t) event) ((layers_machine (judged_by With)).user t event)
+  user_done =
+      by_event (λ (event : Event). IsDone Stands ((layers_machine judged).user (bare_layers t) event)
+      ((layers_machine (judged_by With)).user t event))
+      (by_station ((station_machine of_period).user t.station events.Start)) (by_station ((station_machine of_period).user t.station events.Halt))
+      (λ event link e. rw e (with_links_done t (links_user Without (bare_links t.links) link) (links_user With t.links link)
+      (user_links t.links fits link _ refl)))
+
+  -- ---- a message is sent
+
+  module _ (after : Station × Truth) where
+    abbrev left_with : Option SentMessage → Links → Layers
+    left_with carried links = record { station = after.0; links = links; messages = t.messages ++ carried ∷ [] }
+
+    abbrev message_with : Carried → LinkTruth Numbers → Option SentMessage
+    message_with packet truth = Some (record { packet = packet; truth = truth })
+
+    abbrev made_with : Links → Option SentMessage → Result (Layers × LayersTruth) StepRefusal
+    made_with links carried = Ok (first_sent t after links carried)
+
+    message_done : (packet : Carried) (o : Result (links_sending.Sent TrueSegments Numbers) LinkRefusal) →
+        links_sent Without (bare_links t.links) packet ≡ o →
+        IsSent Stands (with_message (bare_layers t) after packet o) (with_message t after packet (links_sent With t.links packet))
+    message_done packet (Ok made) done =
+        let f = sent_follows t.links fits packet made done in
+        record {
+          left = left_with (message_with packet made.truth) f.sent.links;
+          is = ap (with_message t after packet) f.does
+              ∙ ap (λ (x : links_sending.Sent TrueSegments Numbers). made_with f.sent.links (message_with packet x.truth)) f.same;
+          beside = record {
+            same = ap (λ (x : links_sending.Sent TrueSegments Numbers). left_with (message_with packet made.truth) x.links) f.same;
+            fits = f.fit;
+          };
+        }
+    message_done packet (Err refusal) done = tt
+
+    first_done : (r : Result (Option Carried) StepRefusal) →
+        IsSent Stands (sends_first judged (bare_layers t) after r) (sends_first (judged_by With) t after r)
+    first_done (Ok (Some packet)) = message_done packet _ refl
+    first_done (Ok None) = record { left = left_with None t.links; is = refl; beside = record { same = refl; fits = fits } }
+    first_done (Err refusal) = tt
+
+    again_same : (change : Change) → carried_again t after.1 change ≡ carried_again (bare_layers t) after.1 change
+    again_same SendPacket = refl
+    again_same change = refl
+
+    abbrev again_with : Option SentMessage → Result (Layers × LayersTruth) StepRefusal
+    again_with carried = Ok (record t { station = after.0 }, record { station = after.1; carried = carried })
+
+    by_number : (m : MessageValue) (b : Bool) →
+        IsSent Stands (cond b (sends_first judged (bare_layers t) after (content (body_of m))) (Ok (sends_again (bare_layers t) m after)))
+        (cond b (sends_first (judged_by With) t after (content (body_of m))) (Ok (sends_again t m after)))
+    by_number m true = first_done (content (body_of m))
+    by_number m false = record {
+      left = record t { station = after.0 };
+      is = ap again_with (again_same (change_of m));
+      beside = record { same = refl; fits = fits };
+    }
+
+  by_sending : (m : MessageValue) (o : Result (Station × Truth) StepRefusal) →
+      IsSent Stands (sends_on judged (bare_layers t) m o) (sends_on (judged_by With) t m o)
+  by_sending m (Ok after) = by_number after m (gives_number t.station m)
+  by_sending m (Err refusal) = tt
+
+  -- ---- an arrival
+
+  by_arrival : (arrival : ArrivalValue LayersTruth) (kept : Bool) (o : Result Station StepRefusal) →
+      IsDone Stands (meets_on judged (bare_layers t) arrival kept o) (meets_on (judged_by With) t arrival kept o)
+  by_arrival arrival true (Ok station) = keeps_done (record t { station = station }) fits (carried_by arrival)
+  by_arrival arrival false (Ok station) =
+      record { left = record t { station = station }; is = refl; beside = record { same = refl; fits = fits } }
+  by_arrival arrival kept (Err refusal) = tt
+
+-- what a node with queues does beside one without
+module _ (s t : Layers) (stands : Stands s t) where
+  user_beside : (event : Event) → IsDone Stands ((layers_machine judged).user s event) ((layers_machine (judged_by With)).user t event)
+  user_beside event =
+      subst (λ (x : Layers). IsDone Stands ((layers_machine judged).user x event) ((layers_machine (judged_by With)).user t event)) stands.same
+      (user_done t stands.fits event)
+
+  sends_beside : (m : MessageValue) → IsSent Stands ((layers_machine judged).sends s m) ((layers_machine (judged_by With)).sends t m)
+  sends_beside m =
+      subst (λ (x : Layers). IsSent Stands ((layers_machine judged).sends x m) ((layers_machine (judged_by With)).sends t m)) stands.same
+      (by_sending t stands.fits m ((station_machine of_period).sends t.station m))
+
+  arrives_beside : (arrival : ArrivalValue LayersTruth) (kept : Bool) →
+      IsDone Stands ((layers_machine judged).arrives s arrival kept) ((layers_machine (judged_by With)).arrives t arrival kept)
+  arrives_beside arrival kept =
+      subst (λ (x : Layers). IsDone Stands ((layers_machine judged).arrives x arrival kept) ((layers_machine (judged_by With)).arrives t arrival kept))
+      stands.same (by_arrival t stands.fits arrival kept ((station_machine of_period).arrives t.station (to_station arrival) kept))
+
+layers_do_as_much : DoesAsMuch (layers_machine judged) (layers_machine (judged_by With)) Stands
+layers_do_as_much = record { user = user_beside; sends = sends_beside; arrives = arrives_beside }
+
+-- ---- runs
+
+new_stands : (head : Head) → let s = (new_layers_node head).station in Stands s s
+new_stands head = record { same = refl; fits = λ i l at. absurd cc }
+
+counts_alike : (s t : Layers) → Stands s t → CountsAlike t s
+counts_alike s t stands = record {
+  links = sym (length-map t.links.links bare) ∙ ap (λ (x : Layers). length x.links.links) stands.same;
+  delivered = sym (deliveries_bare t.links.links) ∙ ap (λ (x : Layers). deliveries x.links.links) stands.same;
+}
+
+abbrev left_world : World LayersNode LayersUnit → (a b : Layers) → World LayersNode LayersUnit
+left_world end a b = record {
+  a = record { state = record end.a.state { station = a }; sent = end.a.sent };
+  b = record { state = record end.b.state { station = b }; sent = end.b.sent };
+}
+
+pub runs_with_queues : (head_a head_b : Head) (end : World LayersNode LayersUnit) (of_a of_b : List Record) →
+    Run layers_pair (layers_start head_a head_b) of_a of_b end → IsRunWithQueues head_a head_b end of_a of_b
+runs_with_queues head_a head_b end of_a of_b run =
+    let r = runs_with layers_do_as_much (new_layers_node head_a).station (new_layers_node head_b).station (new_stands head_a) (new_stands head_b)
+    run in
+    record {
+      left = left_world end r.a r.b;
+      run = r.run;
+      same = ap (λ (x : Layers). left_world end x (bare_layers r.b)) r.beside_a.same
+          ∙ ap (λ (x : Layers). left_world end end.a.state.station x) r.beside_b.same;
+      counted_a = counts_alike end.a.state.station r.a r.beside_a;
+      counted_b = counts_alike end.b.state.station r.b r.beside_b;
+    }
