@@ -23,7 +23,7 @@ enum {
 
 /* Choices, which may be added up. */
 enum {
-  DDCAP_LINE = 1, /* DDCMP alone is judged, without links; not by `ddcap_why` of one end */
+  DDCAP_LINE = 1, /* DDCMP alone is judged, without links */
   DDCAP_JSON = 2  /* the answer is a JSON object, of `ddcap_why` one on a line for each part; docs/KEYS.md has their keys */
 };
 

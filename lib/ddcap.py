@@ -93,6 +93,5 @@ def alone(a, line=False, json=False):
 
 
 def why(a, b=None, line=False, json=False):
-    """Tells why two captures are refused, or one, as `ddcap why A B`. With `json` each part is an object on a line of its own: `why(..).parts()`.
-    `line` goes with two captures."""
+    """Tells why two captures are refused, or one, as `ddcap why A B`. With `json` each part is an object on a line of its own: `why(..).parts()`."""
     return _answer(_LIBRARY.ddcap_why, [a, b], _choices(line, json))

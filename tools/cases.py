@@ -35,7 +35,7 @@ def asked_of_pairs(most):
                               ['draw', 'a', 'b', '--svg', 'svg'], ['check', '--line', 'a', 'b'], ['convert', '2', 'a', 'made'],
                               ['check', '--json', 'a', 'b'], ['why', '--line', 'a', 'b'], ['cover', '--line', '--json', 'a', 'b']):
                     yield place, words, {'a': a, 'b': b}
-                for words in ['alone', 'a'], ['alone', '--line', '--json', 'a'], ['show', 'a'], ['why', 'a']:
+                for words in ['alone', 'a'], ['alone', '--line', '--json', 'a'], ['show', 'a'], ['why', 'a'], ['why', '--line', 'a']:
                     yield place, words, {'a': a}
 
 

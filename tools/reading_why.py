@@ -1,9 +1,11 @@
 """What `ddcap why` says of a refused pair, by the reading of tools/reading.py, apart from the program. `said(a, b)` gives it, or None where nothing
 is refused: the JSON `lines` `refused`, `record` without the fields of its bytes, `state` and `link`; the `rows` of both sides; how many records
-stand `behind` it; and the `check` where bytes are compared (tools/reading_bytes.py), else None."""
+stand `behind` it; and the `check` where bytes are compared (tools/reading_bytes.py), else None. `said_alone(a, line)` gives the lines and rows of one
+end without the other (tools/reading_alone.py), with `line` of its station alone."""
 from collections import namedtuple
 
 from reading import NAMES, RULES, Side, passes_over
+from reading_alone import FREE, Alone, ByOther, StationAlone
 from reading_bytes import check_of, counted
 from reading_packets import read_nsp, read_packet, read_unit
 from reading_rows import Refused
@@ -158,3 +160,33 @@ def said(a, b):
         rows += side_rows(other, sides[other], named_by(words)[::1 if other == letter else -1])
     behind = sum(len(each.records) - each.next for each in sides) - 1
     return Said(lines, rows, behind, check_of(number, side, sides[1 - letter], 'ba'[letter], words))
+
+
+# ---- one end alone
+
+def alone_to(text, line, most):
+    """The end after at most so many records, and what refuses the next one, or None."""
+    side = (StationAlone if line else Alone)(FREE, text)
+    while side.next < most and not side.has_ended():
+        try:
+            side.make(None)
+        except Refused as refusal:
+            return side, refusal
+    return side, None
+
+
+def said_alone(text, line):
+    """What is said of the capture of one end, or None. Which start of the other side goes with its own is not known."""
+    side, refusal = alone_to(text, line, text.count('\n'))
+    if refusal is None:
+        return None
+    side, _ = alone_to(text, line, side.next)
+    side.station.partner = None
+    place, number = side.next, refusal.reason
+    words = side.records[place]
+    accuses = 'other end' if isinstance(refusal, ByOther) else accused(number, words[0])
+    lines = [{
+        'what': 'refused', 'side': 'a', 'record': place, 'line': place + 2, 'number': number, 'name': NAMES[number - 1], 'accuses': accuses,
+    }, record_of(words), state_of(0, side)]
+    lines += [link_of(0, link) for link in side.links.links if link.phase != 'Ended']
+    return Said(lines, list(side_rows(0, side, named_by(words))), None, None)

@@ -13,10 +13,12 @@ use Rattle.pair_judge.specs.declared.end_verdict.EndVerdict.TheVariants.{Passed,
 use Rattle.pair_judge.specs.declared.reason.Reason.{Reason}
 use Rattle.pair_judge.specs.declared.summary.SideSummary.{SideSummary}
 use Rattle.pair_judge.specs.EndJudged.{EndAnswer, IsJudgedAlone}
-use Rattle.pair_judge.specs.EndKind.{EndKind}
+use Rattle.pair_judge.specs.EndKind.{EndKind, layers_alone, station_alone}
 use Rattle.pair_judge.specs.Reason.{reason_name, reason_number}
 use Rattle.ddcap.specs.Printed.{Moved, Writes, side_line, station_line}
 use Rattle.ddcap.specs.Showing.{shown_fault, shown_fault_status}
+use Rattle.ddcap.specs.declared.layers.Layers.{Layers}
+use Rattle.ddcap.specs.declared.layers.Layers.TheVariants.{Both, Station}
 
 -- behind the reason: nothing more, or that it is the other end that broke the rule
 abbrev pub by_whom : Accused → List ℕ
@@ -40,6 +42,24 @@ end_text = end_text_by side_line
 -- the same of a station alone
 abbrev pub line_end_text : EndVerdict → List ℕ
 line_end_text = end_text_by station_line
+
+-- ---- whether the links on top are judged too
+
+-- what one end is judged as
+abbrev pub end_of : Layers → EndKind
+end_of Both = layers_alone
+end_of Station = station_alone
+
+-- the line of counts of a side
+abbrev pub counts_line : Layers → Side → SideSummary → List ℕ
+counts_line Both = side_line
+counts_line Station = station_line
+
+-- the text of a verdict
+abbrev pub end_text_over : Layers → EndVerdict → List ℕ
+end_text_over layers = end_text_by (counts_line layers)
+
+-- ---- what is printed
 
 -- 0: passed; 1: refused
 abbrev pub end_status : EndVerdict → ℕ

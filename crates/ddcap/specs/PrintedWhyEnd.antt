@@ -5,7 +5,6 @@ use Rattle.capture.specs.Faulty.{CountsReads, is_failed_read}
 use Rattle.capture.specs.declared.fault.CaptureFault.{CaptureFault}
 use Rattle.capture.specs.declared.fault.CaptureFault.TheVariants.{OutOfMemory}
 use Rattle.pair_judge.specs.EndJudged.{IsJudgedAlone}
-use Rattle.pair_judge.specs.EndKind.{layers_alone}
 use Rattle.pair_judge.specs.EndShown.{StandsAlone}
 use Rattle.pair_judge.specs.Ends.{ShownEnd}
 use Rattle.pair_judge.specs.FailedIn.{IsFailedAlone}
@@ -18,7 +17,8 @@ use Rattle.pair_judge.specs.declared.summary.SideSummary.{SideSummary}
 use Rattle.why.specs.declared.end_text.EndRefusal.{EndRefusal}
 use Rattle.why.specs.Refused.{BeginsWith, end_accuses, line_of_end, refused_line}
 use Rattle.ddcap.specs.Printed.{Moved, Writes}
-use Rattle.ddcap.specs.PrintedAlone.{TellsEndFault, end_text}
+use Rattle.ddcap.specs.PrintedAlone.{TellsEndFault, end_of, end_text_over}
+use Rattle.ddcap.specs.declared.layers.Layers.{Layers}
 use Rattle.ddcap.specs.declared.telling.Form.{Form}
 use Rattle.ddcap.specs.declared.telling.Form.TheVariants.{Rows, Json}
 
@@ -38,51 +38,54 @@ pub record IsToldOf (told : EndRefusal) (s : Stop) : Type 0 where
   pub ahead : s.end.ahead ≡ Some (record_with told.says told.bytes.now)
   pub failed : IsFailedAlone s.end told.reason told.failed
 
--- in rows the line of the verdict comes first, and as JSON objects that of the refusal; what follows is not claimed
-abbrev pub IsEndText : Form → EndRefusal → Stop → List ℕ → Type 0
-IsEndText Rows told s text = BeginsWith (end_text s.verdict) text
-IsEndText Json told s text = BeginsWith (refused_line (line_of_end told)) text
+-- over these layers
+module _ (layers : Layers) where
+  -- in rows the line of the verdict comes first, and as JSON objects that of the refusal; what follows is not claimed
+  abbrev pub IsEndText : Form → EndRefusal → Stop → List ℕ → Type 0
+  IsEndText Rows told s text = BeginsWith (end_text_over layers s.verdict) text
+  IsEndText Json told s text = BeginsWith (refused_line (line_of_end told)) text
 
-pub record IsEndTelling (form : Form) (s : Stop) (text : List ℕ) : Type 0 where
-  pub told : EndRefusal
-  pub is_told : IsToldOf told s
-  pub is_text : IsEndText form told s text
+  pub record IsEndTelling (form : Form) (s : Stop) (text : List ℕ) : Type 0 where
+    pub told : EndRefusal
+    pub is_told : IsToldOf told s
+    pub is_text : IsEndText form told s text
 
--- where no record is ahead, the line of the verdict stands alone
-abbrev pub TellsEnd : Form → Stop → List ℕ → Type 0
-TellsEnd form s text = IsEndTelling form s text ⊎ (text ≡ end_text s.verdict)
+  -- where no record is ahead, the line of the verdict stands alone
+  abbrev pub TellsEnd : Form → Stop → List ℕ → Type 0
+  TellsEnd form s text = IsEndTelling form s text ⊎ (text ≡ end_text_over layers s.verdict)
 
-abbrev pub passed_text : Form → SideSummary → List ℕ
-passed_text Rows counts = end_text (Passed counts)
-passed_text Json counts = codes "{\"what\": \"passed\"}\n"
+  abbrev pub passed_text : Form → SideSummary → List ℕ
+  passed_text Rows counts = end_text_over layers (Passed counts)
+  passed_text Json counts = codes "{\"what\": \"passed\"}\n"
 
--- a pass is written, or that there was no memory for its text
-abbrev pub PrintsPass : Form → Moved × Moved → SideSummary → ℕ → Type 0
-PrintsPass form streams counts status =
-    (Writes streams.0.old streams.0.new (passed_text form counts) 0 status × (streams.1.new ≡ streams.1.old))
-    ⊎ (TellsEndFault streams.1 OutOfMemory status × (streams.0.new ≡ streams.0.old))
+  -- a pass is written, or that there was no memory for its text
+  abbrev pub PrintsPass : Form → Moved × Moved → SideSummary → ℕ → Type 0
+  PrintsPass form streams counts status =
+      (Writes streams.0.old streams.0.new (passed_text form counts) 0 status × (streams.1.new ≡ streams.1.old))
+      ⊎ (TellsEndFault streams.1 OutOfMemory status × (streams.0.new ≡ streams.0.old))
 
 -- a verdict is written to standard output and a fault to standard error; the other stream stays as it is
-module _ (form : Form) (out err : Moved) where
+module _ (layers : Layers) (form : Form) (streams : Moved × Moved) where
   pub record PrintsEndRefusal (s : Stop) (status : ℕ) : Type 0 where
     pub text : List ℕ
-    pub tells : TellsEnd form s text
-    pub written : Writes out.old out.new text 1 status
-    pub same : err.new ≡ err.old
+    pub tells : TellsEnd layers form s text
+    pub written : Writes streams.0.old streams.0.new text 1 status
+    pub same : streams.1.new ≡ streams.1.old
 
   abbrev pub PrintsStop : Stop → EndVerdict → ℕ → Type 0
-  PrintsStop s (Passed counts) status = Writes out.old out.new (passed_text form counts) 0 status × (err.new ≡ err.old)
+  PrintsStop s (Passed counts) status =
+      Writes streams.0.old streams.0.new (passed_text layers form counts) 0 status × (streams.1.new ≡ streams.1.old)
   PrintsStop s (Refused place accused reason) status = PrintsEndRefusal s status
 
   abbrev pub PrintsWhyEnd : Result Stop CaptureFault → ℕ → Type 0
   PrintsWhyEnd (Ok s) status = PrintsStop s s.verdict status
-  PrintsWhyEnd (Err fault) status = TellsEndFault err fault status × (out.new ≡ out.old)
+  PrintsWhyEnd (Err fault) status = TellsEndFault streams.1 fault status × (streams.0.new ≡ streams.0.old)
 
 -- One call of `why` of one end: what is printed, with its status, is an answer of which all is true that the judge's contract says of its own; and
 -- the end that it shows stands where the record is refused.
-pub record ExplainsEnd (form : Form) (a out err : Moved) (status : ℕ) : Type 0 where
+pub record ExplainsEnd (layers : Layers) (form : Form) (a : Moved) (streams : Moved × Moved) (status : ℕ) : Type 0 where
   pub answer : Result Stop CaptureFault
-  pub judged : IsJudgedAlone layers_alone a.old.bytes (only answer (λ s. s.verdict))
-  pub stands : IfOk answer (λ s. StandsAlone a.old.bytes s.end s.verdict (λ (order : List MadeRecord). Unit {0}))
+  pub judged : IsJudgedAlone (end_of layers) a.old.bytes (only answer (λ s. s.verdict))
+  pub stands : IfOk answer (λ s. StandsAlone (end_of layers) a.old.bytes s.end s.verdict (λ (order : List MadeRecord). Unit {0}))
   pub reads : CountsReads (is_failed_read answer) a.old.faults a.new.faults
-  pub printed : PrintsWhyEnd form out err answer status
+  pub printed : PrintsWhyEnd layers form streams answer status

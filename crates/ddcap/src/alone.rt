@@ -4,9 +4,8 @@ ghost use Rattle.std.specs.Prelude.{◌≢◌};
 ghost use Rattle.capture.specs.declared.fault.CaptureFault.TheVariants as CaptureFault;
 ghost use Rattle.pair_judge.specs.EndKind.{layers_alone, station_alone};
 ghost use Rattle.ddcap.specs.Printed.{moved};
-ghost use Rattle.ddcap.specs.PrintedAlone.{ChecksEnd, TellsEndFault};
+ghost use Rattle.ddcap.specs.PrintedAlone.{ChecksEnd, TellsEndFault, end_of, end_text_over};
 ghost use Rattle.ddcap.specs.PrintedAlone.{end_text as end_text_of, line_end_text as line_end_text_of};
-ghost use Rattle.ddcap.specs.inner.Layers.{end_of, end_text_over};
 
 use crate::check::{print, print_failed_read, print_out_of_memory};
 use crate::end_text::{end_status, end_text};

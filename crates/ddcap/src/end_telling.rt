@@ -3,35 +3,37 @@
 ghost use Rattle.std.specs.Prelude.{IfOk, IfSome, string_bytes};
 ghost use Rattle.ddcap.specs.Printed.{moved};
 ghost use Rattle.why.specs.Refused.{BeginsWith};
-ghost use Rattle.ddcap.specs.PrintedAlone as printed;
+ghost use Rattle.ddcap.specs.PrintedAlone.{end_text_over};
 ghost use Rattle.ddcap.specs.PrintedWhyEnd.{ExplainsEnd, IsToldOf, PrintsPass, TellsEnd, stop};
 
 use crate::alone::print_end_fault;
 use crate::check::{print, print_out_of_memory};
 use crate::end_text::end_text;
 use crate::last_rows::LastRows;
-use crate::layers::Layers;
+use crate::layers::{Layers, watch_end_over};
 use crate::telling::{Form, REFUSED, ladder_text};
 use ladder::Ladder;
-use pair_judge::{EndVerdict, SideEnd, SideSummary, WatchedEnd, judge_end_watched};
+use pair_judge::{EndVerdict, SideEnd, SideSummary, WatchedEnd};
 use std::alloc::{AllocError, Global};
 use std::io::{Read, Write};
 use why::{Accusation, Beside, EndRefusal, LinkPast, addresses_of, why_end_json, why_end_rows};
 use wire_base::{Side, Tally};
 
-/// How the answer is printed, and the name of the capture in it.
+/// What is judged, how the answer is printed, and the name of the capture in it.
 #[derive(Clone, Copy)]
 pub struct EndPrintout<'n> {
+    pub layers: Layers,
     pub form: Form,
     /// Whether all bytes of the record are printed in rows.
     pub full: bool,
     pub name: &'n str,
 }
 
-/// Judges the capture that a reader gives without that of the other end, prints what is answered and why, and answers the status.
+/// Judges the capture that a reader gives without that of the other end, over these layers, prints what is answered and why, and answers the status.
 ///
-/// A pass and a fault are printed as `alone` does (of JSON objects `{"what": "passed"}` alone). Behind a refusal comes what is said of it. The whole
-/// text is put together before the first write; where there is no memory for it, the answer is `out of memory`.
+/// A pass and a fault are printed as `alone` does (of JSON objects `{"what": "passed"}` alone). Behind a refusal comes what is said of it; of a
+/// station alone no link is shown, and what packets of DECnet say is told all the same. The whole text is put together before the first write;
+/// where there is no memory for it, the answer is `out of memory`.
 pub fn why_end_to<A: Read, O: Write, E: Write>(
     alloc: Global,
     printout: EndPrintout<'_>,
@@ -39,18 +41,18 @@ pub fn why_end_to<A: Read, O: Write, E: Write>(
     out: &mut Tally<O>,
     err: &mut Tally<E>,
 ) -> u8
-    ensures { ExplainsEnd printout.entry.form (moved A.remaining a.old a.new) (moved O.contents out.old out.new)
-        (moved E.contents err.old err.new) result }
+    ensures { ExplainsEnd printout.entry.layers printout.entry.form (moved A.remaining a.old a.new)
+        (moved O.contents out.old out.new, moved E.contents err.old err.new) result }
 {
     let Ok(rows) = LastRows::new(alloc) else {
         return print_out_of_memory(err);
     };
-    let watched = match judge_end_watched(alloc, a, rows) {
+    let watched = match watch_end_over(alloc, printout.layers, a, rows) {
         Ok(watched) => watched,
         Err(fault) => return print_end_fault(alloc, fault, err),
     };
     match watched.verdict {
-        EndVerdict::Passed(counts) => print_passed(alloc, printout.form, counts, out, err),
+        EndVerdict::Passed(counts) => print_passed(alloc, printout, counts, out, err),
         EndVerdict::Refused { .. } => match end_refused_text(alloc, printout, watched) {
             Ok(text) => print(out, text.as_bytes(), REFUSED),
             Err(_) => print_out_of_memory(err),
@@ -61,16 +63,17 @@ pub fn why_end_to<A: Read, O: Write, E: Write>(
 // Prints that the end has passed.
 fn print_passed<O: Write, E: Write>(
     alloc: Global,
-    form: Form,
+    printout: EndPrintout<'_>,
     counts: SideSummary,
     out: &mut Tally<O>,
     err: &mut Tally<E>,
 ) -> u8
-    ensures { PrintsPass form (moved O.contents out.old out.new, moved E.contents err.old err.new) counts result }
+    ensures { PrintsPass printout.entry.layers printout.entry.form (moved O.contents out.old out.new, moved E.contents err.old err.new)
+        counts result }
 {
-    match form {
+    match printout.form {
         Form::Json => print(out, b"{\"what\": \"passed\"}\n", 0),
-        Form::Rows => match end_text(alloc, Layers::Both, EndVerdict::Passed(counts)) {
+        Form::Rows => match end_text(alloc, printout.layers, EndVerdict::Passed(counts)) {
             Ok(text) => print(out, text.as_bytes(), 0),
             Err(_) => print_out_of_memory(err),
         },
@@ -83,7 +86,8 @@ pub fn end_refused_text(
     printout: EndPrintout<'_>,
     watched: WatchedEnd<LastRows>,
 ) -> Result<String, AllocError>
-    ensures { IfOk result (λ text. TellsEnd printout.entry.form (stop watched.verdict watched.end) (string_bytes text)) }
+    ensures { IfOk result (λ text.
+        TellsEnd printout.entry.layers printout.entry.form (stop watched.verdict watched.end) (string_bytes text)) }
 {
     let WatchedEnd {
         verdict,
@@ -91,7 +95,7 @@ pub fn end_refused_text(
         observer: LastRows { mut ladder, past },
     } = watched;
     let Some(refusal) = refusal_of(verdict, &end, &past) else {
-        return end_text(alloc, Layers::Both, verdict);
+        return end_text(alloc, printout.layers, verdict);
     };
     match printout.form {
         Form::Json => why_end_json(alloc, refusal, &end),
@@ -137,11 +141,11 @@ fn rows_text(
     end: &SideEnd,
     ladder: &Ladder,
 ) -> Result<String, AllocError>
-    ensures { IfOk result (λ text. BeginsWith (printed.end_text verdict) (string_bytes text)) }
+    ensures { IfOk result (λ text. BeginsWith (end_text_over printout.entry.layers verdict) (string_bytes text)) }
 {
     let drawn = ladder.drawn(alloc)?;
     let rungs = ladder_text(alloc, &drawn)?;
-    let first = end_text(alloc, Layers::Both, verdict)?;
+    let first = end_text(alloc, printout.layers, verdict)?;
     let beside = Beside {
         name: printout.name,
         unit: "",

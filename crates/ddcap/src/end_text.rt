@@ -2,7 +2,7 @@
 
 ghost use Rattle.std.specs.Prelude.{◌≡◌, IfOk, string_bytes};
 ghost use Rattle.ddcap.specs.PrintedAlone as printed;
-ghost use Rattle.ddcap.specs.inner.Layers.{end_text_over};
+ghost use Rattle.ddcap.specs.PrintedAlone.{end_text_over};
 
 use crate::layers::Layers;
 use crate::text::CountsLine;

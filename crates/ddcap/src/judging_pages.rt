@@ -93,8 +93,8 @@ With --json, before or after the files, each of these is an object on a line of
 its own. For a pair that is not refused, the answer is that of check.
 
 docs/KEYS.md has the keys of these objects. With --line only stations and line
-of a pair are judged, as by check. With --full all bytes of the
-record are printed in rows, and not only the first 64.
+are judged, as by check. With --full all bytes of the record are printed in
+rows, and not only the first 64.
 
 At a faulty line it tells on standard error what is there, at which column, and
 what would be right.

@@ -32,7 +32,7 @@ pub fn judged_alone_of<'a>(found: &ArgMatches<'a>) -> Result<Task<'a>, WordsFaul
     }
 }
 
-/// The captures that the words after `why` name, or the one. Of one, stations alone are not asked for.
+/// The captures that the words after `why` name, or the one.
 pub fn explained_of<'a>(found: &ArgMatches<'a>) -> Result<Task<'a>, WordsFault> {
     let Some(a) = found.get_str("A") else {
         return Err(WordsFault::BadWords);
@@ -48,15 +48,12 @@ pub fn explained_of<'a>(found: &ArgMatches<'a>) -> Result<Task<'a>, WordsFault> 
             a,
             b,
         }),
-        None => match layers {
-            Layers::Both => Ok(Task::WhyAlone {
-                form,
-                layers,
-                full,
-                a,
-            }),
-            Layers::Station => Err(WordsFault::BadWords),
-        },
+        None => Ok(Task::WhyAlone {
+            form,
+            layers,
+            full,
+            a,
+        }),
     }
 }
 

@@ -1,16 +1,22 @@
 //! Whether the links on top of the stations are judged too.
 
-ghost use Rattle.std.specs.Prelude.{◌≢◌, IfErr};
+ghost use Rattle.std.specs.Prelude.{◌≢◌, [], IfErr, IfOk};
 ghost use Rattle.capture.specs.declared.fault.CaptureFault.TheVariants as CaptureFault;
 ghost use Rattle.capture.specs.Faulty.{CountsReads, is_failed_read};
 ghost use Rattle.pair_judge.specs.EndJudged.{IsJudgedAlone};
+ghost use Rattle.pair_judge.specs.EndShown.{StandsAlone};
 ghost use Rattle.pair_judge.specs.Faulty.{is_failed_read_of};
 ghost use Rattle.pair_judge.specs.Judged.{IsAnswer};
+ghost use Rattle.pair_judge.specs.Watched.{only};
 ghost use Rattle.wire_base.specs.Tally.{tally_faults, tally_lent};
-ghost use Rattle.ddcap.specs.inner.Layers.{end_of, nodes_of};
+ghost use Rattle.ddcap.specs.PrintedAlone.{end_of};
+ghost use Rattle.ddcap.specs.inner.Layers.{nodes_of};
 
 use capture::CaptureFault;
-use pair_judge::{EndVerdict, JudgeFault, Verdict, judge, judge_end, judge_line, judge_line_end};
+use pair_judge::{
+    EndVerdict, JudgeFault, Observer, Verdict, WatchedEnd, judge, judge_end, judge_end_watched,
+    judge_line, judge_line_end, judge_line_end_watched,
+};
 use std::alloc::Global;
 use std::io::Read;
 use wire_base::{Side, Tally};
@@ -54,5 +60,25 @@ pub fn judge_end_over<A: Read>(
     match layers {
         Layers::Both => judge_end(alloc, a),
         Layers::Station => judge_line_end(alloc, a),
+    }
+}
+
+/// Judges it so while an observer is told of each record that is made, and gives the end as it is then.
+pub fn watch_end_over<O: Observer, A: Read>(
+    alloc: Global,
+    layers: Layers,
+    a: &mut Tally<A>,
+    observer: O,
+) -> Result<WatchedEnd<O>, CaptureFault>
+    requires { O.told observer [] }
+    ensures judged { IsJudgedAlone (end_of layers) (A.remaining (tally_lent a.old)) (only result (λ watched. watched.verdict)) }
+    ensures stands { IfOk result (λ watched.
+        StandsAlone (end_of layers) (A.remaining (tally_lent a.old)) watched.end watched.verdict (O.told watched.observer)) }
+    ensures first { IfErr result (λ fault. fault ≢ CaptureFault.Failed) }
+    ensures reads { CountsReads (is_failed_read result) (tally_faults a.old) (tally_faults a.new) }
+{
+    match layers {
+        Layers::Both => judge_end_watched(alloc, a, observer),
+        Layers::Station => judge_line_end_watched(alloc, a, observer),
     }
 }

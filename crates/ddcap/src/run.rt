@@ -102,11 +102,12 @@ impl<R: Files + AllocGlobal, O: Write, E: Write> Program<'_, '_, '_, R, O, E> {
                 a,
             } => {
                 let printout = EndPrintout {
+                    layers,
                     form,
                     full,
                     name: a,
                 };
-                self.why_alone(layers, printout)
+                self.why_alone(printout)
             }
             Task::Cover {
                 form,
@@ -155,13 +156,13 @@ impl<R: Files + AllocGlobal, O: Write, E: Write> Program<'_, '_, '_, R, O, E> {
         Ok(status)
     }
 
-    fn why_alone(&mut self, layers: Layers, printout: EndPrintout<'_>) -> Result<u8, FaultTold> {
+    fn why_alone(&mut self, printout: EndPrintout<'_>) -> Result<u8, FaultTold> {
         let mut file = opened_plain(self.rt, Wanted::by_path(Named::A, printout.name), self.err)?;
         let mut a = Tally::new(&mut file);
         let alloc = self.rt.alloc();
         let status = why_end_to(alloc, printout, &mut a, self.out, self.err);
         if status == FAULTY {
-            explain_departure_of_end(alloc, layers, &mut file, self.err);
+            explain_departure_of_end(alloc, printout.layers, &mut file, self.err);
         }
         Ok(status)
     }

@@ -7,8 +7,7 @@ const CHECK: &str = "usage: ddcap check [--line] [--json] A B [A B ..]\n";
 
 const ALONE: &str = "usage: ddcap alone [--line] [--json] A\n";
 
-const WHY: &str =
-    "usage: ddcap why [--line] [--full] [--json] A B, or: ddcap why [--full] [--json] A\n";
+const WHY: &str = "usage: ddcap why [--line] [--full] [--json] A [B]\n";
 
 const COVER: &str = "usage: ddcap cover [--line] [--json] [--missing] A B [A B ..]\n";
 

@@ -205,7 +205,7 @@ module _ (top : JudgeTop) where
       whole = refl;
       node = passes_so.0;
       passes = passes_so.1;
-      counts = is ∙ ap₂ (λ (counts : SideSummary) (links : ℕ). record counts { links = links }) h.counts (sym passes_so.2);
+      counts = is ∙ ap₂ (λ (counts : SideSummary) (links : ℕ). record counts { links = links }) h.counts (sym passes_so.2.links);
     }
 
     pub stopped_ended : (laws : GrowingLaws) (tells : List MadeRecord → Type 0) (new : CaptureState) (summary : SideSummary) → IsAtEnd come →

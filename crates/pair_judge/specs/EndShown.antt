@@ -6,15 +6,15 @@ use Rattle.capture.specs.declared.record.Record.{Record}
 use Rattle.capture.specs.SoFar.{ReadSoFar, IsReadSoFar}
 use Rattle.ddcmp_station.specs.View.{view_of}
 use Rattle.dna_station.specs.declared.refusal.StepRefusal.{StepRefusal}
-use Rattle.dna_station.specs.Machine.{is_sent}
-use Rattle.dna_node.specs.Alone.{Refuses, judged_alone, layers_end, step_alone}
+use Rattle.dna_station.specs.Machine.{NodeOf, is_sent}
+use Rattle.dna_node.specs.Alone.{Refuses}
 use Rattle.dna_node.specs.Alone as alone
-use Rattle.dna_node.specs.WireLayers.{WireLayersNode}
 use Rattle.pair_judge.specs.declared.end_verdict.Accused.{Accused}
 use Rattle.pair_judge.specs.declared.end_verdict.EndVerdict.{EndVerdict}
 use Rattle.pair_judge.specs.declared.end_verdict.EndVerdict.TheVariants.{Passed, Refused}
 use Rattle.pair_judge.specs.declared.reason.Reason.{Reason}
 use Rattle.pair_judge.specs.EndJudged.{accused_view}
+use Rattle.pair_judge.specs.EndKind.{EndKind}
 use Rattle.pair_judge.specs.Ends.{ShownEnd}
 use Rattle.pair_judge.specs.Heads.{head_of}
 use Rattle.pair_judge.specs.Order.{MadeRecord, made_by}
@@ -24,36 +24,38 @@ use Rattle.pair_judge.specs.Reason.{reason_of_step}
 abbrev pub told_alone : List Record → List MadeRecord
 told_alone made = map (made_by A) made
 
--- Its numbers are shown as the node keeps them, modulo 256 and 4,096
-pub record ShowsAlone (end : ShownEnd) (node : WireLayersNode) (made : List Record) : Type 0 where
-  pub layers : end.layers ≡ node.station
-  pub station : end.station ≡ view_of node.station.station
-  pub links : end.links ≡ node.station.links
-  pub front : end.front ≡ node.front
-  pub records : end.records ≡ length made
-  pub sent : end.sent ≡ count_by is_sent made
+-- of this kind of end
+module _ (kind : EndKind) where
+  -- Its numbers are shown as the node keeps them, modulo 256 and 4,096
+  pub record ShowsAlone (end : ShownEnd) (node : NodeOf kind.Keeps) (made : List Record) : Type 0 where
+    pub layers : end.layers ≡ kind.layers node
+    pub station : end.station ≡ view_of (kind.layers node).station
+    pub links : end.links ≡ (kind.layers node).links
+    pub front : end.front ≡ node.front
+    pub records : end.records ≡ length made
+    pub sent : end.sent ≡ count_by is_sent made
 
--- The named record is the one ahead, and this node refuses it for this reason
-pub record IsRefusedNext (end : ShownEnd) (node : WireLayersNode) (place : ℕ) (accused : Accused) (reason : Reason) : Type 0 where
-  pub place_is : place ≡ end.records
-  pub next : Record
-  pub is_ahead : end.ahead ≡ Some next
-  pub refusal : StepRefusal
-  pub is_reason : reason ≡ reason_of_step refusal
-  pub refused : step_alone layers_end node next ≡ Refuses (accused_view accused) refusal
+  -- The record ahead is one that this node refuses, for this reason
+  pub record IsRefusedNext (end : ShownEnd) (node : NodeOf kind.Keeps) (accused : Accused) (reason : Reason) : Type 0 where
+    pub next : Record
+    pub is_ahead : end.ahead ≡ Some next
+    pub refusal : StepRefusal
+    pub is_reason : reason ≡ reason_of_step refusal
+    pub refused : kind.step node next ≡ Refuses (accused_view accused) refusal
 
-abbrev pub StopsWith : ShownEnd → WireLayersNode → EndVerdict → Type 0
-StopsWith end node (Passed summary) = end.ahead ≡ None
-StopsWith end node (Refused place accused reason) = IsRefusedNext end node place accused reason
+  -- the named record is the one ahead
+  abbrev pub StopsWith : ShownEnd → NodeOf kind.Keeps → EndVerdict → Type 0
+  StopsWith end node (Passed summary) = end.ahead ≡ None
+  StopsWith end node (Refused place accused reason) = (place ≡ end.records) × IsRefusedNext end node accused reason
 
--- So much was read of the text. All of it but the record ahead was made, which the observer was told; it leads to this node, which the end shows
-pub record StandsAlone (text : Option (List ℕ)) (end : ShownEnd) (verdict : EndVerdict) (told : List MadeRecord → Type 0) : Type 0 where
-  pub read : ReadSoFar
-  pub from : IsReadSoFar text read
-  pub made : List Record
-  pub all : read.records ≡ made ++ option_to_list end.ahead
-  pub is_told : told (told_alone made)
-  pub node : WireLayersNode
-  pub passes : judged_alone (head_of read) made ≡ alone.Passed node
-  pub shows : ShowsAlone end node made
-  pub stops : StopsWith end node verdict
+  -- So much was read of the text. All of it but the record ahead was made, which the observer was told; it leads to this node, which the end shows
+  pub record StandsAlone (text : Option (List ℕ)) (end : ShownEnd) (verdict : EndVerdict) (told : List MadeRecord → Type 0) : Type 0 where
+    pub read : ReadSoFar
+    pub from : IsReadSoFar text read
+    pub made : List Record
+    pub all : read.records ≡ made ++ option_to_list end.ahead
+    pub is_told : told (told_alone made)
+    pub node : NodeOf kind.Keeps
+    pub passes : kind.judged (head_of read) made ≡ alone.Passed node
+    pub shows : ShowsAlone end node made
+    pub stops : StopsWith end node verdict

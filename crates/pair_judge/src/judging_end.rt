@@ -85,11 +85,55 @@ pub fn judge_end_watched<O: Observer, R: Read>(
     requires { O.told observer [] }
     ensures judged { IsJudgedAlone layers_alone (R.remaining (tally_lent a.old)) (only result (λ watched. watched.verdict)) }
     ensures stands { IfOk result (λ watched.
-        StandsAlone (R.remaining (tally_lent a.old)) watched.end watched.verdict (O.told watched.observer)) }
+        StandsAlone layers_alone (R.remaining (tally_lent a.old)) watched.end watched.verdict (O.told watched.observer)) }
     ensures first { IfErr result (λ fault. fault ≢ CaptureFault.Failed) }
     ensures reads { CountsReads (is_failed_read result) (tally_faults a.old) (tally_faults a.new) }
 {
-    match decide_end::<LinksOnTop, O, R>(alloc, a, observer) {
+    watch_end::<LinksOnTop, O, R>(alloc, a, observer)
+}
+
+/// Decides the same as `judge_line_end`, of whose answer all that is said there holds of this verdict, while an observer is told of each record that
+/// is made, as one of side a; and gives the end as it is then.
+///
+/// All that is said of `judge_end_watched` holds, with "DDCMP station" for "node". The end shows the station after the records that were made, and
+/// no link: events of links count as made, but nothing begins by them.
+///
+/// ```text
+/// ddcap 1 1.1 1.2
+/// u start           told
+/// u open 1          told, and not judged
+/// u start           Refused { place: 2, accused: ThisEnd, reason: WrongUserEvent }; the end shows 2 records, start 1 and no link
+/// ```
+pub fn judge_line_end_watched<O: Observer, R: Read>(
+    alloc: Global,
+    a: &mut Tally<R>,
+    observer: O,
+) -> Result<WatchedEnd<O>, CaptureFault>
+    requires { O.told observer [] }
+    ensures judged { IsJudgedAlone station_alone (R.remaining (tally_lent a.old)) (only result (λ watched. watched.verdict)) }
+    ensures stands { IfOk result (λ watched.
+        StandsAlone station_alone (R.remaining (tally_lent a.old)) watched.end watched.verdict (O.told watched.observer)) }
+    ensures first { IfErr result (λ fault. fault ≢ CaptureFault.Failed) }
+    ensures reads { CountsReads (is_failed_read result) (tally_faults a.old) (tally_faults a.new) }
+{
+    watch_end::<NothingOnTop, O, R>(alloc, a, observer)
+}
+
+// The same over either top.
+fn watch_end<T: Top, O: Observer, R: Read>(
+    alloc: Global,
+    a: &mut Tally<R>,
+    observer: O,
+) -> Result<WatchedEnd<O>, CaptureFault>
+    requires { O.told observer [] }
+    ensures judged { IsJudgedAlone T.top.end (R.remaining (tally_lent a.old)) (only result (λ watched. watched.verdict)) }
+    ensures stands { IfOk result (λ watched.
+        StandsAlone T.top.end (R.remaining (tally_lent a.old)) watched.end watched.verdict (O.told watched.observer)) }
+    ensures first { IfErr result (λ fault. fault ≢ CaptureFault.Failed) }
+    ensures reads { CountsReads (is_failed_read result) (tally_faults a.old) (tally_faults a.new) }
+{
+    T::shows_alone();
+    match decide_end::<T, O, R>(alloc, a, observer) {
         Ok((stopped, observer)) => {
             let verdict = stopped.verdict;
             let end = SideEnd::alone(stopped.capture, stopped.end, stopped.ahead);
@@ -103,7 +147,7 @@ pub fn judge_end_watched<O: Observer, R: Read>(
     }
 }
 
-// The same over either top.
+// What `judge_end` decides, over either top.
 fn find_end<T: Top, R: Read>(alloc: Global, a: &mut Tally<R>) -> Result<EndVerdict, CaptureFault>
     ensures judged { IsJudgedAlone T.top.end (R.remaining (tally_lent a.old)) result }
     ensures first { IfErr result (λ fault. fault ≢ CaptureFault.Failed) }

@@ -56,7 +56,9 @@ pub use judged_ends::JudgedEnds;
 pub use judging::{
     Watched, judge, judge_line, judge_line_told, judge_told, judge_watched, judge_with_ends,
 };
-pub use judging_end::{WatchedEnd, judge_end, judge_end_watched, judge_line_end};
+pub use judging_end::{
+    WatchedEnd, judge_end, judge_end_watched, judge_line_end, judge_line_end_watched,
+};
 pub use made_entry::MadeEntry;
 pub use observer::{Nobody, Observer};
 pub use reason::Reason;

@@ -8,7 +8,7 @@ use Rattle.dna_station.specs.declared.head.Head.{Head}
 use Rattle.dna_station.specs.Line.{damage}
 use Rattle.dna_station.specs.Machine.{Machine, NodeOf, pair_of, sent_step, receives, noise_comes, step}
 use Rattle.dna_node.specs.Kind.{NodeKind}
-use Rattle.dna_node.specs.Alone.{EndOf, EndingAlone, Passed, Refused, ends_from}
+use Rattle.dna_node.specs.Alone.{Accused, EndOf, EndingAlone, Passed, Refused, Refuses, ends_from, step_alone}
 use Rattle.dna_node.specs.WireLayers.{WireLayers, LayersTag, WireLayersNode, WireLayersUnit, new_wire_layers_node}
 use Rattle.pair_judge.specs.EndKind.{EndKind}
 
@@ -49,9 +49,17 @@ module _ (top : JudgeTop) where
 
   -- ---- one end alone
 
-  -- a node of its kind ends so, with as many links
+  -- what is run stands for this node of its kind: both layers are shown so, with as many links, and this node refuses what is refused there
+  pub record RunsFor (n : WireLayersNode) (node : NodeOf top.end.Keeps) : Type 0 where
+    pub layers : top.end.layers node ≡ n.station
+    pub front : node.front ≡ n.front
+    pub links : top.end.links node.station ≡ top.links n.station
+    pub refuses : (r : Record) (accused : Accused) (refusal : StepRefusal) → step_alone top.alone n r ≡ Refuses accused refusal →
+        top.end.step node r ≡ Refuses accused refusal
+
+  -- a node of its kind ends so
   abbrev pub EndsSo : EndingAlone WireLayers → EndingAlone top.end.Keeps → Type 0
-  EndsSo (Passed n) ending = (node : NodeOf top.end.Keeps) × (ending ≡ Passed node) × (top.end.links node.station ≡ top.links n.station)
+  EndsSo (Passed n) ending = (node : NodeOf top.end.Keeps) × (ending ≡ Passed node) × RunsFor n node
   EndsSo (Refused place accused refusal) ending = ending ≡ Refused place accused refusal
 
   abbrev pub EndsAlike : Head → List Record → Type 0

@@ -1,6 +1,6 @@
 -- What is printed of a fault is told by `print_end_fault`; where there is no memory for the text of a verdict, the answer is `out of memory`.
 use Rattle.std.proofs.Common.{refl}
-use Rattle.ddcap.specs.inner.Layers.{end_of, end_text_over}
+use Rattle.ddcap.specs.PrintedAlone.{end_of, end_text_over}
 use Rattle.ddcap.proofs.AnsweringAlone.{checks_fault, checks_nothing}
 use Rattle.ddcap.proofs.alone.alone_over.Goals as goal
 

@@ -3,8 +3,9 @@ use Rattle.ddcap.proofs.AnsweringWhyEnd.{end_tells_as_objects, end_tells_in_rows
 use Rattle.ddcap.proofs.end_telling.end_refused_text.Goals as goal
 
 pub returns-in-Json : goal.returns-in-Json
-returns-in-Json c = end_tells_as_objects string_bytes _ _ c.in-Some.ensures c.args.printout.form c.in-Json.is c.why_end_json.result
-    c.why_end_json.ensures
+returns-in-Json c = end_tells_as_objects string_bytes c.args.printout.layers _ _ c.in-Some.ensures c.args.printout.form c.in-Json.is
+    c.why_end_json.result c.why_end_json.ensures
 
 pub returns : goal.returns
-returns c = end_tells_in_rows string_bytes _ _ c.in-Some.ensures c.args.printout.form c.in-Rows.is c.rows_text.result c.rows_text.ensures
+returns c = end_tells_in_rows string_bytes c.args.printout.layers _ _ c.in-Some.ensures c.args.printout.form c.in-Rows.is c.rows_text.result
+    c.rows_text.ensures
