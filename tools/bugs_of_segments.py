@@ -100,7 +100,7 @@ class EmptyPiece(Node):
         return piece
 
 
-@bug(20, 'other pieces are cut when a message is sent again', at.restarted)
+@bug(20, 'a message that is sent again is cut elsewhere', at.restarted)
 class CutAnew(Node):
     def segment(self, link, number):
         if number < link.given:
@@ -109,7 +109,7 @@ class CutAnew(Node):
         return super().segment(link, number)
 
 
-@bug(20, 'a segment that is sent again has other data', at.restarted)
+@bug(20, 'a segment that is sent again has different data', at.restarted)
 class DataChanged(Node):
     def segment(self, link, number):
         if number < link.given:

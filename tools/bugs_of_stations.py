@@ -159,7 +159,7 @@ class NakFromBefore(Node):
             self.waits = 0
 
 
-@bug(11, 'a sound unit is taken for a damaged one', at.quiet)
+@bug(11, 'a valid unit is taken for a damaged one', at.quiet)
 class TakenForDamaged(Node):
     def damage_of(self, unit):
         return super().damage_of(unit) or (BAD_HEADER if unit[6] == unit[7] or unit[0] == SOH and unit[4] == 3 else None)

@@ -6,22 +6,22 @@ pub const PROGRAM: &str = "\
 
   ddcap check A B         judge the captures of both ends of a line
   ddcap alone A           judge the capture of one end, without the other
-  ddcap why A [B]         tell why a pair, or one end, is refused
+  ddcap why A [B]         say why a pair, or one end, is refused
   ddcap cover A B         count which rules a pair exercises
-  ddcap draw A B          draw what passed between both ends
+  ddcap draw A B          draw the traffic between both ends
   ddcap show A            print what a capture says, one line per record
   ddcap play SCRIPT A B   write both captures of a script
   ddcap convert N IN OUT  write a capture in format N: 1 or 2
   ddcap align A B OUT_A OUT_B  find the hints of both captures by their bytes
-  ddcap tap WIRE A B      make both captures from what passed on a line
-  ddcap help [WORD]       print this page, or the page of one word
+  ddcap tap WIRE A B      make both captures from the bytes on a line
+  ddcap help [WORD]       print this page, or the page of one command
   ddcap explain N         say what reason N of a refusal means: 1 to 27
 
 Status:
   0  done; from check, alone, why, cover, draw, tap: accepted or passed
   1  from check, alone, why, cover, draw: refused; from tap: unexplained;
-     from align: a receipt is of no unit
-  2  the words of the command, or a line of a file, are faulty
+     from align: a received unit was never sent
+  2  the command, or a line of a file, is faulty
   3  a file failed, or memory ran out
 
 Faults go to standard error, everything else to standard output.
@@ -63,7 +63,7 @@ ddcap play SCRIPT A B
 Writes the captures of both ends of a session. The script says, step by step,
 what the two users do, what is sent, and what is lost or damaged on the line.
 The files A and B are created, or emptied first: name three different files,
-or it changes nothing.
+or nothing changes.
 
 Example, in the top folder of the sources:
 
@@ -90,8 +90,8 @@ ddcap convert N IN OUT
 
 Writes the capture in the file IN into the file OUT, in format N: 1 or 2. They
 differ in the hints: in format 1 a hint is the number of a unit, in format 2
-its distance from the one that is due. IN may be in either format. The file OUT
-is created, or emptied first; if it is the same file as IN, nothing changes.
+its distance from the next one. IN may be in either format. The file OUT is
+created, or emptied first; if it is the same file as IN, nothing changes.
 
 Example, in the top folder of the sources:
 
@@ -112,9 +112,9 @@ pub const ALIGN: &str = "\
 ddcap align A B OUT_A OUT_B
 
 Finds the hints of both captures by the bytes, and writes the captures with
-them into OUT_A and OUT_B, in format 1. The hints of A and B are not looked at:
-a recorder that counts no units writes each receipt as r 0 BYTES or k 0 BYTES
-in format 2. Nothing but the hints changes.
+them into OUT_A and OUT_B, in format 1. The hints of A and B are ignored: a
+recorder that counts no units writes r 0 BYTES or k 0 BYTES in format 2.
+Nothing but the hints changes.
 
 Example, in the top folder of the sources:
 
@@ -125,13 +125,14 @@ It ends with status 0 and prints:
   aligned 1 of 1 receipts of a, 2 of 2 of b
   b line 3: unit 0, the first of 2 that would do
 
-Receipts are taken in order. One without damage gets the first unit with its
-bytes after the unit of the receipt before it; a damaged one gets the next.
-Line 3 of b could be unit 1 of a as well: both read alike, and one was lost. A
-wrong choice is accepted only if two nodes could have done exactly that.
+A receipt is an r or k line; they are taken in order. One without damage gets
+the first unit with its bytes after the unit of the receipt before it; a
+damaged one gets the next. Line 3 of b could equally be unit 1 of a: both read
+alike, and one was lost. A wrong choice is accepted only if two nodes could
+have done exactly that.
 
 The files OUT_A and OUT_B are created or emptied once A and B were read: name
-four different files, or it changes nothing. Then: ddcap check x y
+four different files, or nothing changes. Then: ddcap check x y
 
 Status:
   0  each receipt got a unit
@@ -145,9 +146,9 @@ Status:
 pub const HELP: &str = "\
 ddcap help [WORD]
 
-Prints what the program is and all its words; or, with a word, what that one
-does, an example and the statuses. WORD is check, alone, why, cover, draw,
-show, play, convert, align, tap, help or explain.
+Prints what the program is and all its commands; or, with a WORD, what that
+command does, an example and the statuses. WORD is check, alone, why, cover,
+draw, show, play, convert, align, tap, help or explain.
 
 Example, in the top folder of the sources:
 
@@ -159,7 +160,7 @@ It ends with status 0 and prints a text that begins:
 
 Status:
   0  the page was printed
-  2  bad words: there is no such page, or a word too many
+  2  bad words: there is no such page, or an argument too many
   3  out of memory, or a failed write
 ";
 
@@ -184,14 +185,14 @@ that recorders make.
 
 Status:
   0  the reason was printed
-  2  bad words: no such reason, another spelling such as 06, or a word too many
+  2  bad words: no such reason, a spelling such as 06, or an argument too many
   3  out of memory, or a failed write
 ";
 
 pub const TAP: &str = "\
 ddcap tap WIRE A B
 
-Reads what passed on a line in both directions, works out what both nodes did,
+Reads the bytes on a line in both directions, works out what both nodes did,
 writes it into the captures A and B, and judges these. WIRE has a head, and a
 line for each piece of bytes, from a or from b, in the order in which they
 passed; a piece may be cut anywhere. This holds only if every unit sent passed
@@ -215,7 +216,8 @@ If it finds nothing that explains a unit, it names that unit. Unit 7 of a
 
 Both captures then end with that unit. Then: ddcap why A B
 
-With --line only stations and line are judged: a packet may be any bytes.
+With --line only DDCMP is judged: a packet may be any bytes. Units whose header
+check fails are skipped, so a node that sends them is never found.
 
 With --json the answer is one JSON object; docs/KEYS.md has its keys.
 

@@ -19,9 +19,9 @@ file, b the second; records are counted from 0. Then: ./ddcap explain 13
 
 For a pair without a fault it prints accepted, and a line of counts per side.
 
-With --line, before or after the files, only stations and line are judged: a
-packet may be any bytes and is not read, and events of links are not judged.
-Use it for a line that joins routers, or carries something other than DECnet.
+With --line, before or after the files, only DDCMP is judged: a packet may be
+any bytes and is not read, and events of links are not judged. Use it if the
+line joins routers, or carries something other than DECnet.
 
 With --json the answer is one JSON object; docs/KEYS.md has its keys.
 
@@ -55,8 +55,8 @@ sent what was received there. Then: ./ddcap explain 8
 
 passed, and a line of counts: this end broke no rule, as far as one end shows.
 
-A recorder that counts no units writes each receipt as r 0 BYTES in format 2.
-With --line only station and line are judged, as ddcap help check says.
+A recorder that counts no units writes r 0 BYTES and k 0 BYTES in format 2.
+With --line only DDCMP is judged, as ddcap help check says.
 
 With --json the answer is one JSON object; docs/KEYS.md has its keys.
 
@@ -72,7 +72,7 @@ ddcap why A [B]
 
 Judges two captures as check does. If a record is refused, it says what was
 seen there, what was allowed, by which rule, and how both ends were before it.
-With A alone it judges that end as alone does, and says the same of this end.
+With A alone it judges that end as alone does, and shows only this end.
 
 Example, in the top folder of the sources:
 
@@ -92,12 +92,12 @@ one wrong unit of the node would explain it as well. This is no proof.
 With --json, before or after the files, each of these is an object on a line of
 its own. For a pair that is not refused, the answer is that of check.
 
-docs/KEYS.md has the keys of these objects. With --line only stations and line
-are judged, as by check. With --full all bytes of the record are printed in
-rows, and not only the first 64.
+docs/KEYS.md has the keys of these objects. With --line only DDCMP is judged,
+as by check. With --full all bytes of the record are printed, and not only the
+first 64.
 
-At a faulty line it tells on standard error what is there, at which column, and
-what would be right.
+At a faulty line it says on standard error what is there, at which column, and
+what would be correct.
 
 Status:
   0  accepted, passed
@@ -131,18 +131,17 @@ It ends with status 0 and prints:
   ASTRT gets ACK RESP 0                   .      1
 
 Each accepted record counts once for its station, by the state before it, and
-again for the links if it is one of theirs. A dot is a count of 0; rows that
-neither side went through are left out. More pairs may follow, as A B A B: then
-there is a first line for each, and counts add up; a fault is followed by a
-line that says which pair it was.
+once more for the links if it is one of theirs. A dot is a count of 0; rows
+that neither side went through are left out. More pairs may follow, as A B A B:
+then there is a first line for each, and counts add up; a fault is followed by
+a line that says which pair it was.
 
 With --missing the rows that neither side went through are listed instead, each
-with steps of a script that meet it; what short names in them stand for is at
-the end.
+with steps of a script that meet it; short names are explained at the end.
 
-With --line only stations and line are judged, and rows of links are not
-counted. With --json the answer is one JSON object, with all 80 rows;
-docs/KEYS.md has its keys.
+With --line only DDCMP is judged, and rows of links are not counted. With
+--json the answer is one JSON object, with all 80 rows; docs/KEYS.md has its
+keys.
 
 Status:
   0  accepted
@@ -156,8 +155,8 @@ pub const DRAW: &str = "\
 ddcap draw A B
 
 Draws two captures of one line, a on the left and b on the right: a row for a
-record, or for a unit and its receipt. For a refused pair these are the 40 rows
-up to the refused record, for any other pair the first 40.
+record, or for the sending and the arrival of a unit. For a refused pair these
+are the 40 rows up to the refused record, for any other pair the first 40.
 
 Example, in the top folder of the sources:
 
@@ -179,8 +178,8 @@ damaged or with other bytes, and .. after words that are cut.
 With --from a:9 the rows begin with the record on line 9 of A (b:9: of B).
 With --rows 80 there are up to 80 of them; 200 is the most. With --svg FILE
 they are drawn into FILE, which is created, or emptied first: a picture for any
-browser. With --line only stations and line are judged, as by check. These
-words go before or after A and B.
+browser. With --line only DDCMP is judged, as by check. These options go before
+or after A and B.
 
 Status:
   0  accepted, and drawn

@@ -6,28 +6,28 @@ use pair_judge::Reason;
 pub const WRONG_SEGMENT: Explanation = Explanation {
     reason: Reason::WrongSegment,
     seen: "\
-a segment was sent that is neither the next piece nor a true repeat.",
+a segment was sent that is neither the next piece nor an exact repeat.",
     rule: "\
-a new segment has the number after the highest given, and the next bytes
-of the message handed in, with bit 5 exactly at its beginning and bit 6 exactly
-at its end. Only an empty message has an empty piece. Any other segment repeats
-one of the last 2,047 given, with its flag byte and data as long as that one is
-unacknowledged.",
+a new segment has the number after the highest sent before, and the next
+bytes of the message handed in, with bit 5 set exactly at its beginning and bit
+6 exactly at its end. Only an empty message has an empty piece. Any other
+segment repeats one of the last 2,047, with its flag byte and data as long as
+that one is unacknowledged.",
     allowed: "\
 the next piece of what `u in` lines handed in; or one of those
 segments again, unchanged.",
     fault: "the sender",
     look_for: "\
-- a `u in` that is missing, comes after its segments, or was written when the
-  message had gone
-- a first sending that has no line, after which all numbers are one too high
+- a `u in` that is missing, comes after its segments, or was written after the
+  message had left
+- a new segment without a line, after which all numbers are one too high
 - node: segment numbers begin at 0; segment numbers begin at 2; SEGNUM has its
   high byte first; segments of all links are counted together; a reused address
   keeps its segment numbers; a segment that is sent again has a new number; a
   data acknowledgement uses up a segment number; the begin bit is missing; the
   end bit is missing; each piece has both bits; an empty piece follows a full
-  last piece; other pieces are cut when a message is sent again; a segment that
-  is sent again has other data
+  last piece; a message that is sent again is cut elsewhere; a segment that is
+  sent again has different data
 - node, not a bug: a restart empties a queue, and a segment in it is lost
   before its first sending",
     first: "\
@@ -37,12 +37,12 @@ see in `ddcap why` what differs: the number, the bits or the bytes.",
 pub const WRONG_ACK: Explanation = Explanation {
     reason: Reason::WrongAck,
     seen: "\
-an acknowledgement word names a segment that is not due.",
+an acknowledgement word names a wrong segment number.",
     rule: "\
 an acknowledgement word of the data subchannel (ACK or NAK) names a
 number from the last one sent on this link through the highest received without
-a gap; in a segment that is sent again also an older one, down to 2,047 below
-the last. Words of the other subchannel are not judged.",
+a gap; in a repeated segment also an older one, down to 2,047 below the last.
+Words of the other subchannel are not judged.",
     allowed: "\
 a number in that range.",
     fault: "the sender",
@@ -64,8 +64,8 @@ pub const SEGMENT_TOO_LONG: Explanation = Explanation {
     seen: "\
 a new segment was sent with more data bytes than the other end takes.",
     rule: "\
-a new segment has at most as many data bytes as the SEGSIZE that the
-other end gave in the CI or CC that was acted on.",
+a new segment has at most as many data bytes as the SEGSIZE in the other
+end's CI or CC, the one that was acted on.",
     allowed: "\
 that many data bytes, or fewer.",
     fault: "the sender",
@@ -87,7 +87,7 @@ one of them again; or the new one, after an acknowledgement has
 arrived.",
     fault: "the sender",
     look_for: "\
-- the `k` line of a data acknowledgement, or of a segment with a word, which is
+- the `k` line of a data acknowledgement, or of a segment with one: it is
   missing or comes after this unit
 - node: there is no limit on unacknowledged segments
 - node, not a bug: segments are acknowledged only in messages of the other
@@ -99,17 +99,17 @@ find the last `k` line that acknowledged anything on this link.",
 pub const WRONG_DELIVERY: Explanation = Explanation {
     reason: Reason::WrongDelivery,
     seen: "\
-a `u up` line has a message other than the next whole one of its link.",
+the message of a `u up` line is not the next whole one of its link.",
     rule: "\
-messages are delivered in the order of their segments, each once. None is
-delivered before all its segments, and all segments before those, were kept.",
+messages are delivered in the order of their segments, each once, and
+only after all their segments, and all segments before those, were kept.",
     allowed: "\
 the next whole message.",
     fault: "the receiver's own claim",
     look_for: "\
 - a `k` line that is missing, is written as `r`, or comes after this line
-- a message that was delivered before and has its line twice
-- an own address that was given again: `u up` then means the later link
+- a message that was delivered earlier and has a second line
+- a local address that was reused: `u up` then means the later link
 - node: a message that arrives again is delivered again; each piece is
   delivered alone; a message after a gap is delivered; an empty message is not
   delivered; a message is delivered on the wrong link; the last byte of a
@@ -121,7 +121,7 @@ find the message in the other side's `u in` lines.",
 pub const CROSSED_LINK: Explanation = Explanation {
     reason: Reason::CrossedLink,
     seen: "\
-a link acted on a message that another link sent, under the same
+a link acted on a message that another link sent under the same
 addresses.",
     rule: "\
 a CC that is acted on must come from a link that goes with the receiver's
@@ -137,22 +137,22 @@ a message of the link that goes with this one.",
 - node, not a bug: an address is used again while a message of its last link is
   under way",
     first: "\
-see whether an earlier link had this address, and when it ended. Then
-neither capture is wrong.",
+see whether an earlier link had this address, and when it ended. If one
+did, neither capture is wrong.",
 };
 
 pub const ADDRESS_IN_USE: Explanation = Explanation {
     reason: Reason::AddressInUse,
     seen: "\
-`u open`, `u accept` or `u reject` gives an own address that is in use.",
+`u open`, `u accept` or `u reject` assigns a local address that is in
+use.",
     rule: "\
-an own address that is given must belong to no live link of the node.",
+a local address that is assigned must belong to no live link of the node.",
     allowed: "\
 another address; the same one once its link is over.",
     fault: "the user, or the node if it chose the address",
     look_for: "\
-- the missing `k` line of a DI or DC, without which the earlier link never
-  ended here
+- a missing `k` line of a DI or DC, so that the earlier link never ended here
 - a recorder that mixes up the two ends of a link: in `u accept M L` the
   address of the other end comes first
 - node: an address is reused before the DC has arrived; addresses of opened and

@@ -8,9 +8,9 @@ pub const BAD_PACKET: Explanation = Explanation {
     seen: "\
 a data message was sent with a packet that no DDCMP circuit carries.",
     rule: "\
-a packet that is sent for the first time in a period is a routing control
-packet, or a short data packet of at least six bytes. The station's reasons
-come first: a packet with a wrong NUM is refused for that.",
+a packet that is sent for the first time since a start is a routing
+control packet, or a short data packet of at least six bytes. The station's
+reasons come first: a packet with a wrong NUM is refused for that.",
     allowed: "\
 bit 7 of the first byte clear, and either bit 0 set, which is a
 control packet, or the low three bits 010 and at least six bytes.",
@@ -27,18 +27,18 @@ look at the first byte of the packet. If the line carries no DECnet, use
 pub const WRONG_NODE: Explanation = Explanation {
     reason: Reason::WrongNode,
     seen: "\
-a packet of a link was sent, or kept, whose addresses are not those of
-the head.",
+a packet of a link was sent or kept whose addresses are not those in the
+head.",
     rule: "\
-each packet of the links that is sent goes from the node in the capture's
-head to the peer, and each that is kept the other way. Routing control packets,
-and packets marked returned, may have any addresses.",
+each link packet that is sent goes from the node in the capture's head to
+the peer, and each that is kept goes the other way. Routing control packets,
+and packets marked as returned, may have any addresses.",
     allowed: "\
 any packet between the two.",
     fault: "the sender, or heads that do not pair",
     look_for: "\
-- the addresses of the head, above all if every packet of a side is refused, or
-  the first one that the other side kept
+- the addresses in the head, especially if every packet of a side is refused,
+  or the first one that the other side kept
 - area and number put together wrongly (area times 1,024 plus number, low byte
   first)
 - node: the area is left out of an address; an address has its high byte first;
@@ -52,14 +52,14 @@ routers, use `check --line`.",
 pub const BAD_NSP: Explanation = Explanation {
     reason: Reason::BadNsp,
     seen: "\
-a data packet was sent whose NSP message is not readable.",
+a data packet was sent whose NSP message can't be read.",
     rule: "\
-the message in a data packet that is sent for the first time has a flag
+a data packet that is sent for the first time holds a message with a flag
 byte of the table of NSP messages in docs/PROTOCOL.md, all its fields, and
-nothing after a message that has an end.",
+nothing after the last one.",
     allowed: "\
-any message of that table; a packet marked returned, whose message is
-not looked at.",
+any message of that table; any bytes in a packet marked as returned,
+which is not read.",
     fault: "the sender",
     look_for: "\
 - long packets that are cut
@@ -76,14 +76,14 @@ pub const NO_LINK: Explanation = Explanation {
     seen: "\
 a message or an event names a link that does not exist.",
     rule: "\
-the link must exist. For `u in` and `u close`: a live link with this own
-address. For `u up`: a link that was given it, live or not. For `u accept` and
-`u reject`: an unanswered call from the other node's address. For a CI: a live
-link opened here with SRCADDR. For a connect acknowledgement: a live link begun
-by a CI of DSTADDR. For all else, except DC and no operation: the live link
-with own address SRCADDR and far address DSTADDR.",
+the link must exist. For `u in` and `u close`: a live link with this
+local address. For `u up`: a link that was given it, live or not. For `u
+accept` and `u reject`: an unanswered call from the other node's address. For a
+CI: a live link opened here with SRCADDR. For a connect acknowledgement: a live
+link begun by a CI from DSTADDR. For anything else, except DC and no operation:
+the live link with local address SRCADDR and far address DSTADDR.",
     allowed: "\
-the same, once its link exists.",
+the same, once the link exists.",
     fault: "the sender, or the user",
     look_for: "\
 - a missing `u open`, `u accept` or `u reject`
@@ -102,7 +102,7 @@ find where the link began, and whether a DI or DC has ended it.",
 pub const LINK_STATE: Explanation = Explanation {
     reason: Reason::LinkState,
     seen: "\
-a message or an event is in a phase of its link that does not allow it.",
+a message or an event does not fit the phase of its link.",
     rule: "\
 a CI needs Calling, a CC Confirming, a DI the phase DI. Segments and all
 that goes with them need RUN. `u in` needs Calling, Confirming or RUN, and `u

@@ -6,7 +6,7 @@ use pair_judge::Reason;
 pub const WRONG_STATE: Explanation = Explanation {
     reason: Reason::WrongState,
     seen: "\
-a message was sent that the station's state does not allow.",
+the station sent a message that its state does not allow.",
     rule: "\
 each state allows certain messages, and HALTED none.",
     allowed: "\
@@ -15,8 +15,8 @@ RUNNING while a packet is unacknowledged.",
     fault: "the sender",
     look_for: "\
 - a capture that begins in the middle of a session
-- a missing `u start`, above all where the station started again by itself
-- a missing or late receipt of the STRT or STACK that is answered here
+- a missing `u start`, especially where the station restarted by itself
+- the STRT or STACK that is answered here: its line is missing or too late
 - a STRT that arrived in RUNNING, which halts the station
 - for a REP, the acknowledgement that arrived just before it
 - node: data is sent before the start is complete; a STRT is answered with an
@@ -30,18 +30,18 @@ compare the state in `ddcap why` with what the node did last.",
 pub const WRONG_NUMBER: Explanation = Explanation {
     reason: Reason::WrongNumber,
     seen: "\
-a data message or a REP was sent with a NUM that is not due.",
+a data message or a REP was sent with the wrong NUM.",
     rule: "\
-NUM of a data message is the number that is next to send: 1 after a
-start, then one more each time. After a NAK has arrived it is again the first
-unacknowledged one. It is never one that is acknowledged already. NUM of a REP
-is the highest number given.",
+NUM of a data message is the next number to send: 1 after a start, then
+one more each time. After a NAK has arrived it is the first unacknowledged one
+again. It is never one that is acknowledged already. NUM of a REP is the
+highest number assigned to a packet.",
     allowed: "\
 that number.",
     fault: "the sender",
     look_for: "\
-- an earlier data message that has no line
-- the receipt of a NAK, which is missing, too early or too late
+- an earlier data message without a line
+- a received NAK: its line is missing, too early or too late
 - a missing `u start`, if the number is 1
 - node: the first data message has number 0; after number 255 comes 1; NUM goes
   on after a restart; the retransmission state is not reset at a start; a timer
@@ -56,7 +56,7 @@ low, look for the NAK that made the station go back.",
 pub const WRONG_RESPONSE: Explanation = Explanation {
     reason: Reason::WrongResponse,
     seen: "\
-an ACK, a NAK or a data message was sent with a RESP that is not due.",
+an ACK, a NAK or a data message was sent with the wrong RESP.",
     rule: "\
 RESP is the number of the last data message that the station received in
 order, 0 at first.",
@@ -90,18 +90,18 @@ one of them again, after a NAK; a REP; or the new packet, after an
 acknowledgement.",
     fault: "the sender",
     look_for: "\
-- the receipt of an ACK, a NAK or data with a RESP, which is missing or comes
-  after this unit
+- a received ACK, NAK or data message: its line is missing or comes after this
+  unit
 - node: there is no limit on unacknowledged packets; 256 packets may be
   unacknowledged",
     first: "\
-find the last receipt that acknowledged anything.",
+find the last received unit that acknowledged anything.",
 };
 
 pub const CHANGED: Explanation = Explanation {
     reason: Reason::Changed,
     seen: "\
-a packet was sent again with other data than the first time.",
+a packet was sent again with data different from the first time.",
     rule: "\
 a packet that is sent again has the data of its first sending.",
     allowed: "\
@@ -109,7 +109,7 @@ the same data.",
     fault: "the sender",
     look_for: "\
 - a restart without its `u start`, after which the numbers mean other packets
-- bytes taken from a buffer which was used again
+- bytes taken from a buffer that was reused
 - node: FORWARD is counted up again; a packet is composed again with a newer
   acknowledgement number; the buffer of an unacknowledged packet is reused; an
   urgent packet takes over a number",
@@ -120,24 +120,24 @@ compare the byte that `ddcap why` names in both sendings.",
 pub const NO_CAUSE: Explanation = Explanation {
     reason: Reason::NoCause,
     seen: "\
-a NAK of reason 1, 2, 3 or 8 was sent, and nothing is left that it could
+a NAK of reason 1, 2, 3 or 8 was sent, and nothing is left for it to
 answer.",
     rule: "\
 such a NAK answers something that arrived in RUNNING since the start, and
 each such thing once. Reason 1: a unit or noise with a bad header. Reason 2:
-one with bad data. Reason 3: a REP with another number than that of the last
-packet received. Reason 8: the next packet, without a buffer for it, also if
-its message has just ended the start.",
+one with bad data. Reason 3: a REP whose number is not that of the last packet
+received. Reason 8: the next packet, if it found no buffer, even if its message
+has just completed the start.",
     allowed: "\
 an ACK; a NAK of reason 9, 16 or 17, which need no cause.",
     fault: "the sender",
     look_for: "\
-- the receipt that it answers, which is missing or comes after it: recorders
-  often drop damaged units
+- the unit that it answers: its line is missing or comes after this one.
+  Recorders often drop damaged units
 - noise between two units, without its `n` line
 - node: two NAKs answer one damaged unit; damaged data is answered with reason
   1; data after a gap is answered with a NAK; each REP is answered with a NAK;
-  damage from before the start is answered after it; a sound unit is taken for
+  damage from before the start is answered after it; a valid unit is taken for
   a damaged one",
     first: "\
 find what the node answered: a damaged unit, a REP, or a packet without
@@ -147,16 +147,18 @@ a buffer.",
 pub const WRONG_KEEP: Explanation = Explanation {
     reason: Reason::WrongKeep,
     seen: "\
-a `k` line says that the station took a packet which it could not take.",
+a `k` line says that the station accepted a packet that it could not
+accept.",
     rule: "\
-a packet is taken only from an undamaged data message with the number
+a packet is accepted only from an undamaged data message with the number
 after the last one received, in RUNNING or, with RESP 0, in ASTRT.",
     allowed: "\
-an `r` line; also for the next packet, if there was no buffer for it.",
+an `r` line. It is correct for the next packet too, if there was no
+buffer.",
     fault: "the receiver's own claim",
     look_for: "\
 - an earlier `k` line that is missing or written as `r`
-- a recorder that writes `k` for every data message, also for repeats
+- a recorder that writes `k` for every data message, even repeats
 - node: a packet that arrives again is kept again; a packet after a gap is
   kept; a packet with a wrong check is kept; a packet is kept before RUNNING",
     first: "\
@@ -167,15 +169,15 @@ look for a missing `k` line before it.",
 pub const CROSSED_PERIOD: Explanation = Explanation {
     reason: Reason::CrossedPeriod,
     seen: "\
-a station acted on a message of another pair of starts.",
+a station acted on a message from another pair of starts.",
     rule: "\
-a STACK that ends a start must answer that start. Anything else, except a
-STRT, must be sent in the period that goes with the receiver's present one, by
-a station that took the two for a pair too. The protocol can't tell such
-messages apart, so neither station broke a rule.",
+a STACK that completes a start must answer that start. Any other message,
+except a STRT, must come from the start of the other side that goes with the
+present one here, and from a station that took the two for a pair too. The
+protocol can't tell such messages apart, so neither station broke a rule.",
     allowed: "\
-the STACK that answers the present start; a message of the period that
-goes with the present one.",
+the STACK that answers the present start; a message of the start that
+goes with it.",
     fault: "nobody",
     look_for: "\
 - a hint that points to an earlier start, if units with the same bytes were
@@ -184,7 +186,7 @@ goes with the present one.",
 - node, not a bug: both ends restart at once, and a message of an earlier start
   arrives",
     first: "\
-see whether a station started again just before. Then neither capture is
+see whether a station restarted just before. If so, neither capture is
 wrong.",
 };
 
@@ -198,8 +200,8 @@ a station can start only in HALTED.",
 a halt first, which is possible in every state.",
     fault: "the user, or the node if it started by itself",
     look_for: "\
-- a missing `u halt`, for example where the station started again by itself
-- the missing receipt of the STRT that halted it
+- a missing `u halt`, for example where the station restarted by itself
+- a missing line for the STRT that halted it
 - two sessions in one file
 - a recorder that writes `u start` for every STRT sent
 - node: a station that gets no answer starts again without a halt; each

@@ -6,10 +6,10 @@ use pair_judge::Reason;
 pub const NOT_A_MESSAGE: Explanation = Explanation {
     reason: Reason::NotAMessage,
     seen: "\
-the bytes that were sent are not a sound DDCMP message.",
+the bytes that were sent are not a valid DDCMP message.",
     rule: "\
-a unit that is sent has one of the formats in docs/PROTOCOL.md, with the
-right block checks.",
+a unit that is sent has one of the formats in docs/PROTOCOL.md, with
+correct block checks.",
     allowed: "\
 any message in one of these formats.",
     fault: "the sender",
@@ -29,7 +29,8 @@ the format.",
 pub const HINT_ORDER: Explanation = Explanation {
     reason: Reason::HintOrder,
     seen: "\
-a receipt has a hint that is not above the hints of all earlier receipts.",
+a received unit has a hint that is not above all earlier ones on its
+side.",
     rule: "\
 a line neither repeats nor reorders units, so hints only rise. The hint
 is the number that `ddcap show` prints, in either format.",
@@ -37,63 +38,62 @@ is the number that `ddcap show` prints, in either format.",
 the hint of a later unit.",
     fault: "the hints",
     look_for: "\
-- hints that begin at 0 again with each start, or with a second session in the
+- hints that start again at 0 with each start, or with a second session in the
   same file
-- receipts written out of order
-- hints matched with the undamaged receipts first, so that a damaged one found
-  no unit left (docs/CAPTURES.md, \"An alignment\")
+- received units written out of order
+- hints matched to the undamaged units first, so that none was left for a
+  damaged one (docs/CAPTURES.md, \"An alignment\")
 - node: the driver sends a unit twice; the driver sends an ACK before data that
   waits",
     first: "\
-find the earlier receipt with this hint or a higher one.",
+find the earlier received unit with this hint or a higher one.",
 };
 
 pub const NO_SUCH_UNIT: Explanation = Explanation {
     reason: Reason::NoSuchUnit,
     seen: "\
-a receipt has the hint of a unit that the other side never sends: its
-capture was read to the end, and has too few `s` lines.",
+the hint of a received unit names a unit that the other side never sends:
+the other capture was read to the end, and has too few `s` lines.",
     rule: "\
-what is received was sent, so a hint is below the number of the other
-side's `s` lines.",
+what is received was sent, so a hint is below the number of `s` lines on
+the other side.",
     allowed: "\
-the hint of a unit that the other capture has.",
+the hint of a unit in the other capture.",
     fault: "the hints, or captures that do not pair",
     look_for: "\
-- the other capture, which ends before this one or was cut
-- `s` lines that are missing there
+- the other capture: it ends before this one, or was cut
+- missing `s` lines in it
 - hints that are too high, because they count from 1 or count lines
-- captures of two sessions, or heads that do not pair",
+- captures of two sessions, or mismatched heads",
     first: "\
-compare the ends of both captures. If the other one only ends earlier,
+compare the ends of both captures. If the other one merely ends earlier,
 cut this one there.",
 };
 
 pub const NO_ORDER: Explanation = Explanation {
     reason: Reason::NoOrder,
     seen: "\
-the next record of each side is the receipt of a unit that the other one
-has not sent yet. Side a's record is named, but b's may equally be the wrong
-one.",
+the next record of each side receives a unit that the other has not sent
+yet. Side a's record is named, but b's may equally be the wrong one.",
     rule: "\
-a unit is received after it was sent, so the records of both sides must
-have an order.",
+a unit is received after it was sent, so all records must fit into one
+order.",
     allowed: "\
-the receipt of a unit that the other side can send before it.",
+receiving a unit that the other side can send first.",
     fault: "the hints, or captures that do not pair",
     look_for: "\
 - hints that are all shifted
-- a missing `s` line on either side, or one after the receipt of its answer
+- a missing `s` line on either side, or one after its answer was received
 - captures of two sessions",
     first: "\
-look also at the record at which b waits; `ddcap why` tells its hint.",
+look at the record at which b waits, too; `ddcap why` shows its hint.",
 };
 
 pub const UNDETECTED: Explanation = Explanation {
     reason: Reason::Undetected,
     seen: "\
 the received bytes are not those of the unit that the hint names, yet no
-block check shows damage: they read as sound, or as malformed.",
+block check shows damage: they read as valid, or as malformed.",
     rule: "\
 bytes arrive as they were sent, or a block check shows the damage.",
     allowed: "\
@@ -103,7 +103,7 @@ the unit's own bytes, or bytes that read as header bad or data bad.",
 - hints that are shifted from some record on
 - a missing `s` line in the other capture
 - captures of two sessions or of two lines, or the same one twice
-- damage that both block checks miss, which is rare: one damaged unit in some
+- damage that both block checks miss, which is rare: about one damaged unit in
   65,536
 - node: a buffer is reused while its unit waits in the driver; the driver
   updates RESP in a unit that waits",
@@ -124,10 +124,10 @@ shows it: they read as header bad or data bad.",
 the other side has these bytes, an `r` line with its hint.",
     fault: "the receiver's own claim",
     look_for: "\
-- a receipt written as noise because its unit was not found: its `s` line is
+- a received unit written as noise because its `s` line was not found: it is
   missing in the other capture, or the alignment is wrong
 - a framer that takes a unit of another station, or a maintenance message, for
-  one of this line
+  one of this peer
 - node: an unexpected unit is recorded as noise",
     first: "\
 find these bytes in the `s` lines of the other side.",
