@@ -9,11 +9,12 @@ ghost use Rattle.dna_station.specs.declared.refusal.StepRefusal.{StepRefusal};
 ghost use Rattle.dna_node.specs.declared.finding.Cause.TheVariants.{Step};
 ghost use Rattle.dna_node.specs.declared.finding.Finding.TheVariants as findings;
 ghost use Rattle.dna_links.specs.declared.queue.Queues.{Queues};
+ghost use Rattle.dna_links.specs.declared.queue.Queues.TheVariants.{With};
 ghost use Rattle.dna_node.specs.LayersPair.{layers_pair_by, layers_start};
 ghost use Rattle.dna_node.specs.Kind.{layers_kind, stations_alone, kind_pair, kind_start, IsRunOf};
 ghost use Rattle.dna_node.specs.Verdict.{IsVerdict};
 ghost use Rattle.dna_node.specs.Alone.{Accused, ThisEnd, accused_of, Refused, judged_alone_by, judged_station_alone, PassesBy, StationPasses};
-ghost use Rattle.dna_node.specs.Alone.{is_seen_alone};
+ghost use Rattle.dna_node.specs.Alone.{is_seen_alone, Passes};
 
 /// Refused is final, with queues or without: in a run of two captures the end alone makes all records of either side. So a capture of which it
 /// refuses a record is a side of no run, whatever the other one is, and however it goes on behind that record.
@@ -43,6 +44,12 @@ pub fn alone_misses_nothing_of_its_own()
     ensures named_of_b { (queues : Queues) (head_a head_b : Head) (of_a of_b : List Record) (place : ℕ) (reason : StepRefusal)
         → IsVerdict (layers_kind queues) head_a head_b of_a of_b (findings.Refused B place (Step reason)) → is_seen_alone reason ≡ true
         → (accused : Accused) × (judged_alone_by queues head_b of_b ≡ Refused place accused reason) }
+{}
+
+/// An end with queues does as much as one without: of a capture of which the end alone makes all records without queues, it makes them all with
+/// queues.
+pub fn alone_with_queues_does_as_much()
+    ensures passes { (head : Head) (records : List Record) → Passes head records → PassesBy With head records }
 {}
 
 /// Refused is final for a station alone too: in a run of two captures as stations alone, which read no packet and go by no event of the links,

@@ -9,8 +9,8 @@ pub mod laws;
 mod nodes;
 
 pub use alone_laws::{
-    alone_misses_nothing_of_its_own, refused_alone_is_final, refused_station_alone_is_final,
-    station_alone_misses_nothing_of_its_own,
+    alone_misses_nothing_of_its_own, alone_with_queues_does_as_much, refused_alone_is_final,
+    refused_station_alone_is_final, station_alone_misses_nothing_of_its_own,
 };
 pub use finding::{Cause, Finding};
 pub use laws::{

@@ -1,7 +1,6 @@
 -- What a right partner acknowledges is never wrong: the numbers that its words have lie near those of the link that acts on them, and none above the
 -- highest given.
-use Rattle.std.proofs.Common.{◌≡◌, ℕ, ◌-◌, ◌<◌, ◌≤◌, ◌⊎◌, inl, inr, Bool, true, false, ◌&&◌, ◌||◌, not, eqb, ltb, leb, cond, Option, Some, None}
-use Rattle.std.proofs.Common.{List}
+use Rattle.std.proofs.Common.{◌≡◌, ℕ, ◌-◌, ◌<◌, ◌≤◌, ◌⊎◌, inl, inr, Bool, true, false, ◌&&◌, ◌||◌, not, eqb, ltb, leb, cond, Option, Some, None, List}
 use Rattle.std.proofs.Common.{[], ◌∷◌, map, length, drop, Result, Ok, refl, sym, ap, ap₂, ◌∙◌, arith, le-leb, length-drop}
 use Rattle.std.specs.Prelude.{slice_get}
 use Rattle.std.proofs.lemmas.Bool.{cases_lt, and_parts}

@@ -28,8 +28,7 @@ use Rattle.dna_links.specs.WireLinks.{WireLinks, wire_links_user, wire_links_sen
 use Rattle.dna_node.proofs.Events.{by_event}
 use Rattle.dna_node.specs.TagRules.{judged_by, by_bytes_with}
 use Rattle.dna_node.specs.Content.{content}
-use Rattle.dna_node.specs.WireLayers.{WireLayers, LayersTag, of_no_link, with_wire_station, with_wire_links, first_tagged, with_tag}
-use Rattle.dna_node.specs.WireLayers.{wire_sends_first}
+use Rattle.dna_node.specs.WireLayers.{WireLayers, LayersTag, of_no_link, with_wire_station, with_wire_links, first_tagged, with_tag, wire_sends_first}
 use Rattle.dna_node.specs.WireLayers.{wire_sends_again, wire_sends_on, tag_or_none, wire_keeps_packet, wire_meets_on, wire_layers_machine}
 use Rattle.dna_node.specs.Alone.{unknown_period, unknown_tag, layers_end_by}
 use Rattle.dna_node.proofs.Alone.Along.{forget_result, Along, left_sent, GoesAlong}

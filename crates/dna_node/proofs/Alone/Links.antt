@@ -16,8 +16,7 @@ use Rattle.dna_links.specs.SegmentBook.{SegmentBook}
 use Rattle.dna_links.specs.Links.{LinkOf, LinksOf, Carried, LinkTruth, check, with_segments}
 use Rattle.dna_links.specs.Queues.{in_use, may_send}
 use Rattle.dna_links.specs.Table.{Ask, Finds, FindsEither, FindsNone, FindsInUse, KnowsInUse, InPhase, InTurn, OrElse, ForThisLink, OfThisPair}
-use Rattle.dna_links.specs.Table.{Delivers, SendsSegment, SendsAcks, Effect, Row, Asks}
-use Rattle.dna_links.specs.Table.{user_row, sending_row, arrival_row}
+use Rattle.dna_links.specs.Table.{Delivers, SendsSegment, SendsAcks, Effect, Row, Asks, user_row, sending_row, arrival_row}
 use Rattle.dna_links.specs.User.{LinkEventValue, Open, Accept, Reject, In, Up, Close}
 use Rattle.dna_links.specs.LinkBook.{are_same, on_ok, blank, does, kept, otherwise, waits, late, widened, sends_segment, sends_acks, asked, by_row}
 use Rattle.dna_links.specs.LinkBook.{after, of_none, user_step}

@@ -186,7 +186,8 @@ module _ (s t : Layers) (stands : Stands s t) where
   arrives_beside : (arrival : ArrivalValue LayersTruth) (kept : Bool) →
       IsDone Stands ((layers_machine judged).arrives s arrival kept) ((layers_machine (judged_by With)).arrives t arrival kept)
   arrives_beside arrival kept =
-      subst (λ (x : Layers). IsDone Stands ((layers_machine judged).arrives x arrival kept) ((layers_machine (judged_by With)).arrives t arrival kept))
+      subst (λ (x : Layers). IsDone Stands ((layers_machine judged).arrives x arrival kept)
+      ((layers_machine (judged_by With)).arrives t arrival kept))
       stands.same (by_arrival t stands.fits arrival kept ((station_machine of_period).arrives t.station (to_station arrival) kept))
 
 layers_do_as_much : DoesAsMuch (layers_machine judged) (layers_machine (judged_by With)) Stands
