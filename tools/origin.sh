@@ -125,3 +125,11 @@ assemble() {
   local -A processor=([x86_64]=x86-64-v2 [aarch64]=armv8-a)
   "$(kit)/toolchain/bin/clang" --target="$1-unknown-linux-gnu" -march="${processor[$1]}" -c -x assembler "$2" -o "$3"
 }
+
+# Where the word is an option and names no folder: prints the heading of the script, and ends with status 0 after --help or -h, else 2. SCRIPT WORD
+tell_usage() {
+  case $2 in
+    --help | -h) awk 'NR > 1 && !/^#/ { exit } NR > 1 { sub(/^# /, ""); print }' "$1"; exit 0 ;;
+    -*) echo "${1##*/}: $2 is no folder; ${1##*/} --help tells how it is used" >&2; exit 2 ;;
+  esac
+}
