@@ -1,10 +1,10 @@
 """What `ddcap why` says of a refused pair, by the reading of tools/reading.py, apart from the program. `said(a, b)` gives it, or None where nothing
-is refused: the JSON `lines` `refused`, `record` without the fields of its bytes, `state` and `link`; the `rows` of both sides; how many records
-stand `behind` it; and the `check` where bytes are compared (tools/reading_bytes.py), else None. `said_alone(a, line)` gives the lines and rows of one
-end without the other (tools/reading_alone.py), with `line` of its station alone."""
+is refused: the JSON `lines` `refused`, `record` without the fields of its bytes, `state`, `link` and `queued`; the `rows` of both sides; how many
+records stand `behind` it; and the `check` where bytes are compared (tools/reading_bytes.py), else None. `said_alone(a, line)` gives the lines and
+rows of one end without the other (tools/reading_alone.py), with `line` of its station alone."""
 from collections import namedtuple
 
-from reading import NAMES, RULES, Side, passes_over
+from reading import NAMES, RULES, Side, judged, passes_over
 from reading_alone import FREE, Alone, ByOther, StationAlone
 from reading_bytes import check_of, counted
 from reading_packets import read_nsp, read_packet, read_unit
@@ -15,6 +15,10 @@ Said = namedtuple('Said', 'lines rows behind check')
 
 SENDER = {1, 6, 7, 8, 9, 10, 11, 15, 16, 17, 20, 21, 22, 23}
 ACCUSED = {2: 'hints', 3: 'hints', 4: 'hints', 5: 'line', 12: 'claim', 13: 'nobody', 14: 'user', 24: 'claim', 25: 'nobody', 26: 'user', 27: 'claim'}
+
+
+# what a queue between NSP and DDCMP may explain
+BY_QUEUES = {18, 19, 20, 21, 25}
 
 
 def accused(number, kind):
@@ -140,6 +144,15 @@ def record_of(words):
     return {'what': 'record', 'kind': words[0], **hint, 'bytes': words[-1]}
 
 
+def queued_line(printed):
+    """The line on what `check --queued` prints."""
+    if printed.startswith('accepted'):
+        return {'what': 'queued', 'answer': 'accepted'}
+    _, side, record, _, line, number, name = printed.split()
+    return {'what': 'queued', 'answer': 'refused', 'side': side, 'record': int(record), 'line': int(line.rstrip(':')),
+            'number': int(number), 'name': name}
+
+
 def said(a, b):
     """What is said of the pair, or None."""
     _, made, refusal = run_to(a, b, len(a) + len(b))
@@ -158,6 +171,10 @@ def said(a, b):
         lines.append(state_of(other, sides[other]))
         lines += [link_of(other, link) for link in sides[other].links.links if link.phase != 'Ended']
         rows += side_rows(other, sides[other], named_by(words)[::1 if other == letter else -1])
+    if number in BY_QUEUES:
+        lines.append(queued_line(judged(RULES, a, b, queued=True)))
+        if lines[-1]['answer'] == 'accepted':
+            lines[0]['accuses'] = 'nobody'
     behind = sum(len(each.records) - each.next for each in sides) - 1
     return Said(lines, rows, behind, check_of(number, side, sides[1 - letter], 'ba'[letter], words))
 

@@ -36,7 +36,7 @@ class Queueing(Node):
         return self.queue.pop(0) if self.queue else None
 
 
-@no_bug(18, 'a DI waits in a queue until the DC has arrived', at.quiet)
+@no_bug(18, 'a DI waits in a queue until the DC has arrived (see check --queued)', at.quiet)
 class DisconnectWaits(Queueing):
     """The timer of a link runs out while its DI waits, so that there is a second one, behind other packets."""
 
@@ -45,7 +45,7 @@ class DisconnectWaits(Queueing):
         return super().disconnect(link)
 
 
-@no_bug(19, 'a message waits in a queue while the user closes its link', at.closed_under_way)
+@no_bug(19, 'a message waits in a queue while the user closes its link (see check --queued)', at.closed_under_way)
 class ClosedBeforeSent(Queueing):
     """What waits is not taken out of the queue."""
 

@@ -6,6 +6,7 @@ use Rattle.wire_base.specs.declared.side.Side.TheVariants.{A}
 use Rattle.capture.specs.declared.fault.CaptureFault.{CaptureFault}
 use Rattle.capture.specs.declared.fault.CaptureFault.TheVariants.{Departs, Read, OutOfMemory, Failed}
 use Rattle.capture.specs.Faulty.{CountsReads, is_failed_read}
+use Rattle.dna_links.specs.declared.queue.Queues.TheVariants.{With}
 use Rattle.pair_judge.specs.declared.end_verdict.Accused.{Accused}
 use Rattle.pair_judge.specs.declared.end_verdict.Accused.TheVariants.{ThisEnd, OtherEnd}
 use Rattle.pair_judge.specs.declared.end_verdict.EndVerdict.{EndVerdict}
@@ -13,12 +14,12 @@ use Rattle.pair_judge.specs.declared.end_verdict.EndVerdict.TheVariants.{Passed,
 use Rattle.pair_judge.specs.declared.reason.Reason.{Reason}
 use Rattle.pair_judge.specs.declared.summary.SideSummary.{SideSummary}
 use Rattle.pair_judge.specs.EndJudged.{EndAnswer, IsJudgedAlone}
-use Rattle.pair_judge.specs.EndKind.{EndKind, layers_alone, station_alone}
+use Rattle.pair_judge.specs.EndKind.{EndKind, layers_alone, layers_alone_by, station_alone}
 use Rattle.pair_judge.specs.Reason.{reason_name, reason_number}
 use Rattle.ddcap.specs.Printed.{Moved, Writes, side_line, station_line}
 use Rattle.ddcap.specs.Showing.{shown_fault, shown_fault_status}
 use Rattle.ddcap.specs.declared.layers.Layers.{Layers}
-use Rattle.ddcap.specs.declared.layers.Layers.TheVariants.{Both, Station}
+use Rattle.ddcap.specs.declared.layers.Layers.TheVariants.{Both, Queued, Station}
 
 -- behind the reason: nothing more, or that it is the other end that broke the rule
 abbrev pub by_whom : Accused → List ℕ
@@ -48,11 +49,13 @@ line_end_text = end_text_by station_line
 -- what one end is judged as
 abbrev pub end_of : Layers → EndKind
 end_of Both = layers_alone
+end_of Queued = layers_alone_by With
 end_of Station = station_alone
 
 -- the line of counts of a side
 abbrev pub counts_line : Layers → Side → SideSummary → List ℕ
 counts_line Both = side_line
+counts_line Queued = side_line
 counts_line Station = station_line
 
 -- the text of a verdict

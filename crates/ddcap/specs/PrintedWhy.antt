@@ -3,6 +3,7 @@ use Rattle.std.specs.Prelude.{◌≡◌, ℕ, ◌⊎◌, List, Option, Some, Res
 use Rattle.std.specs.Io.KnownBytes.{Appends}
 use Rattle.wire_base.specs.declared.side.Side.{Side}
 use Rattle.capture.specs.Entries.{record_with}
+use Rattle.capture.specs.declared.entry.Entry.{Entry}
 use Rattle.dna_node.specs.Kind.{both_layers}
 use Rattle.pair_judge.specs.Ends.{ShownEnds, StandsFor, verdict_in}
 use Rattle.pair_judge.specs.FailedIn.{IsFailedIn}
@@ -11,9 +12,12 @@ use Rattle.pair_judge.specs.Judged.{IsAnswer}
 use Rattle.pair_judge.specs.declared.fault.JudgeFault.{JudgeFault}
 use Rattle.pair_judge.specs.declared.fault.JudgeFault.TheVariants.{Capture, OutOfMemory}
 use Rattle.pair_judge.specs.declared.fault.TextFault.TheVariants.{Read}
+use Rattle.pair_judge.specs.declared.reason.Reason.{Reason}
 use Rattle.pair_judge.specs.declared.summary.Summary.{Summary}
 use Rattle.pair_judge.specs.declared.verdict.Verdict.{Verdict}
 use Rattle.pair_judge.specs.declared.verdict.Verdict.TheVariants.{Accepted, Refused as IsRefused}
+use Rattle.why.specs.declared.accusation.Accusation.{Accusation}
+use Rattle.why.specs.declared.accusation.Accusation.TheVariants.{Queue}
 use Rattle.why.specs.declared.why_text.Refusal.{Refusal}
 use Rattle.why.specs.Refused.{BeginsWith, accuses, line_of, refused_line}
 use Rattle.ddcap.specs.Printed.{Moved, TellsFault, Writes, fault_text, verdict_text}
@@ -21,12 +25,16 @@ use Rattle.ddcap.specs.declared.telling.Form.{Form}
 use Rattle.ddcap.specs.declared.telling.Form.TheVariants.{Rows, Json}
 use Rattle.ddcap.specs.declared.telling.Refused.{Refused}
 
+-- who is accused is what the table says of the reason; or nobody, since nodes with queues make the pair, of which no more is claimed
+abbrev pub IsAccused : Reason → Entry → Accusation → Type 0
+IsAccused reason entry accusation = (accusation ≡ accuses reason entry) ⊎ (accusation ≡ Queue)
+
 -- what is told of a refusal is told of the record ahead of its side, and the check that is named is the first of the verdict's reason that fails there
 pub record IsTold (ends : ShownEnds) (refused : Refused) (told : Refusal) : Type 0 where
   pub side : told.side ≡ refused.side
   pub place : told.place ≡ refused.place
   pub reason : told.reason ≡ refused.reason
-  pub accused : told.accusation ≡ accuses refused.reason told.says
+  pub accused : IsAccused refused.reason told.says told.accusation
   pub ahead : (of_side refused.side ends.a ends.b).ahead ≡ Some (record_with told.says told.bytes.now)
   pub failing : Side
   pub failed : IsFailedIn ends (Some (failing, told.failed))

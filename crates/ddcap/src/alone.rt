@@ -2,7 +2,8 @@
 
 ghost use Rattle.std.specs.Prelude.{◌≢◌};
 ghost use Rattle.capture.specs.declared.fault.CaptureFault.TheVariants as CaptureFault;
-ghost use Rattle.pair_judge.specs.EndKind.{layers_alone, station_alone};
+ghost use Rattle.dna_links.specs.declared.queue.Queues.TheVariants.{With};
+ghost use Rattle.pair_judge.specs.EndKind.{layers_alone, layers_alone_by, station_alone};
 ghost use Rattle.ddcap.specs.Printed.{moved};
 ghost use Rattle.ddcap.specs.PrintedAlone.{ChecksEnd, TellsEndFault, end_of, end_text_over};
 ghost use Rattle.ddcap.specs.PrintedAlone.{end_text as end_text_of, line_end_text as line_end_text_of};
@@ -32,6 +33,19 @@ pub fn alone_to<A: Read, O: Write, E: Write>(
         (moved E.contents err.old err.new) result }
 {
     alone_over(alloc, Layers::Both, a, out, err)
+}
+
+/// Judges a node with queues, and prints the answer as `alone_to` does.
+pub fn alone_queued_to<A: Read, O: Write, E: Write>(
+    alloc: Global,
+    a: &mut Tally<A>,
+    out: &mut Tally<O>,
+    err: &mut Tally<E>,
+) -> u8
+    ensures { ChecksEnd (layers_alone_by With) end_text_of (moved A.remaining a.old a.new) (moved O.contents out.old out.new)
+        (moved E.contents err.old err.new) result }
+{
+    alone_over(alloc, Layers::Queued, a, out, err)
 }
 
 /// Judges station and line alone, and prints the answer as `alone_to` does, but that the line of counts ends with the periods.

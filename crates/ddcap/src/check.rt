@@ -2,7 +2,8 @@
 
 ghost use Rattle.pair_judge.specs.declared.fault.JudgeFault.TheVariants.{Capture, OutOfMemory};
 ghost use Rattle.pair_judge.specs.declared.fault.TextFault.TheVariants.{Read as FailedRead};
-ghost use Rattle.dna_node.specs.Kind.{both_layers, stations_alone};
+ghost use Rattle.dna_links.specs.declared.queue.Queues.TheVariants.{With};
+ghost use Rattle.dna_node.specs.Kind.{both_layers, layers_kind, stations_alone};
 ghost use Rattle.ddcap.specs.Printed.{Checks, TellsFault, Writes, moved, stream_of};
 ghost use Rattle.ddcap.specs.Printed.{fault_text as text_of, line_verdict_text as line_verdict_text_of, verdict_text as verdict_text_of};
 ghost use Rattle.ddcap.specs.inner.Layers.{nodes_of, verdict_text_over};
@@ -32,6 +33,20 @@ pub fn check_to<A: Read, B: Read, O: Write, E: Write>(
         (moved O.contents out.old out.new) (moved E.contents err.old err.new) result }
 {
     check_over(alloc, Layers::Both, a, b, out, err)
+}
+
+/// Judges nodes with queues, and prints the answer as `check_to` does.
+pub fn check_queued_to<A: Read, B: Read, O: Write, E: Write>(
+    alloc: Global,
+    a: &mut Tally<A>,
+    b: &mut Tally<B>,
+    out: &mut Tally<O>,
+    err: &mut Tally<E>,
+) -> u8
+    ensures { Checks (layers_kind With) verdict_text_of (moved A.remaining a.old a.new) (moved B.remaining b.old b.new)
+        (moved O.contents out.old out.new) (moved E.contents err.old err.new) result }
+{
+    check_over(alloc, Layers::Queued, a, b, out, err)
 }
 
 /// Judges stations and line alone, and prints the answer as `check_to` does, but that a side's line of counts ends with its periods.

@@ -1,8 +1,8 @@
 //! `check` and `alone` between the names of their files and their status.
 
-use crate::alone::{alone_line_to, alone_to};
+use crate::alone::{alone_line_to, alone_queued_to, alone_to};
 use crate::answers::{alone_json_to, check_json_to, check_named_to, print_name, print_told};
-use crate::check::{check_line_to, check_to};
+use crate::check::{check_line_to, check_queued_to, check_to};
 use crate::fault_told::FaultTold;
 use crate::files::{Named, Told, Wanted, open_to_read, opened, told_fault_of};
 use crate::layers::Layers;
@@ -91,6 +91,7 @@ fn check_pair<R: Files + AllocGlobal, O: Write, E: Write>(
     };
     match layers {
         Layers::Both => check_to(rt.alloc(), &mut a, &mut b, out, err),
+        Layers::Queued => check_queued_to(rt.alloc(), &mut a, &mut b, out, err),
         Layers::Station => check_line_to(rt.alloc(), &mut a, &mut b, out, err),
     }
 }
@@ -161,6 +162,7 @@ pub fn alone_file<R: Files + AllocGlobal, O: Write, E: Write>(
         Form::Json => alone_json_to(rt.alloc(), how.layers, path, &mut a, out, err),
         Form::Rows => match how.layers {
             Layers::Both => alone_to(rt.alloc(), &mut a, out, err),
+            Layers::Queued => alone_queued_to(rt.alloc(), &mut a, out, err),
             Layers::Station => alone_line_to(rt.alloc(), &mut a, out, err),
         },
     }

@@ -23,16 +23,17 @@ pub fn program<'a>(alloc: Global) -> Result<Command<'a>, AllocError> {
         .subcommand(explain(alloc)?)
 }
 
-// `check [--line] [--json] A B [A B ..]`
+// `check [--line | --queued] [--json] A B [A B ..]`
 fn check<'a>(alloc: Global) -> Result<Command<'a>, AllocError> {
     of_pairs(alloc, "check")
 }
 
-// `alone [--line] [--json] A`
+// `alone [--line | --queued] [--json] A`
 fn alone<'a>(alloc: Global) -> Result<Command<'a>, AllocError> {
     Command::new(alloc, "alone")
         .arg(Arg::new(alloc, "A").required(true))?
         .arg(line_alone(alloc))?
+        .arg(with_queues(alloc))?
         .arg(as_json(alloc))
 }
 
@@ -64,7 +65,14 @@ pub fn line_alone<'a>(alloc: Global) -> Arg<'a> {
         .action(ArgAction::SetTrue)
 }
 
-// `cover [--line] [--json] [--missing] A B [A B ..]`
+/// `--queued`, before or after the files
+pub fn with_queues<'a>(alloc: Global) -> Arg<'a> {
+    Arg::new(alloc, "queued")
+        .long("queued")
+        .action(ArgAction::SetTrue)
+}
+
+// `cover [--line | --queued] [--json] [--missing] A B [A B ..]`
 fn cover<'a>(alloc: Global) -> Result<Command<'a>, AllocError> {
     of_pairs(alloc, "cover")?.arg(missing(alloc))
 }
@@ -83,6 +91,7 @@ fn of_pairs<'a>(alloc: Global, word: &'a str) -> Result<Command<'a>, AllocError>
         .arg(Arg::new(alloc, "B").required(true))?
         .arg(Arg::new(alloc, "MORE").num_args(1..))?
         .arg(line_alone(alloc))?
+        .arg(with_queues(alloc))?
         .arg(as_json(alloc))
 }
 

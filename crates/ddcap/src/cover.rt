@@ -65,7 +65,7 @@ impl Covered {
         Ok(())
     }
 
-    // One pair more, of stations alone. `AllocError` as above.
+    // One pair more, of which no contract tells the counts. `AllocError` as above.
     fn add_went(&mut self, alloc: Global, went: Went) -> Result<(), AllocError> {
         let line = verdict_line(alloc, went.verdict)?;
         self.lines.push_str(line.as_str())?;
@@ -99,16 +99,17 @@ pub fn cover_pair<A: Read, B: Read, E: Write>(
     }
 }
 
-/// Judges stations and line alone of one more pair, and counts which rows of stations each side went through. `Err` as for `cover_pair`. No contract
-/// tells the counts.
-pub fn cover_line_pair<A: Read, B: Read, E: Write>(
+/// Judges one more pair over these layers, and counts which of their rows each side went through. `Err` as for `cover_pair`. No contract tells the
+/// counts.
+pub fn cover_pair_over<A: Read, B: Read, E: Write>(
     alloc: Global,
+    layers: Layers,
     a: &mut Tally<A>,
     b: &mut Tally<B>,
     covered: &mut Covered,
     err: &mut Tally<E>,
 ) -> Result<(), u8> {
-    let went = match judge_went(alloc, Layers::Station, a, b) {
+    let went = match judge_went(alloc, layers, a, b) {
         Ok(went) => went,
         Err(fault) => return Err(print_fault(alloc, fault, err)),
     };

@@ -7,7 +7,7 @@ ghost use Rattle.coverage.specs.declared.order.TheConstants.{ORDER};
 use crate::answers::print_told;
 use crate::check_files::{How, PairPaths, opened_pair};
 use crate::cover::{
-    Covered, cover_line_pair, cover_pair, print_covered, print_missing, print_pair,
+    Covered, cover_pair, cover_pair_over, print_covered, print_missing, print_pair,
 };
 use crate::cover_objects::{CoveredObjects, cover_object, print_covered_object};
 use crate::fault_told::FaultTold;
@@ -54,7 +54,7 @@ fn hints_of(layers: Layers) -> &'static [Hint]
     ensures station { layers ≡ Layers.Station → map hint_row result.now ≡ take 52 ORDER }
 {
     match layers {
-        Layers::Both => all_hints(),
+        Layers::Both | Layers::Queued => all_hints(),
         Layers::Station => station_hints(),
     }
 }
@@ -104,7 +104,9 @@ fn add_pair<R: Files + AllocGlobal, E: Write>(
     };
     match layers {
         Layers::Both => cover_pair(rt.alloc(), &mut a, &mut b, covered, err),
-        Layers::Station => cover_line_pair(rt.alloc(), &mut a, &mut b, covered, err),
+        Layers::Queued | Layers::Station => {
+            cover_pair_over(rt.alloc(), layers, &mut a, &mut b, covered, err)
+        }
     }
 }
 

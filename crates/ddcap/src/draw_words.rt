@@ -3,7 +3,7 @@
 ghost use Rattle.std.specs.Prelude.{◌≤◌, IfSome};
 ghost use Rattle.drawing.specs.declared.range.TheConstants.{MAX_ROWS};
 
-use crate::commands::line_alone;
+use crate::commands::{line_alone, with_queues};
 use crate::draw_files::Asked;
 use crate::words::WordsFault;
 use capture::{MAX_RECORDS, positive_of};
@@ -12,12 +12,13 @@ use drawing::{Judging, MAX_ROWS, ROWS, Range, Start};
 use std::alloc::{AllocError, Global};
 use wire_base::Side;
 
-/// `draw A B [--line] [--from SIDE:LINE] [--rows N] [--svg FILE]`
+/// `draw A B [--line | --queued] [--from SIDE:LINE] [--rows N] [--svg FILE]`
 pub fn draw<'a>(alloc: Global) -> Result<Command<'a>, AllocError> {
     Command::new(alloc, "draw")
         .arg(Arg::new(alloc, "A").required(true))?
         .arg(Arg::new(alloc, "B").required(true))?
         .arg(line_alone(alloc))?
+        .arg(with_queues(alloc))?
         .arg(Arg::new(alloc, "from").long("from"))?
         .arg(Arg::new(alloc, "rows").long("rows"))?
         .arg(Arg::new(alloc, "svg").long("svg"))
@@ -43,10 +44,11 @@ pub fn drawing_asked<'a>(found: &ArgMatches<'a>) -> Result<Asked<'a>, WordsFault
         },
     };
     let svg = found.get_str("svg");
-    let judging = if found.get_flag("line") {
-        Judging::Line
-    } else {
-        Judging::Links
+    let judging = match (found.get_flag("line"), found.get_flag("queued")) {
+        (true, true) => return Err(WordsFault::BadWords),
+        (true, false) => Judging::Line,
+        (false, true) => Judging::Queued,
+        (false, false) => Judging::Links,
     };
     Ok(Asked {
         a,

@@ -216,7 +216,8 @@ If it finds nothing that explains a unit, it names that unit. Unit 7 of a
 
 Both captures then end with that unit. Then: ddcap why A B
 
-With --line only DDCMP is judged: a packet may be any bytes. Units whose header
+The nodes may have queues between NSP and DDCMP: docs/LINKS.md says more. With
+--line only DDCMP is judged: a packet may be any bytes. Units whose header
 check fails are skipped, so a node that sends them is never found.
 
 With --json the answer is one JSON object; docs/KEYS.md has its keys.

@@ -23,6 +23,10 @@ With --line, before or after the files, only DDCMP is judged: a packet may be
 any bytes and is not read, and events of links are not judged. Use it if the
 line joins routers, or carries something other than DECnet.
 
+With --queued the nodes may have queues between NSP and DDCMP, as most real
+nodes have: docs/LINKS.md says what differs. Without it a link has to act at
+once. It can't be combined with --line.
+
 With --json the answer is one JSON object; docs/KEYS.md has its keys.
 
 More pairs may follow, as A B C D: each is answered in turn, with the name of
@@ -56,7 +60,8 @@ sent what was received there. Then: ./ddcap explain 8
 passed, and a line of counts: this end broke no rule, as far as one end shows.
 
 A recorder that counts no units writes r 0 BYTES and k 0 BYTES in format 2.
-With --line only DDCMP is judged, as ddcap help check says.
+With --line only DDCMP is judged, and with --queued a node with queues between
+NSP and DDCMP, as ddcap help check says.
 
 With --json the answer is one JSON object; docs/KEYS.md has its keys.
 
@@ -140,8 +145,8 @@ With --missing the rows that neither side went through are listed instead, each
 with steps of a script that meet it; short names are explained at the end.
 
 With --line only DDCMP is judged, and rows of links are not counted. With
---json the answer is one JSON object, with all 80 rows; docs/KEYS.md has its
-keys.
+--queued nodes with queues are judged, as by check. With --json the answer is
+one JSON object, with all 80 rows; docs/KEYS.md has its keys.
 
 Status:
   0  accepted
@@ -178,8 +183,8 @@ damaged or with other bytes, and .. after words that are cut.
 With --from a:9 the rows begin with the record on line 9 of A (b:9: of B).
 With --rows 80 there are up to 80 of them; 200 is the most. With --svg FILE
 they are drawn into FILE, which is created, or emptied first: a picture for any
-browser. With --line only DDCMP is judged, as by check. These options go before
-or after A and B.
+browser. With --line only DDCMP is judged, with --queued nodes with queues, as
+by check. These options go before or after A and B.
 
 Status:
   0  accepted, and drawn

@@ -10,10 +10,13 @@ use std::alloc::{AllocError, Global};
 
 /// The pairs of captures that the words after `check` name.
 pub fn checked_of<'a>(alloc: Global, found: &ArgMatches<'a>) -> Result<Task<'a>, WordsFault> {
+    let Some(layers) = judged_layers_of(found) else {
+        return Err(WordsFault::BadWords);
+    };
     match pairs_named(alloc, found) {
         Ok(files) => Ok(Task::Check {
             form: form_of(found),
-            layers: layers_of(found),
+            layers,
             files,
         }),
         Err(fault) => Err(fault),
@@ -22,13 +25,13 @@ pub fn checked_of<'a>(alloc: Global, found: &ArgMatches<'a>) -> Result<Task<'a>,
 
 /// The capture that the words after `alone` name.
 pub fn judged_alone_of<'a>(found: &ArgMatches<'a>) -> Result<Task<'a>, WordsFault> {
-    match found.get_str("A") {
-        Some(a) => Ok(Task::Alone {
+    match (found.get_str("A"), judged_layers_of(found)) {
+        (Some(a), Some(layers)) => Ok(Task::Alone {
             form: form_of(found),
-            layers: layers_of(found),
+            layers,
             a,
         }),
-        None => Err(WordsFault::BadWords),
+        _ => Err(WordsFault::BadWords),
     }
 }
 
@@ -59,10 +62,13 @@ pub fn explained_of<'a>(found: &ArgMatches<'a>) -> Result<Task<'a>, WordsFault> 
 
 /// The pairs of captures that the words after `cover` name.
 pub fn covered_of<'a>(alloc: Global, found: &ArgMatches<'a>) -> Result<Task<'a>, WordsFault> {
+    let Some(layers) = judged_layers_of(found) else {
+        return Err(WordsFault::BadWords);
+    };
     match pairs_named(alloc, found) {
         Ok(files) => Ok(Task::Cover {
             form: form_of(found),
-            layers: layers_of(found),
+            layers,
             listed: listed_of(found),
             files,
         }),
@@ -107,6 +113,16 @@ fn layers_of(found: &ArgMatches<'_>) -> Layers {
     match found.get_flag("line") {
         true => Layers::Station,
         false => Layers::Both,
+    }
+}
+
+// What is judged, where nodes with queues may be named; `None` where two kinds are.
+fn judged_layers_of(found: &ArgMatches<'_>) -> Option<Layers> {
+    match (found.get_flag("line"), found.get_flag("queued")) {
+        (true, true) => None,
+        (true, false) => Some(Layers::Station),
+        (false, true) => Some(Layers::Queued),
+        (false, false) => Some(Layers::Both),
     }
 }
 

@@ -15,7 +15,8 @@ ghost use Rattle.ddcap.specs.inner.Layers.{nodes_of};
 use capture::CaptureFault;
 use pair_judge::{
     EndVerdict, JudgeFault, Observer, Verdict, WatchedEnd, judge, judge_end, judge_end_watched,
-    judge_line, judge_line_end, judge_line_end_watched,
+    judge_line, judge_line_end, judge_line_end_watched, judge_queued, judge_queued_end,
+    judge_queued_end_watched,
 };
 use std::alloc::Global;
 use std::io::Read;
@@ -26,6 +27,8 @@ use wire_base::{Side, Tally};
 pub enum Layers {
     /// Stations with their links on top.
     Both,
+    /// The same, of nodes with queues between NSP and DDCMP.
+    Queued,
     /// Stations and line alone.
     Station,
 }
@@ -43,6 +46,7 @@ pub fn judge_over<A: Read, B: Read>(
 {
     match layers {
         Layers::Both => judge(alloc, a, b),
+        Layers::Queued => judge_queued(alloc, a, b),
         Layers::Station => judge_line(alloc, a, b),
     }
 }
@@ -59,6 +63,7 @@ pub fn judge_end_over<A: Read>(
 {
     match layers {
         Layers::Both => judge_end(alloc, a),
+        Layers::Queued => judge_queued_end(alloc, a),
         Layers::Station => judge_line_end(alloc, a),
     }
 }
@@ -79,6 +84,7 @@ pub fn watch_end_over<O: Observer, A: Read>(
 {
     match layers {
         Layers::Both => judge_end_watched(alloc, a, observer),
+        Layers::Queued => judge_queued_end_watched(alloc, a, observer),
         Layers::Station => judge_line_end_watched(alloc, a, observer),
     }
 }

@@ -183,7 +183,7 @@ fn put_last_counts(
         ..
     } = counts;
     let part = match layers {
-        Layers::Both => format!(in alloc;
+        Layers::Both | Layers::Queued => format!(in alloc;
             ", \"kept\": {kept}, \"periods\": {periods}, \"links\": {links}, \"up\": {up}}}"
         )?,
         Layers::Station => format!(in alloc; ", \"kept\": {kept}, \"periods\": {periods}}}")?,

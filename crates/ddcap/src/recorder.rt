@@ -12,7 +12,7 @@ use pair_judge::{JudgeFault, JudgedEnds, Verdict};
 use std::alloc::{AllocError, Global};
 use std::fmt::Write as _;
 use std::io::{Read, Seek};
-use why::{EditLine, EditsTried, FEW_RECORDS, put_edit};
+use why::{EditLine, EditsTried, FEW_RECORDS, QueuedAnswer, put_edit};
 use wire_base::{Side, Tally};
 
 /// How many bytes of both captures are read at most while edits are judged: about two seconds' work.
@@ -33,7 +33,7 @@ pub struct ComesLater {
 /// What small edits tell: how many were judged, and those that make the pair a run, as JSON objects and as rows; and whether a node that is wrong in
 /// the refused unit alone explains the record as well: with one field of that unit changed at both ends the pair is a run, or the edit moves a
 /// line where a station sent in the wrong state, which is a node that sent too early or too late. Beside it what else is read again: what comes
-/// later, and the unit that the hint of the refused record names.
+/// later, the unit that the hint of the refused record names, and what is answered of nodes with queues.
 #[derive(Drop)]
 pub struct Tried {
     pub counts: EditsTried,
@@ -42,6 +42,7 @@ pub struct Tried {
     pub rows: String,
     pub later: ComesLater,
     pub unit: Option<Vec<u8>>,
+    pub queued: QueuedAnswer,
     /// The side whose capture could not be read further.
     pub failed: Option<Side>,
 }
@@ -71,6 +72,7 @@ impl Tried {
             rows: String::new(alloc),
             later,
             unit,
+            queued: QueuedAnswer::NotAsked,
             failed: None,
         }
     }
@@ -163,8 +165,8 @@ fn try_units<A: Read + Seek, B: Read + Seek>(
     Ok(tried)
 }
 
-// No more is tried, since a read failed; or there is no memory.
-fn stopped(mut tried: Tried, fault: JudgeFault) -> Result<Tried, AllocError> {
+/// No more is tried, since a read failed; or there is no memory.
+pub fn stopped(mut tried: Tried, fault: JudgeFault) -> Result<Tried, AllocError> {
     match fault {
         JudgeFault::OutOfMemory => Err(AllocError),
         JudgeFault::Capture { side, .. } => {

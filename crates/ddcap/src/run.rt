@@ -147,7 +147,9 @@ impl<R: Files + AllocGlobal, O: Write, E: Write> Program<'_, '_, '_, R, O, E> {
         )?;
         let alloc = self.rt.alloc();
         let status = match layers {
-            Layers::Both => why_to(alloc, printout, &mut a, &mut b, self.out, self.err),
+            Layers::Both | Layers::Queued => why_to(
+                alloc, printout, &mut a, &mut b, self.out, self.err,
+            ),
             Layers::Station => why_line_to(alloc, printout, &mut a, &mut b, self.out, self.err),
         };
         if status == FAULTY {

@@ -6,7 +6,8 @@ ghost use Rattle.pair_judge.specs.declared.fault.JudgeFault.TheVariants.{OutOfMe
 ghost use Rattle.pair_judge.specs.declared.reason.Reason.{Reason};
 ghost use Rattle.pair_judge.specs.declared.verdict.Verdict.TheVariants.{Refused};
 ghost use Rattle.wire_base.specs.declared.side.Side.{Side};
-ghost use Rattle.dna_node.specs.Kind.{both_layers, stations_alone};
+ghost use Rattle.dna_links.specs.declared.queue.Queues.TheVariants.{With};
+ghost use Rattle.dna_node.specs.Kind.{layers_kind, stations_alone};
 ghost use Rattle.ddcap.specs.Printed.{Writes, fault_text, moved, stream_of};
 ghost use Rattle.ddcap.specs.Printed.{line_verdict_text as line_verdict_text_of, verdict_text as verdict_text_of};
 ghost use Rattle.ddcap.specs.PrintedTap.{ChecksTap, IsRefusedAt, TellsTapFault, no_unit_text, streams, wire_line_text};
@@ -40,7 +41,8 @@ pub struct RefusedAt {
     pub place: u64,
 }
 
-/// Judges the captures that two readers give, which a tap wrote as `tapped` says, prints the answer, and answers the status. Where they are refused,
+/// Judges the captures that two readers give, which a tap wrote as `tapped` says, as those of nodes with queues, since nobody who taps a line sees when
+/// a node acts; prints the answer, and answers the status. Where they are refused,
 /// and `is_cut` does not say that they were cut for that, nothing is printed, and the answer is the refused record.
 ///
 /// Printed to `out`: the verdict as `check_to` prints it, status 0, or `unexplained ..`, status 1, with what it rests on and what was skipped behind
@@ -54,11 +56,11 @@ pub fn tap_to<A: Read, B: Read, O: Write, E: Write>(
     out: &mut Tally<O>,
     err: &mut Tally<E>,
 ) -> Result<u8, RefusedAt>
-    ensures checks { ChecksTap both_layers verdict_text_of tapped (streams (moved A.remaining a.old a.new) (moved B.remaining b.old b.new)
+    ensures checks { ChecksTap (layers_kind With) verdict_text_of tapped (streams (moved A.remaining a.old a.new) (moved B.remaining b.old b.new)
         (moved O.contents out.old out.new) (moved E.contents err.old err.new)) result }
     ensures cut { is_cut ≡ true → is_ok result ≡ true }
 {
-    tap_over(alloc, Layers::Both, a, b, tapped, is_cut, out, err)
+    tap_over(alloc, Layers::Queued, a, b, tapped, is_cut, out, err)
 }
 
 /// Judges stations and line alone, and prints the answer as `tap_to` does, with the verdict as `check_line_to` prints it.

@@ -30,7 +30,7 @@ impl TapPaths<'_> {
     pub fn layers(&self) -> Layers {
         match self.line_alone {
             true => Layers::Station,
-            false => Layers::Both,
+            false => Layers::Queued,
         }
     }
 }

@@ -4,11 +4,12 @@ ghost use Rattle.std.specs.Prelude.{IfOk, IfSome, string_bytes};
 ghost use Rattle.why.specs.Refused.{BeginsWith, line_of, refused_line};
 ghost use Rattle.ddcap.specs.Printed as printed;
 ghost use Rattle.ddcap.specs.Printed.{moved};
-ghost use Rattle.ddcap.specs.PrintedWhy.{Explains, IsTold, PrintsAcceptance, TellsRefusal, WritesRefusal};
+ghost use Rattle.ddcap.specs.PrintedWhy.{Explains, IsAccused, IsTold, PrintsAcceptance, TellsRefusal, WritesRefusal};
 
 use crate::check::{print, print_failed_read, print_fault, print_out_of_memory};
 use crate::last_rows::{LastRows, ROWS_BEFORE};
 use crate::layers::Layers;
+use crate::queued_too::with_queues_too;
 use crate::recorder::{ComesLater, Tried, try_edits};
 use crate::text::{FAILED, verdict_text};
 use capture::Entry;
@@ -16,7 +17,9 @@ use ladder::{Drawn, Ladder, Sending, What};
 use pair_judge::{JudgedEnds, Reason, Summary, Verdict, Watched, judge_watched};
 use std::alloc::{AllocError, Global};
 use std::io::{Read, Seek, Write};
-use why::{Accusation, Lines, LinkPast, Refusal, Shown, addresses_of, why_json, why_rows};
+use why::{
+    Accusation, Lines, LinkPast, QueuedAnswer, Refusal, Shown, addresses_of, why_json, why_rows,
+};
 use wire_base::{Side, Tally, write_whole};
 
 /// The status of a refusal.
@@ -87,6 +90,10 @@ pub fn why_to<A: Read + Seek, B: Read + Seek, O: Write, E: Write>(
                 reason,
             };
             let tried = match try_edits(alloc, Layers::Both, a, b, &watched.ends, side) {
+                Ok(tried) => tried,
+                Err(_) => return print_out_of_memory(err),
+            };
+            let tried = match with_queues_too(alloc, a, b, reason, tried) {
                 Ok(tried) => tried,
                 Err(_) => return print_out_of_memory(err),
             };
@@ -185,7 +192,7 @@ fn refusal_of<'t>(
         side: refused.side,
         place: refused.place,
         reason: refused.reason,
-        accusation: Accusation::of(refused.reason, entry),
+        accusation: accusation_of(refused.reason, entry, tried.queued),
         failed,
         says: entry,
         bytes,
@@ -195,6 +202,16 @@ fn refusal_of<'t>(
             ..past.lines(refused.side, named)
         },
     })
+}
+
+// Who is accused: nobody, where nodes with queues make the pair.
+fn accusation_of(reason: Reason, entry: Entry, queued: QueuedAnswer) -> Accusation
+    ensures { IsAccused reason entry result }
+{
+    match queued {
+        QueuedAnswer::Accepted => Accusation::Queue,
+        QueuedAnswer::NotAsked | QueuedAnswer::Refused { .. } => Accusation::of(reason, entry),
+    }
 }
 
 // The unit that the refused record names.
@@ -230,7 +247,14 @@ fn objects_text(
 ) -> Result<String, AllocError>
     ensures { IfOk result (λ text. BeginsWith (refused_line (line_of refusal.entry)) (string_bytes text)) }
 {
-    why_json(alloc, refusal, ends, tried.lines.as_str(), tried.counts)
+    why_json(
+        alloc,
+        refusal,
+        ends,
+        tried.lines.as_str(),
+        tried.counts,
+        tried.queued,
+    )
 }
 
 // The line of the verdict, and the rows of a refusal.
@@ -255,6 +279,7 @@ fn rows_text(
         tried: tried.counts,
         edits: tried.rows.as_str(),
         unit_as_well: tried.unit_as_well,
+        queued: tried.queued,
     };
     let first = verdict_text(alloc, Layers::Both, ends.verdict())?;
     let rows = why_rows(alloc, refusal, ends, shown)?;

@@ -48,7 +48,7 @@ impl fmt::Display for CountsLine {
             up,
         } = self.counts;
         match self.layers {
-            Layers::Both => write!(
+            Layers::Both | Layers::Queued => write!(
                 f,
                 "{side} records {records} sent {sent} received {received} damaged {damaged} kept {kept} periods {periods} links {links} up {up}"
             ),

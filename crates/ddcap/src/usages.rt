@@ -3,15 +3,16 @@
 /// Where to read of all words.
 const HELP: &str = "try: ddcap help\n";
 
-const CHECK: &str = "usage: ddcap check [--line] [--json] A B [A B ..]\n";
+const CHECK: &str = "usage: ddcap check [--line | --queued] [--json] A B [A B ..]\n";
 
-const ALONE: &str = "usage: ddcap alone [--line] [--json] A\n";
+const ALONE: &str = "usage: ddcap alone [--line | --queued] [--json] A\n";
 
 const WHY: &str = "usage: ddcap why [--line] [--full] [--json] A [B]\n";
 
-const COVER: &str = "usage: ddcap cover [--line] [--json] [--missing] A B [A B ..]\n";
+const COVER: &str = "usage: ddcap cover [--line | --queued] [--json] [--missing] A B [A B ..]\n";
 
-const DRAW: &str = "usage: ddcap draw [--line] [--from a:LINE] [--rows N] [--svg FILE] A B\n";
+const DRAW: &str =
+    "usage: ddcap draw [--line | --queued] [--from a:LINE] [--rows N] [--svg FILE] A B\n";
 
 const ALIGN: &str = "usage: ddcap align A B OUT_A OUT_B\n";
 
@@ -50,7 +51,7 @@ fn asks_for_more(words: &[String]) -> bool {
     let mut files = 0usize;
     for word in words {
         match word.as_str() {
-            "--line" | "--json" => return true,
+            "--line" | "--queued" | "--json" => return true,
             other => {
                 if !is_option(other) {
                     files = files.saturating_add(1);

@@ -7,7 +7,7 @@ ghost use Rattle.ddcap.specs.inner.Layers.{nodes_of};
 
 use crate::layers::Layers;
 use coverage::{Counts, Cover, ROWS, STATION_ROWS, judge_covered};
-use pair_judge::{JudgeFault, MadeEntry, Observer, Verdict, judge_line_told};
+use pair_judge::{JudgeFault, MadeEntry, Observer, Verdict, judge_line_told, judge_queued_told};
 use std::alloc::{AllocError, Global};
 use std::io::Read;
 use wire_base::{Side, Tally};
@@ -44,7 +44,29 @@ pub fn judge_went<A: Read, B: Read>(
             }),
             Err(fault) => Err(fault),
         },
+        Layers::Queued => judge_queued_went(alloc, a, b),
         Layers::Station => judge_line_went(alloc, a, b),
+    }
+}
+
+fn judge_queued_went<A: Read, B: Read>(
+    alloc: Global,
+    a: &mut Tally<A>,
+    b: &mut Tally<B>,
+) -> Result<Went, JudgeFault>
+    ensures { IsAnswer (nodes_of Layers.Queued) (A.remaining (tally_lent a.old)) (B.remaining (tally_lent b.old))
+        (only result (λ went. went.verdict)) }
+{
+    let Ok(cover) = nothing_covered(alloc) else {
+        return Err(JudgeFault::OutOfMemory);
+    };
+    match judge_queued_told(alloc, a, b, CoverRows { cover }) {
+        Ok(watched) => Ok(Went {
+            verdict: watched.ends.verdict(),
+            a: watched.observer.cover.of_side(Side::A),
+            b: watched.observer.cover.of_side(Side::B),
+        }),
+        Err(fault) => Err(fault),
     }
 }
 
@@ -59,7 +81,7 @@ fn judge_line_went<A: Read, B: Read>(
     let Ok(cover) = nothing_covered(alloc) else {
         return Err(JudgeFault::OutOfMemory);
     };
-    match judge_line_told(alloc, a, b, StationRows { cover }) {
+    match judge_line_told(alloc, a, b, CoverRows { cover }) {
         Ok(watched) => Ok(Went {
             verdict: watched.ends.verdict(),
             a: of_stations(watched.observer.cover.of_side(Side::A)),
@@ -79,13 +101,13 @@ fn nothing_covered(alloc: Global) -> Result<Cover, JudgeFault> {
     }
 }
 
-// The rows that are counted while stations alone are judged. No contract tells them.
+// The rows that are counted while stations alone, or nodes with queues, are judged. No contract tells them.
 #[derive(Drop)]
-struct StationRows {
+struct CoverRows {
     cover: Cover,
 }
 
-impl Observer for StationRows {
+impl Observer for CoverRows {
     ghost told = { λ rows order. Unit {0} };
 
     fn made(&mut self, next: &MadeEntry<'_>) -> Result<(), AllocError> {

@@ -5,7 +5,8 @@ use Rattle.wire_base.specs.Tally.{AppendsBeginning, CountedFault}
 use Rattle.wire_base.specs.declared.side.Side.{Side}
 use Rattle.capture.specs.Entries.{record_with}
 use Rattle.capture.specs.declared.entry.Entry.{Entry}
-use Rattle.dna_node.specs.Kind.{NodeKind, both_layers, stations_alone}
+use Rattle.dna_links.specs.declared.queue.Queues.TheVariants.{With}
+use Rattle.dna_node.specs.Kind.{NodeKind, both_layers, layers_kind, stations_alone}
 use Rattle.ladder.specs.Drawn.{DrawnView, IsDrawn}
 use Rattle.ladder.specs.Ladder.{LadderView, refused}
 use Rattle.pair_judge.specs.Ends.{ShownEnds}
@@ -30,6 +31,7 @@ use Rattle.drawing.specs.Telling.{WereFollowed, WereTold, keep_of}
 
 abbrev pub kind_by : Judging → NodeKind
 kind_by judging.Links = both_layers
+kind_by judging.Queued = layers_kind With
 kind_by judging.Line = stations_alone
 
 -- ---- the ladder

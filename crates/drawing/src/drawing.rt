@@ -20,7 +20,8 @@ use crate::range::{Judging, MAX_ROWS, Range, Start};
 use crate::telling::{BothEnds, Onward};
 use ladder::{Drawn, Ladder};
 use pair_judge::{
-    JudgeFault, JudgedEnds, Observer, Reason, Verdict, Watched, judge_line_told, judge_told,
+    JudgeFault, JudgedEnds, Observer, Reason, Verdict, Watched, judge_line_told, judge_queued_told,
+    judge_told,
 };
 use std::alloc::{AllocError, Global};
 use std::io::{Read, Seek, Write};
@@ -173,6 +174,7 @@ fn judged_by<O: Observer, A: Read, B: Read>(
 {
     match judging {
         Judging::Links => judge_told(alloc, a, b, observer),
+        Judging::Queued => judge_queued_told(alloc, a, b, observer),
         Judging::Line => judge_line_told(alloc, a, b, observer),
     }
 }

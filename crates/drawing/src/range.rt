@@ -24,6 +24,8 @@ pub struct Range {
 pub enum Judging {
     /// Stations with their links, as by [`pair_judge::judge`].
     Links,
+    /// The same, of nodes with queues, as by [`pair_judge::judge_queued`].
+    Queued,
     /// Stations and line alone, as by [`pair_judge::judge_line`].
     Line,
 }

@@ -1,7 +1,7 @@
 //! One node whose calls are made once more where memory is refused.
 
 use dna_packet::read_nsp;
-use nsp_link::{LinkEvent, LinkFault, LinkRefusal, LinkTag, Links, Piece};
+use nsp_link::{LinkEvent, LinkFault, LinkRefusal, LinkTag, Links, Piece, WITHOUT_QUEUES};
 use std::alloc::Global;
 use wire_base::Window;
 
@@ -55,12 +55,12 @@ impl<W: Window<Piece, 4096> + Drop> Node<W> {
 
     /// Its user does this.
     pub fn does(&mut self, event: LinkEvent) -> Result<(), LinkFault> {
-        let answer = self.links.user(event);
+        let answer = self.links.user::<{ WITHOUT_QUEUES }>(event);
         if answer != Err(LinkFault::OutOfMemory) {
             return answer;
         }
         self.repeats.user = self.repeats.user.wrapping_add(1);
-        self.links.user(event)
+        self.links.user::<{ WITHOUT_QUEUES }>(event)
     }
 
     /// It sends the message of these bytes to the other node. Bytes that are no message are refused as if memory were.
@@ -71,12 +71,15 @@ impl<W: Window<Piece, 4096> + Drop> Node<W> {
         if !message.in_range() {
             return Err(LinkFault::OutOfMemory);
         }
-        let answer = self.links.sent(self.peer, self.own, &message);
+        let answer = self
+            .links
+            .sent::<{ WITHOUT_QUEUES }>(self.peer, self.own, &message);
         if answer != Err(LinkFault::OutOfMemory) {
             return answer;
         }
         self.repeats.sent = self.repeats.sent.wrapping_add(1);
-        self.links.sent(self.peer, self.own, &message)
+        self.links
+            .sent::<{ WITHOUT_QUEUES }>(self.peer, self.own, &message)
     }
 
     /// They come to it from the other node, with this tag. Bytes that are no message are refused as if memory were.
@@ -89,13 +92,13 @@ impl<W: Window<Piece, 4096> + Drop> Node<W> {
         }
         let answer = self
             .links
-            .arrived::<true>(self.own, self.peer, &message, tag);
+            .arrived::<true, { WITHOUT_QUEUES }>(self.own, self.peer, &message, tag);
         if answer != Err(LinkFault::OutOfMemory) {
             return answer;
         }
         self.repeats.arrived = self.repeats.arrived.wrapping_add(1);
         self.links
-            .arrived::<true>(self.own, self.peer, &message, tag)
+            .arrived::<true, { WITHOUT_QUEUES }>(self.own, self.peer, &message, tag)
     }
 }
 

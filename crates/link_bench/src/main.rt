@@ -9,7 +9,7 @@ use dna_packet::{
     AckQualifier, AckWord, ConnectConfirm, ConnectInitiate, DataAck, DisconnectConfirm,
     DisconnectInitiate, Nsp, Segment,
 };
-use nsp_link::{LinkEvent, LinkFault, LinkTag, Links, Piece};
+use nsp_link::{LinkEvent, LinkFault, LinkTag, Links, Piece, WITHOUT_QUEUES};
 use std::env;
 use std::time::Instant;
 use wire_base::RingWindow;
@@ -33,7 +33,7 @@ fn send(from: &mut Node, of: u16, message: &Nsp) -> Result<LinkTag, LinkFault> {
     if !message.in_range() {
         return Err(LinkFault::OutOfMemory);
     }
-    from.sent(other(of), of, message)
+    from.sent::<{ WITHOUT_QUEUES }>(other(of), of, message)
 }
 
 /// It comes to the other node.
@@ -41,7 +41,7 @@ fn take(to: &mut Node, of: u16, message: &Nsp, tag: LinkTag) -> Result<(), LinkF
     if !message.in_range() {
         return Err(LinkFault::OutOfMemory);
     }
-    to.arrived::<true>(other(of), of, message, tag)
+    to.arrived::<true, { WITHOUT_QUEUES }>(other(of), of, message, tag)
 }
 
 fn other(node: u16) -> u16 {
@@ -64,7 +64,7 @@ fn segment<'a>(own: u16, number: u16, body: &'a [u8]) -> Nsp<'a> {
 
 /// A link that gets this address on both sides is opened and accepted.
 fn connect(a: &mut Node, b: &mut Node, own: u16) -> Result<(), LinkFault> {
-    a.user(LinkEvent::Open { link: own })?;
+    a.user::<{ WITHOUT_QUEUES }>(LinkEvent::Open { link: own })?;
     let initiate = Nsp::ConnectInitiate(ConnectInitiate {
         retransmitted: false,
         srcaddr: own,
@@ -74,7 +74,7 @@ fn connect(a: &mut Node, b: &mut Node, own: u16) -> Result<(), LinkFault> {
         user_data: b"",
     });
     carry(a, b, A, &initiate)?;
-    b.user(LinkEvent::Accept {
+    b.user::<{ WITHOUT_QUEUES }>(LinkEvent::Accept {
         partner: own,
         link: own,
     })?;
@@ -92,9 +92,9 @@ fn connect(a: &mut Node, b: &mut Node, own: u16) -> Result<(), LinkFault> {
 /// One message goes from one node to the other.
 fn speak(from: &mut Node, to: &mut Node, of: u16, own: u16) -> Result<(), LinkFault> {
     let message = b"hello";
-    from.user(LinkEvent::In { link: own, message })?;
+    from.user::<{ WITHOUT_QUEUES }>(LinkEvent::In { link: own, message })?;
     carry(from, to, of, &segment(own, 1, message))?;
-    to.user(LinkEvent::Up { link: own, message })
+    to.user::<{ WITHOUT_QUEUES }>(LinkEvent::Up { link: own, message })
 }
 
 /// One link, from its open to its end.
@@ -102,7 +102,7 @@ fn live_once(a: &mut Node, b: &mut Node, own: u16) -> Result<(), LinkFault> {
     connect(a, b, own)?;
     speak(a, b, A, own)?;
     speak(b, a, B, own)?;
-    a.user(LinkEvent::Close { link: own })?;
+    a.user::<{ WITHOUT_QUEUES }>(LinkEvent::Close { link: own })?;
     let initiate = Nsp::DisconnectInitiate(DisconnectInitiate {
         dstaddr: own,
         srcaddr: own,
@@ -137,7 +137,7 @@ fn send_batch(a: &mut Node, first: u64, body: &[u8]) -> Result<LinkTag, LinkFaul
         partner: None,
     };
     for index in 0..BATCH {
-        a.user(LinkEvent::In {
+        a.user::<{ WITHOUT_QUEUES }>(LinkEvent::In {
             link: 1,
             message: body,
         })?;
@@ -152,7 +152,7 @@ fn take_batch(b: &mut Node, first: u64, body: &[u8], tag: LinkTag) -> Result<(),
     for index in 0..BATCH {
         let number = (first.wrapping_add(index) % 4_096) as u16;
         take(b, A, &segment(1, number, body), tag)?;
-        b.user(LinkEvent::Up {
+        b.user::<{ WITHOUT_QUEUES }>(LinkEvent::Up {
             link: 1,
             message: body,
         })?;

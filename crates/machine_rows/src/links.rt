@@ -3,7 +3,7 @@
 use crate::Plays;
 use crate::words::{address, bytes, number_or_none};
 use dna_packet::read_nsp;
-use nsp_link::{LinkEvent, LinkFault, LinkTag, Links, Piece};
+use nsp_link::{LinkEvent, LinkFault, LinkTag, Links, Piece, WITHOUT_QUEUES};
 use std::alloc::{AllocError, Global};
 use std::str::Split;
 use wire_base::Window;
@@ -91,7 +91,7 @@ fn sends<W: Window<Piece, 4096> + Drop>(
     if !message.in_range() {
         return None;
     }
-    Some(tagged(links.sent(dst, src, &message)))
+    Some(tagged(links.sent::<{ WITHOUT_QUEUES }>(dst, src, &message)))
 }
 
 // `arrived SOURCE DESTINATION LINK PARTNER MESSAGE`
@@ -110,7 +110,7 @@ fn takes<W: Window<Piece, 4096> + Drop>(
         return None;
     }
     let tag = LinkTag { link, partner };
-    Some(untagged(links.arrived::<true>(dst, src, &message, tag)))
+    Some(untagged(links.arrived::<true, { WITHOUT_QUEUES }>(dst, src, &message, tag)))
 }
 
 // `open LINK`, `close LINK`, `accept PARTNER LINK`, `reject PARTNER LINK`, `in LINK DATA`, `up LINK DATA`
@@ -124,7 +124,7 @@ fn does<W: Window<Piece, 4096> + Drop>(
     let second = words.next().unwrap_or("-");
     let data = data_of(alloc, second);
     let event = event_of(verb, first, second, data.as_slice())?;
-    Some(untagged(links.user(event)))
+    Some(untagged(links.user::<{ WITHOUT_QUEUES }>(event)))
 }
 
 // `range` and an event: whether its fields are in range

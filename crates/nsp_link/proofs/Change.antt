@@ -6,25 +6,22 @@ use Rattle.std.specs.Prelude.{slice_get}
 use Rattle.std.proofs.lemmas.List.{set-get_or}
 use Rattle.dna_station.specs.declared.link_refusal.LinkRefusal.{LinkRefusal}
 use Rattle.dna_station.specs.declared.link_refusal.LinkRefusal.TheVariants.{WrongDelivery}
-use Rattle.dna_links.specs.Queues.{ended}
-use Rattle.dna_links.specs.SegmentBook.{Sending}
 use Rattle.dna_links.specs.inner.Forms.{delivered}
-use Rattle.dna_links.specs.inner.Forms.{carries, truth_of}
+use Rattle.dna_links.specs.inner.Forms.{truth_of}
 use Rattle.std.proofs.lemmas.Option.{slice_get_read}
 use Rattle.dna_links.specs.LookUps.{is_live, is_at}
-use Rattle.dna_links.specs.Links.{LinkOf, changed, in_phase, with_segments}
-use Rattle.dna_links.specs.Arriving.{of_partner}
-use Rattle.dna_links.specs.inner.Forms.{confirmed}
-use Rattle.dna_links.specs.declared.tag.LinkTag.{LinkTag}
-use Rattle.dna_links.specs.WireSegments.{WireSegments, wire_segments, sending, delivers}
+use Rattle.dna_links.specs.Links.{LinkOf, changed, with_segments}
+use Rattle.dna_links.specs.WireSegments.{WireSegments, wire_segments, delivers}
 use Rattle.dna_links.specs.WireLinks.{WireLinks}
-use Rattle.dna_links.specs.declared.port.Phase.{Phase}
-use Rattle.dna_links.specs.declared.port.Phase.TheVariants.{Running}
+use Rattle.dna_links.specs.declared.port.Phase.TheVariants.{Running, Ended}
 use Rattle.dna_links.specs.declared.port.Port.{Port}
 use Rattle.dna_links.specs.LookUps.{is_called, is_calling}
-use Rattle.nsp_link.specs.inner.Index.{IsIndexed, Stays, lives_to}
-use Rattle.nsp_link.specs.inner.Indexing.{LivesAt}
-use Rattle.nsp_link.proofs.Indexed.{indexed_change, indexed_confirm, indexed_end, no_more, stays_same, stays_moved}
+use Rattle.nsp_link.specs.inner.Index.{IsIndexed, Stays, counting}
+use Rattle.nsp_link.specs.inner.Indexing.{AreIndexed}
+use Rattle.nsp_link.specs.inner.Rows.{sent_by}
+use Rattle.nsp_link.specs.declared.index.Index.{Index}
+use Rattle.nsp_link.proofs.Indexed.{indexed_change, indexed_confirm, indexed_end, no_more, stays_same}
+use Rattle.nsp_link.proofs.Used.{used_change, uses_same}
 
 and_false : (b : Bool) → (b && false) ≡ false
 and_false true = refl
@@ -33,6 +30,9 @@ and_false false = refl
 pub map_ok : {A E P Q : Type 0} (r : Result A E) → (P → Q) → OnOk r P → OnOk r Q
 map_ok (Ok x) f h = f h
 map_ok (Err e) f h = h
+
+abbrev made_ok : {R : Type 0} → R → Result R LinkRefusal
+made_ok made = Ok made
 
 -- one of the links of a node, at its number
 pub record InPlace (node peer : ℕ) (items : List (LinkOf WireSegments)) (s : WireLinks) (n : ℕ) (l : LinkOf WireSegments) : Type 0 where
@@ -83,22 +83,9 @@ module _ {node peer : ℕ} {items : List (LinkOf WireSegments)} {s : WireLinks} 
       (ap (λ (k : LinkOf WireSegments). set items n k) (e ∙ at.there) ∙ set-get_or items n l) ∙ at.is
 
   -- a message that is sent
-  carry_made : (step : LinkOf WireSegments → Result (Sending WireSegments (Unit {0})) LinkRefusal) {m : LinkOf WireSegments} →
-      m ≡ with_segments m.segments l →
-      step l ≡ Ok (sending m.segments) → (link : LinkOf WireSegments) → slice_get s.links n ≡ Some link →
-      carries wire_segments s n link (step link) ≡ Ok
-      (record { links = record { node = node; peer = peer; links = set items n m }; truth = truth_of wire_segments n link tt })
-  carry_made step {m} rest e link found =
-      ap (λ (r : Result (Sending WireSegments (Unit {0})) LinkRefusal). carries wire_segments s n link r) (ap step (sym (same_link link found)) ∙ e)
-      ∙ ap (λ (t : WireLinks). Ok (record { links = t; truth = truth_of wire_segments n link tt }))
-      (sym (change_made (with_segments m.segments) rest link found))
-
-  pub carried_if_ok : {A E : Type 0} (r : Result A E) (step : LinkOf WireSegments → Result (Sending WireSegments (Unit {0})) LinkRefusal)
-      {m : LinkOf WireSegments} →
-      m ≡ with_segments m.segments l → OnOk r (step l ≡ Ok (sending m.segments)) → (link : LinkOf WireSegments) → slice_get s.links n ≡ Some link →
-      OnOk r (carries wire_segments s n link (step link) ≡ Ok
-      (record { links = record { node = node; peer = peer; links = set items n m }; truth = truth_of wire_segments n link tt }))
-  carried_if_ok r step rest made link found = map_ok r (λ e. carry_made step rest e link found) made
+  pub sent_made : (link m : LinkOf WireSegments) → made_ok (sent_by s n link m) ≡
+      Ok (record { links = record { node = node; peer = peer; links = set items n m }; truth = truth_of wire_segments n link tt })
+  sent_made link m = ap (λ (t : WireLinks). Ok (record { links = t; truth = truth_of wire_segments n link tt })) (sym (changes_to m))
 
   -- a message that is delivered, or not
   pub told_made : (message : List ℕ) (r : Bool) {m : LinkOf WireSegments} → m ≡ with_segments m.segments l →
@@ -117,60 +104,47 @@ module _ {node peer : ℕ} {items : List (LinkOf WireSegments)} {s : WireLinks} 
   -- ---- how it is found
 
   module _ {h c : ℕ → Option ℕ} {r : ℕ → ℕ} {w : ℕ} (index : IsIndexed items h c r w) where
-    -- the index stays where it is found as before
-    pub change_indexed : {m : LinkOf WireSegments} → Stays l m → IsIndexed (set items n m) h c r w
-    change_indexed {m} stays = indexed_change items h c r w index n l m link_there stays
-
-    -- where its segments change, and nothing else
-    pub kept_indexed : {m : LinkOf WireSegments} → m ≡ with_segments m.segments l → IsIndexed (set items n m) h c r w
-    kept_indexed {m} rest = change_indexed (stays_same l m (ap (λ (k : LinkOf WireSegments). k.port) rest))
-
-    -- where it goes to another phase
-    pub moved_indexed : (phase : Phase) {m k : LinkOf WireSegments} → LivesAt n s → m ≡ k → k.port ≡ record l.port { phase = phase } →
-        is_live phase ≡ true → is_called phase ≡ false → is_calling phase ≡ false → IsIndexed (set items n m) h c r w
-    moved_indexed phase {m} {k} lives made moved live called calling =
-        change_indexed (stays_moved phase l m (ap (λ (x : LinkOf WireSegments). x.port) made ∙ moved) live called calling (lives l link_found))
-
     module _ {h' c' : ℕ → Option ℕ} {r' : ℕ → ℕ} {w' : ℕ} (holders : (q : ℕ) → h' q ≡ h q) (callers : (q : ℕ) → c' q ≡ c q) where
       -- a CC confirms it: it gets to know an address of the other side
-      pub confirmed_index : (far segsize : ℕ) (tag : LinkTag) {m : LinkOf WireSegments} → is_calling l.port.phase ≡ true →
-          (l.port.opened ≡ true) × (l.port.far ≡ None) → m ≡ confirmed wire_segments of_partner far segsize tag l → suc w' ≡ w →
+      pub confirmed_index : (far : ℕ) (m : LinkOf WireSegments) → is_calling l.port.phase ≡ true →
+          (l.port.opened ≡ true) × (l.port.far ≡ None) → m.port ≡ record l.port { phase = Running; far = Some far } → suc w' ≡ w →
           ((q : ℕ) → r' q ≡ cond (eqb far q) (suc (r q)) (r q)) → IsIndexed (set items n m) h' c' r' w'
-      confirmed_index far segsize tag {m} calling known made wait counts =
-          indexed_confirm items h c r w index n l m link_there h' c' r' w' holders callers (ap (λ (k : LinkOf WireSegments). k.port.own) made)
-          (λ q. no_more m q (ap (λ (k : LinkOf WireSegments). is_called k.port.phase) made)
-          (ap (λ (k : LinkOf WireSegments). is_live k.port.phase && not k.port.opened) made ∙ ap not known.0))
+      confirmed_index far m calling known made wait counts =
+          indexed_confirm items h c r w index n l m link_there h' c' r' w' holders callers (ap (λ (p : Port). p.own) made)
+          (λ q. no_more m q (ap (λ (p : Port). is_called p.phase) made)
+          (ap (λ (p : Port). is_live p.phase && not p.opened) made ∙ ap not known.0))
           far calling
           (λ q. ap (λ (f : Option ℕ). is_live l.port.phase && is_at f q) known.1 ∙ and_false (is_live l.port.phase))
-          (ap (λ (k : LinkOf WireSegments). is_calling k.port.phase) made) (λ q. ap (lives_to q) made) wait counts
+          (ap (λ (p : Port). is_calling p.phase) made) (λ q. ap (λ (p : Port). is_live p.phase && is_at p.far q) made) wait counts
 
       -- it ends
-      pub ended_index : {port : Port} {m : LinkOf WireSegments} → port ≡ l.port → is_live l.port.phase ≡ true → m ≡ ended wire_segments l →
+      pub ended_index : {port : Port} (m : LinkOf WireSegments) → port ≡ l.port → is_live l.port.phase ≡ true →
+          m.port ≡ record l.port { phase = Ended } →
           cond (is_calling port.phase) (suc w') w' ≡ w → ((q : ℕ) → cond (is_at port.far q) (suc (r' q)) (r' q) ≡ r q) →
           IsIndexed (set items n m) h' c' r' w'
-      ended_index {port} {m} same lived made wait counts =
-          indexed_end items h c r w index n l m link_there h' c' r' w' holders callers (ap (λ (k : LinkOf WireSegments). k.port.own) made)
-          (λ q. no_more m q (ap (λ (k : LinkOf WireSegments). is_called k.port.phase) made)
-          (ap (λ (k : LinkOf WireSegments). is_live k.port.phase && not k.port.opened) made))
-          lived (ap (λ (k : LinkOf WireSegments). is_live k.port.phase) made) (ap (λ (k : LinkOf WireSegments). is_calling k.port.phase) made)
+      ended_index {port} m same lived made wait counts =
+          indexed_end items h c r w index n l m link_there h' c' r' w' holders callers (ap (λ (p : Port). p.own) made)
+          (λ q. no_more m q (ap (λ (p : Port). is_called p.phase) made) (ap (λ (p : Port). is_live p.phase && not p.opened) made))
+          lived (ap (λ (p : Port). is_live p.phase) made) (ap (λ (p : Port). is_calling p.phase) made)
           (sym (ap (λ (p : Port). cond (is_calling p.phase) (suc w') w') same) ∙ wait)
           (λ q. sym (ap (λ (p : Port). cond (is_at p.far q) (suc (r' q)) (r' q)) same) ∙ counts q)
 
 -- ---- that the index stays one, as the tactic finds it
 
-module _ {node peer : ℕ} {items : List (LinkOf WireSegments)} {s : WireLinks} {n : ℕ} {l m : LinkOf WireSegments} {h c : ℕ → Option ℕ} {r : ℕ → ℕ}
-    {w : ℕ} where
+module _ {node peer : ℕ} {items : List (LinkOf WireSegments)} {s : WireLinks} {n : ℕ} {l m : LinkOf WireSegments} {index : Index} where
   pub stays_index : Stays l m → l ≡ get_or items n l → record { node = node; peer = peer; links = items } ≡ s → n < length s.links →
-      IsIndexed items h c r w → IsIndexed (set items n m) h c r w
-  stays_index stays there is within index = change_indexed (in_place is within there) index stays
+      AreIndexed items index → AreIndexed (set items n m) index
+  stays_index stays there is within are =
+      let at = link_there (in_place is within there) in
+      record {
+        found = indexed_change items _ _ _ _ are.found n l m at stays.found;
+        used = used_change (counting index.counts) items n l m _ _ are.used at (uses_same l m stays) (λ q. refl);
+      }
 
   pub keeps_index : m ≡ with_segments m.segments l → l ≡ get_or items n l → record { node = node; peer = peer; links = items } ≡ s →
-      n < length s.links → IsIndexed items h c r w → IsIndexed (set items n m) h c r w
-  keeps_index rest there is within index = kept_indexed (in_place is within there) index rest
+      n < length s.links → AreIndexed items index → AreIndexed (set items n m) index
+  keeps_index rest there is within are =
+      stays_index (stays_same l m (ap (λ (k : LinkOf WireSegments). k.port) rest) (ap (λ (k : LinkOf WireSegments). k.queue.waits) rest))
+      there is within are
 
-  pub runs_index : (segments : WireSegments) → m ≡ with_segments segments (in_phase Running l) → l ≡ get_or items n l →
-      record { node = node; peer = peer; links = items } ≡ s → n < length s.links → LivesAt n s → IsIndexed items h c r w →
-      IsIndexed (set items n m) h c r w
-  runs_index segments made there is within live index = moved_indexed (in_place is within there) index Running live made refl refl refl refl
-
-pub ruleset changes = (stays_index, keeps_index, runs_index)
+pub ruleset changes = (stays_index, keeps_index)

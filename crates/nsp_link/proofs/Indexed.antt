@@ -6,7 +6,8 @@ use Rattle.dna_links.specs.declared.port.Phase.{Phase}
 use Rattle.dna_links.specs.declared.port.Port.{Port}
 use Rattle.dna_links.specs.LookUps.{is_live, is_at, is_called, is_calling}
 use Rattle.dna_links.specs.Links.{LinkOf}
-use Rattle.nsp_link.specs.inner.Index.{IsIndexed, Stays, counted, look_at, own_of, begun_from, lives_to, waits}
+use Rattle.dna_links.specs.Queues.{port_of_waiting}
+use Rattle.nsp_link.specs.inner.Index.{IsIndexed, IsFoundAs, Stays, counted, look_at, own_of, begun_from, lives_to, uses, waits}
 use Rattle.nsp_link.proofs.Counting.{bit, bit_true, bit_false, bit_less, counted_set, counted_some, counted_all}
 
 -- ---- what is seen at each number
@@ -62,21 +63,26 @@ pub no_more : {D : Type 0} (m : LinkOf D) (q : ℕ) → is_called m.port.phase �
     begun_from m ≡ Some q → ⊥
 no_more m q called others e = begun_no_more (is_called m.port.phase) (is_live m.port.phase && not m.port.opened) m.port.far q called others e
 
+used_as : (w : Option Phase) (p r : Port) → is_live r.phase ≡ is_live p.phase →
+    is_live (port_of_waiting w r).phase ≡ is_live (port_of_waiting w p).phase
+used_as None p r e = e
+used_as (Some phase) p r e = refl
+
 module _ {D : Type 0} where
-  pub stays_begun : (l m : LinkOf D) (q : ℕ) → Stays l m → begun_from m ≡ Some q → begun_from l ≡ Some q
+  pub stays_begun : (l m : LinkOf D) (q : ℕ) → IsFoundAs l m → begun_from m ≡ Some q → begun_from l ≡ Some q
   stays_begun l m q s e =
       begun_less (is_called m.port.phase) (is_called l.port.phase) (is_live m.port.phase && not m.port.opened)
       (is_live l.port.phase && not l.port.opened) m.port.far l.port.far q s.called
       (ap (λ (b : Bool). b && not m.port.opened) s.lives ∙ ap (λ (b : Bool). is_live l.port.phase && not b) s.opened) s.far e
 
-  pub stays_lives : (l m : LinkOf D) (q : ℕ) → Stays l m → lives_to q m ≡ lives_to q l
+  pub stays_lives : (l m : LinkOf D) (q : ℕ) → IsFoundAs l m → lives_to q m ≡ lives_to q l
   stays_lives l m q s =
       ap (λ (b : Bool). b && is_at m.port.far q) s.lives ∙ ap (λ (f : Option ℕ). is_live l.port.phase && is_at f q) s.far
 
   -- ---- one that has the same port, or another phase
 
-  pub stays_same : (l m : LinkOf D) → m.port ≡ l.port → Stays l m
-  stays_same l m e = record {
+  pub found_same : (l m : LinkOf D) → m.port ≡ l.port → IsFoundAs l m
+  found_same l m e = record {
     own = ap (λ (p : Port). p.own) e;
     opened = ap (λ (p : Port). p.opened) e;
     far = ap (λ (p : Port). p.far) e;
@@ -85,15 +91,34 @@ module _ {D : Type 0} where
     calling = λ is. sym (ap (λ (p : Port). is_calling p.phase) e) ∙ is;
   }
 
-  pub stays_moved : (phase : Phase) (l m : LinkOf D) → m.port ≡ record l.port { phase = phase } → is_live phase ≡ true → is_called phase ≡ false →
-      is_calling phase ≡ false → is_live l.port.phase ≡ true → Stays l m
-  stays_moved phase l m e live called calling lived = record {
+  pub found_moved : (phase : Phase) (l m : LinkOf D) → m.port ≡ record l.port { phase = phase } → is_live phase ≡ true → is_called phase ≡ false →
+      is_calling phase ≡ false → is_live l.port.phase ≡ true → IsFoundAs l m
+  found_moved phase l m e live called calling lived = record {
     own = ap (λ (p : Port). p.own) e;
     opened = ap (λ (p : Port). p.opened) e;
     far = ap (λ (p : Port). p.far) e;
     lives = ap (λ (p : Port). is_live p.phase) e ∙ live ∙ sym lived;
     called = λ is. never (is_called m.port.phase) (ap (λ (p : Port). is_called p.phase) e ∙ called) is;
     calling = λ is. never (is_calling m.port.phase) (ap (λ (p : Port). is_calling p.phase) e ∙ calling) is;
+  }
+
+  -- ---- and may send as before
+
+  used_so : (l m : LinkOf D) → m.queue.waits ≡ l.queue.waits → is_live m.port.phase ≡ is_live l.port.phase → uses m ≡ uses l
+  used_so l m waits e = ap (λ (w : Option Phase). is_live (port_of_waiting w m.port).phase) waits ∙ used_as l.queue.waits l.port m.port e
+
+  pub stays_same : (l m : LinkOf D) → m.port ≡ l.port → m.queue.waits ≡ l.queue.waits → Stays l m
+  stays_same l m e waits = record { found = found_same l m e; used = used_so l m waits (ap (λ (p : Port). is_live p.phase) e) }
+
+  -- one that has ended goes on in what waits
+  pub stays_waiting : (l m : LinkOf D) → m.port ≡ l.port → uses m ≡ uses l → Stays l m
+  stays_waiting l m e used = record { found = found_same l m e; used = used }
+
+  pub stays_moved : (phase : Phase) (l m : LinkOf D) → m.port ≡ record l.port { phase = phase } → m.queue.waits ≡ l.queue.waits →
+      is_live phase ≡ true → is_called phase ≡ false → is_calling phase ≡ false → is_live l.port.phase ≡ true → Stays l m
+  stays_moved phase l m e waits live called calling lived = record {
+    found = found_moved phase l m e live called calling lived;
+    used = used_so l m waits (ap (λ (p : Port). is_live p.phase) e ∙ live ∙ sym lived);
   }
 
   -- ---- the index
@@ -124,7 +149,7 @@ module _ {D : Type 0} where
         omega arith
 
     module _ (n : ℕ) (l m : LinkOf D) (there : slice_get links n ≡ Some l) where
-      pub indexed_change : Stays l m → IsIndexed (set links n m) holder caller reached waiting
+      pub indexed_change : IsFoundAs l m → IsIndexed (set links n m) holder caller reached waiting
       indexed_change s = record {
         has = λ number own e. index.has number own (sym (look_set own_of links n number l m there s.own) ∙ e);
         holds = λ own number e. look_set own_of links n number l m there s.own ∙ index.holds own number e;

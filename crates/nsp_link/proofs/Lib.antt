@@ -19,3 +19,10 @@ mod Beginning
 mod Giving
 mod Ended
 mod Shown
+mod LateWords
+mod Requeued
+mod Numbered
+mod Used
+mod Settled
+mod InUse
+mod Rows

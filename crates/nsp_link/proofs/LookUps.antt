@@ -21,7 +21,7 @@ pub first_true : (a b : Bool) → (a && b) ≡ true → a ≡ true
 first_true true b e = refl
 first_true false b e = e
 
-second_true : (a b : Bool) → (a && b) ≡ true → b ≡ true
+pub second_true : (a b : Bool) → (a && b) ≡ true → b ≡ true
 second_true true b e = e
 second_true false b e = absurd (cc)
 
@@ -108,7 +108,7 @@ passes_lives (ActedOn own far) port of e = by_phase is_connected refl port.phase
 
 -- ---- the one that is looked at
 
-is_at-eq : (o : Option ℕ) (own : ℕ) → is_at o own ≡ true → o ≡ Some own
+pub is_at-eq : (o : Option ℕ) (own : ℕ) → is_at o own ≡ true → o ≡ Some own
 is_at-eq None own e = absurd (cc)
 is_at-eq (Some known) own e = ap Some (eqb-true known own e)
 
@@ -118,7 +118,7 @@ eq-is_at o own e = ap (λ (known : Option ℕ). is_at known own) e ∙ eq-eqb ow
 module _ {D : Type 0} (links : List (LinkOf D)) (holder caller : ℕ → Option ℕ) (reached : ℕ → ℕ) (waiting : ℕ)
     (index : IsIndexed links holder caller reached waiting) where
   module _ (n : ℕ) (l : LinkOf D) (there : slice_get links n ≡ Some l) where
-    held : (own : ℕ) → is_at l.port.own own ≡ true → holder own ≡ Some n
+    pub held : (own : ℕ) → is_at l.port.own own ≡ true → holder own ≡ Some n
     held own e = index.has n own (ap (look_in own_of) there ∙ is_at-eq l.port.own own e)
 
     begun : (far : ℕ) → is_begun l.port ≡ true → is_at l.port.far far ≡ true → caller far ≡ Some n

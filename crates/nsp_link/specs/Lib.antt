@@ -5,6 +5,7 @@ pub mod FailedEvent
 pub mod FailedSending
 pub mod Fault
 pub mod Given
+pub mod Kinds
 pub mod Missing
 pub mod PartnerRules
 pub mod Phases

@@ -5,7 +5,9 @@ use Rattle.dna_links.specs.declared.port.Phase.{Phase}
 use Rattle.dna_links.specs.declared.port.Phase.TheVariants.{Calling, Confirming, Running, Disconnecting}
 use Rattle.dna_links.specs.LookUps.{is_calling, is_confirming, is_running, is_disconnecting}
 use Rattle.dna_links.specs.declared.port.LinkTest.TheVariants.{TheLink, LiveTo, ActedOn}
+use Rattle.dna_links.specs.declared.queue.Queues.{Queues}
 use Rattle.dna_links.specs.Links.{with_link}
+use Rattle.dna_links.specs.Queues.{with_in_use}
 use Rattle.dna_links.specs.User.{LinkEventValue, Open, Accept, Reject, In}
 use Rattle.dna_links.specs.WireSegments.{is_new}
 use Rattle.dna_links.specs.WireLinks.{WireLinks}
@@ -30,12 +32,13 @@ event_takes_memory (In link message) = true
 event_takes_memory event = false
 
 -- a segment that is new is kept; a repeat and any other message is not
-abbrev pub gives_new : WireLinks → SegmentValue → Bool
-gives_new s segment = with_link (TheLink segment.srcaddr segment.dstaddr) s false (λ number link. is_new segment link.segments.variables)
+abbrev pub gives_new : Queues → WireLinks → SegmentValue → Bool
+gives_new queues s segment =
+    with_in_use queues (TheLink segment.srcaddr segment.dstaddr) s false (λ number link. is_new segment link.segments.variables)
 
-abbrev pub sending_takes_memory : WireLinks → NspValue → Bool
-sending_takes_memory s (DataSegment segment) = gives_new s segment
-sending_takes_memory s m = false
+abbrev pub sending_takes_memory : Queues → WireLinks → NspValue → Bool
+sending_takes_memory queues s (DataSegment segment) = gives_new queues s segment
+sending_takes_memory queues s m = false
 
 -- a segment that is held is kept; a CI that is no repeat begins a link
 abbrev pub holds_segment : WireLinks → SegmentValue → Bool

@@ -2,3 +2,6 @@
 pub mod Link
 pub mod Index
 pub mod Indexing
+pub mod Queue
+pub mod Late
+pub mod Rows

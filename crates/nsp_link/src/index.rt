@@ -1,6 +1,6 @@
 //! How the links of a node are found without a look at all that ever were.
 
-ghost use Rattle.std.specs.Prelude.{◌≡◌, ◌≤◌, ◌<◌, ◌+◌, ◌-◌, ◌^◌, ℕ, suc, Some, true, nat_eq, eqb, ltb, OnOk, OnErr, if◌then◌else◌};
+ghost use Rattle.std.specs.Prelude.{◌≡◌, ◌≤◌, ◌<◌, ◌+◌, ◌-◌, ◌^◌, ℕ, suc, Some, None, true, false, nat_eq, eqb, ltb, OnOk, OnErr, if◌then◌else◌};
 ghost use Rattle.std.specs.Ordering.{nat_cmp};
 ghost use Rattle.std.specs.BTreeMap.{get};
 ghost use Rattle.std.specs.HashMap.{spare};
@@ -23,6 +23,10 @@ pub struct Index {
     reached: HashMap<u16, usize>,
     // how many links in Calling there may be: each gets to know an address of the other side
     waiting: usize,
+    // of how many links that a CI from an address of the other side began something may still be sent, while that is counted
+    in_use: HashMap<u16, usize>,
+    // whether it is: with queues, from the first link on
+    counts: bool,
     ghost room: { waiting ≤ spare reached },
 }
 
@@ -33,12 +37,15 @@ impl Index {
         ensures caller { (q : ℕ) → get nat_cmp result.callers q ≡ None }
         ensures reached { (q : ℕ) → times (hashed.get nat_eq result.reached q) ≡ 0 }
         ensures waiting { result.waiting ≡ 0 }
+        ensures counts { result.counts ≡ false }
     {
         Index {
             holders: BTreeMap::new(alloc),
             callers: BTreeMap::new(alloc),
             reached: HashMap::new(alloc),
             waiting: 0,
+            in_use: HashMap::new(alloc),
+            counts: false,
         }
     }
 
@@ -92,6 +99,8 @@ impl Index {
         ensures holders { self.new.holders ≡ self.old.holders }
         ensures callers { self.new.callers ≡ self.old.callers }
         ensures waiting { self.new.waiting ≡ self.old.waiting }
+        ensures in_use { self.new.in_use ≡ self.old.in_use }
+        ensures counts { self.new.counts ≡ self.old.counts }
     {
         self.reached.reserve(self.waiting + 1)
     }
@@ -103,6 +112,8 @@ impl Index {
         ensures callers { self.new.callers ≡ self.old.callers }
         ensures reached { self.new.reached ≡ self.old.reached }
         ensures waiting { self.new.waiting ≡ self.old.waiting }
+        ensures in_use { self.new.in_use ≡ self.old.in_use }
+        ensures counts { self.new.counts ≡ self.old.counts }
     {
         match self.holders.insert(own, number) {
             Ok(_) => Ok(()),
@@ -117,6 +128,8 @@ impl Index {
         ensures holders { self.new.holders ≡ self.old.holders }
         ensures reached { self.new.reached ≡ self.old.reached }
         ensures waiting { self.new.waiting ≡ self.old.waiting }
+        ensures in_use { self.new.in_use ≡ self.old.in_use }
+        ensures counts { self.new.counts ≡ self.old.counts }
     {
         match self.callers.insert(far, number) {
             Ok(_) => Ok(()),
@@ -132,6 +145,8 @@ impl Index {
         ensures holders { self.new.holders ≡ self.old.holders }
         ensures callers { self.new.callers ≡ self.old.callers }
         ensures reached { self.new.reached ≡ self.old.reached }
+        ensures in_use { self.new.in_use ≡ self.old.in_use }
+        ensures counts { self.new.counts ≡ self.old.counts }
     {
         self.waiting += 1;
     }
@@ -144,6 +159,8 @@ impl Index {
         ensures holders { self.new.holders ≡ self.old.holders }
         ensures callers { self.new.callers ≡ self.old.callers }
         ensures reached { self.new.reached ≡ self.old.reached }
+        ensures in_use { self.new.in_use ≡ self.old.in_use }
+        ensures counts { self.new.counts ≡ self.old.counts }
     {
         self.waiting -= 1;
     }
@@ -157,6 +174,8 @@ impl Index {
         ensures holders { self.new.holders ≡ self.old.holders }
         ensures callers { self.new.callers ≡ self.old.callers }
         ensures waiting { self.new.waiting ≡ self.old.waiting }
+        ensures in_use { self.new.in_use ≡ self.old.in_use }
+        ensures counts { self.new.counts ≡ self.old.counts }
     {
         let times = self.times(far);
         match self.reached.insert(far, times + 1) {
@@ -174,6 +193,8 @@ impl Index {
         ensures holders { self.new.holders ≡ self.old.holders }
         ensures callers { self.new.callers ≡ self.old.callers }
         ensures waiting { self.new.waiting ≡ self.old.waiting }
+        ensures in_use { self.new.in_use ≡ self.old.in_use }
+        ensures counts { self.new.counts ≡ self.old.counts }
     {
         let times = self.times(far);
         if times == 1 {
@@ -183,5 +204,101 @@ impl Index {
         if let Some(count) = self.reached.get_mut(&far) {
             *count = times - 1;
         }
+    }
+
+    /// Of how many links that a CI from this address began something may still be sent, while that is counted.
+    pub fn uses(&self, far: u16) -> usize
+        ensures { result ≡ times (hashed.get nat_eq self.now.in_use far) }
+    {
+        match self.in_use.get(&far) {
+            Some(count) => *count,
+            None => 0,
+        }
+    }
+
+    /// There is room to count one more link that a CI begins. Nothing else changes.
+    pub fn reserve_use(&mut self) -> Result<(), AllocError>
+        ensures ok { OnOk result (0 < spare self.new.in_use) }
+        ensures in_use { (q : ℕ) → times (hashed.get nat_eq self.new.in_use q) ≡ times (hashed.get nat_eq self.old.in_use q) }
+        ensures holders { self.new.holders ≡ self.old.holders }
+        ensures callers { self.new.callers ≡ self.old.callers }
+        ensures reached { self.new.reached ≡ self.old.reached }
+        ensures waiting { self.new.waiting ≡ self.old.waiting }
+        ensures counts { self.new.counts ≡ self.old.counts }
+    {
+        self.in_use.reserve(1)
+    }
+
+    /// One more link that a CI from this address began may send something; there is room.
+    pub fn begin_use(&mut self, far: u16)
+        requires room { 0 < spare self.old.in_use }
+        requires few { times (hashed.get nat_eq self.old.in_use far) < 2 ^ 63 }
+        ensures in_use { (q : ℕ) → times (hashed.get nat_eq self.new.in_use q)
+            ≡ (if eqb far q then suc (times (hashed.get nat_eq self.old.in_use q)) else times (hashed.get nat_eq self.old.in_use q)) }
+        ensures holders { self.new.holders ≡ self.old.holders }
+        ensures callers { self.new.callers ≡ self.old.callers }
+        ensures reached { self.new.reached ≡ self.old.reached }
+        ensures waiting { self.new.waiting ≡ self.old.waiting }
+        ensures counts { self.new.counts ≡ self.old.counts }
+    {
+        let times = self.uses(far);
+        match self.in_use.insert(far, times + 1) {
+            Ok(_) => {}
+            Err(_) => unreachable!(),
+        }
+    }
+
+    /// Nothing of one of the links that a CI from this address began is sent any more.
+    pub fn end_use(&mut self, far: u16)
+        requires { 0 < times (hashed.get nat_eq self.old.in_use far) }
+        ensures in_use { (q : ℕ) → (if eqb far q then suc (times (hashed.get nat_eq self.new.in_use q)) else times
+            (hashed.get nat_eq self.new.in_use q))
+            ≡ times (hashed.get nat_eq self.old.in_use q) }
+        ensures holders { self.new.holders ≡ self.old.holders }
+        ensures callers { self.new.callers ≡ self.old.callers }
+        ensures reached { self.new.reached ≡ self.old.reached }
+        ensures waiting { self.new.waiting ≡ self.old.waiting }
+        ensures counts { self.new.counts ≡ self.old.counts }
+    {
+        let times = self.uses(far);
+        if times == 1 {
+            self.in_use.remove(&far);
+            return;
+        }
+        if let Some(count) = self.in_use.get_mut(&far) {
+            *count = times - 1;
+        }
+    }
+
+    /// Whether uses are counted.
+    pub fn counts(&self) -> bool
+        ensures { result ≡ self.now.counts }
+    {
+        self.counts
+    }
+
+    /// Uses are counted from now on, and there is none. Takes no memory.
+    pub fn begin_counting(&mut self, alloc: Global)
+        ensures counts { self.new.counts ≡ true }
+        ensures in_use { (q : ℕ) → times (hashed.get nat_eq self.new.in_use q) ≡ 0 }
+        ensures holders { self.new.holders ≡ self.old.holders }
+        ensures callers { self.new.callers ≡ self.old.callers }
+        ensures reached { self.new.reached ≡ self.old.reached }
+        ensures waiting { self.new.waiting ≡ self.old.waiting }
+    {
+        self.in_use = HashMap::new(alloc);
+        self.counts = true;
+    }
+
+    /// Uses are counted no more.
+    pub fn stop_counting(&mut self)
+        ensures counts { self.new.counts ≡ false }
+        ensures in_use { self.new.in_use ≡ self.old.in_use }
+        ensures holders { self.new.holders ≡ self.old.holders }
+        ensures callers { self.new.callers ≡ self.old.callers }
+        ensures reached { self.new.reached ≡ self.old.reached }
+        ensures waiting { self.new.waiting ≡ self.old.waiting }
+    {
+        self.counts = false;
     }
 }

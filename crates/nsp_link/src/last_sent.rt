@@ -7,6 +7,7 @@ ghost use Rattle.dna_links.specs.SegmentBook.{distance, is_of_data};
 ghost use Rattle.dna_links.specs.WireSegments.{all_named, last_named, is_ahead, is_behind, moved_to};
 
 pub(crate) mod failing;
+pub(crate) mod late;
 
 use dna_packet::AckWord;
 use link_segments::{REACH, is_of_data};

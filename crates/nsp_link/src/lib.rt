@@ -7,12 +7,15 @@ mod failed;
 mod fault;
 mod given;
 mod index;
+mod kind;
 mod last_sent;
 mod laws;
 mod link;
 mod links;
 mod phase;
 mod segments;
+#[cfg(test)]
+mod tests;
 mod view;
 
 pub use dna_links::{LinkEvent, LinkTag};
@@ -23,6 +26,7 @@ pub use failed::{
 };
 pub use fault::LinkFault;
 pub use given::Given;
+pub use kind::{WITH_QUEUES, WITHOUT_QUEUES};
 pub use laws::{allowed_at_links, failed_as_refused, link_view_shows_truth};
 pub use link_segments::Piece;
 pub use links::Links;

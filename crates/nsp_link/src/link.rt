@@ -1,38 +1,37 @@
 //! One end of a logical link.
 
-ghost use Rattle.std.specs.Prelude.{◌≡◌, ◌<◌, ◌&&◌, Ok, Err, None, Some, true, false, not, OnOk, OnErr, IfOk, IfErr, if◌then◌else◌};
-ghost use Rattle.std.specs.List.{AllByRecursion};
-ghost use Rattle.dna_packet.specs.AckWord.{IsAckWord};
-ghost use Rattle.dna_packet.specs.Nsp.{segment_view};
-ghost use Rattle.dna_links.specs.LookUps.{is_live, is_called, is_calling};
-ghost use Rattle.dna_links.specs.Links.{in_phase, with_segments};
-ghost use Rattle.dna_links.specs.Queues.{fresh, ended, forgotten};
-ghost use Rattle.dna_links.specs.declared.queue.Queues.TheVariants.{Without};
+ghost use Rattle.std.specs.Prelude.{◌≡◌, ◌<◌, None, true, IfOk};
+ghost use Rattle.dna_links.specs.LookUps.{is_called, is_calling};
+ghost use Rattle.dna_links.specs.Queues.{fresh, in_use, is_in_turn};
+ghost use Rattle.dna_links.specs.Queues as queues;
 ghost use Rattle.dna_links.specs.inner.Forms as forms;
-ghost use Rattle.dna_links.specs.inner.Forms.{segment_of};
 ghost use Rattle.dna_links.specs.Arriving.{of_partner};
-ghost use Rattle.dna_links.specs.inner.Forms.{running};
-ghost use Rattle.dna_links.specs.WireSegments.{wire_segments, hands_in, delivers, sends_acks, sending, takes_segment, takes_acks};
+ghost use Rattle.dna_links.specs.WireSegments.{wire_segments};
 ghost use Rattle.dna_links.specs.WireSegments as spec;
-ghost use Rattle.nsp_link.specs.Fault.{IsFault};
-ghost use Rattle.nsp_link.specs.Segments.{is_held};
 ghost use Rattle.nsp_link.specs.Given.{given_of};
-ghost use Rattle.nsp_link.specs.inner.Index.{Stays};
+ghost use Rattle.nsp_link.specs.Kinds.{queues_of};
+ghost use Rattle.nsp_link.specs.inner.Index.{begins_use, use_that_ends};
 
+mod arriving;
 mod due;
 mod failing;
+mod queue;
+mod sending;
 mod shown;
+mod user;
 
+use crate::kind::is_queued;
+use crate::phase::is_phase;
 use crate::segments::Segments;
-use crate::{Given, LinkFault, LinkRefusal, LinkTag, Piece};
-use dna_links::{Phase, Port};
-use dna_packet::{AckWord, Segment};
+use crate::{Given, LinkTag, Piece};
+use dna_links::{LinkQueue, Phase, Port, Said};
 use std::alloc::{AllocError, Global};
 use std::marker::Model;
 use wire_base::Window;
 
-/// One end of a logical link (NSP 4.0, ports). Its segments lie in memory of their own. That is given back when the link ends with
-/// nothing left to deliver, and else when its own address is given to another link.
+/// One end of a logical link (NSP 4.0, ports). What is done with it is chosen by `QUEUES`: whether its node has queues between NSP and DDCMP
+/// ([`crate::WITH_QUEUES`]) or has none. Its segments lie in memory of their own. That is given back when the link has nothing left to send and to
+/// deliver, and else when its own address is given to another link.
 #[derive(Drop)]
 pub struct Link<W: Window<Piece, 4096> + Drop> {
     port: Port,
@@ -40,16 +39,18 @@ pub struct Link<W: Window<Piece, 4096> + Drop> {
     partner: Option<u64>,
     // how many data bytes the partner takes in a segment
     segsize: u16,
+    // what its node's queues leave open; without queues nobody reads it
+    queue: LinkQueue,
     segments: Option<Box<Segments<W>>>,
 }
 
 impl<W: Window<Piece, 4096> + Drop> Model for Link<W> {
     ghost use Rattle.std.specs.Prelude.{◌≡◌, true, None, IsSome};
     ghost use Rattle.dna_links.specs.Links.{LinkOf};
-    ghost use Rattle.dna_links.specs.Queues.{fresh};
     ghost use Rattle.dna_links.specs.LookUps.{is_live, is_called, is_calling};
     ghost use Rattle.dna_links.specs.WireSegments.{WireSegments};
     ghost use Rattle.nsp_link.specs.inner.Link.{segments_in};
+    ghost use Rattle.nsp_link.specs.inner.Queue.{keeps};
 
     ghost Value = { LinkOf WireSegments };
 
@@ -58,11 +59,12 @@ impl<W: Window<Piece, 4096> + Drop> Model for Link<W> {
       partner = l.partner;
       segsize = l.segsize;
       segments = segments_in (λ b. b.value) l.segments;
-      queue = fresh;
+      queue = l.queue;
     } };
 
-    ghost invariant = { λ l. (is_called l.port.phase ≡ true → l.port.own ≡ None) × (is_live l.port.phase ≡ true → IsSome l.segments)
-        × (is_calling l.port.phase ≡ true → (l.port.opened ≡ true) × (l.port.far ≡ None)) };
+    ghost invariant = { λ l. (is_called l.port.phase ≡ true → l.port.own ≡ None) × (keeps l.port.phase l.queue ≡ true → IsSome l.segments)
+        × (is_calling l.port.phase ≡ true → (l.port.opened ≡ true) × (l.port.far ≡ None))
+        × (is_live l.port.phase ≡ true → l.queue.waits ≡ None) };
 }
 
 impl<W: Window<Piece, 4096> + Drop> Link<W> {
@@ -110,6 +112,7 @@ impl<W: Window<Piece, 4096> + Drop> Link<W> {
             port,
             partner,
             segsize,
+            queue: FRESH,
             segments: Some(segments),
         })
     }
@@ -145,162 +148,98 @@ impl<W: Window<Piece, 4096> + Drop> Link<W> {
         }
     }
 
-    // ---- the user
+    // ---- its node's queues
 
-    /// A message is handed in. Where memory is refused, nothing changes.
-    pub fn hand_in(&mut self, alloc: Global, message: &[u8]) -> Result<(), AllocError>
-        requires { is_live self.old.port.phase ≡ true }
-        ensures ok { OnOk result (self.new ≡ with_segments (hands_in message.now self.old.segments) self.old) }
-        ensures rest { self.new ≡ with_segments self.new.segments self.old }
-        ensures err { OnErr result (self.new ≡ self.old) }
+    /// What look-ups know of it for what is sent and for its user: with queues as it was before it ended, while something may wait.
+    pub fn port_in_use<const QUEUES: u8>(&self) -> Port
+        ensures { result ≡ in_use (queues_of QUEUES) self.now }
     {
-        match &mut self.segments {
-            Some(segments) => segments.hand_in(alloc, message),
-            None => unreachable!(),
+        if !is_queued::<QUEUES>() {
+            return self.port;
         }
+        self.waiting_port()
     }
 
-    /// A message is delivered, if it is the next whole one; the answer is whether it is.
-    pub fn deliver(&mut self, message: &[u8]) -> bool
-        ensures yes { result ≡ true → delivers message.now self.old.segments ≡ Some self.new.segments }
-        ensures rest { self.new ≡ with_segments self.new.segments self.old }
-        ensures no { result ≡ false → (delivers message.now self.old.segments ≡ None) × (self.new ≡ self.old) }
+    /// As it was before it ended, while something may wait.
+    pub fn waiting_port(&self) -> Port
+        ensures { result ≡ queues.port_of_waiting self.now.queue.waits self.now.port }
     {
-        match &mut self.segments {
-            Some(segments) => segments.deliver(message),
-            None => false,
-        }
-    }
-
-    /// The user closes it.
-    pub fn close(&mut self)
-        requires { is_live self.old.port.phase ≡ true }
-        ensures { self.new ≡ in_phase Phase.Disconnecting self.old }
-    {
-        self.port.phase = Phase::Disconnecting;
-    }
-
-    /// The user accepts or rejects the call: it gets this own address, and the phase that goes with the answer.
-    pub fn answer(&mut self, phase: Phase, own: u16)
-        requires live { is_live self.old.port.phase ≡ true }
-        requires phase { is_called phase ≡ false }
-        requires known { is_calling phase ≡ false }
-        ensures { self.new ≡ forms.answered wire_segments phase own self.old }
-    {
-        self.port.phase = phase;
-        self.port.own = Some(own);
-    }
-
-    /// Its own address is given to another link.
-    pub fn forget(&mut self)
-        requires { is_live self.old.port.phase ≡ false }
-        ensures { self.new ≡ forgotten wire_segments Without self.old }
-    {
-        self.port.own = None;
-        self.segments = None;
-    }
-
-    // ---- what is sent
-
-    /// A segment is sent.
-    pub fn send_segment(&mut self, alloc: Global, segment: &Segment) -> Result<(), LinkFault>
-        requires live { is_live self.old.port.phase ≡ true }
-        requires acks { AllByRecursion IsAckWord segment.now.acks.items }
-        requires number { segment.now.number < 4096 }
-        ensures ok { OnOk result (segment_of wire_segments (segment_view segment.now) self.old ≡ Ok (sending self.new.segments)) }
-        ensures rest { self.new ≡ with_segments self.new.segments self.old }
-        ensures refused { IfErr result (λ fault. IsFault (segment_of wire_segments (segment_view segment.now) self.old)
-            (spec.is_new (segment_view segment.now) self.old.segments.variables) fault) }
-        ensures err { OnErr result (self.new ≡ self.old) }
-    {
-        let segsize = self.segsize;
-        match &mut self.segments {
-            Some(segments) => segments.send_segment(alloc, segsize, segment),
-            None => unreachable!(),
-        }
-    }
-
-    /// Acknowledgement words are sent alone.
-    pub fn send_acks(&mut self, words: &[AckWord]) -> Result<(), LinkRefusal>
-        requires live { is_live self.old.port.phase ≡ true }
-        requires acks { AllByRecursion IsAckWord words.now }
-        ensures ok { OnOk result (sends_acks words.now self.old.segments ≡ Ok (sending self.new.segments)) }
-        ensures rest { self.new ≡ with_segments self.new.segments self.old }
-        ensures refused { IfErr result (λ refusal. sends_acks words.now self.old.segments ≡ Err refusal) }
-        ensures err { OnErr result (self.new ≡ self.old) }
-    {
-        match &mut self.segments {
-            Some(segments) => segments.send_acks(words),
-            None => unreachable!(),
-        }
-    }
-
-    // ---- what comes
-
-    /// It is over: it keeps what may still be delivered, and nothing else. Where that is nothing, its memory is given back.
-    #[tactic(auto, using(crate::proofs::Ended::left))]
-    pub fn end(&mut self, alloc: Global)
-        requires { is_live self.old.port.phase ≡ true }
-        ensures { self.new ≡ ended wire_segments self.old }
-    {
-        self.port.phase = Phase::Ended;
-        let Some(segments) = &mut self.segments else {
-            unreachable!();
+        let Some(phase) = self.queue.waits else {
+            return self.port;
         };
-        let empty = segments.end(alloc);
-        if empty {
-            self.segments = None;
+        Port { phase, ..self.port }
+    }
+
+    /// The address of the other side that a connect acknowledgement may go to because of this link.
+    #[inline(always)]
+    pub fn begins_use(&self) -> Option<u16>
+        ensures { result ≡ begins_use self.now }
+    {
+        let port = self.waiting_port();
+        if matches!(port.phase, Phase::Ended) {
+            return None;
+        }
+        if port.opened {
+            return None;
+        }
+        port.far
+    }
+
+    /// The same address where it may go to only as long as no DC with this link's address is sent.
+    pub fn use_that_ends(&self) -> Option<u16>
+        ensures { result ≡ use_that_ends self.now.queue.waits self.now }
+    {
+        let Some(_phase) = self.queue.waits else {
+            return None;
+        };
+        self.begins_use()
+    }
+
+    /// Whether a message that asks for this phase may be sent.
+    #[inline(always)]
+    pub fn may_send<const QUEUES: u8>(&self, phase: Phase) -> bool
+        ensures { result ≡ queues.may_send (queues_of QUEUES) phase self.now }
+    {
+        if !is_queued::<QUEUES>() {
+            return is_phase(phase, self.port.phase);
+        }
+        self.is_in_turn(phase)
+    }
+
+    // The same with queues: the phase may be past.
+    fn is_in_turn(&self, phase: Phase) -> bool
+        ensures { result ≡ is_in_turn phase self.now.queue self.now.port }
+    {
+        match phase {
+            Phase::Calling => is_silent(self.queue.said),
+            Phase::Confirming => self.queue.accepted && is_silent(self.queue.said),
+            Phase::Running => self.queue.ran && !is_over(self.queue.said),
+            Phase::Called | Phase::Disconnecting | Phase::Ended => {
+                is_phase(phase, self.waiting_port().phase)
+            }
         }
     }
+}
 
-    /// A CC confirms it: it runs, with this partner.
-    pub fn confirm(&mut self, far: u16, segsize: u16, tag: LinkTag)
-        requires { is_live self.old.port.phase ≡ true }
-        ensures { self.new ≡ forms.confirmed wire_segments of_partner far segsize tag self.old }
-    {
-        self.port.phase = Phase::Running;
-        self.port.far = Some(far);
-        self.partner = tag.link;
-        self.segsize = segsize;
-    }
+// Of a link that begins.
+const FRESH: LinkQueue = LinkQueue {
+    waits: None,
+    ran: false,
+    accepted: false,
+    said: Said::Nothing,
+    gap: 0,
+};
 
-    /// It runs.
-    pub fn run(&mut self)
-        requires { is_live self.old.port.phase ≡ true }
-        ensures { self.new ≡ in_phase Phase.Running self.old }
-    {
-        self.port.phase = Phase::Running;
-    }
+// Nothing of RUN and no DI was sent.
+fn is_silent(said: Said) -> bool
+    ensures { result ≡ queues.is_silent said }
+{
+    matches!(said, Said::Nothing)
+}
 
-    /// A segment comes, and it runs. Where memory is refused, nothing changes.
-    pub fn take_segment(&mut self, alloc: Global, segment: &Segment) -> Result<(), AllocError>
-        requires live { is_live self.old.port.phase ≡ true }
-        requires acks { AllByRecursion IsAckWord segment.now.acks.items }
-        requires number { segment.now.number < 4096 }
-        ensures ok { OnOk result
-            (self.new ≡ running wire_segments of_partner (λ link. takes_segment (segment_view segment.now) tt link.segments) self.old) }
-        ensures stays { Stays self.old self.new }
-        ensures held { IfErr result (λ e. is_held (segment_view segment.now) self.old.segments.variables ≡ true) }
-        ensures err { OnErr result (self.new ≡ self.old) }
-    {
-        match &mut self.segments {
-            Some(segments) => segments.take_segment(alloc, segment)?,
-            None => unreachable!(),
-        }
-        self.port.phase = Phase::Running;
-        Ok(())
-    }
-
-    /// Acknowledgement words come, and it runs.
-    pub fn take_acks(&mut self, words: &[AckWord])
-        requires live { is_live self.old.port.phase ≡ true }
-        requires acks { AllByRecursion IsAckWord words.now }
-        ensures { self.new ≡ running wire_segments of_partner (λ link. takes_acks words.now tt link.segments) self.old }
-    {
-        match &mut self.segments {
-            Some(segments) => segments.take_acks(words),
-            None => unreachable!(),
-        }
-        self.port.phase = Phase::Running;
-    }
+// A DI was sent.
+fn is_over(said: Said) -> bool
+    ensures { result ≡ queues.is_over said }
+{
+    matches!(said, Said::Disconnect)
 }

@@ -15,6 +15,7 @@ mod due;
 mod failing;
 mod failing_arrival;
 mod failing_event;
+mod in_use;
 mod missing;
 mod partner;
 mod sending;
@@ -40,6 +41,10 @@ use wire_base::Window;
 ///   that is sent with SRCADDR 0 ends it.
 /// - `Close` leads from Confirming and RUN to DI.
 /// - A DI or a DC that comes ends a link in any phase but Called.
+///
+/// Each verb is told its `QUEUES`, [`crate::WITHOUT_QUEUES`] or [`crate::WITH_QUEUES`]. With queues between NSP and DDCMP a message that came is acted on at once as
+/// well, but what had been composed before that may be sent later: a CI after the CC came, a CC after a message of RUN did, a message of RUN after
+/// `Close`, and any of them after a DI or a DC did, as long as its node sent no DC with the link's address and gave that address to no other link.
 #[derive(Drop)]
 pub struct Links<W: Window<Piece, 4096> + Drop> {
     node: u16,

@@ -15,6 +15,7 @@ ghost use Rattle.nsp_link.specs.Given.{given_of};
 
 mod due;
 mod failing;
+mod late;
 mod receiving;
 mod sending;
 mod shown;
@@ -73,6 +74,18 @@ impl<W: Window<Piece, 4096> + Drop> Segments<W> {
             gave_many: false,
             last: LastSent::new(),
         }
+    }
+
+    /// Nothing is left of them: it is as before the first. Takes no memory.
+    pub fn clear(&mut self, alloc: Global)
+        ensures { self.new ≡ empty }
+    {
+        self.unsent = Unsent::new(alloc);
+        self.outstanding = Outstanding::new();
+        self.received = Seq::of(0);
+        self.pieces = Received::new(alloc);
+        self.gave_many = false;
+        self.last = LastSent::new();
     }
 
     /// What of them is given.

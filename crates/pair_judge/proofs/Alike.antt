@@ -55,7 +55,7 @@ module _ (nodes : NodeKind) where
   counted_at own_a peer_a own_b peer_b of_a of_b a b summary same_a same_b counted =
       rw (sym same_a.0, sym same_a.1, sym same_a.2, sym same_b.0, sym same_b.1, sym same_b.2) counted
 
-  counted_of : OneList → (a b : WholeCapture) (bytes_a bytes_b : List ℕ) (summary : Summary) → AreTexts a b bytes_a bytes_b →
+  pub counted_of : OneList → (a b : WholeCapture) (bytes_a bytes_b : List ℕ) (summary : Summary) → AreTexts a b bytes_a bytes_b →
       AreARun nodes bytes_a bytes_b summary → IsCounted nodes a.head b.head a.records b.records summary
   counted_of one a b bytes_a bytes_b summary here run =
       counted_at run.own_a run.peer_a run.own_b run.peer_b run.of_a run.of_b a b summary
@@ -64,7 +64,7 @@ module _ (nodes : NodeKind) where
       (record { run = run.run; counts_a = run.counts_a; counts_b = run.counts_b })
 
   -- a run has one end, and one end one summary
-  same_summary : (head_a head_b : Head) (of_a of_b : List Record) (summary other : Summary) → IsCounted nodes head_a head_b of_a of_b summary →
+  pub same_summary : (head_a head_b : Head) (of_a of_b : List Record) (summary other : Summary) → IsCounted nodes head_a head_b of_a of_b summary →
       IsCounted nodes head_a head_b of_a of_b other → summary ≡ other
   same_summary head_a head_b of_a of_b summary other c d =
       let world : c.run.0 ≡ d.run.0 = one_end (kind_pair nodes) c.run.1 d.run.1 in

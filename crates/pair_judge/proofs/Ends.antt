@@ -240,7 +240,7 @@ module _ (laws : EndLaws) (text_a text_b : Option (List ℕ)) (tells : List Made
     (i : IsStoppedIn links_on_top text_a text_b tells s) where
   shown_by : (head_a head_b : Head) (w : JudgeWorld) (of_a of_b : List Record) →
       Run (judge_pair links_on_top) (wire_layers_start head_a head_b) of_a of_b w → IsShown links_on_top head_a head_b w of_a of_b
-  shown_by head_a head_b w of_a of_b run = shown head_a head_b w of_a of_b (laws.seen head_a head_b w of_a of_b run)
+  shown_by head_a head_b w of_a of_b run = shown Without head_a head_b w of_a of_b (laws.seen head_a head_b w of_a of_b run)
 
   abbrev track_a : Track
   track_a = along text_a s.a i.come_a i.made_a
@@ -280,8 +280,8 @@ module _ (laws : EndLaws) (text_a text_b : Option (List ℕ)) (tells : List Made
   stands_at side place cause q =
       let h = q.reached in
       let seen = laws.seen s.a.end.head s.b.end.head h.world i.made_a i.made_b h.run in
-      let x = shown s.a.end.head s.b.end.head h.world i.made_a i.made_b seen in
-      let is_cut = shown_is_cut s.a.end.head s.b.end.head h.world i.made_a i.made_b seen in
+      let x = shown Without s.a.end.head s.b.end.head h.world i.made_a i.made_b seen in
+      let is_cut = shown_is_cut Without s.a.end.head s.b.end.head h.world i.made_a i.made_b seen in
       record {
         read_a = read_of track_a;
         read_b = read_of track_b;

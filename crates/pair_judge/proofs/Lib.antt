@@ -28,6 +28,7 @@ pub mod Alike
 pub mod Seen
 pub mod Alone
 pub mod LineToo
+pub mod QueuedToo
 pub mod FirstFailed
 pub mod FailsThere
 pub mod Ends

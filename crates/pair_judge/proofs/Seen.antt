@@ -7,13 +7,13 @@ use Rattle.two_nodes.specs.Cutting.{Cut, cut_outcome, cut_world}
 use Rattle.capture.specs.declared.record.Record.{Record}
 use Rattle.dna_station.specs.declared.head.Head.{Head}
 use Rattle.dna_station.specs.declared.refusal.StepRefusal.{StepRefusal}
-use Rattle.dna_links.specs.declared.queue.Queues.TheVariants.{Without}
-use Rattle.dna_node.specs.CutLayers.{cut_layers_unit, layers_seen}
+use Rattle.dna_links.specs.declared.queue.Queues.{Queues}
+use Rattle.dna_node.specs.CutLayers.{cut_layers_unit, layers_seen_by}
 use Rattle.dna_links.specs.CutLinks.{cut_link}
-use Rattle.dna_node.specs.LayersPair.{layers_pair}
-use Rattle.dna_node.specs.Seen.{IsSeenLayers}
+use Rattle.dna_node.specs.LayersPair.{layers_pair_by}
+use Rattle.dna_node.specs.Seen.{IsSeenLayersBy}
 use Rattle.pair_judge.specs.inner.Reached.{IsShown}
-use Rattle.pair_judge.specs.inner.Tops.{links_on_top}
+use Rattle.pair_judge.specs.inner.Tops.{links_on_top_by}
 use Rattle.pair_judge.specs.inner.Wire.{JudgeWorld}
 
 module _ {S U T V : Type 0} (cut : Cut S U T V) where
@@ -29,17 +29,17 @@ module _ {S U T V : Type 0} (cut : Cut S U T V) where
   waits_there (Refused reason) e = absurd (cc)
 
 -- what the wire nodes over both layers show
-pub shown : (head_a head_b : Head) (w : JudgeWorld) (of_a of_b : List Record) → IsSeenLayers head_a head_b w of_a of_b →
-    IsShown links_on_top head_a head_b w of_a of_b
-shown head_a head_b w of_a of_b s = record {
+pub shown : (queues : Queues) (head_a head_b : Head) (w : JudgeWorld) (of_a of_b : List Record) → IsSeenLayersBy queues head_a head_b w of_a of_b →
+    IsShown (links_on_top_by queues) head_a head_b w of_a of_b
+shown queues head_a head_b w of_a of_b s = record {
   world = s.world;
   run = s.run;
-  refused_a = λ r refusal is. refused_there layers_seen (advance layers_pair.node_a s.world.a s.world.b r) refusal (sym (s.same_a r) ∙ is);
-  refused_b = λ r refusal is. refused_there layers_seen (advance layers_pair.node_b s.world.b s.world.a r) refusal (sym (s.same_b r) ∙ is);
-  waits_a = λ r is. waits_there layers_seen (advance layers_pair.node_a s.world.a s.world.b r) (sym (s.same_a r) ∙ is);
-  waits_b = λ r is. waits_there layers_seen (advance layers_pair.node_b s.world.b s.world.a r) (sym (s.same_b r) ∙ is);
-  links_a = ap (λ (x : JudgeWorld). length x.a.state.station.links.links) s.is_cut ∙ length-map s.world.a.state.station.links.links (cut_link Without);
-  links_b = ap (λ (x : JudgeWorld). length x.b.state.station.links.links) s.is_cut ∙ length-map s.world.b.state.station.links.links (cut_link Without);
+  refused_a = λ r refusal is. refused_there (layers_seen_by queues) (advance (layers_pair_by queues).node_a s.world.a s.world.b r) refusal (sym (s.same_a r) ∙ is);
+  refused_b = λ r refusal is. refused_there (layers_seen_by queues) (advance (layers_pair_by queues).node_b s.world.b s.world.a r) refusal (sym (s.same_b r) ∙ is);
+  waits_a = λ r is. waits_there (layers_seen_by queues) (advance (layers_pair_by queues).node_a s.world.a s.world.b r) (sym (s.same_a r) ∙ is);
+  waits_b = λ r is. waits_there (layers_seen_by queues) (advance (layers_pair_by queues).node_b s.world.b s.world.a r) (sym (s.same_b r) ∙ is);
+  links_a = ap (λ (x : JudgeWorld). length x.a.state.station.links.links) s.is_cut ∙ length-map s.world.a.state.station.links.links (cut_link queues);
+  links_b = ap (λ (x : JudgeWorld). length x.b.state.station.links.links) s.is_cut ∙ length-map s.world.b.state.station.links.links (cut_link queues);
   shows_a = record {
     station = ap (λ (x : JudgeWorld). x.a.state.station) s.is_cut;
     front = ap (λ (x : JudgeWorld). x.a.state.front) s.is_cut;
@@ -53,7 +53,7 @@ shown head_a head_b w of_a of_b s = record {
 }
 
 -- of that world the wire nodes' one is the cut
-pub shown_is_cut : (head_a head_b : Head) (w : JudgeWorld) (of_a of_b : List Record) (s : IsSeenLayers head_a head_b w of_a of_b) →
-    w ≡ cut_world layers_seen (shown head_a head_b w of_a of_b s).world
+pub shown_is_cut : (queues : Queues) (head_a head_b : Head) (w : JudgeWorld) (of_a of_b : List Record) (s : IsSeenLayersBy queues head_a head_b w of_a of_b) →
+    w ≡ cut_world (layers_seen_by queues) (shown queues head_a head_b w of_a of_b s).world
 unfolding shown
-shown_is_cut head_a head_b w of_a of_b s = s.is_cut
+shown_is_cut queues head_a head_b w of_a of_b s = s.is_cut

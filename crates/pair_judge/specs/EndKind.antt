@@ -5,10 +5,12 @@ use Rattle.dna_station.specs.declared.head.Head.{Head}
 use Rattle.dna_station.specs.Machine.{NodeOf}
 use Rattle.dna_station.specs.WireNode.{WireNode}
 use Rattle.dna_station.specs.WireStation.{WireStation}
+use Rattle.dna_links.specs.declared.queue.Queues.{Queues}
+use Rattle.dna_links.specs.declared.queue.Queues.TheVariants.{Without}
 use Rattle.dna_links.specs.declared.tag.LinkTag.{LinkTag}
 use Rattle.dna_links.specs.WireLinks.{new_wire_links}
 use Rattle.dna_node.specs.WireLayers.{WireLayers, WireLayersNode}
-use Rattle.dna_node.specs.Alone.{EndingAlone, StepAlone, judged_alone, judged_station_alone, layers_end, station_end, step_alone}
+use Rattle.dna_node.specs.Alone.{EndingAlone, StepAlone, judged_alone_by, judged_station_alone, layers_end_by, station_end, step_alone}
 
 -- A kind of end
 pub record EndKind : Type 1 where
@@ -23,14 +25,17 @@ pub record EndKind : Type 1 where
   -- what is shown of both layers
   pub layers : NodeOf Keeps → WireLayers
 
-abbrev pub layers_alone : EndKind
-layers_alone = record {
+abbrev pub layers_alone_by : Queues → EndKind
+layers_alone_by queues = record {
   Keeps = WireLayers;
-  step = step_alone layers_end;
-  judged = judged_alone;
+  step = step_alone (layers_end_by queues);
+  judged = judged_alone_by queues;
   links = λ (s : WireLayers). length s.links.links;
   layers = λ (n : WireLayersNode). n.station;
 }
+
+abbrev pub layers_alone : EndKind
+layers_alone = layers_alone_by Without
 
 -- there are no links, and what is shown of them is what stands before any record
 abbrev pub station_alone : EndKind

@@ -45,6 +45,14 @@ AcceptsOrFails (Err (Capture side (Departs kind line))) = ⊥
 AcceptsOrFails (Err (Capture side Read)) = Unit {0}
 AcceptsOrFails (Err OutOfMemory) = Unit {0}
 
+-- an acceptance with these counts, or such a fault
+abbrev pub AcceptsAsOrFails : Summary → Answer → Type 0
+AcceptsAsOrFails summary (Ok (Accepted other)) = other ≡ summary
+AcceptsAsOrFails summary (Ok (Refused side place reason)) = ⊥
+AcceptsAsOrFails summary (Err (Capture side (Departs kind line))) = ⊥
+AcceptsAsOrFails summary (Err (Capture side Read)) = Unit {0}
+AcceptsAsOrFails summary (Err OutOfMemory) = Unit {0}
+
 -- a verdict, or such a fault
 abbrev pub JudgesOrFails : Answer → Type 0
 JudgesOrFails (Ok verdict) = Unit {0}

@@ -6,12 +6,13 @@ ghost use Rattle.pair_judge.specs.declared.verdict.Verdict.TheVariants.{Accepted
 ghost use Rattle.pair_judge.specs.declared.summary.Summary.{Summary};
 ghost use Rattle.pair_judge.specs.declared.reason.Reason.{Reason as Why};
 ghost use Rattle.wire_base.specs.declared.side.Side.{Side as Of};
-ghost use Rattle.dna_node.specs.Kind.{both_layers, stations_alone};
-ghost use Rattle.pair_judge.specs.Judged.{AcceptsOrFails, Answer, IsAnswer, JudgesOrFails, RefusesOrFails};
+ghost use Rattle.dna_links.specs.declared.queue.Queues.TheVariants.{With};
+ghost use Rattle.dna_node.specs.Kind.{both_layers, layers_kind, stations_alone};
+ghost use Rattle.pair_judge.specs.Judged.{AcceptsAsOrFails, AcceptsOrFails, Answer, IsAnswer, JudgesOrFails, RefusesOrFails};
 ghost use Rattle.pair_judge.specs.Refusal.{AreTexts, WholeCapture};
 
 use capture::{one_head_and_list, whole_text};
-use dna_node::layers_run_as_stations;
+use dna_node::{layers_run_as_stations, layers_with_queues_do_as_much};
 
 /// The same two captures are judged alike in whichever format their texts are, as of a capture and of what it was converted to. What `judge`
 /// (and `judge_line`) answers of two such texts is a verdict, want of memory or a failed read; and all their verdicts are one: `Accepted` with the
@@ -47,4 +48,15 @@ pub fn line_is_judged_too()
 {
     layers_run_as_stations();
     whole_text();
+}
+
+/// What is judged of nodes without queues and of nodes with them, of the same two texts. Where `judge` accepts them, `judge_queued` does, with the
+/// same counts, but for want of memory and a failed read.
+pub fn judged_with_queues_too()
+    ensures { (bytes_a bytes_b : List ℕ) (summary : Summary) (queued : Answer) →
+        IsAnswer both_layers (Some bytes_a) (Some bytes_b) (Ok (Accepted summary)) →
+        IsAnswer (layers_kind With) (Some bytes_a) (Some bytes_b) queued → AcceptsAsOrFails summary queued }
+{
+    layers_with_queues_do_as_much();
+    one_head_and_list();
 }

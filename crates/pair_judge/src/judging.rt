@@ -16,6 +16,7 @@ ghost use Rattle.pair_judge.specs.inner.Answer.{verdict_of};
 ghost use Rattle.pair_judge.specs.inner.Opened.{OpensAt};
 ghost use Rattle.pair_judge.specs.inner.Stopped.{AreShownIn, IsStoppedIn, ends_of};
 
+mod queued;
 mod told;
 mod with_ends;
 
@@ -35,6 +36,7 @@ use crate::verdict::Verdict;
 use capture::{CaptureReader, MAX_RECORDS, text_read_on, whole_text};
 use dna_node::Finding;
 use dna_station::Head;
+pub use queued::{judge_queued, judge_queued_told};
 use std::alloc::Global;
 use std::io::Read;
 pub use told::{judge_line_told, judge_told};
@@ -89,7 +91,7 @@ pub fn judge<R: Read, S: Read>(
     ensures reads_a { CountsReads (is_failed_read_of Side.A result) (tally_faults a.old) (tally_faults a.new) }
     ensures reads_b { CountsReads (is_failed_read_of Side.B result) (tally_faults b.old) (tally_faults b.new) }
 {
-    match decide::<LinksOnTop, Nobody, R, S>(alloc, a, b, Nobody) {
+    match decide::<LinksOnTop<0>, Nobody, R, S>(alloc, a, b, Nobody) {
         Ok(watched) => Ok(watched.ends.verdict()),
         Err(fault) => Err(fault),
     }

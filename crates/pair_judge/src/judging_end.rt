@@ -10,6 +10,8 @@ ghost use Rattle.pair_judge.specs.EndShown.{StandsAlone};
 ghost use Rattle.pair_judge.specs.Watched.{only};
 ghost use Rattle.pair_judge.specs.inner.EndStopped.{IsEndStopped};
 
+mod queued;
+
 use crate::course::Ahead;
 use crate::end_verdict::EndVerdict;
 use crate::layers::{LinksOnTop, NothingOnTop};
@@ -23,6 +25,7 @@ use crate::top::Top;
 use capture::{CaptureFault, CaptureReader, MAX_RECORDS, text_read_on, whole_text};
 use dna_node::Cause;
 use dna_station::Head;
+pub use queued::{judge_queued_end, judge_queued_end_watched};
 use std::alloc::Global;
 use std::io::Read;
 use wire_base::{Side, Tally};
@@ -44,7 +47,7 @@ pub fn judge_end<R: Read>(alloc: Global, a: &mut Tally<R>) -> Result<EndVerdict,
     ensures first { IfErr result (λ fault. fault ≢ CaptureFault.Failed) }
     ensures reads { CountsReads (is_failed_read result) (tally_faults a.old) (tally_faults a.new) }
 {
-    find_end::<LinksOnTop, R>(alloc, a)
+    find_end::<LinksOnTop<0>, R>(alloc, a)
 }
 
 /// Decides the same of a station alone: a packet is any bytes and is not read, so that it may be one of another layer or of a third node; and the
@@ -89,7 +92,7 @@ pub fn judge_end_watched<O: Observer, R: Read>(
     ensures first { IfErr result (λ fault. fault ≢ CaptureFault.Failed) }
     ensures reads { CountsReads (is_failed_read result) (tally_faults a.old) (tally_faults a.new) }
 {
-    watch_end::<LinksOnTop, O, R>(alloc, a, observer)
+    watch_end::<LinksOnTop<0>, O, R>(alloc, a, observer)
 }
 
 /// Decides the same as `judge_line_end`, of whose answer all that is said there holds of this verdict, while an observer is told of each record that

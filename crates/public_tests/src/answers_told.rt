@@ -6,9 +6,9 @@ use nsp_link::{FailedLinkSending, LinkNumbers, LinkView, NextPiece, PieceShape};
 use pair_judge::{FailedCheck, Reason, Verdict, judge_with_ends};
 use std::alloc::{AllocError, Global};
 use why::{
-    Accusation, Addresses, Check, CheckObject, Differing, EditsTried, Fronts, Lines, RecorderRow,
-    Refusal, Shown, StateLine, addresses_of, put_edit, record_json, record_text, side_json,
-    side_text, why_json, why_rows,
+    Accusation, Addresses, Check, CheckObject, Differing, EditsTried, Fronts, Lines, QueuedAnswer,
+    RecorderRow, Refusal, Shown, StateLine, addresses_of, put_edit, record_json, record_text,
+    side_json, side_text, why_json, why_rows,
 };
 use wire_base::{Side, Tally};
 
@@ -269,7 +269,7 @@ fn a_refusal_is_told_whole(rt: HostRuntime) -> Result<(), AllocError> {
         accepted: 0,
         records_behind: Some(2),
     };
-    let told = why_json(alloc, refusal, &ends, "", tried)?;
+    let told = why_json(alloc, refusal, &ends, "", tried, QueuedAnswer::NotAsked)?;
     assert_eq!(rt; told.as_str(), JSON);
     let shown = Shown {
         name: "2-not-set-back.a",
@@ -279,6 +279,7 @@ fn a_refusal_is_told_whole(rt: HostRuntime) -> Result<(), AllocError> {
         tried,
         edits: "",
         unit_as_well: false,
+        queued: QueuedAnswer::NotAsked,
     };
     let told = why_rows(alloc, refusal, &ends, shown)?;
     assert_eq!(rt; told.as_str(), ROWS);

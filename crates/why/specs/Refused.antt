@@ -16,7 +16,7 @@ use Rattle.pair_judge.specs.declared.reason.Reason.TheVariants.{BadPacket, Wrong
 use Rattle.pair_judge.specs.declared.reason.Reason.TheVariants.{SegmentTooLong, LinkWindowFull, WrongDelivery, CrossedLink, AddressInUse, NotNoise}
 use Rattle.why.specs.declared.accusation.Accusation.{Accusation}
 use Rattle.why.specs.declared.accusation.Accusation.TheVariants.{Sender, OtherSender, Hints, Line, Claim, Nobody, User}
-use Rattle.why.specs.declared.accusation.Accusation.TheVariants.{Starter, Chooser, OtherEnd}
+use Rattle.why.specs.declared.accusation.Accusation.TheVariants.{Starter, Chooser, OtherEnd, Queue}
 use Rattle.why.specs.declared.end_text.EndRefusal.{EndRefusal}
 use Rattle.why.specs.declared.refused_line.RefusedLine.{RefusedLine}
 use Rattle.why.specs.declared.why_text.Refusal.{Refusal}
@@ -80,6 +80,7 @@ accusation_name Hints = codes "hints"
 accusation_name Line = codes "line"
 accusation_name Claim = codes "claim"
 accusation_name Nobody = codes "nobody"
+accusation_name Queue = codes "nobody"
 accusation_name User = codes "user"
 accusation_name Starter = codes "user"
 accusation_name Chooser = codes "user"

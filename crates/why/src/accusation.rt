@@ -31,6 +31,8 @@ pub enum Accusation {
     Chooser,
     /// Of one end alone: the other end, in what came of it.
     OtherEnd,
+    /// Neither side: nodes with a queue between NSP and DDCMP make the pair.
+    Queue,
 }
 
 impl Accusation {
@@ -104,7 +106,7 @@ impl fmt::Display for Accusation {
             Accusation::Hints => f.write_str("hints"),
             Accusation::Line => f.write_str("line"),
             Accusation::Claim => f.write_str("claim"),
-            Accusation::Nobody => f.write_str("nobody"),
+            Accusation::Nobody | Accusation::Queue => f.write_str("nobody"),
             Accusation::User | Accusation::Starter | Accusation::Chooser => f.write_str("user"),
             Accusation::OtherEnd => f.write_str("other end"),
         }
@@ -149,6 +151,9 @@ impl fmt::Display for AccusedRow {
                 "accused  the user of {side}, or the node if it chose the address\n"
             ),
             Accusation::OtherEnd => f.write_str("accused  the other end\n"),
+            Accusation::Queue => f.write_str(
+                "accused  nobody: a node with a queue between NSP and DDCMP does this\n",
+            ),
         }
     }
 }

@@ -1,5 +1,6 @@
 //! What small edits of the captures tell.
 
+use crate::queued::QueuedAnswer;
 use crate::words::NumberOr;
 use crate::wrapped::{INDENT, put_wrapped};
 use std::alloc::AllocError;
@@ -137,10 +138,13 @@ pub fn put_edit(rows: &mut String, words: &str) -> Result<(), AllocError> {
 }
 
 /// What edits that make the pair a run tell, below their rows; nothing where there are none. That the recording is more likely wrong than a
-/// node is said only where the node is not explained as well by one unit that it sent wrongly (`unit_as_well`).
-pub fn so_row(accepted: u64, unit_as_well: bool) -> &'static str {
+/// node is said only where the node is not explained as well by one unit that it sent wrongly (`unit_as_well`), nor by a queue.
+pub fn so_row(accepted: u64, unit_as_well: bool, queued: QueuedAnswer) -> &'static str {
     if accepted == 0 {
         return "";
+    }
+    if queued == QueuedAnswer::Accepted {
+        return "         So either the recording is wrong, or the node has such a queue.\n";
     }
     if unit_as_well {
         return "         So either the recording is wrong, or the node sent one unit wrongly.\n";

@@ -8,6 +8,7 @@ use crate::edits::{EditsTried, RecorderRow, so_row};
 use crate::ends::state_at;
 use crate::form::Form;
 use crate::past::Lines;
+use crate::queued::{QueuedAnswer, QueuedObject, QueuedRow};
 use crate::refused_line::RefusedLine;
 use crate::refused_record::{Beside, RefusedRecord, end_told, record_objects, record_rows};
 use crate::subject::{Addresses, addresses_of};
@@ -56,16 +57,20 @@ pub struct Shown<'t> {
     pub edits: &'t str,
     /// Whether a node that is wrong in this one unit explains the record as well.
     pub unit_as_well: bool,
+    /// What is answered of nodes with queues.
+    pub queued: QueuedAnswer,
 }
 
 /// All JSON objects of a refused record, each with its LF: the refusal, the record, the check, the side of the record and its live links, the
-/// other side and its, the edits that make the pair a run (`EditLine`), and how many were tried. Fails for want of memory alone.
+/// other side and its, what is answered of nodes with queues, the edits that make the pair a run (`EditLine`), and how many were tried. Fails for want
+/// of memory alone.
 pub fn why_json(
     alloc: Global,
     refusal: Refusal<'_>,
     ends: &JudgedEnds,
     edits: &str,
     tried: EditsTried,
+    queued: QueuedAnswer,
 ) -> Result<String, AllocError>
     ensures { IfOk result (λ text. BeginsWith (refused_line (line_of refusal.entry)) (string_bytes text)) }
 {
@@ -74,13 +79,19 @@ pub fn why_json(
     let named = addresses_of(refusal.says, refusal.bytes);
     let own = side_told(alloc, Form::Object, side, named, ends)?;
     let other = side_told(alloc, Form::Object, side.other(), named.turned(), ends)?;
-    let tried = tried_line(alloc, tried)?;
-    format!(in alloc; "{record}{own}{other}{edits}{tried}")
+    let last = last_objects(alloc, queued, edits, tried)?;
+    format!(in alloc; "{record}{own}{other}{last}")
 }
 
-// How many small edits were tried, as a JSON object with its LF.
-fn tried_line(alloc: Global, tried: EditsTried) -> Result<String, AllocError> {
-    format!(in alloc; "{tried}")
+// What is answered of nodes with queues, the edits, and how many were tried, as JSON objects with an LF each.
+fn last_objects(
+    alloc: Global,
+    answer: QueuedAnswer,
+    edits: &str,
+    tried: EditsTried,
+) -> Result<String, AllocError> {
+    let queued = QueuedObject { answer };
+    format!(in alloc; "{queued}{edits}{tried}")
 }
 
 /// All rows of a refused record behind the line of the verdict: the record and the unit that its hint names; the check; both sides, that of the
@@ -111,7 +122,10 @@ pub fn why_rows(
         accusation: refusal.accusation,
     };
     let recorder = recorder_rows(alloc, shown)?;
-    format!(in alloc; "{record}{own}{other}\n{ladder}\n{accused}{recorder}")
+    let queued = QueuedRow {
+        answer: shown.queued,
+    };
+    format!(in alloc; "{record}{own}{other}\n{ladder}\n{accused}{queued}{recorder}")
 }
 
 // The record without what only a pair tells of it.
@@ -148,6 +162,6 @@ fn side_told(
 // The rows of what small edits tell of the recorder.
 fn recorder_rows(alloc: Global, shown: Shown<'_>) -> Result<String, AllocError> {
     let row = RecorderRow { edits: shown.tried };
-    let so = so_row(shown.tried.accepted, shown.unit_as_well);
+    let so = so_row(shown.tried.accepted, shown.unit_as_well, shown.queued);
     format!(in alloc; "{row}{}{so}", shown.edits)
 }

@@ -1,15 +1,17 @@
 -- What goes by whether the links on top of a station are judged too.
 use Rattle.std.specs.Prelude.{ℕ, List}
-use Rattle.dna_node.specs.Kind.{NodeKind, both_layers, stations_alone}
+use Rattle.dna_links.specs.declared.queue.Queues.TheVariants.{With}
+use Rattle.dna_node.specs.Kind.{NodeKind, both_layers, layers_kind, stations_alone}
 use Rattle.pair_judge.specs.declared.verdict.Verdict.{Verdict}
 use Rattle.ddcap.specs.declared.layers.Layers.{Layers}
-use Rattle.ddcap.specs.declared.layers.Layers.TheVariants.{Both, Station}
+use Rattle.ddcap.specs.declared.layers.Layers.TheVariants.{Both, Queued, Station}
 use Rattle.ddcap.specs.Printed.{verdict_text_by}
 use Rattle.ddcap.specs.PrintedAlone.{counts_line}
 
 -- what both ends of a pair are judged as
 abbrev pub nodes_of : Layers → NodeKind
 nodes_of Both = both_layers
+nodes_of Queued = layers_kind With
 nodes_of Station = stations_alone
 
 -- the text of a verdict on a pair

@@ -49,6 +49,8 @@ a number in that range.",
     look_for: "\
 - too high: a `k` line that is missing, is written as `r`, or comes after this
   unit
+- a new segment that waited in a queue while a later number was sent: see check
+  --queued
 - node: the next expected number is acknowledged; a number after a gap is
   acknowledged; a number of another link is acknowledged; the last number sent
   is acknowledged; a reused address keeps its acknowledgement numbers

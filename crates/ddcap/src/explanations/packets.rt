@@ -94,7 +94,8 @@ the same, once the link exists.",
   exchanged; data is sent before the CC has arrived; a connect acknowledgement
   names the sender's own address; data is sent after a DI has arrived; a DI is
   repeated after the DC has arrived; a CI is sent though no user opened a link
-- node, not a bug: a DI waits in a queue until the DC has arrived",
+- node, not a bug: a DI waits in a queue until the DC has arrived (see check
+  --queued)",
     first: "\
 find where the link began, and whether a DI or DC has ended it.",
 };
@@ -117,6 +118,7 @@ the same in one of these phases.",
   arrived; a DI is sent though no user closed the link; a DC is sent instead of
   a DI; data is sent after the user closed the link
 - node, not a bug: a message waits in a queue while the user closes its link
+  (see check --queued)
 - node, not a bug: a user gives up a call before it is answered",
     first: "\
 compare the phase in `ddcap why` with what the node did last on this

@@ -1,15 +1,18 @@
 -- How the links of a node are found without a look at all that ever were: by the last holder of each own address, by the last link that
 -- a CI from each address of the other side began, and by how many live links know each of these.
-use Rattle.std.specs.Prelude.{◌≡◌, ◌≤◌, ◌||◌, ◌&&◌, not, ℕ, suc, Bool, false, Option, Some, None, List, [], ◌∷◌, length, slice_get, slice_set}
+use Rattle.std.specs.Prelude.{⊤, ◌≡◌, ◌≤◌, ◌||◌, ◌&&◌, ◌==◌, not, ℕ, suc, Bool, false, Option, Some, None, List, [], ◌∷◌, length, slice_get, slice_set}
 use Rattle.std.specs.Prelude.{if◌then◌else◌, true}
-use Rattle.dna_links.specs.Queues.{forgotten}
-use Rattle.dna_links.specs.declared.queue.Queues.TheVariants.{Without}
+use Rattle.dna_links.specs.Queues.{port_of_waiting}
+use Rattle.dna_links.specs.declared.queue.Queues.{Queues}
+use Rattle.dna_links.specs.declared.queue.Queues.TheVariants.{Without, With}
+use Rattle.dna_links.specs.declared.port.Phase.{Phase}
 use Rattle.dna_links.specs.declared.port.Port.{Port}
 use Rattle.dna_links.specs.declared.port.LinkTest.{LinkTest}
 use Rattle.dna_links.specs.declared.port.LinkTest.TheVariants.{HasAddress, LiveAt, TheLink, LiveTo, OpenedAt, CallingAt, CalledBy, BegunBy, ActedOn}
-use Rattle.dna_links.specs.LookUps.{is_live, is_called, is_calling, passes}
+use Rattle.dna_links.specs.LookUps.{is_live, is_at, is_called, is_calling, passes}
 use Rattle.dna_links.specs.Links.{LinkOf}
-use Rattle.dna_links.specs.WireSegments.{WireSegments, wire_segments}
+use Rattle.dna_links.specs.WireSegments.{WireSegments}
+use Rattle.nsp_link.specs.inner.Queue.{forgotten_link}
 
 -- ---- a number that is looked at
 
@@ -78,6 +81,31 @@ module _ {D : Type 0} where
   abbrev pub lives_to : ℕ → LinkOf D → Bool
   lives_to far link = passes (LiveTo far) link.port
 
+  -- something of it may still be sent
+  abbrev pub uses : LinkOf D → Bool
+  uses link = is_live (port_of_waiting link.queue.waits link.port).phase
+
+  -- the address of the other side that a connect acknowledgement may go to
+  abbrev pub begins_use : LinkOf D → Option ℕ
+  begins_use link = if uses link && not link.port.opened then link.port.far else None
+
+  -- a DC with its own address is sent: what it no longer uses, and what it uses yet
+  abbrev pub use_that_ends : Option Phase → LinkOf D → Option ℕ
+  use_that_ends None link = None
+  use_that_ends (Some phase) link = begins_use link
+
+  abbrev pub use_that_stays : Option Phase → LinkOf D → Option ℕ
+  use_that_stays None link = begins_use link
+  use_that_stays (Some phase) link = None
+
+  abbrev pub used_by : ℕ → LinkOf D → Bool
+  used_by far link = is_at (begins_use link) far
+
+  -- how many links that a CI began may still send something, by the address of the other side, while that is counted
+  abbrev pub AreUsed : Queues → List (LinkOf D) → (ℕ → ℕ) → Type 0
+  AreUsed Without links used = ⊤
+  AreUsed With links used = (far : ℕ) → used far ≡ counted (used_by far) links
+
   abbrev pub waits : LinkOf D → Bool
   waits link = is_calling link.port.phase
 
@@ -94,7 +122,7 @@ module _ {D : Type 0} where
     pub few : waiting ≤ length links
 
   -- a link that changes so is found as before
-  pub record Stays (l m : LinkOf D) : Type 0 where
+  pub record IsFoundAs (l m : LinkOf D) : Type 0 where
     pub own : m.port.own ≡ l.port.own
     pub opened : m.port.opened ≡ l.port.opened
     pub far : m.port.far ≡ l.port.far
@@ -102,12 +130,39 @@ module _ {D : Type 0} where
     pub called : is_called m.port.phase ≡ true → is_called l.port.phase ≡ true
     pub calling : is_calling m.port.phase ≡ true → is_calling l.port.phase ≡ true
 
+  -- and may send as before
+  pub record Stays (l m : LinkOf D) : Type 0 where
+    pub found : IsFoundAs l m
+    pub used : uses m ≡ uses l
+
+-- ---- uses, while they are counted
+
+abbrev pub counting : Bool → Queues
+counting true = With
+counting false = Without
+
+-- a link with this address uses it no more
+abbrev pub IsReleased : Queues → Option ℕ → (before after : ℕ → ℕ) → Type 0
+IsReleased Without known before after = ⊤
+IsReleased With known before after = (far : ℕ) → (if is_at known far then suc (after far) else after far) ≡ before far
+
+-- one more does
+abbrev pub IsTaken : Queues → ℕ → (before after : ℕ → ℕ) → Type 0
+IsTaken Without far before after = ⊤
+IsTaken With far before after = (q : ℕ) → after q ≡ (if far == q then suc (before q) else before q)
+
+-- what the holder of an own address uses
+abbrev pub held_use : Option ℕ → List (LinkOf WireSegments) → Option ℕ
+held_use None links = None
+held_use (Some number) links = look_at begins_use links number
+
 -- ---- an own address that is given again: the holder, which has ended, loses it
 
-abbrev pub forgotten_found : ℕ → Option (LinkOf WireSegments) → List (LinkOf WireSegments) → List (LinkOf WireSegments)
-forgotten_found number None links = links
-forgotten_found number (Some link) links = slice_set links number (forgotten wire_segments Without link)
+module _ (queues : Queues) where
+  abbrev pub forgotten_found : ℕ → Option (LinkOf WireSegments) → List (LinkOf WireSegments) → List (LinkOf WireSegments)
+  forgotten_found number None links = links
+  forgotten_found number (Some link) links = slice_set links number (forgotten_link queues link)
 
-abbrev pub forgotten_at : (holder : Option ℕ) → List (LinkOf WireSegments) → List (LinkOf WireSegments)
-forgotten_at None links = links
-forgotten_at (Some number) links = forgotten_found number (slice_get links number) links
+  abbrev pub forgotten_at : (holder : Option ℕ) → List (LinkOf WireSegments) → List (LinkOf WireSegments)
+  forgotten_at None links = links
+  forgotten_at (Some number) links = forgotten_found number (slice_get links number) links

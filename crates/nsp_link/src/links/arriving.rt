@@ -5,13 +5,12 @@ ghost use Rattle.std.specs.List.{AllByRecursion};
 ghost use Rattle.dna_packet.specs.AckWord.{IsAckWord};
 ghost use Rattle.dna_packet.specs.Nsp.{segment_view};
 ghost use Rattle.dna_packet.specs.Nsp as nsp;
-ghost use Rattle.dna_links.specs.declared.queue.Queues.TheVariants.{Without};
-ghost use Rattle.dna_links.specs.Arriving.{of_partner, message_arrived};
-ghost use Rattle.dna_links.specs.inner.Forms.{ends_by};
-ghost use Rattle.dna_links.specs.inner.Forms as forms;
+ghost use Rattle.dna_links.specs.Arriving.{message_arrived};
 ghost use Rattle.dna_links.specs.WireSegments.{wire_segments};
 ghost use Rattle.dna_links.specs.WireLinks.{wire_links_arrived};
 ghost use Rattle.nsp_link.specs.Fault.{IsFault};
+ghost use Rattle.nsp_link.specs.Kinds.{queues_of};
+ghost use Rattle.nsp_link.specs.inner.Rows as rows;
 ghost use Rattle.nsp_link.specs.PartnerRules.{partner_rule};
 ghost use Rattle.nsp_link.specs.Phases.{arrival_takes_memory, holds_segment, begins_link};
 
@@ -39,7 +38,7 @@ impl<W: Window<Piece, 4096> + Drop> Links<W> {
     ///   `arrived::<true>`. Who has one end alone knows no link of what comes, and `arrived::<false>` takes any.
     ///
     /// `OutOfMemory`, after both: memory was refused. After any of them the links are as they were.
-    pub fn arrived<const OF_PAIR: bool>(
+    pub fn arrived<const OF_PAIR: bool, const QUEUES: u8>(
         &mut self,
         dst: u16,
         src: u16,
@@ -47,9 +46,9 @@ impl<W: Window<Piece, 4096> + Drop> Links<W> {
         tag: LinkTag,
     ) -> Result<(), LinkFault>
         requires { nsp.IsInRange (nsp.view message.now) }
-        ensures ok { OnOk result (wire_links_arrived Without (partner_rule OF_PAIR) self.old
+        ensures ok { OnOk result (wire_links_arrived (queues_of QUEUES) (partner_rule OF_PAIR) self.old
             (record { dst = dst; src = src; message = nsp.view message.now }) tag ≡ Ok self.new) }
-        ensures refused { IfErr result (λ fault. IsFault (wire_links_arrived Without (partner_rule OF_PAIR) self.old
+        ensures refused { IfErr result (λ fault. IsFault (wire_links_arrived (queues_of QUEUES) (partner_rule OF_PAIR) self.old
             (record { dst = dst; src = src; message = nsp.view message.now }) tag) (arrival_takes_memory self.old (nsp.view message.now)) fault) }
         ensures err { OnErr result (self.new ≡ self.old) }
     {
@@ -59,7 +58,7 @@ impl<W: Window<Piece, 4096> + Drop> Links<W> {
         if dst != self.node {
             return Err(LinkFault::Refused(LinkRefusal::WrongNode));
         }
-        self.take::<OF_PAIR>(message, tag)
+        self.take::<OF_PAIR, QUEUES>(message, tag)
     }
 
     /// Whether a packet from node `src` to node `dst` comes from the other node to this one: else `arrived` refuses it with `WrongNode`. Takes no
@@ -74,35 +73,54 @@ impl<W: Window<Piece, 4096> + Drop> Links<W> {
     }
 
     // The same of a message that comes from the other node to this one.
-    fn take<const OF_PAIR: bool>(&mut self, message: &Nsp, tag: LinkTag) -> Result<(), LinkFault>
+    fn take<const OF_PAIR: bool, const QUEUES: u8>(
+        &mut self,
+        message: &Nsp,
+        tag: LinkTag,
+    ) -> Result<(), LinkFault>
         requires { nsp.IsInRange (nsp.view message.now) }
-        ensures ok { OnOk result (message_arrived Without wire_segments (partner_rule OF_PAIR) self.old (nsp.view message.now)
+        ensures ok { OnOk result (message_arrived (queues_of QUEUES) wire_segments (partner_rule OF_PAIR) self.old (nsp.view message.now)
             (record { tag = tag; known = tt }) ≡ Ok self.new) }
-        ensures refused { IfErr result (λ fault. IsFault (message_arrived Without wire_segments (partner_rule OF_PAIR) self.old (nsp.view message.now)
+        ensures refused { IfErr result (λ fault. IsFault (message_arrived (queues_of QUEUES) wire_segments (partner_rule OF_PAIR) self.old (nsp.view message.now)
             (record { tag = tag; known = tt })) (arrival_takes_memory self.old (nsp.view message.now)) fault) }
         ensures err { OnErr result (self.new ≡ self.old) }
     {
+        self.take_by_row::<OF_PAIR, QUEUES>(message, tag)
+    }
+
+    // The same, as the rows come to it.
+    fn take_by_row<const OF_PAIR: bool, const QUEUES: u8>(
+        &mut self,
+        message: &Nsp,
+        tag: LinkTag,
+    ) -> Result<(), LinkFault>
+        requires { nsp.IsInRange (nsp.view message.now) }
+        ensures ok { OnOk result (rows.takes (queues_of QUEUES) (partner_rule OF_PAIR) self.old (nsp.view message.now) tag ≡ Ok self.new) }
+        ensures refused { IfErr result (λ fault. IsFault (rows.takes (queues_of QUEUES) (partner_rule OF_PAIR) self.old (nsp.view message.now) tag)
+            (arrival_takes_memory self.old (nsp.view message.now)) fault) }
+        ensures err { OnErr result (self.new ≡ self.old) }
+    {
         match message {
-            Nsp::DataSegment(segment) => self.segment_came::<OF_PAIR>(segment, tag),
-            Nsp::DataAck(message) => self.acks_came::<OF_PAIR>(message, tag),
-            Nsp::LinkService(message) => self.other::<OF_PAIR>(
+            Nsp::DataSegment(segment) => self.segment_came::<OF_PAIR, QUEUES>(segment, tag),
+            Nsp::DataAck(message) => self.acks_came::<OF_PAIR, QUEUES>(message, tag),
+            Nsp::LinkService(message) => self.other::<OF_PAIR, QUEUES>(
                 message.dstaddr,
                 message.srcaddr,
                 tag,
             ),
-            Nsp::OtherDataAck(message) => self.other::<OF_PAIR>(
+            Nsp::OtherDataAck(message) => self.other::<OF_PAIR, QUEUES>(
                 message.dstaddr,
                 message.srcaddr,
                 tag,
             ),
-            Nsp::ConnectInitiate(message) => self.connect_initiate::<OF_PAIR>(message, tag),
-            Nsp::ConnectConfirm(message) => self.connect_confirm::<OF_PAIR>(message, tag),
+            Nsp::ConnectInitiate(message) => self.connect_initiate::<OF_PAIR, QUEUES>(message, tag),
+            Nsp::ConnectConfirm(message) => self.connect_confirm::<OF_PAIR, QUEUES>(message, tag),
             Nsp::DisconnectInitiate(message) => {
-                self.end(message.dstaddr, message.srcaddr);
+                self.end::<QUEUES>(message.dstaddr, message.srcaddr);
                 Ok(())
             }
             Nsp::DisconnectConfirm(message) => {
-                self.end(message.dstaddr, message.srcaddr);
+                self.end::<QUEUES>(message.dstaddr, message.srcaddr);
                 Ok(())
             }
             Nsp::ConnectAck(_) => Ok(()),
@@ -112,17 +130,19 @@ impl<W: Window<Piece, 4096> + Drop> Links<W> {
 
     // A CC.
     #[tactic(auto, using(crate::proofs::Found::found_links))]
-    fn connect_confirm<const OF_PAIR: bool>(
+    fn connect_confirm<const OF_PAIR: bool, const QUEUES: u8>(
         &mut self,
         message: &ConnectConfirm,
         tag: LinkTag,
     ) -> Result<(), LinkFault>
-        ensures ok { OnOk result (message_arrived Without wire_segments (partner_rule OF_PAIR) self.old (nsp.ConnectConfirm message.now.dstaddr
+        ensures ok { OnOk result (rows.takes (queues_of QUEUES) (partner_rule OF_PAIR) self.old
+            (nsp.ConnectConfirm message.now.dstaddr
             message.now.srcaddr message.now.services message.now.info message.now.segsize message.now.user_data.now)
-            (record { tag = tag; known = tt }) ≡ Ok self.new) }
-        ensures refused { IfErr result (λ fault. IsFault (message_arrived Without wire_segments (partner_rule OF_PAIR) self.old (nsp.ConnectConfirm
+            tag ≡ Ok self.new) }
+        ensures refused { IfErr result (λ fault. IsFault (rows.takes (queues_of QUEUES) (partner_rule OF_PAIR) self.old
+            (nsp.ConnectConfirm
             message.now.dstaddr message.now.srcaddr message.now.services message.now.info message.now.segsize message.now.user_data.now)
-            (record { tag = tag; known = tt })) false fault) }
+            tag) false fault) }
         ensures err { OnErr result (self.new ≡ self.old) }
     {
         let Some((number, _link)) = self.found(LinkTest::CallingAt {
@@ -133,20 +153,20 @@ impl<W: Window<Piece, 4096> + Drop> Links<W> {
         if !is_for::<OF_PAIR>(number, tag) {
             return Err(LinkFault::Refused(LinkRefusal::CrossedLink));
         }
-        self.confirm_at(number, message.srcaddr, message.segsize, tag);
+        self.confirm_at::<QUEUES>(number, message.srcaddr, message.segsize, tag);
         Ok(())
     }
 
     // A link service, an interrupt or an acknowledgement of the other subchannel.
     #[tactic(auto, using(crate::proofs::Found::found_links))]
-    fn other<const OF_PAIR: bool>(
+    fn other<const OF_PAIR: bool, const QUEUES: u8>(
         &mut self,
         own: u16,
         far: u16,
         tag: LinkTag,
     ) -> Result<(), LinkFault>
-        ensures ok { OnOk result (forms.acted_on wire_segments (partner_rule OF_PAIR) own far tag (λ link. link.segments) self.old ≡ Ok self.new) }
-        ensures refused { IfErr result (λ fault. IsFault (forms.acted_on wire_segments (partner_rule OF_PAIR) own far tag (λ link. link.segments)
+        ensures ok { OnOk result (rows.acted_on (queues_of QUEUES) (partner_rule OF_PAIR) own far tag (λ segments. segments) self.old ≡ Ok self.new) }
+        ensures refused { IfErr result (λ fault. IsFault (rows.acted_on (queues_of QUEUES) (partner_rule OF_PAIR) own far tag (λ segments. segments)
             self.old) false fault) }
         ensures err { OnErr result (self.new ≡ self.old) }
     {
@@ -156,23 +176,25 @@ impl<W: Window<Piece, 4096> + Drop> Links<W> {
         if !is_of_pair::<OF_PAIR>(number, link.partner(), tag) {
             return Err(LinkFault::Refused(LinkRefusal::CrossedLink));
         }
-        self.run_at(number);
+        self.run_at::<QUEUES>(number);
         Ok(())
     }
 
     // A data acknowledgement.
     #[tactic(auto, using(crate::proofs::Found::found_links))]
-    fn acks_came<const OF_PAIR: bool>(
+    fn acks_came<const OF_PAIR: bool, const QUEUES: u8>(
         &mut self,
         message: &DataAck,
         tag: LinkTag,
     ) -> Result<(), LinkFault>
         requires { AllByRecursion IsAckWord message.now.acks.items }
-        ensures ok { OnOk result (message_arrived Without wire_segments (partner_rule OF_PAIR) self.old (nsp.DataAck message.now.dstaddr message.now.srcaddr
-            message.now.acks.items) (record { tag = tag; known = tt }) ≡ Ok self.new) }
+        ensures ok { OnOk result (rows.takes (queues_of QUEUES) (partner_rule OF_PAIR) self.old
+            (nsp.DataAck message.now.dstaddr message.now.srcaddr
+            message.now.acks.items) tag ≡ Ok self.new) }
         ensures refused { IfErr result
-            (λ fault. IsFault (message_arrived Without wire_segments (partner_rule OF_PAIR) self.old (nsp.DataAck message.now.dstaddr
-            message.now.srcaddr message.now.acks.items) (record { tag = tag; known = tt })) false fault) }
+            (λ fault. IsFault (rows.takes (queues_of QUEUES) (partner_rule OF_PAIR) self.old
+            (nsp.DataAck message.now.dstaddr
+            message.now.srcaddr message.now.acks.items) tag) false fault) }
         ensures err { OnErr result (self.new ≡ self.old) }
     {
         let test = LinkTest::ActedOn {
@@ -185,23 +207,24 @@ impl<W: Window<Piece, 4096> + Drop> Links<W> {
         if !is_of_pair::<OF_PAIR>(number, link.partner(), tag) {
             return Err(LinkFault::Refused(LinkRefusal::CrossedLink));
         }
-        self.take_acks_at(number, &message.acks);
+        self.take_acks_at::<QUEUES>(number, &message.acks);
         Ok(())
     }
 
     // A data segment.
     #[tactic(auto, using(crate::proofs::Found::found_links))]
-    fn segment_came<const OF_PAIR: bool>(
+    fn segment_came<const OF_PAIR: bool, const QUEUES: u8>(
         &mut self,
         segment: &Segment,
         tag: LinkTag,
     ) -> Result<(), LinkFault>
         requires acks { AllByRecursion IsAckWord segment.now.acks.items }
         requires segnum { segment.now.number < 4096 }
-        ensures ok { OnOk result (message_arrived Without wire_segments (partner_rule OF_PAIR) self.old (nsp.DataSegment (segment_view segment.now))
-            (record { tag = tag; known = tt }) ≡ Ok self.new) }
-        ensures refused { IfErr result (λ fault. IsFault (message_arrived Without wire_segments (partner_rule OF_PAIR) self.old
-            (nsp.DataSegment (segment_view segment.now)) (record { tag = tag; known = tt }))
+        ensures ok { OnOk result (rows.takes (queues_of QUEUES) (partner_rule OF_PAIR) self.old
+            (nsp.DataSegment (segment_view segment.now))
+            tag ≡ Ok self.new) }
+        ensures refused { IfErr result (λ fault. IsFault (rows.takes (queues_of QUEUES) (partner_rule OF_PAIR) self.old
+            (nsp.DataSegment (segment_view segment.now)) tag)
             (holds_segment self.old (segment_view segment.now)) fault) }
         ensures err { OnErr result (self.new ≡ self.old) }
     {
@@ -215,7 +238,7 @@ impl<W: Window<Piece, 4096> + Drop> Links<W> {
         if !is_of_pair::<OF_PAIR>(number, link.partner(), tag) {
             return Err(LinkFault::Refused(LinkRefusal::CrossedLink));
         }
-        let Ok(()) = self.take_segment_at(number, segment) else {
+        let Ok(()) = self.take_segment_at::<QUEUES>(number, segment) else {
             return Err(LinkFault::OutOfMemory);
         };
         Ok(())
@@ -223,23 +246,25 @@ impl<W: Window<Piece, 4096> + Drop> Links<W> {
 
     // A CI: where no live link has the sender's address, a link begins; else it is a repeat.
     #[tactic(auto, using(crate::proofs::Found::found_links))]
-    fn connect_initiate<const OF_PAIR: bool>(
+    fn connect_initiate<const OF_PAIR: bool, const QUEUES: u8>(
         &mut self,
         message: &ConnectInitiate,
         tag: LinkTag,
     ) -> Result<(), LinkFault>
-        ensures ok { OnOk result (message_arrived Without wire_segments (partner_rule OF_PAIR) self.old (nsp.ConnectInitiate message.now.retransmitted
+        ensures ok { OnOk result (rows.takes (queues_of QUEUES) (partner_rule OF_PAIR) self.old
+            (nsp.ConnectInitiate message.now.retransmitted
             message.now.srcaddr message.now.services message.now.info message.now.segsize message.now.user_data.now)
-            (record { tag = tag; known = tt }) ≡ Ok self.new) }
-        ensures refused { IfErr result (λ fault. IsFault (message_arrived Without wire_segments (partner_rule OF_PAIR) self.old (nsp.ConnectInitiate
+            tag ≡ Ok self.new) }
+        ensures refused { IfErr result (λ fault. IsFault (rows.takes (queues_of QUEUES) (partner_rule OF_PAIR) self.old
+            (nsp.ConnectInitiate
             message.now.retransmitted message.now.srcaddr message.now.services message.now.info message.now.segsize
-            message.now.user_data.now) (record { tag = tag; known = tt })) (begins_link self.old message.now.srcaddr) fault) }
+            message.now.user_data.now) tag) (begins_link self.old message.now.srcaddr) fault) }
         ensures err { OnErr result (self.new ≡ self.old) }
     {
         if self.is_live_to(message.srcaddr) {
             return Ok(());
         }
-        let Ok(()) = self.begin_called(message.srcaddr, message.segsize, tag) else {
+        let Ok(()) = self.begin_called::<QUEUES>(message.srcaddr, message.segsize, tag) else {
             return Err(LinkFault::OutOfMemory);
         };
         Ok(())
@@ -247,16 +272,16 @@ impl<W: Window<Piece, 4096> + Drop> Links<W> {
 
     // A DI or a DC: the link, or the one in Calling with the own address, is over.
     #[tactic(auto, using(crate::proofs::Found::found_links))]
-    fn end(&mut self, own: u16, far: u16)
-        ensures { Ok self.new ≡ ends_by wire_segments of_partner own far self.old }
+    fn end<const QUEUES: u8>(&mut self, own: u16, far: u16)
+        ensures { Ok self.new ≡ rows.ends_by (queues_of QUEUES) own far self.old }
     {
         if let Some((number, _link)) = self.found(LinkTest::TheLink { own, far }) {
-            self.end_at(number);
+            self.end_at::<QUEUES>(number);
             return;
         }
         let Some((number, _link)) = self.found(LinkTest::CallingAt { own }) else {
             return;
         };
-        self.end_at(number);
+        self.end_at::<QUEUES>(number);
     }
 }

@@ -7,19 +7,23 @@ ghost use Rattle.std.specs.Ordering.{nat_cmp};
 ghost use Rattle.std.specs.BTreeMap.{get};
 ghost use Rattle.std.specs.HashMap.{spare};
 ghost use Rattle.std.specs.HashMap as hashed;
-ghost use Rattle.dna_links.specs.Queues.{freed, forgotten};
-ghost use Rattle.dna_links.specs.declared.queue.Queues.TheVariants.{Without};
+ghost use Rattle.dna_links.specs.Queues.{freed};
+ghost use Rattle.dna_links.specs.declared.queue.Queues.TheVariants.{With};
 ghost use Rattle.dna_links.specs.LookUps.{is_live, is_called, is_calling};
 ghost use Rattle.dna_links.specs.Links.{LinkOf, begun, changed, number_of};
-ghost use Rattle.dna_links.specs.inner.Forms.{opened, answered};
+ghost use Rattle.dna_links.specs.inner.Forms.{opened};
 ghost use Rattle.dna_links.specs.Arriving.{of_partner};
 ghost use Rattle.dna_links.specs.inner.Forms.{called};
 ghost use Rattle.dna_links.specs.WireSegments.{WireSegments, wire_segments};
-ghost use Rattle.nsp_link.specs.inner.Index.{forgotten_at, times, counted, lives_to};
+ghost use Rattle.nsp_link.specs.Kinds.{queues_of};
+ghost use Rattle.nsp_link.specs.inner.Index.{IsReleased, IsTaken, counting, forgotten_at, held_use, times, counted, lives_to};
+ghost use Rattle.nsp_link.specs.inner.Queue.{answered_link};
+ghost use Rattle.nsp_link.specs.inner.Rows as rows;
 ghost use Rattle.nsp_link.specs.inner.Indexing.{AreIndexed};
 
 use super::Links;
 use crate::index::Index;
+use crate::kind::is_queued;
 use crate::link::Link;
 use crate::{LinkTag, Piece};
 use dna_links::{LinkTest, Phase};
@@ -28,7 +32,7 @@ use wire_base::Window;
 
 impl<W: Window<Piece, 4096> + Drop> Links<W> {
     // A CI begins a link, from an address that no live link knows. Where memory is refused, nothing changes.
-    pub(super) fn begin_called(
+    pub(super) fn begin_called<const QUEUES: u8>(
         &mut self,
         far: u16,
         segsize: u16,
@@ -38,7 +42,7 @@ impl<W: Window<Piece, 4096> + Drop> Links<W> {
         ensures ok { OnOk result (self.new ≡ begun (called wire_segments of_partner far segsize tag) self.old) }
         ensures err { OnErr result (self.new ≡ self.old) }
     {
-        called_at(
+        called_at::<W, QUEUES>(
             self.alloc,
             &mut self.links,
             &mut self.index,
@@ -49,17 +53,17 @@ impl<W: Window<Piece, 4096> + Drop> Links<W> {
     }
 
     // A link is opened from here, with an own address that no live link has. Where memory is refused, nothing changes.
-    pub(super) fn begin_opened(&mut self, own: u16) -> Result<(), AllocError>
+    pub(super) fn begin_opened<const QUEUES: u8>(&mut self, own: u16) -> Result<(), AllocError>
         requires { number_of (LinkTest.LiveAt own) self.old ≡ None }
-        ensures ok { OnOk result (self.new ≡ begun (opened wire_segments own) (freed wire_segments Without own self.old)) }
+        ensures ok { OnOk result (self.new ≡ begun (opened wire_segments own) (freed wire_segments (queues_of QUEUES) own self.old)) }
         ensures err { OnErr result (self.new ≡ self.old) }
     {
-        opened_at(self.alloc, &mut self.links, &mut self.index, own)
+        opened_at::<W, QUEUES>(self.alloc, &mut self.links, &mut self.index, own)
     }
 
     // The link with this number, in Called, is answered: it gets this phase, and an own address that no live link has. Where memory is
     // refused, nothing changes.
-    pub(super) fn answer_at(
+    pub(super) fn answer_at<const QUEUES: u8>(
         &mut self,
         number: usize,
         phase: Phase,
@@ -72,10 +76,17 @@ impl<W: Window<Piece, 4096> + Drop> Links<W> {
         requires answers { is_called phase ≡ false }
         requires known { is_calling phase ≡ false }
         ensures ok { (link : LinkOf WireSegments) → slice_get self.old.links number ≡ Some link
-            → OnOk result (self.new ≡ changed number (answered wire_segments phase own link) (freed wire_segments Without own self.old)) }
+            → OnOk result (self.new ≡ changed number (rows.answered (queues_of QUEUES) phase own link) (freed wire_segments (queues_of QUEUES) own self.old)) }
         ensures err { OnErr result (self.new ≡ self.old) }
     {
-        answered_at(&mut self.links, &mut self.index, number, phase, own)
+        answered_at::<W, QUEUES>(
+            self.alloc,
+            &mut self.links,
+            &mut self.index,
+            number,
+            phase,
+            own,
+        )
     }
 }
 
@@ -92,15 +103,123 @@ fn make_room<W: Window<Piece, 4096> + Drop>(
     ensures holders { index.new.holders ≡ index.old.holders }
     ensures callers { index.new.callers ≡ index.old.callers }
     ensures waiting { index.new.waiting ≡ index.old.waiting }
+    ensures in_use { index.new.in_use ≡ index.old.in_use }
+    ensures counts { index.new.counts ≡ index.old.counts }
 {
     links.reserve(1)?;
     index.reserve()?;
     Ok(())
 }
 
+// What links use is counted from the first one on where there are queues, and no more where there are none. Nothing else changes.
+#[tactic(auto, using(crate::proofs::Giving::indexes))]
+fn count_uses<W: Window<Piece, 4096> + Drop, const QUEUES: u8>(
+    alloc: Global,
+    links: &Vec<Link<W>>,
+    index: &mut Index,
+)
+    requires index { AreIndexed links.now.items index.old }
+    ensures index { AreIndexed links.now.items index.new }
+    ensures kind { index.new.counts ≡ true → queues_of QUEUES ≡ With }
+    ensures holders { index.new.holders ≡ index.old.holders }
+    ensures callers { index.new.callers ≡ index.old.callers }
+    ensures reached { index.new.reached ≡ index.old.reached }
+    ensures waiting { index.new.waiting ≡ index.old.waiting }
+{
+    if !is_queued::<QUEUES>() {
+        index.stop_counting();
+        return;
+    }
+    if links.is_empty() {
+        index.begin_counting(alloc);
+    }
+}
+
+// There is room to count one more link that a CI begins. Nothing else changes.
+fn make_use_room(index: &mut Index) -> Result<(), AllocError>
+    ensures ok { OnOk result (index.old.counts ≡ true → 0 < spare index.new.in_use) }
+    ensures in_use { (q : ℕ) → times (hashed.get nat_eq index.new.in_use q) ≡ times (hashed.get nat_eq index.old.in_use q) }
+    ensures counts { index.new.counts ≡ index.old.counts }
+    ensures holders { index.new.holders ≡ index.old.holders }
+    ensures callers { index.new.callers ≡ index.old.callers }
+    ensures reached { index.new.reached ≡ index.old.reached }
+    ensures waiting { index.new.waiting ≡ index.old.waiting }
+{
+    if !index.counts() {
+        return Ok(());
+    }
+    index.reserve_use()
+}
+
+// A CI from this address begins a link, for which there is room.
+fn begin_use(index: &mut Index, far: u16)
+    requires room { index.old.counts ≡ true → 0 < spare index.old.in_use }
+    requires few { index.old.counts ≡ true → times (hashed.get nat_eq index.old.in_use far) < 2 ^ 63 }
+    ensures in_use { IsTaken (counting index.old.counts) far (λ q. times (hashed.get nat_eq index.old.in_use q))
+        (λ q. times (hashed.get nat_eq index.new.in_use q)) }
+    ensures counts { index.new.counts ≡ index.old.counts }
+    ensures holders { index.new.holders ≡ index.old.holders }
+    ensures callers { index.new.callers ≡ index.old.callers }
+    ensures reached { index.new.reached ≡ index.old.reached }
+    ensures waiting { index.new.waiting ≡ index.old.waiting }
+{
+    if !index.counts() {
+        return;
+    }
+    index.begin_use(far);
+}
+
+// Of a link that a CI from this address began, if one did, nothing is sent any more.
+pub(super) fn end_use(index: &mut Index, known: Option<u16>)
+    requires { index.old.counts ≡ true → (far : ℕ) → known ≡ Some far → 0 < times (hashed.get nat_eq index.old.in_use far) }
+    ensures in_use { IsReleased (counting index.old.counts) known (λ q. times (hashed.get nat_eq index.old.in_use q))
+        (λ q. times (hashed.get nat_eq index.new.in_use q)) }
+    ensures counts { index.new.counts ≡ index.old.counts }
+    ensures holders { index.new.holders ≡ index.old.holders }
+    ensures callers { index.new.callers ≡ index.old.callers }
+    ensures reached { index.new.reached ≡ index.old.reached }
+    ensures waiting { index.new.waiting ≡ index.old.waiting }
+{
+    if !index.counts() {
+        return;
+    }
+    if let Some(far) = known {
+        index.end_use(far);
+    }
+}
+
+// Without queues what links use is counted no more.
+pub(super) fn count_only_with<const QUEUES: u8>(index: &mut Index)
+    ensures kind { index.new.counts ≡ true → queues_of QUEUES ≡ With }
+    ensures before { index.new.counts ≡ true → index.old.counts ≡ true }
+    ensures in_use { index.new.in_use ≡ index.old.in_use }
+    ensures holders { index.new.holders ≡ index.old.holders }
+    ensures callers { index.new.callers ≡ index.old.callers }
+    ensures reached { index.new.reached ≡ index.old.reached }
+    ensures waiting { index.new.waiting ≡ index.old.waiting }
+{
+    if !is_queued::<QUEUES>() {
+        index.stop_counting();
+    }
+}
+
+// What the link with this number uses, if there is one.
+#[inline(always)]
+fn use_of<W: Window<Piece, 4096> + Drop>(links: &Vec<Link<W>>, number: Option<usize>) -> Option<u16>
+    ensures { result ≡ held_use number links.now.items }
+{
+    let Some(number) = number else {
+        return None;
+    };
+    match links.get(number) {
+        Some(link) => link.begins_use(),
+        None => None,
+    }
+}
+
 // A link that a CI begins is put behind the others; no live one knows its far address. Where memory is refused, nothing changes.
 #[tactic(auto, using(crate::proofs::Giving::indexes))]
-fn called_at<W: Window<Piece, 4096> + Drop>(
+fn called_at<W: Window<Piece, 4096> + Drop, const QUEUES: u8>(
     alloc: Global,
     links: &mut Vec<Link<W>>,
     index: &mut Index,
@@ -115,18 +234,25 @@ fn called_at<W: Window<Piece, 4096> + Drop>(
     ensures err { OnErr result (links.new.items ≡ links.old.items) }
 {
     let link = Link::called(alloc, far, segsize, tag)?;
+    count_uses::<W, QUEUES>(alloc, links, index);
     make_room(links, index)?;
+    make_use_room(index)?;
     index.call(far, links.len())?;
     index.reach(far);
+    begin_use(index, far);
     links.push_reserved(link);
     Ok(())
 }
 
 // The ended link that held an own address, if there is one, loses it.
-fn free<W: Window<Piece, 4096> + Drop>(links: &mut Vec<Link<W>>, holder: Option<usize>)
+fn free<W: Window<Piece, 4096> + Drop, const QUEUES: u8>(
+    alloc: Global,
+    links: &mut Vec<Link<W>>,
+    holder: Option<usize>,
+)
     requires { (number : ℕ) (link : LinkOf WireSegments) → holder ≡ Some number → slice_get links.old.items number ≡ Some link
         → is_live link.port.phase ≡ false }
-    ensures items { links.new.items ≡ forgotten_at holder links.old.items }
+    ensures items { links.new.items ≡ forgotten_at (queues_of QUEUES) holder links.old.items }
     ensures len { vec_len links.new ≡ vec_len links.old }
     ensures capacity { vec_capacity links.new ≡ vec_capacity links.old }
 {
@@ -136,12 +262,12 @@ fn free<W: Window<Piece, 4096> + Drop>(links: &mut Vec<Link<W>>, holder: Option<
     if number >= links.len() {
         return;
     }
-    links[number].forget();
+    links[number].forget::<QUEUES>(alloc);
 }
 
 // A link that is opened here begins: it holds its own address. Where memory is refused, nothing changes.
 #[tactic(auto, using(crate::proofs::Giving::indexes))]
-fn opened_at<W: Window<Piece, 4096> + Drop>(
+fn opened_at<W: Window<Piece, 4096> + Drop, const QUEUES: u8>(
     alloc: Global,
     links: &mut Vec<Link<W>>,
     index: &mut Index,
@@ -151,20 +277,23 @@ fn opened_at<W: Window<Piece, 4096> + Drop>(
     requires dead { (number : ℕ) (link : LinkOf WireSegments) → get nat_cmp index.old.holders own ≡ Some number
         → slice_get links.old.items number ≡ Some link → is_live link.port.phase ≡ false }
     ensures index { AreIndexed links.new.items index.new }
-    ensures ok { OnOk result (links.new.items ≡ forgotten_at (get nat_cmp index.old.holders own) links.old.items ++ opened wire_segments own ∷ []) }
+    ensures ok { OnOk result (links.new.items ≡ forgotten_at (queues_of QUEUES) (get nat_cmp index.old.holders own) links.old.items ++ opened wire_segments own ∷ []) }
     ensures err { OnErr result (links.new.items ≡ links.old.items) }
 {
     let link = Link::opened(alloc, own)?;
+    count_uses::<W, QUEUES>(alloc, links, index);
     make_room(links, index)?;
     let holder = index.holder(own);
     index.give(own, links.len())?;
     index.wait();
-    put_opened(links, holder, link);
+    end_use(index, use_of(links, holder));
+    put_opened::<W, QUEUES>(alloc, links, holder, link);
     Ok(())
 }
 
 // A link that is opened here is put behind the others; the ended link that held its address loses it.
-fn put_opened<W: Window<Piece, 4096> + Drop>(
+fn put_opened<W: Window<Piece, 4096> + Drop, const QUEUES: u8>(
+    alloc: Global,
     links: &mut Vec<Link<W>>,
     holder: Option<usize>,
     link: Link<W>,
@@ -172,15 +301,16 @@ fn put_opened<W: Window<Piece, 4096> + Drop>(
     requires room { vec_len links.old < vec_capacity links.old }
     requires dead { (number : ℕ) (link : LinkOf WireSegments) → holder ≡ Some number → slice_get links.old.items number ≡ Some link
         → is_live link.port.phase ≡ false }
-    ensures { links.new.items ≡ forgotten_at holder links.old.items ++ link ∷ [] }
+    ensures { links.new.items ≡ forgotten_at (queues_of QUEUES) holder links.old.items ++ link ∷ [] }
 {
-    free(links, holder);
+    free::<W, QUEUES>(alloc, links, holder);
     links.push_reserved(link);
 }
 
 // The link with this number, in Called, gets this phase, and holds this own address. Where memory is refused, nothing changes.
 #[tactic(auto, using(crate::proofs::Giving::indexes))]
-fn answered_at<W: Window<Piece, 4096> + Drop>(
+fn answered_at<W: Window<Piece, 4096> + Drop, const QUEUES: u8>(
+    alloc: Global,
     links: &mut Vec<Link<W>>,
     index: &mut Index,
     number: usize,
@@ -197,14 +327,16 @@ fn answered_at<W: Window<Piece, 4096> + Drop>(
     requires known { is_calling phase ≡ false }
     ensures index { AreIndexed links.new.items index.new }
     ensures ok { (link : LinkOf WireSegments) → slice_get links.old.items number ≡ Some link
-        → OnOk result (links.new.items ≡ slice_set (forgotten_at (get nat_cmp index.old.holders own) links.old.items) number
-        (answered wire_segments phase own link)) }
+        → OnOk result (links.new.items ≡ slice_set (forgotten_at (queues_of QUEUES) (get nat_cmp index.old.holders own) links.old.items) number
+        (answered_link (queues_of QUEUES) phase own link)) }
     ensures err { OnErr result (links.new.items ≡ links.old.items) }
 {
     let _port = links[number].port();
+    count_uses::<W, QUEUES>(alloc, links, index);
     let holder = index.holder(own);
     index.give(own, number)?;
-    free(links, holder);
-    links[number].answer(phase, own);
+    end_use(index, use_of(links, holder));
+    free::<W, QUEUES>(alloc, links, holder);
+    links[number].answer::<QUEUES>(phase, own);
     Ok(())
 }

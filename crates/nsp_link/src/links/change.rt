@@ -6,42 +6,44 @@ ghost use Rattle.std.specs.HashMap as hashed;
 ghost use Rattle.std.specs.List.{AllByRecursion};
 ghost use Rattle.dna_packet.specs.AckWord.{IsAckWord};
 ghost use Rattle.dna_packet.specs.Nsp.{segment_view};
-ghost use Rattle.dna_links.specs.Queues.{ended};
-ghost use Rattle.dna_links.specs.Links.{LinkOf, changed, in_phase, with_segments};
+ghost use Rattle.dna_links.specs.Queues.{drops, ends_by_message, goes_to, settled, shows};
+ghost use Rattle.dna_links.specs.declared.queue.Queues.TheVariants.{With};
+ghost use Rattle.dna_links.specs.Links.{LinkOf, changed, with_segments};
 ghost use Rattle.dna_links.specs.LookUps.{is_calling, is_at};
-ghost use Rattle.dna_links.specs.inner.Forms.{delivered};
-ghost use Rattle.dna_links.specs.inner.Forms.{carries, segment_of, truth_of};
-ghost use Rattle.dna_links.specs.Arriving.{of_partner};
-ghost use Rattle.dna_links.specs.inner.Forms.{confirmed, running};
-ghost use Rattle.dna_links.specs.WireSegments.{WireSegments, wire_segments, hands_in, delivers, is_new, sends_acks, takes_acks, takes_segment};
+ghost use Rattle.dna_links.specs.inner.Forms.{delivered, truth_of};
+ghost use Rattle.dna_links.specs.WireSegments.{WireSegments, wire_segments, hands_in, delivers, is_new, takes_acks, takes_segment};
 ghost use Rattle.nsp_link.specs.Fault.{IsFault};
 ghost use Rattle.nsp_link.specs.Segments.{is_held};
 ghost use Rattle.nsp_link.specs.inner.Index.{times};
-ghost use Rattle.nsp_link.specs.inner.Indexing.{LivesAt};
+ghost use Rattle.nsp_link.specs.Kinds.{queues_of};
+ghost use Rattle.nsp_link.specs.inner.Indexing.{KeepsAt, LivesAt, UsesAt};
+ghost use Rattle.nsp_link.specs.inner.Rows.{acked, confirmed, numbered, runs, sent_by};
 
 use super::Links;
+use super::begin::{count_only_with, end_use};
 use crate::index::Index;
 use crate::{LinkFault, LinkRefusal, LinkTag, Piece};
-use dna_links::{Phase, Port};
+use dna_links::{Phase, Port, Said};
 use dna_packet::{AckWord, Segment};
 use std::alloc::AllocError;
 use wire_base::Window;
 
 impl<W: Window<Piece, 4096> + Drop> Links<W> {
     // The user closes the link with this number.
-    pub(super) fn close_link(&mut self, number: usize)
+    pub(super) fn close_link<const QUEUES: u8>(&mut self, number: usize)
         requires within { number < length self.old.links }
-        requires live { LivesAt number self.old }
+        requires used { UsesAt (queues_of QUEUES) number self.old }
+        requires kept { KeepsAt number self.old }
         ensures { (link : LinkOf WireSegments) → slice_get self.old.links number ≡ Some link
-            → self.new ≡ changed number (in_phase Phase.Disconnecting link) self.old }
+            → self.new ≡ changed number (goes_to wire_segments (queues_of QUEUES) Phase.Disconnecting link) self.old }
     {
-        self.links[number].close();
+        self.links[number].close::<QUEUES>(self.alloc);
     }
 
     // A message is handed in to the link with this number. Where memory is refused, nothing changes.
     pub(super) fn hand_in_at(&mut self, number: usize, message: &[u8]) -> Result<(), AllocError>
         requires within { number < length self.old.links }
-        requires live { LivesAt number self.old }
+        requires kept { KeepsAt number self.old }
         ensures ok { (link : LinkOf WireSegments) → slice_get self.old.links number ≡ Some link
             → OnOk result (self.new ≡ changed number (with_segments (hands_in message.now link.segments) link) self.old) }
         ensures err { OnErr result (self.new ≡ self.old) }
@@ -61,81 +63,109 @@ impl<W: Window<Piece, 4096> + Drop> Links<W> {
     }
 
     // A segment is sent on the link with this number.
-    pub(super) fn send_segment_at(
+    pub(super) fn send_segment_at<const QUEUES: u8>(
         &mut self,
         number: usize,
         segment: &Segment,
     ) -> Result<(), LinkFault>
         requires within { number < length self.old.links }
-        requires live { LivesAt number self.old }
+        requires kept { KeepsAt number self.old }
         requires acks { AllByRecursion IsAckWord segment.now.acks.items }
         requires segnum { segment.now.number < 4096 }
         ensures ok { (link : LinkOf WireSegments) → slice_get self.old.links number ≡ Some link
-            → OnOk result (carries wire_segments self.old number link (segment_of wire_segments (segment_view segment.now) link)
+            → OnOk result (numbered (queues_of QUEUES) (segment_view segment.now) link (λ after. Ok (sent_by self.old number link after))
             ≡ Ok (record { links = self.new; truth = truth_of wire_segments number link tt })) }
         ensures refused { (link : LinkOf WireSegments) → slice_get self.old.links number ≡ Some link
-            → IfErr result (λ fault. IsFault (segment_of wire_segments (segment_view segment.now) link)
+            → IfErr result (λ fault. IsFault
+            (numbered (queues_of QUEUES) (segment_view segment.now) link (λ after. Ok (sent_by self.old number link after)))
             (is_new (segment_view segment.now) link.segments.variables) fault) }
         ensures err { OnErr result (self.new ≡ self.old) }
     {
-        self.links[number].send_segment(self.alloc, segment)
+        self.links[number].send_segment::<QUEUES>(self.alloc, segment)
     }
 
     // Acknowledgement words are sent alone on the link with this number.
-    pub(super) fn send_acks_at(
+    pub(super) fn send_acks_at<const QUEUES: u8>(
         &mut self,
         number: usize,
         words: &[AckWord],
     ) -> Result<(), LinkRefusal>
         requires within { number < length self.old.links }
-        requires live { LivesAt number self.old }
+        requires kept { KeepsAt number self.old }
         requires acks { AllByRecursion IsAckWord words.now }
         ensures ok { (link : LinkOf WireSegments) → slice_get self.old.links number ≡ Some link
-            → OnOk result (carries wire_segments self.old number link (sends_acks words.now link.segments)
+            → OnOk result (acked (queues_of QUEUES) words.now link (λ after. Ok (sent_by self.old number link after))
             ≡ Ok (record { links = self.new; truth = truth_of wire_segments number link tt })) }
         ensures refused { (link : LinkOf WireSegments) → slice_get self.old.links number ≡ Some link
-            → IfErr result (λ refusal. sends_acks words.now link.segments ≡ Err refusal) }
+            → IfErr result (λ refusal. acked (queues_of QUEUES) words.now link (λ after. Ok (sent_by self.old number link after))
+            ≡ Err refusal) }
         ensures err { OnErr result (self.new ≡ self.old) }
     {
-        self.links[number].send_acks(words)
+        self.links[number].send_acks::<QUEUES>(self.alloc, words)
+    }
+
+    // With queues: a message shows that the link with this number has come so far in what it sends.
+    pub(super) fn say_at(&mut self, number: usize, said: Said)
+        requires within { number < length self.old.links }
+        ensures { (link : LinkOf WireSegments) → slice_get self.old.links number ≡ Some link
+            → self.new ≡ changed number (shows wire_segments said link) self.old }
+    {
+        self.links[number].say(self.alloc, said);
+    }
+
+    // With queues: a DC with the address of the link with this number is sent.
+    pub(super) fn settle_at(&mut self, number: usize)
+        requires within { number < length self.old.links }
+        ensures { (link : LinkOf WireSegments) → slice_get self.old.links number ≡ Some link
+            → self.new ≡ changed number (settled wire_segments link.queue.waits link) self.old }
+    {
+        let known = self.links[number].use_that_ends();
+        self.links[number].settle(self.alloc);
+        end_use(&mut self.index, known);
     }
 
     // A CC confirms the link with this number, which is in Calling.
-    pub(super) fn confirm_at(&mut self, number: usize, far: u16, segsize: u16, tag: LinkTag)
+    pub(super) fn confirm_at<const QUEUES: u8>(
+        &mut self,
+        number: usize,
+        far: u16,
+        segsize: u16,
+        tag: LinkTag,
+    )
         requires within { number < length self.old.links }
         requires calling { (link : LinkOf WireSegments) → slice_get self.old.links number ≡ Some link → is_calling link.port.phase ≡ true }
         ensures { (link : LinkOf WireSegments) → slice_get self.old.links number ≡ Some link
-            → self.new ≡ changed number (confirmed wire_segments of_partner far segsize tag link) self.old }
+            → self.new ≡ changed number (confirmed (queues_of QUEUES) far segsize tag link) self.old }
     {
         let _port = self.links[number].port();
-        self.links[number].confirm(far, segsize, tag);
+        self.links[number].confirm::<QUEUES>(far, segsize, tag);
         self.index.stop_waiting();
         self.index.reach(far);
     }
 
     // The link with this number runs.
-    pub(super) fn run_at(&mut self, number: usize)
+    pub(super) fn run_at<const QUEUES: u8>(&mut self, number: usize)
         requires within { number < length self.old.links }
         requires live { LivesAt number self.old }
         ensures { (link : LinkOf WireSegments) → slice_get self.old.links number ≡ Some link
-            → self.new ≡ changed number (running wire_segments of_partner (λ l. l.segments) link) self.old }
+            → self.new ≡ changed number (runs (queues_of QUEUES) (λ segments. segments) link) self.old }
     {
-        self.links[number].run();
+        self.links[number].run::<QUEUES>();
     }
 
     // Acknowledgement words come on the link with this number, and it runs.
-    pub(super) fn take_acks_at(&mut self, number: usize, words: &[AckWord])
+    pub(super) fn take_acks_at<const QUEUES: u8>(&mut self, number: usize, words: &[AckWord])
         requires within { number < length self.old.links }
         requires live { LivesAt number self.old }
         requires acks { AllByRecursion IsAckWord words.now }
         ensures { (link : LinkOf WireSegments) → slice_get self.old.links number ≡ Some link
-            → self.new ≡ changed number (running wire_segments of_partner (λ l. takes_acks words.now tt l.segments) link) self.old }
+            → self.new ≡ changed number (runs (queues_of QUEUES) (takes_acks words.now tt) link) self.old }
     {
-        self.links[number].take_acks(words);
+        self.links[number].take_acks::<QUEUES>(words);
     }
 
     // A segment comes on the link with this number, and it runs. Where memory is refused, nothing changes.
-    pub(super) fn take_segment_at(
+    pub(super) fn take_segment_at<const QUEUES: u8>(
         &mut self,
         number: usize,
         segment: &Segment,
@@ -146,24 +176,40 @@ impl<W: Window<Piece, 4096> + Drop> Links<W> {
         requires segnum { segment.now.number < 4096 }
         ensures ok { (link : LinkOf WireSegments) → slice_get self.old.links number ≡ Some link
             → OnOk result (self.new ≡ changed number
-            (running wire_segments of_partner (λ l. takes_segment (segment_view segment.now) tt l.segments) link) self.old) }
+            (runs (queues_of QUEUES) (takes_segment (segment_view segment.now) tt) link) self.old) }
         ensures held { (link : LinkOf WireSegments) → slice_get self.old.links number ≡ Some link
             → IfErr result (λ e. is_held (segment_view segment.now) link.segments.variables ≡ true) }
         ensures err { OnErr result (self.new ≡ self.old) }
     {
-        self.links[number].take_segment(self.alloc, segment)
+        self.links[number].take_segment::<QUEUES>(self.alloc, segment)
     }
 
-    // The link with this number is over.
-    pub(super) fn end_at(&mut self, number: usize)
+    // The link with this number is over, by what came.
+    pub(super) fn end_at<const QUEUES: u8>(&mut self, number: usize)
         requires within { number < length self.old.links }
         requires live { LivesAt number self.old }
         ensures { (link : LinkOf WireSegments) → slice_get self.old.links number ≡ Some link
-            → self.new ≡ changed number (ended wire_segments link) self.old }
+            → self.new ≡ changed number (ends_by_message wire_segments (queues_of QUEUES) link) self.old }
     {
         let port = self.links[number].port();
-        self.links[number].end(self.alloc);
+        self.links[number].end::<QUEUES>(self.alloc);
         forget(&mut self.index, port);
+        count_only_with::<QUEUES>(&mut self.index);
+    }
+
+    // The link with this number is over, and nothing of it waits.
+    pub(super) fn drop_at<const QUEUES: u8>(&mut self, number: usize)
+        requires within { number < length self.old.links }
+        requires live { LivesAt number self.old }
+        ensures { (link : LinkOf WireSegments) → slice_get self.old.links number ≡ Some link
+            → self.new ≡ changed number (drops wire_segments (queues_of QUEUES) link) self.old }
+    {
+        let port = self.links[number].port();
+        let known = self.links[number].begins_use();
+        self.links[number].drop::<QUEUES>(self.alloc);
+        forget(&mut self.index, port);
+        count_only_with::<QUEUES>(&mut self.index);
+        end_use(&mut self.index, known);
     }
 }
 
@@ -176,6 +222,8 @@ fn forget(index: &mut Index, port: Port)
         else times (hashed.get nat_eq index.new.reached q)) ≡ times (hashed.get nat_eq index.old.reached q) }
     ensures holders { index.new.holders ≡ index.old.holders }
     ensures callers { index.new.callers ≡ index.old.callers }
+    ensures in_use { index.new.in_use ≡ index.old.in_use }
+    ensures counts { index.new.counts ≡ index.old.counts }
 {
     if matches!(port.phase, Phase::Calling) {
         index.stop_waiting();

@@ -1,15 +1,13 @@
 //! What the user of the links does.
 
 ghost use Rattle.std.specs.Prelude.{◌≡◌, ◌<◌, Ok, Some, true, false, length, slice_get, OnOk, OnErr, IfOk, IfErr};
-ghost use Rattle.dna_links.specs.declared.queue.Queues.TheVariants.{Without};
 ghost use Rattle.dna_links.specs.User as user;
-ghost use Rattle.dna_links.specs.inner.Forms as forms;
 ghost use Rattle.dna_links.specs.WireLinks.{wire_links_user};
 ghost use Rattle.nsp_link.specs.Fault.{IsFault};
-ghost use Rattle.dna_links.specs.Links.{LinkOf, changed, in_phase};
 ghost use Rattle.dna_links.specs.LookUps.{is_live, is_called, is_calling};
-ghost use Rattle.dna_links.specs.WireSegments.{WireSegments, wire_segments};
+ghost use Rattle.nsp_link.specs.Kinds.{queues_of};
 ghost use Rattle.nsp_link.specs.Phases.{event_takes_memory};
+ghost use Rattle.nsp_link.specs.inner.Rows as rows;
 
 use super::Links;
 use crate::{LinkEvent, LinkFault, LinkRefusal, Piece};
@@ -24,56 +22,74 @@ impl<W: Window<Piece, 4096> + Drop> Links<W> {
     /// `Refused`, the first that fits:
     ///
     /// - `NoLink`: of `Accept` and `Reject`, no link in Called has this address of the other node; of `In` and `Close`, no live link
-    ///   has this own address; of `Up`, no link ever got it.
+    ///   has this own address, and with queues none of which something may be sent; of `Up`, no link ever got it.
     /// - `AddressInUse`: of `Open`, `Accept` and `Reject`, a live link has this own address.
-    /// - `LinkState`: of `In`, the link is not in Calling, Confirming or RUN; of `Close`, it is not in Confirming or RUN.
+    /// - `LinkState`: of `In`, the link is not in Calling, Confirming or RUN, or was not when it ended; of `Close`, not in Confirming or RUN.
     /// - `WrongDelivery`: of `Up`, the message is not the next whole one that came.
     ///
     /// `OutOfMemory`, after all of these: memory was refused. After any of them the links are as they were.
-    pub fn user(&mut self, event: LinkEvent) -> Result<(), LinkFault>
-        ensures ok { OnOk result (wire_links_user Without self.old (user.view event.entry) ≡ Ok self.new) }
-        ensures refused { IfErr result (λ fault. IsFault (wire_links_user Without self.old (user.view event.entry))
+    pub fn user<const QUEUES: u8>(&mut self, event: LinkEvent) -> Result<(), LinkFault>
+        ensures ok { OnOk result (wire_links_user (queues_of QUEUES) self.old (user.view event.entry) ≡ Ok self.new) }
+        ensures refused { IfErr result (λ fault. IsFault (wire_links_user (queues_of QUEUES) self.old (user.view event.entry))
+            (event_takes_memory (user.view event.entry)) fault) }
+        ensures err { OnErr result (self.new ≡ self.old) }
+    {
+        self.act::<QUEUES>(event)
+    }
+
+    // The same, as the rows come to it.
+    fn act<const QUEUES: u8>(&mut self, event: LinkEvent) -> Result<(), LinkFault>
+        ensures ok { OnOk result (rows.acts (queues_of QUEUES) self.old (user.view event.entry) ≡ Ok self.new) }
+        ensures refused { IfErr result (λ fault. IsFault (rows.acts (queues_of QUEUES) self.old (user.view event.entry))
             (event_takes_memory (user.view event.entry)) fault) }
         ensures err { OnErr result (self.new ≡ self.old) }
     {
         match event {
-            LinkEvent::Open { link } => self.open(link),
-            LinkEvent::Accept { partner, link } => self.answer(partner, link, Phase::Confirming),
-            LinkEvent::Reject { partner, link } => self.answer(partner, link, Phase::Disconnecting),
-            LinkEvent::In { link, message } => self.hand_in(link, message),
-            LinkEvent::Up { link, message } => self.deliver(link, message),
-            LinkEvent::Close { link } => self.close(link),
+            LinkEvent::Open { link } => self.open::<QUEUES>(link),
+            LinkEvent::Accept { partner, link } => self.answer::<QUEUES>(
+                partner,
+                link,
+                Phase::Confirming,
+            ),
+            LinkEvent::Reject { partner, link } => self.answer::<QUEUES>(
+                partner,
+                link,
+                Phase::Disconnecting,
+            ),
+            LinkEvent::In { link, message } => self.hand_in::<QUEUES>(link, message),
+            LinkEvent::Up { link, message } => self.deliver::<QUEUES>(link, message),
+            LinkEvent::Close { link } => self.close::<QUEUES>(link),
         }
     }
 
     // A link is closed from here.
-    #[tactic(auto, using(crate::proofs::Found::found_links))]
-    fn close(&mut self, own: u16) -> Result<(), LinkFault>
-        ensures ok { OnOk result (wire_links_user Without self.old (user.Close own) ≡ Ok self.new) }
-        ensures refused { IfErr result (λ fault. IsFault (wire_links_user Without self.old (user.Close own)) false fault) }
+    #[tactic(auto, using(crate::proofs::InUse::found_in_use))]
+    fn close<const QUEUES: u8>(&mut self, own: u16) -> Result<(), LinkFault>
+        ensures ok { OnOk result (rows.closes (queues_of QUEUES) own self.old ≡ Ok self.new) }
+        ensures refused { IfErr result (λ fault. IsFault (rows.closes (queues_of QUEUES) own self.old) false fault) }
         ensures err { OnErr result (self.new ≡ self.old) }
     {
-        let Some((number, link)) = self.found(LinkTest::LiveAt { own }) else {
+        let Some((number, link)) = self.found_in_use::<QUEUES>(LinkTest::LiveAt { own }) else {
             return Err(LinkFault::Refused(LinkRefusal::NoLink));
         };
-        if !is_connected(link.port().phase) {
+        if !is_connected(link.port_in_use::<QUEUES>().phase) {
             return Err(LinkFault::Refused(LinkRefusal::LinkState));
         }
-        self.close_link(number);
+        self.close_link::<QUEUES>(number);
         Ok(())
     }
 
     // A message is handed in.
-    #[tactic(auto, using(crate::proofs::Found::found_links))]
-    fn hand_in(&mut self, own: u16, message: &[u8]) -> Result<(), LinkFault>
-        ensures ok { OnOk result (wire_links_user Without self.old (user.In own message.now) ≡ Ok self.new) }
-        ensures refused { IfErr result (λ fault. IsFault (wire_links_user Without self.old (user.In own message.now)) true fault) }
+    #[tactic(auto, using(crate::proofs::InUse::found_in_use))]
+    fn hand_in<const QUEUES: u8>(&mut self, own: u16, message: &[u8]) -> Result<(), LinkFault>
+        ensures ok { OnOk result (rows.hands (queues_of QUEUES) own message.now self.old ≡ Ok self.new) }
+        ensures refused { IfErr result (λ fault. IsFault (rows.hands (queues_of QUEUES) own message.now self.old) true fault) }
         ensures err { OnErr result (self.new ≡ self.old) }
     {
-        let Some((number, link)) = self.found(LinkTest::LiveAt { own }) else {
+        let Some((number, link)) = self.found_in_use::<QUEUES>(LinkTest::LiveAt { own }) else {
             return Err(LinkFault::Refused(LinkRefusal::NoLink));
         };
-        if !takes_messages(link.port().phase) {
+        if !takes_messages(link.port_in_use::<QUEUES>().phase) {
             return Err(LinkFault::Refused(LinkRefusal::LinkState));
         }
         let Ok(()) = self.hand_in_at(number, message) else {
@@ -84,9 +100,9 @@ impl<W: Window<Piece, 4096> + Drop> Links<W> {
 
     // A message is delivered.
     #[tactic(auto, using(crate::proofs::Found::found_links))]
-    fn deliver(&mut self, own: u16, message: &[u8]) -> Result<(), LinkFault>
-        ensures ok { OnOk result (wire_links_user Without self.old (user.Up own message.now) ≡ Ok self.new) }
-        ensures refused { IfErr result (λ fault. IsFault (wire_links_user Without self.old (user.Up own message.now)) false fault) }
+    fn deliver<const QUEUES: u8>(&mut self, own: u16, message: &[u8]) -> Result<(), LinkFault>
+        ensures ok { OnOk result (rows.delivers_up (queues_of QUEUES) own message.now self.old ≡ Ok self.new) }
+        ensures refused { IfErr result (λ fault. IsFault (rows.delivers_up (queues_of QUEUES) own message.now self.old) false fault) }
         ensures err { OnErr result (self.new ≡ self.old) }
     {
         let Some((number, _link)) = self.found(LinkTest::HasAddress { own }) else {
@@ -100,15 +116,15 @@ impl<W: Window<Piece, 4096> + Drop> Links<W> {
 
     // A link is opened from here.
     #[tactic(auto, using(crate::proofs::Found::found_links))]
-    fn open(&mut self, own: u16) -> Result<(), LinkFault>
-        ensures ok { OnOk result (wire_links_user Without self.old (user.Open own) ≡ Ok self.new) }
-        ensures refused { IfErr result (λ fault. IsFault (wire_links_user Without self.old (user.Open own)) true fault) }
+    fn open<const QUEUES: u8>(&mut self, own: u16) -> Result<(), LinkFault>
+        ensures ok { OnOk result (rows.opens (queues_of QUEUES) own self.old ≡ Ok self.new) }
+        ensures refused { IfErr result (λ fault. IsFault (rows.opens (queues_of QUEUES) own self.old) true fault) }
         ensures err { OnErr result (self.new ≡ self.old) }
     {
         if let Some((number, _link)) = self.found(LinkTest::LiveAt { own }) {
             return Err(LinkFault::Refused(LinkRefusal::AddressInUse));
         }
-        let Ok(()) = self.begin_opened(own) else {
+        let Ok(()) = self.begin_opened::<QUEUES>(own) else {
             return Err(LinkFault::OutOfMemory);
         };
         Ok(())
@@ -116,12 +132,17 @@ impl<W: Window<Piece, 4096> + Drop> Links<W> {
 
     // A call is answered: the link goes to this phase.
     #[tactic(auto, using(crate::proofs::Found::found_links))]
-    fn answer(&mut self, partner: u16, own: u16, phase: Phase) -> Result<(), LinkFault>
+    fn answer<const QUEUES: u8>(
+        &mut self,
+        partner: u16,
+        own: u16,
+        phase: Phase,
+    ) -> Result<(), LinkFault>
         requires live { is_live phase ≡ true }
         requires answers { is_called phase ≡ false }
         requires known { is_calling phase ≡ false }
-        ensures ok { OnOk result (forms.answers wire_segments phase partner own self.old ≡ Ok self.new) }
-        ensures refused { IfErr result (λ fault. IsFault (forms.answers wire_segments phase partner own self.old) true fault) }
+        ensures ok { OnOk result (rows.answers (queues_of QUEUES) phase partner own self.old ≡ Ok self.new) }
+        ensures refused { IfErr result (λ fault. IsFault (rows.answers (queues_of QUEUES) phase partner own self.old) true fault) }
         ensures err { OnErr result (self.new ≡ self.old) }
     {
         let Some((number, _link)) = self.found(LinkTest::CalledBy { far: partner }) else {
@@ -130,7 +151,7 @@ impl<W: Window<Piece, 4096> + Drop> Links<W> {
         if let Some((other, _other)) = self.found(LinkTest::LiveAt { own }) {
             return Err(LinkFault::Refused(LinkRefusal::AddressInUse));
         }
-        let Ok(()) = self.answer_at(number, phase, own) else {
+        let Ok(()) = self.answer_at::<QUEUES>(number, phase, own) else {
             return Err(LinkFault::OutOfMemory);
         };
         Ok(())

@@ -75,7 +75,7 @@ impl<W: Window<Piece, 4096> + Drop> Segments<W> {
     }
 
     // A segment with the next number is sent, the words of which leave this as the last acknowledgement.
-    fn send_new(
+    pub(super) fn send_new(
         &mut self,
         alloc: Global,
         segsize: u16,

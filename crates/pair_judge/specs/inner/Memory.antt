@@ -4,7 +4,7 @@ use Rattle.ddcmp_msg.specs.Reading.{ReadingValue, reading, Sound, HeaderBad, Dat
 use Rattle.capture.specs.declared.record.Record.{Record}
 use Rattle.capture.specs.declared.record.Record.TheVariants.{Sent, Received, Noise, User}
 use Rattle.dna_node.specs.Content.{link_event}
-use Rattle.dna_links.specs.declared.queue.Queues.TheVariants.{Without}
+use Rattle.dna_links.specs.declared.queue.Queues.{Queues}
 use Rattle.dna_links.specs.User.{LinkEventValue}
 use Rattle.dna_station.specs.WireBook.{wire_sending_refusal}
 use Rattle.dna_node.specs.WireLayers.{WireLayers}
@@ -30,9 +30,9 @@ MaySend s (Malformed departure) = ⊥
 abbrev pub MayKeep : (kept damaged : Bool) → Type 0
 MayKeep kept damaged = (kept ≡ true) × (damaged ≡ false)
 
--- an event that the links allow, and that begins a link, gives it an address or hands a message in
+-- an event that the links of a node allow, with queues or without, and that begins a link, gives it an address or hands a message in
 abbrev pub MayEnter : WireLinks → LinkEventValue → Type 0
-MayEnter links event = IsOk (wire_links_user Without links event) × (event_takes_memory event ≡ true)
+MayEnter links event = ((queues : Queues) × IsOk (wire_links_user queues links event)) × (event_takes_memory event ≡ true)
 
 abbrev pub MayEnterAny : WireLinks → Option LinkEventValue → Type 0
 MayEnterAny links None = ⊥

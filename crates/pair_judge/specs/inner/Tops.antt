@@ -1,5 +1,5 @@
 -- What may stand on top of the stations that the judge runs.
-use Rattle.std.specs.Prelude.{◌≡◌, Bool, None, Result, Ok, Err, length}
+use Rattle.std.specs.Prelude.{ℕ, ◌≡◌, Bool, None, Result, Ok, Err, length}
 use Rattle.ddcmp_msg.specs.Message.{MessageValue}
 use Rattle.capture.specs.declared.event.Event.{Event}
 use Rattle.dna_station.specs.declared.refusal.StepRefusal.{StepRefusal}
@@ -12,38 +12,47 @@ use Rattle.dna_station.specs.WireStation.{WireStation}
 use Rattle.dna_station.specs.Station.{Station}
 use Rattle.dna_station.specs.Cut.{cut}
 use Rattle.dna_station.specs.WireNode.{unlabelled, wire_machine}
-use Rattle.dna_node.specs.Alone.{EndOf, layers_end, station_end, unknown_tag}
-use Rattle.dna_node.specs.CutLayers.{cut_layers}
-use Rattle.dna_node.specs.Kind.{both_layers, stations_alone}
+use Rattle.dna_node.specs.Alone.{EndOf, layers_end_by, station_end, unknown_tag}
+use Rattle.dna_node.specs.CutLayers.{cut_layers_by}
+use Rattle.dna_node.specs.Kind.{layers_kind, stations_alone}
 use Rattle.dna_node.specs.Layers.{Layers}
-use Rattle.dna_node.specs.TagRules.{Rules, judged}
+use Rattle.dna_node.specs.TagRules.{Rules, judged_by}
 use Rattle.ddcmp_station.specs.PeriodRules.{period_rule}
 use Rattle.nsp_link.specs.PartnerRules.{partner_rule}
+use Rattle.nsp_link.specs.Kinds.{queues_of}
+use Rattle.dna_links.specs.declared.queue.Queues.{Queues}
 use Rattle.dna_links.specs.declared.queue.Queues.TheVariants.{Without}
 use Rattle.dna_node.specs.WireLayers.{WireLayers, LayersTag, to_wire_station, wire_layers_machine, with_wire_station}
-use Rattle.pair_judge.specs.EndKind.{layers_alone, station_alone}
+use Rattle.pair_judge.specs.EndKind.{layers_alone_by, station_alone}
 use Rattle.pair_judge.specs.inner.Wire.{JudgeTop}
 
 -- ---- the rules on tags
 
--- of a pair that is judged, or of one end, which goes by bytes
-abbrev pub rules_by : (of_pair : Bool) → Rules
-rules_by of_pair = record { periods = period_rule of_pair; partners = partner_rule of_pair; queues = Without }
+-- of a pair that is judged, or of one end, which goes by bytes; and whether its NSP has queues
+abbrev pub rules_by : (of_pair : Bool) → (kind : ℕ) → Rules
+rules_by of_pair kind = record { periods = period_rule of_pair; partners = partner_rule of_pair; queues = queues_of kind }
 
 -- ---- the links
 
+abbrev pub layers_run_by : Queues → Machine WireLayers LayersTag
+layers_run_by queues = wire_layers_machine (judged_by queues)
+
+abbrev pub links_on_top_by : Queues → JudgeTop
+links_on_top_by queues = record {
+  kind = layers_kind queues;
+  machine = layers_run_by queues;
+  links = λ (s : WireLayers). length s.links.links;
+  alone = layers_end_by queues;
+  end = layers_alone_by queues;
+  Shows = λ (w : WireLayers) (s : Layers). w ≡ cut_layers_by queues s;
+}
+
+-- without queues
 abbrev pub layers_run : Machine WireLayers LayersTag
-layers_run = wire_layers_machine judged
+layers_run = layers_run_by Without
 
 abbrev pub links_on_top : JudgeTop
-links_on_top = record {
-  kind = both_layers;
-  machine = layers_run;
-  links = λ (s : WireLayers). length s.links.links;
-  alone = layers_end;
-  end = layers_alone;
-  Shows = λ (w : WireLayers) (s : Layers). w ≡ cut_layers s;
-}
+links_on_top = links_on_top_by Without
 
 -- ---- nothing: the links stay as they were before any record
 

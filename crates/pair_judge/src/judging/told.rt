@@ -41,7 +41,7 @@ pub fn judge_told<O: Observer, R: Read, S: Read>(
     ensures reads_a { CountsReads (is_failed_read_of Side.A result) (tally_faults a.old) (tally_faults a.new) }
     ensures reads_b { CountsReads (is_failed_read_of Side.B result) (tally_faults b.old) (tally_faults b.new) }
 {
-    decide::<LinksOnTop, O, R, S>(alloc, a, b, observer)
+    decide::<LinksOnTop<0>, O, R, S>(alloc, a, b, observer)
 }
 
 /// Decides the same as `judge_line`, of whose answer all that is said there holds of this verdict, while an observer is told of each record that is

@@ -82,5 +82,5 @@ pub fn judge_watched<O: Observer, R: Read, S: Read>(
     numbers_within_bounds();
     view_shows_truth::<LinkTag>();
     wire_layers_see_right();
-    decide::<LinksOnTop, O, R, S>(alloc, a, b, observer)
+    decide::<LinksOnTop<0>, O, R, S>(alloc, a, b, observer)
 }

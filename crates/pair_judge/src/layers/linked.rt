@@ -1,6 +1,7 @@
 //! The links of each side on top of its station.
 
-ghost use Rattle.pair_judge.specs.inner.Tops.{links_on_top};
+ghost use Rattle.nsp_link.specs.Kinds.{queues_of};
+ghost use Rattle.pair_judge.specs.inner.Tops.{links_on_top_by};
 
 use super::{Layers, OF_NO_LINK};
 use crate::held_link::HeldLink;
@@ -9,15 +10,18 @@ use crate::top::Top;
 use crate::unit_tag::UnitTag;
 use ddcmp_msg::Message;
 use ddcmp_station::{Arrival, StationEvent};
-use dna_node::{layers_deliver_in_order, layers_run_as_stations, wire_layers_see_right};
+use dna_node::{
+    layers_deliver_in_order, layers_run_as_stations, queued_wire_layers_see_right,
+    wire_layers_see_right,
+};
 use dna_station::{StepRefusal, captures_deliver_in_order};
 use nsp_link::LinkEvent;
 
-/// The links of each side, on both layers.
-pub struct LinksOnTop;
+/// The links of each side, on both layers, whose NSP has queues or has none.
+pub struct LinksOnTop<const QUEUES: u8>;
 
-impl Top for LinksOnTop {
-    ghost top = { links_on_top };
+impl<const QUEUES: u8> Top for LinksOnTop<QUEUES> {
+    ghost top = { links_on_top_by (queues_of QUEUES) };
 
     #[inline(always)]
     fn start_or_halt(layers: &mut Layers, event: StationEvent) -> Result<(), StepRefusal> {
@@ -26,12 +30,12 @@ impl Top for LinksOnTop {
 
     #[inline(always)]
     fn at_links(layers: &mut Layers, event: LinkEvent) -> Result<(), StepFault> {
-        layers.at_links(event)
+        layers.at_links::<QUEUES>(event)
     }
 
     #[inline(always)]
     fn sent(layers: &mut Layers, message: &Message) -> Result<UnitTag, StepFault> {
-        layers.sent(message)
+        layers.sent::<QUEUES>(message)
     }
 
     #[inline(always)]
@@ -41,11 +45,11 @@ impl Top for LinksOnTop {
         link: &HeldLink,
         kept: bool,
     ) -> Result<(), StepFault> {
-        layers.arrived::<true>(arrival, link, kept)
+        layers.arrived::<true, QUEUES>(arrival, link, kept)
     }
 
     fn arrived_unknown(layers: &mut Layers, arrival: Arrival, kept: bool) -> Result<(), StepFault> {
-        layers.arrived::<false>(arrival, &HeldLink::new(&Some(OF_NO_LINK)), kept)
+        layers.arrived::<false, QUEUES>(arrival, &HeldLink::new(&Some(OF_NO_LINK)), kept)
     }
 
     fn may_arrive_unknown(
@@ -53,7 +57,7 @@ impl Top for LinksOnTop {
         arrival: Arrival,
         kept: bool,
     ) -> Result<(), StepRefusal> {
-        layers.may_arrive_unknown(arrival, kept)
+        layers.may_arrive_unknown::<QUEUES>(arrival, kept)
     }
 
     fn wrong_unit(layers: &Layers, message: &Message) -> Option<StepRefusal> {
@@ -70,6 +74,7 @@ impl Top for LinksOnTop {
 
     fn shows() {
         wire_layers_see_right();
+        queued_wire_layers_see_right();
     }
 
     fn delivers() {

@@ -5,7 +5,8 @@ ghost use Rattle.ddcmp_msg.specs.Message.{view};
 ghost use Rattle.dna_station.specs.declared.tag.Tag.{Tag};
 ghost use Rattle.dna_node.specs.Content as spec;
 ghost use Rattle.dna_station.specs.WireStation.{WireStation, load};
-ghost use Rattle.dna_node.specs.TagRules.{judged};
+ghost use Rattle.dna_node.specs.TagRules.{judged_by};
+ghost use Rattle.nsp_link.specs.Kinds.{queues_of};
 ghost use Rattle.dna_node.specs.WireLayers.{WireLayers, first_tagged, wire_sends_first};
 ghost use Rattle.dna_station.specs.WireBook.{gives_new, wire_sending_refusal};
 ghost use Rattle.ddcmp_station.specs.Permit.{is_first, send_permit};
@@ -13,7 +14,7 @@ ghost use Rattle.pair_judge.specs.inner.Memory.{IfNoMemory};
 ghost use Rattle.pair_judge.specs.inner.Packets.{lent_content};
 ghost use Rattle.pair_judge.specs.inner.Steps.{IfRefused};
 ghost use Rattle.pair_judge.specs.inner.Unit.{tags_of};
-ghost use Rattle.pair_judge.specs.inner.Tops.{layers_run};
+ghost use Rattle.pair_judge.specs.inner.Tops.{layers_run_by};
 
 use super::{Layers, OF_NO_LINK};
 use crate::packet::{Carried, content};
@@ -34,9 +35,9 @@ impl Layers {
     /// `Refused`, in this order: as the station refuses; `BadPacket`, `BadNsp`; as the links refuse. Then both layers are as they were.
     /// `OutOfMemory`: memory for the packet, or for the piece of a message, was refused; the layers have no use after that.
     #[inline(always)]
-    pub fn sent(&mut self, message: &Message) -> Result<UnitTag, StepFault>
-        ensures ok { IfOk result (λ tag. layers_run.sends self.old (view message.now) ≡ Ok (self.new, tags_of tag)) }
-        ensures refused { IfErr result (IfRefused (λ refusal. layers_run.sends self.old (view message.now) ≡ Err refusal)) }
+    pub fn sent<const QUEUES: u8>(&mut self, message: &Message) -> Result<UnitTag, StepFault>
+        ensures ok { IfOk result (λ tag. (layers_run_by (queues_of QUEUES)).sends self.old (view message.now) ≡ Ok (self.new, tags_of tag)) }
+        ensures refused { IfErr result (IfRefused (λ refusal. (layers_run_by (queues_of QUEUES)).sends self.old (view message.now) ≡ Err refusal)) }
         ensures still { IfErr result (IfRefused (λ refusal. self.new ≡ self.old)) }
         ensures allowed { OnOk result (wire_sending_refusal self.old.station (view message.now) ≡ None) }
         ensures memory { IfErr result (IfNoMemory (wire_sending_refusal self.old.station (view message.now) ≡ None)) }
@@ -45,9 +46,9 @@ impl Layers {
         match self.station.ask_to_send(message) {
             Ok(permit) => {
                 if let SendPermit::FirstSending = permit {
-                    return self.send_first(message);
+                    return self.send_first::<QUEUES>(message);
                 }
-                Ok(self.send_again(message, permit))
+                Ok(self.send_again::<QUEUES>(message, permit))
             }
             Err(check) => Err(StepFault::Refused(StepRefusal::Station(check.refusal()))),
         }
@@ -55,17 +56,17 @@ impl Layers {
 
     // A packet that the station may first send: the links send it, and then the station.
     #[inline(never)]
-    fn send_first(&mut self, message: &Message) -> Result<UnitTag, StepFault>
+    fn send_first<const QUEUES: u8>(&mut self, message: &Message) -> Result<UnitTag, StepFault>
         requires allowed { wire_sending_refusal self.old.station (view message.now) ≡ None }
         requires permit { SendPermit.FirstSending ≡ send_permit self.old.station (view message.now) }
         requires first { gives_new self.old.station (view message.now) ≡ true }
-        ensures ok { IfOk result (λ tag. layers_run.sends self.old (view message.now) ≡ Ok (self.new, tags_of tag)) }
-        ensures refused { IfErr result (IfRefused (λ refusal. layers_run.sends self.old (view message.now) ≡ Err refusal)) }
+        ensures ok { IfOk result (λ tag. (layers_run_by (queues_of QUEUES)).sends self.old (view message.now) ≡ Ok (self.new, tags_of tag)) }
+        ensures refused { IfErr result (IfRefused (λ refusal. (layers_run_by (queues_of QUEUES)).sends self.old (view message.now) ≡ Err refusal)) }
         ensures still { IfErr result (IfRefused (λ refusal. self.new ≡ self.old)) }
         ensures load { load self.new.station ≤ load self.old.station }
     {
         let link = match content(body_of(message)) {
-            Ok(Some(carried)) => match self.send(carried) {
+            Ok(Some(carried)) => match self.send::<QUEUES>(carried) {
                 Ok(link) => link,
                 Err(fault) => return Err(fault),
             },
@@ -86,12 +87,12 @@ impl Layers {
 
     // What gives no new number does not meet the links.
     #[inline(always)]
-    fn send_again(&mut self, message: &Message, permit: SendPermit) -> UnitTag
+    fn send_again<const QUEUES: u8>(&mut self, message: &Message, permit: SendPermit) -> UnitTag
         requires allowed { wire_sending_refusal self.old.station (view message.now) ≡ None }
         requires permit { permit ≡ send_permit self.old.station (view message.now) }
         requires again { is_first permit ≡ false }
         requires old { gives_new self.old.station (view message.now) ≡ false }
-        ensures ok { layers_run.sends self.old (view message.now) ≡ Ok (self.new, tags_of result) }
+        ensures ok { (layers_run_by (queues_of QUEUES)).sends self.old (view message.now) ≡ Ok (self.new, tags_of result) }
         ensures load { load self.new.station ≤ load self.old.station }
     {
         match self.station.send(message, permit) {
@@ -105,16 +106,16 @@ impl Layers {
 
     // The message that a packet carries is read, and the links send it.
     #[inline(always)]
-    fn send(&mut self, carried: Carried) -> Result<LinkTag, StepFault>
+    fn send<const QUEUES: u8>(&mut self, carried: Carried) -> Result<LinkTag, StepFault>
         ensures ok { IfOk result (λ link. (before : WireLayers) (after : WireStation LinkTag × Tag) → before.links ≡ self.old.links →
-            wire_sends_first judged before after (lent_content carried.entry) ≡ Ok (first_tagged after self.new.links link)) }
+            wire_sends_first (judged_by (queues_of QUEUES)) before after (lent_content carried.entry) ≡ Ok (first_tagged after self.new.links link)) }
         ensures refused { IfErr result (IfRefused (λ refusal. (before : WireLayers) (after : WireStation LinkTag × Tag) →
-            before.links ≡ self.old.links → wire_sends_first judged before after (lent_content carried.entry) ≡ Err refusal)) }
+            before.links ≡ self.old.links → wire_sends_first (judged_by (queues_of QUEUES)) before after (lent_content carried.entry) ≡ Err refusal)) }
         ensures station { self.new.station ≡ self.old.station }
         ensures err { OnErr result (self.new ≡ self.old) }
     {
         match &read_nsp(carried.message) {
-            Ok(message) => match self.links.sent(carried.dst, carried.src, message) {
+            Ok(message) => match self.links.sent::<QUEUES>(carried.dst, carried.src, message) {
                 Ok(tag) => Ok(tag),
                 Err(LinkFault::Refused(refusal)) => Err(StepFault::Refused(StepRefusal::Links(
                     refusal,

@@ -2,11 +2,12 @@
 
 ghost use Rattle.std.specs.Prelude.{◌≡◌, ◌+◌, ◌^◌, ◌<◌, ◌≤◌, Ok, Err, OnOk, OnErr, IfErr};
 ghost use Rattle.dna_links.specs.User.{view};
+ghost use Rattle.nsp_link.specs.Kinds.{queues_of};
 ghost use Rattle.dna_station.specs.WireStation.{load};
 ghost use Rattle.pair_judge.specs.Events.{event_of_station, event_of_links};
 ghost use Rattle.pair_judge.specs.inner.Memory.{IfNoMemory, MayEnter};
 ghost use Rattle.pair_judge.specs.inner.Steps.{IfRefused};
-ghost use Rattle.pair_judge.specs.inner.Tops.{layers_run};
+ghost use Rattle.pair_judge.specs.inner.Tops.{layers_run, layers_run_by};
 
 use super::Layers;
 use crate::step_fault::StepFault;
@@ -33,14 +34,14 @@ impl Layers {
     /// The user of the links does this, and is refused as they refuse it. `OutOfMemory`: memory for a link, an address or a message was
     /// refused. `Up` and `Close` take none, nor does what is refused.
     #[tactic(auto, using(crate::proofs::LinkEvents::made_by_links))]
-    pub fn at_links(&mut self, event: LinkEvent) -> Result<(), StepFault>
-        ensures ok { OnOk result (layers_run.user self.old (event_of_links (view event.entry)) ≡ Ok self.new) }
-        ensures refused { IfErr result (IfRefused (λ refusal. layers_run.user self.old (event_of_links (view event.entry)) ≡ Err refusal)) }
+    pub fn at_links<const QUEUES: u8>(&mut self, event: LinkEvent) -> Result<(), StepFault>
+        ensures ok { OnOk result ((layers_run_by (queues_of QUEUES)).user self.old (event_of_links (view event.entry)) ≡ Ok self.new) }
+        ensures refused { IfErr result (IfRefused (λ refusal. (layers_run_by (queues_of QUEUES)).user self.old (event_of_links (view event.entry)) ≡ Err refusal)) }
         ensures err { OnErr result (self.new ≡ self.old) }
         ensures memory { IfErr result (IfNoMemory (MayEnter self.old.links (view event.entry))) }
         ensures station { self.new.station ≡ self.old.station }
     {
-        match self.links.user(event) {
+        match self.links.user::<QUEUES>(event) {
             Ok(()) => {}
             Err(LinkFault::Refused(refusal)) => {
                 return Err(StepFault::Refused(StepRefusal::Links(refusal)));

@@ -12,6 +12,10 @@ returns-in_default g c = explains_nothing c.args.printout.form _ _ _ _ _ c.print
 pub returns-in-Err-try_edits : goal.returns-in-Err-try_edits
 returns-in-Err-try_edits g c = explains_nothing c.args.printout.form _ _ _ _ _ c.print_out_of_memory-in-Err-try_edits.ensures refl
 
+pub returns-in-Err-with_queues_too : goal.returns-in-Err-with_queues_too
+returns-in-Err-with_queues_too g c =
+    explains_nothing c.args.printout.form _ _ _ _ _ c.print_out_of_memory-in-Err-with_queues_too.ensures refl
+
 pub returns-in-Err-refused_text : goal.returns-in-Err-refused_text
 returns-in-Err-refused_text g c = explains_nothing c.args.printout.form _ _ _ _ _ c.print_out_of_memory-in-Err-refused_text.ensures refl
 

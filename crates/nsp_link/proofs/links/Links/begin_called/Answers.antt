@@ -4,6 +4,8 @@ use Rattle.dna_links.specs.Links.{number_of}
 use Rattle.nsp_link.proofs.LookUps.{none_lives}
 use Rattle.nsp_link.proofs.links.Links.begin_called.Goals as goal
 
-pub called_at-requires-clause-free : goal.called_at-requires-clause-free
-called_at-requires-clause-free g c =
-    none_lives c.args.far c.self.inside.links.items (ap (number_of (LiveTo c.args.far)) c.self.view_is ∙ c.requires)
+pub called_at-requires : goal.called_at-requires
+called_at-requires g c = record {
+  index = c.self.invariant;
+  free = none_lives c.args.far c.self.inside.links.items (ap (number_of (LiveTo c.args.far)) c.self.view_is ∙ c.requires);
+}

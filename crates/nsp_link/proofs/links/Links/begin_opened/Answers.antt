@@ -7,15 +7,19 @@ use Rattle.nsp_link.proofs.Giving.{opened_made}
 use Rattle.nsp_link.proofs.Change.{map_ok}
 use Rattle.nsp_link.proofs.links.Links.begin_opened.Goals as goal
 
-pub opened_at-requires-clause-dead : goal.opened_at-requires-clause-dead
-opened_at-requires-clause-dead g c = λ n l held there.
+pub opened_at-requires : goal.opened_at-requires
+opened_at-requires g c =
     let i = c.self.inside in
-    dead_holder c.args.own i.links.items _ _ _ _ c.self.invariant (ap (number_of (LiveAt c.args.own)) c.self.view_is ∙ c.requires) n l held
-    there
+    record {
+      index = c.self.invariant;
+      dead = λ n l held there.
+          dead_holder c.args.own i.links.items _ _ _ _ c.self.invariant.found (ap (number_of (LiveAt c.args.own)) c.self.view_is ∙ c.requires) n l
+          held there;
+    }
 
 pub returns-clause-ok : goal.returns-clause-ok
 returns-clause-ok g c =
     let l = c.self.inside in
     map_ok c.opened_at.result
-    (λ e. opened_made l.node l.peer l.links.items c.args.self.now c.self.view_is c.args.own _
-    (address_found l.links.items _ _ _ _ c.self.invariant c.args.own) c.opened_at.new.links.items e) c.opened_at.ensures.ok
+    (λ e. opened_made _ l.node l.peer l.links.items c.args.self.now c.self.view_is c.args.own _
+    (address_found l.links.items _ _ _ _ c.self.invariant.found c.args.own) c.opened_at.new.links.items e) c.opened_at.ensures.ok

@@ -1,5 +1,5 @@
 use Rattle.std.proofs.Common.{◌≡◌, ◌∙◌, Err, sym, ap}
-use Rattle.dna_links.specs.declared.queue.Queues.TheVariants.{Without}
+use Rattle.nsp_link.specs.Kinds.{queues_of}
 use Rattle.dna_links.specs.User.{view}
 use Rattle.dna_links.specs.WireLinks.{wire_links_user}
 use Rattle.dna_node.specs.WireLayers.{WireLayers, with_wire_links}
@@ -7,9 +7,9 @@ use Rattle.pair_judge.proofs.LinkEvents.{made_by_links}
 use Rattle.pair_judge.proofs.layers.Layers.at_links.Goals as goal
 
 pub returns-in-Err-Refused-clause-refused : goal.returns-in-Err-Refused-clause-refused
-returns-in-Err-Refused-clause-refused c =
-    let made : wire_links_user Without c.self.inside.links (view c.args.event) ≡ Err c.in-Err-Refused.refusal =
+returns-in-Err-Refused-clause-refused g c =
+    let made : wire_links_user (queues_of g.row.QUEUES) c.self.inside.links (view c.args.event) ≡ Err c.in-Err-Refused.refusal =
     rw c.in-Err-Refused.field-0-is at c.in-Err-Refused.ensures.refused in
-    made_by_links c.args.self.now (view c.args.event)
+    made_by_links (queues_of g.row.QUEUES) c.args.self.now (view c.args.event)
     ∙ ap (with_wire_links c.args.self.now)
-    (ap (λ (w : WireLayers). wire_links_user Without w.links (view c.args.event)) (sym c.self.view_is) ∙ made)
+    (ap (λ (w : WireLayers). wire_links_user (queues_of g.row.QUEUES) w.links (view c.args.event)) (sym c.self.view_is) ∙ made)

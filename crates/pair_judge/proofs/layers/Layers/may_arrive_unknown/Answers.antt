@@ -1,26 +1,26 @@
-use Rattle.std.proofs.Common.{Some, refl, sym, ap, ◌∙◌}
+use Rattle.std.proofs.Common.{false, Some, refl, sym, ap, ◌∙◌}
 use Rattle.std.proofs.lemmas.Result.{IfErr-weaker}
 use Rattle.std.specs.Option.{option_copied}
 use Rattle.ddcmp_station.specs.Arrival.{arrival_view}
-use Rattle.dna_node.specs.TagRules.{by_bytes}
 use Rattle.dna_node.specs.WireLayers.{of_no_link}
+use Rattle.pair_judge.specs.inner.Tops.{rules_by}
 use Rattle.pair_judge.proofs.Arrives.{on_ok}
 use Rattle.pair_judge.proofs.Meets.{meets_ok, meets_refused}
 use Rattle.pair_judge.proofs.layers.Layers.may_arrive_unknown.Goals as goal
 
 pub returns-in-Some-clause-ok : goal.returns-in-Some-clause-ok
-returns-in-Some-clause-ok c =
+returns-in-Some-clause-ok g c =
     let taken = sym c.in-Ok.ensures.taken ∙ ap option_copied c.in-Some.is in
     rw (← c.self.view_is)
-    (on_ok c.may_keep_unknown.result (meets_ok by_bytes (record { station = c.self.inside.station; links = c.self.inside.links }) (Some of_no_link)
+    (on_ok c.may_keep_unknown.result (meets_ok (rules_by false _) (record { station = c.self.inside.station; links = c.self.inside.links }) (Some of_no_link)
     c.args.kept (arrival_view c.args.arrival) c.in-Some.packet.now of_no_link c.in-Ok.ensures.allowed taken refl)
     (rw (← c.self.view_is) at c.may_keep_unknown.ensures.ok))
 
 pub returns-in-Some-clause-refused : goal.returns-in-Some-clause-refused
-returns-in-Some-clause-refused c =
+returns-in-Some-clause-refused g c =
     let taken = sym c.in-Ok.ensures.taken ∙ ap option_copied c.in-Some.is in
     rw (← c.self.view_is)
-    (IfErr-weaker c.may_keep_unknown.result _ _ (λ refusal refuses. meets_refused by_bytes
+    (IfErr-weaker c.may_keep_unknown.result _ _ (λ refusal refuses. meets_refused (rules_by false _)
     (record { station = c.self.inside.station; links = c.self.inside.links }) (Some of_no_link) c.args.kept (arrival_view c.args.arrival)
     c.in-Some.packet.now of_no_link c.in-Ok.ensures.allowed taken refl refusal refuses)
     (rw (← c.self.view_is) at c.may_keep_unknown.ensures.refused))

@@ -1,5 +1,6 @@
+use Rattle.nsp_link.specs.Kinds.{queues_of}
 use Rattle.pair_judge.proofs.EndsAlone.{layers_end_alike}
 use Rattle.pair_judge.proofs.layers.linked.LinksOnTopTop.shows_alone.Goals as goal
 
 pub returns-clause-ends : goal.returns-clause-ends
-returns-clause-ends c = layers_end_alike
+returns-clause-ends g c = layers_end_alike (queues_of g.row.QUEUES)

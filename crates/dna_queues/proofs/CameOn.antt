@@ -1,0 +1,311 @@
+-- By what comes for it a link of the machine comes further, and is met as before.
+use Rattle.std.proofs.Common.{◌≡◌, ℕ, ◌-◌, ◌≤◌, Bool, true, false, ◌||◌, cond, Option, Some, None, List, [], ◌∷◌, ◌++◌, fold, refl}
+use Rattle.std.proofs.Common.{sym, ap, ◌∙◌, subst, arith}
+use Rattle.std.proofs.lemmas.Bool.{and_parts}
+use Rattle.dna_packet.specs.Nsp.{SegmentValue, NspValue, DataSegment, LinkService, DataAck, OtherDataAck, ConnectAck, NoOperation, ConnectInitiate}
+use Rattle.dna_packet.specs.Nsp.{ConnectConfirm, DisconnectInitiate, DisconnectConfirm}
+use Rattle.dna_links.specs.declared.port.Phase.{Phase}
+use Rattle.dna_links.specs.declared.port.Phase.TheVariants.{Calling, Confirming, Running, Disconnecting, Ended}
+use Rattle.dna_links.specs.declared.port.Port.{Port}
+use Rattle.dna_links.specs.declared.port.LinkTest.TheVariants.{TheLink, CallingAt, ActedOn}
+use Rattle.dna_links.specs.LookUps.{passes, is_in, is_live, is_at, is_connected, has_both}
+use Rattle.dna_links.specs.Segmentation.{Piece, piece_of, hold, in_order}
+use Rattle.dna_links.specs.Links.{LinkTruth}
+use Rattle.dna_links.specs.Queues.{port_of_waiting}
+use Rattle.dna_links.specs.CutSegments.{IsAnswered}
+use Rattle.dna_links.specs.TrueSegments.{TrueSegments, Numbers, takes_segment, takes_acks, acknowledged_through}
+use Rattle.dna_links.specs.Runs.{SentMessage}
+use Rattle.dna_links.proofs.Tables.Words.{AreAtMost}
+use Rattle.dna_queues.proofs.Pieces.{Below, below_itself, below_hold, below_order}
+use Rattle.dna_queues.proofs.Words.{Grown}
+use Rattle.dna_queues.proofs.Goes.{Link, phase_of}
+use Rattle.dna_queues.proofs.Ahead.{Seen, confirmed_if, ended_if, ran_if, taken_if, acted, takes_numbers, Meets, Ahead, is_open, at_most_more}
+use Rattle.dna_queues.proofs.Came.{acks_taken, Fits, live_phase, confirmed_link, ended_link, run_link}
+use Rattle.dna_queues.proofs.Came.{came_as, came, AreNearHere, ComesOn, grown_still, comes_still}
+
+module _ (l : Link) (fits : Fits l) where
+  -- it ends
+  comes_ended : (unit : SentMessage) → takes_numbers unit.packet.message l.port ≡ false → is_live l.port.phase ≡ true →
+      ((a : Seen) → a.port ≡ l.port → acted unit a ≡ ended_if true a) → ComesOn unit l (ended_link l)
+  comes_ended unit none live ends = record {
+    fits = record {
+      waits = λ e. absurd cc;
+      ran = λ e. fits.ran (ap (is_in Running) (live_phase l fits live) ∙ e);
+      calling = λ e. absurd cc;
+    };
+    grows = λ answered. record {
+      own = λ n at. at;
+      far = λ n at. at;
+      opened = refl;
+      usable = λ e. live;
+      closing = λ e. ap (is_in Disconnecting) (sym (live_phase l fits live)) ∙ e;
+      ran = λ e. e;
+      accepted = λ e. e;
+      silent = λ e. e;
+      over = λ e. e;
+      gap = refl;
+      segsize = λ e. refl;
+      segments = grown_still l.segments answered;
+    };
+    acknowledged = omega arith;
+    passed = refl;
+    accepted = refl;
+    own = refl;
+    live = λ e. live;
+    meets = λ a meets. (
+      λ taken. absurd (not_both _ (ap (takes_numbers unit.packet.message) (sym meets.port) ∙ taken) none),
+      subst (λ (b : Seen). Meets b (ended_link l)) (sym (ends a meets.port)) (record {
+        port = ap (λ (p : Port). record p { phase = Ended }) meets.port;
+        partner = meets.partner;
+        segsize = meets.segsize;
+        received = meets.received;
+        exact = λ e. absurd cc;
+        used = λ e. meets.used (ap is_live (live_phase l fits live) ∙ live) ∙ live_phase l fits live;
+      }),
+    );
+  }
+    where
+      not_both : (b : Bool) → b ≡ true → b ≡ false → ⊥
+      not_both true e f = absurd cc
+      not_both false e f = absurd cc
+
+  calling_live : (p : Phase) → is_in Calling p ≡ true → (is_live p ≡ true) × (is_in Disconnecting p ≡ false) × (is_open p ≡ true)
+  calling_live Calling e = (refl, refl, refl)
+  calling_live p e = absurd cc
+
+  connected_live : (p : Phase) → is_connected p ≡ true → (is_live p ≡ true) × (is_in Disconnecting p ≡ false) × (is_open p ≡ true)
+  connected_live Confirming e = (refl, refl, refl)
+  connected_live Running e = (refl, refl, refl)
+  connected_live p e = absurd cc
+
+  none_at : (o : Option ℕ) (n : ℕ) → o ≡ None → is_at o n ≡ true → ⊥
+  none_at None n e at = absurd cc
+  none_at (Some k) n e at = absurd cc
+
+  both : (b : Bool) → b ≡ true → b ≡ false → ⊥
+  both true e f = absurd cc
+  both false e f = absurd cc
+
+  -- it is confirmed
+  comes_confirmed : (unit : SentMessage) (far size : ℕ) → takes_numbers unit.packet.message l.port ≡ false → is_in Calling l.port.phase ≡ true →
+      ((a : Seen) → a.port ≡ l.port → acted unit a ≡ confirmed_if true far size unit.truth.tag.link a) →
+      ComesOn unit l (confirmed_link far size unit.truth.tag.link l)
+  comes_confirmed unit far size none calling confirms =
+      let c = calling_live l.port.phase calling in
+      let running : phase_of (confirmed_link far size unit.truth.tag.link l) ≡ Running =
+      ap (λ (w : Option Phase). (port_of_waiting w (record l.port { phase = Running; far = Some far })).phase) (fits.waits c.0) in
+      let k = confirmed_link far size unit.truth.tag.link l in
+      record {
+        fits = record { waits = λ e. fits.waits c.0; ran = λ e. refl; calling = λ e. absurd cc };
+        grows = λ answered. record {
+          own = λ n at. at;
+          far = λ n at. absurd (none_at l.port.far n (fits.calling calling).0 at);
+          opened = refl;
+          usable = λ e. ap is_live running;
+          closing = λ e. absurd (both _ (ap (is_in Disconnecting) (sym (live_phase l fits c.0)) ∙ e) c.1);
+          ran = λ e. refl;
+          accepted = λ e. e;
+          silent = λ e. e;
+          over = λ e. e;
+          gap = refl;
+          segsize = λ e. absurd (both _ e (fits.calling calling).1);
+          segments = grown_still l.segments answered;
+        };
+        acknowledged = omega arith;
+        passed = refl;
+        accepted = refl;
+        own = refl;
+        live = λ e. ap is_live running;
+        meets = λ a meets. (
+          λ taken. absurd (both _ (ap (takes_numbers unit.packet.message) (sym meets.port) ∙ taken) none),
+          subst (λ (b : Seen). Meets b k) (sym (confirms a meets.port)) (record {
+            port = ap (λ (p : Port). record p { phase = Running; far = Some far }) meets.port;
+            partner = refl;
+            segsize = refl;
+            received = meets.received;
+            exact = λ e. meets.exact c.2;
+            used = λ e. sym running;
+          }),
+        );
+      }
+
+  -- it goes on in RUN
+  comes_run : (unit : SentMessage) (f : TrueSegments) (received : Seen → List (Option Piece)) → is_connected l.port.phase ≡ true →
+      (IsAnswered f → Grown None l.segments f) → f.passed ≡ l.segments.passed → l.segments.acknowledged ≤ f.acknowledged →
+      ((a : Seen) → a.port ≡ l.port → acted unit a ≡ record a { port = record a.port { phase = Running }; used = Running; received = received a }) →
+      ((a : Seen) → a.received ≡ l.segments.received → received a ≡ f.received) →
+      (takes_numbers unit.packet.message l.port ≡ true → AreAtMost f.acknowledged unit.truth.known.acknowledgements) → ComesOn unit l (run_link f l)
+  comes_run unit f received connected grown passed more runs same taken =
+      let c = connected_live l.port.phase connected in
+      let k = run_link f l in
+      let running : phase_of k ≡ Running =
+      ap (λ (w : Option Phase). (port_of_waiting w (record l.port { phase = Running })).phase) (fits.waits c.0) in
+      record {
+        fits = record { waits = λ e. fits.waits c.0; ran = λ e. refl; calling = λ e. absurd cc };
+        grows = λ answered. record {
+          own = λ n at. at;
+          far = λ n at. at;
+          opened = refl;
+          usable = λ e. ap is_live running;
+          closing = λ e. absurd (both _ (ap (is_in Disconnecting) (sym (live_phase l fits c.0)) ∙ e) c.1);
+          ran = λ e. refl;
+          accepted = λ e. e;
+          silent = λ e. e;
+          over = λ e. e;
+          gap = refl;
+          segsize = λ e. refl;
+          segments = grown answered;
+        };
+        acknowledged = more;
+        passed = passed;
+        accepted = refl;
+        own = refl;
+        live = λ e. ap is_live running;
+        meets = λ a meets. (
+          λ taken_here. taken (ap (takes_numbers unit.packet.message) (sym meets.port) ∙ taken_here),
+          subst (λ (b : Seen). Meets b k) (sym (runs a meets.port)) (record {
+            port = ap (λ (p : Port). record p { phase = Running }) meets.port;
+            partner = meets.partner;
+            segsize = meets.segsize;
+            received = subst (λ (ps : List (Option Piece)). Below ps f.received) (sym (same a (meets.exact c.2))) (below_itself f.received);
+            exact = λ e. same a (meets.exact c.2);
+            used = λ e. sym running;
+          }),
+        );
+      }
+
+  -- ---- by message
+
+  ran_is : (b : Bool) (a : Seen) → ran_if b a
+      ≡ cond b (record a { port = record a.port { phase = Running }; used = Running; received = a.received }) a
+  ran_is true a = refl
+  ran_is false a = refl
+
+  acted_if : (unit : SentMessage) (b : Bool) (k : Link) (test : Port → Bool) → test l.port ≡ b → (test l.port ≡ true → ComesOn unit l k) →
+      (test l.port ≡ false → ComesOn unit l l) → ComesOn unit l (cond (test l.port) k l)
+  acted_if unit true k test e some none = subst (λ (b : Bool). ComesOn unit l (cond b k l)) (sym e) (some e)
+  acted_if unit false k test e some none = subst (λ (b : Bool). ComesOn unit l (cond b k l)) (sym e) (none e)
+
+  ended_comes : (unit : SentMessage) (own far : ℕ) → takes_numbers unit.packet.message l.port ≡ false →
+      ((a : Seen) → acted unit a ≡ ended_if (passes (TheLink own far) a.port || passes (CallingAt own) a.port) a) →
+      ComesOn unit l (cond (passes (TheLink own far) l.port || passes (CallingAt own) l.port) (ended_link l) l)
+  ended_comes unit own far none is =
+      acted_if unit _ (ended_link l) (λ p. passes (TheLink own far) p || passes (CallingAt own) p) refl
+      (λ e. comes_ended unit none (live _ refl e)
+      (λ a same. is a ∙ ap (λ (b : Bool). ended_if b a) (ap (λ (p : Port). passes (TheLink own far) p || passes (CallingAt own) p) same ∙ e)))
+      (λ e. comes_still unit l fits none
+      (λ a same. is a ∙ ap (λ (b : Bool). ended_if b a) (ap (λ (p : Port). passes (TheLink own far) p || passes (CallingAt own) p) same ∙ e)))
+    where
+      live : (b : Bool) → passes (TheLink own far) l.port ≡ b → (passes (TheLink own far) l.port || passes (CallingAt own) l.port) ≡ true →
+          is_live l.port.phase ≡ true
+      live true e f = (and_parts (is_live l.port.phase) (has_both l.port own far) e).0
+      live false e f =
+          (calling_live l.port.phase (and_parts (is_in Calling l.port.phase) (is_at l.port.own own)
+          (ap (λ (b : Bool). b || passes (CallingAt own) l.port) (sym e) ∙ f)).0).0
+
+  ran_comes : (unit : SentMessage) (own far : ℕ) (f : TrueSegments) (received : Seen → List (Option Piece)) →
+      (IsAnswered f → Grown None l.segments f) → f.passed ≡ l.segments.passed → l.segments.acknowledged ≤ f.acknowledged →
+      ((a : Seen) → acted unit a ≡ cond (passes (ActedOn own far) a.port)
+      (record a { port = record a.port { phase = Running }; used = Running; received = received a }) a) →
+      ((a : Seen) → a.received ≡ l.segments.received → received a ≡ f.received) →
+      (takes_numbers unit.packet.message l.port ≡ true → AreAtMost f.acknowledged unit.truth.known.acknowledgements) →
+      (passes (ActedOn own far) l.port ≡ false → takes_numbers unit.packet.message l.port ≡ false) →
+      ComesOn unit l (cond (passes (ActedOn own far) l.port) (run_link f l) l)
+  ran_comes unit own far f received grown passed more is same taken none =
+      acted_if unit _ (run_link f l) (passes (ActedOn own far)) refl
+      (λ e. comes_run unit f received (and_parts (is_connected l.port.phase) (has_both l.port own far) e).0 grown passed more
+      (λ a port. is a ∙ ap (λ (b : Bool). cond b (record a { port = record a.port { phase = Running }; used = Running; received = received a }) a)
+      (ap (passes (ActedOn own far)) port ∙ e)) same taken)
+      (λ e. comes_still unit l fits (none e)
+      (λ a port. is a ∙ ap (λ (b : Bool). cond b (record a { port = record a.port { phase = Running }; used = Running; received = received a }) a)
+      (ap (passes (ActedOn own far)) port ∙ e)))
+
+  abbrev by_message : NspValue → Type 0
+  by_message m = (packet_dst packet_src : ℕ) (truth : LinkTruth Numbers) →
+      AreNearHere (record { packet = record { dst = packet_dst; src = packet_src; message = m }; truth = truth }) l →
+      ComesOn (record { packet = record { dst = packet_dst; src = packet_src; message = m }; truth = truth }) l (came_as m truth l)
+
+  comes : (m : NspValue) → by_message m
+  comes (ConnectConfirm dst src services info segsize user_data) d s truth near =
+      acted_if _ _ (confirmed_link src segsize truth.tag.link l) (passes (CallingAt dst)) refl
+      (λ e. comes_confirmed _ src segsize refl (and_parts (is_in Calling l.port.phase) (is_at l.port.own dst) e).0
+      (λ a same. ap (λ (b : Bool). confirmed_if b src segsize truth.tag.link a) (ap (passes (CallingAt dst)) same ∙ e)))
+      (λ e. comes_still _ l fits refl (λ a same. ap (λ (b : Bool). confirmed_if b src segsize truth.tag.link a) (ap (passes (CallingAt dst)) same
+      ∙ e)))
+  comes (DisconnectInitiate dst src reason user_data) d s truth near = ended_comes _ dst src refl (λ a. refl)
+  comes (DisconnectConfirm dst src reason) d s truth near = ended_comes _ dst src refl (λ a. refl)
+  comes (DataSegment segment) d s truth near =
+      let t = acks_taken l.segments truth.known.acknowledgements in
+      let place = truth.known.segment - 1 in
+      let f = takes_segment segment truth.known l.segments in
+      let still : (fold acknowledged_through l.segments truth.known.acknowledgements).received ≡ l.segments.received =
+      ap (λ (g : TrueSegments). g.received) t.is in
+      let held : f.received ≡ hold place (piece_of segment) l.segments.received = ap (hold place (piece_of segment)) still in
+      let most : f.acknowledged ≡ t.most = ap (λ (g : TrueSegments). g.acknowledged) t.is in
+      let more = t.more in
+      ran_comes _ segment.dstaddr segment.srcaddr f (λ a. hold place (piece_of segment) a.received)
+      (λ answered. record {
+        given = ap (λ (g : TrueSegments). g.given) t.is;
+        last = ap (λ (g : TrueSegments). g.last) t.is;
+        received = subst (λ (ps : List (Option Piece)). in_order l.segments.received ≤ in_order ps) (sym held)
+            (below_order l.segments.received (hold place (piece_of segment) l.segments.received) (below_hold place (piece_of segment)
+            l.segments.received));
+        acknowledged = omega (arith, most, more);
+        unsent = ap (λ (g : TrueSegments). g.unsent) t.is;
+        answered = answered;
+      })
+      (ap (λ (g : TrueSegments). g.passed) t.is) (omega (arith, most, more))
+      (λ a. taken_is (passes (ActedOn segment.dstaddr segment.srcaddr) a.port) segment truth.known a)
+      (λ a e. ap (hold place (piece_of segment)) e ∙ sym held)
+      (λ e. subst (λ (n : ℕ). AreAtMost n truth.known.acknowledgements) (sym most) (t.all (near e)))
+      (λ e. e)
+    where
+      taken_is : (b : Bool) (segment : SegmentValue) (known : Numbers) (a : Seen) → taken_if b segment known a ≡
+          cond b (record a {
+            port = record a.port { phase = Running };
+            used = Running;
+            received = hold (known.segment - 1) (piece_of segment) a.received;
+          }) a
+      taken_is true segment known a = refl
+      taken_is false segment known a = refl
+  comes (DataAck dst src acks) d s truth near =
+      let t = acks_taken l.segments truth.known.acknowledgements in
+      let f = takes_acks acks truth.known l.segments in
+      let most : f.acknowledged ≡ t.most = ap (λ (g : TrueSegments). g.acknowledged) t.is in
+      let still : f.received ≡ l.segments.received = ap (λ (g : TrueSegments). g.received) t.is in
+      let more = t.more in
+      ran_comes _ dst src f (λ a. a.received)
+      (λ answered. record {
+        given = ap (λ (g : TrueSegments). g.given) t.is;
+        last = ap (λ (g : TrueSegments). g.last) t.is;
+        received = let order : in_order f.received ≡ in_order l.segments.received = ap in_order still in omega (arith, order);
+        acknowledged = omega (arith, most, more);
+        unsent = ap (λ (g : TrueSegments). g.unsent) t.is;
+        answered = answered;
+      })
+      (ap (λ (g : TrueSegments). g.passed) t.is) (omega (arith, most, more))
+      (λ a. ran_is (passes (ActedOn dst src) a.port) a) (λ a e. e ∙ sym still)
+      (λ e. subst (λ (n : ℕ). AreAtMost n truth.known.acknowledgements) (sym most) (t.all (near e)))
+      (λ e. e)
+  comes (LinkService interrupt dst src rest) d s truth near =
+      ran_comes _ dst src l.segments (λ a. a.received) (grown_still l.segments) refl (omega arith)
+      (λ a. ran_is (passes (ActedOn dst src) a.port) a) (λ a e. e) (λ e. absurd cc) (λ e. refl)
+  comes (OtherDataAck dst src rest) d s truth near =
+      ran_comes _ dst src l.segments (λ a. a.received) (grown_still l.segments) refl (omega arith)
+      (λ a. ran_is (passes (ActedOn dst src) a.port) a) (λ a e. e) (λ e. absurd cc) (λ e. refl)
+  comes (ConnectInitiate retransmitted src services info segsize user_data) d s truth near = comes_still _ l fits refl (λ a same. refl)
+  comes (ConnectAck dst) d s truth near = comes_still _ l fits refl (λ a same. refl)
+  comes (NoOperation rest) d s truth near = comes_still _ l fits refl (λ a same. refl)
+
+  pub came_on : (unit : SentMessage) → AreNearHere unit l → ComesOn unit l (came unit l)
+  came_on unit near = comes unit.packet.message unit.packet.dst unit.packet.src unit.truth near
+
+-- ---- it waits behind what waits
+
+pub ahead_push : (units : List SentMessage) (unit : SentMessage) (a : Seen) (l k : Link) → ComesOn unit l k → Ahead units a l →
+    Ahead (units ++ unit ∷ []) a k
+ahead_push [] unit a l k on ahead = on.meets a ahead
+ahead_push (first ∷ units) unit a l k on ahead = (
+  λ taken. at_most_more l.segments.acknowledged k.segments.acknowledged _ on.acknowledged (ahead.0 taken),
+  ahead_push units unit (acted first a) l k on ahead.1,
+)

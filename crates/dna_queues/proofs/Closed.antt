@@ -1,0 +1,202 @@
+-- A link is closed by its user while packets wait for it: the machine, which has acted on them, closes it too.
+use Rattle.std.proofs.Common.{◌≡◌, ℕ, ◌≤◌, Bool, true, false, cond, Option, Some, None, List, refl, sym, ap, ap₂, ◌∙◌, subst}
+use Rattle.dna_links.specs.declared.port.Phase.{Phase}
+use Rattle.dna_links.specs.declared.port.Phase.TheVariants.{Calling, Called, Confirming, Running, Disconnecting}
+use Rattle.dna_links.specs.declared.port.Port.{Port}
+use Rattle.dna_links.specs.LookUps.{is_in, is_live, is_at, is_calling, is_connected}
+use Rattle.dna_links.specs.Links.{in_phase}
+use Rattle.dna_links.specs.Queues.{port_of_waiting, goes_on, keeps_numbers, lets_go, is_silent, is_over}
+use Rattle.dna_links.specs.CutSegments.{IsAnswered}
+use Rattle.dna_links.specs.TrueSegments.{TrueSegments, true_segments}
+use Rattle.dna_links.specs.Runs.{SentMessage}
+use Rattle.dna_queues.proofs.Pieces.{Below, below_itself, below_on}
+use Rattle.dna_queues.proofs.Words.{Grown}
+use Rattle.dna_queues.proofs.Goes.{Link, phase_of, Grows}
+use Rattle.dna_queues.proofs.WaitsToGo.{can_more, can_grow}
+use Rattle.dna_queues.proofs.Ahead.{Seen, Meets, is_open}
+use Rattle.dna_queues.proofs.Came.{Fits, grown_still}
+use Rattle.dna_queues.proofs.Acting.{LateLink, lift, seen_as}
+use Rattle.dna_queues.proofs.Follows.{Follows}
+use Rattle.dna_queues.proofs.SentOn.{grows_on, phase_same}
+use Rattle.dna_queues.proofs.Closing.{closing, over, closed, connected_is, ahead_closing}
+
+-- ---- the link of the machine
+
+abbrev pub closed_link : Link → Link
+closed_link l = cond (is_live l.port.phase) (record l { port = record l.port { phase = Disconnecting } })
+    (record l { queue = record l.queue { waits = Some Disconnecting } })
+
+lets_still : (before now : Bool) (f : TrueSegments) → lets_go true_segments before now f ≡ f
+lets_still true true f = refl
+lets_still true false f = refl
+lets_still false now f = refl
+
+pub closes_as : (l : Link) → goes_on true_segments (is_live l.port.phase) Disconnecting l ≡ closed_link l
+closes_as l = go (is_live l.port.phase)
+  where
+    late : Link
+    late = record l { queue = record l.queue { waits = Some Disconnecting } }
+
+    go : (b : Bool) → goes_on true_segments b Disconnecting l ≡ cond b (record l { port = record l.port { phase = Disconnecting } }) late
+    go true = refl
+    go false = ap (λ (f : TrueSegments). record late { segments = f }) (lets_still (keeps_numbers l) (keeps_numbers late) l.segments)
+
+pub record IsClosed (l k : Link) : Type 0 where
+  pub phase : phase_of k ≡ Disconnecting
+  pub fits : Fits k
+  pub own : k.port.own ≡ l.port.own
+  pub far : k.port.far ≡ l.port.far
+  pub opened : k.port.opened ≡ l.port.opened
+  pub partner : k.partner ≡ l.partner
+  pub segsize : k.segsize ≡ l.segsize
+  pub ran : k.queue.ran ≡ l.queue.ran
+  pub accepted : k.queue.accepted ≡ l.queue.accepted
+  pub said : k.queue.said ≡ l.queue.said
+  pub gap : k.queue.gap ≡ l.queue.gap
+  pub segments : k.segments ≡ l.segments
+  pub meets : (a c : Seen) → Meets a l → c.partner ≡ a.partner → c.segsize ≡ a.segsize → Below c.received a.received → c.used ≡ Disconnecting →
+      c.port ≡ record a.port { phase = cond (is_live l.port.phase) Disconnecting l.port.phase } → Meets c k
+
+pub is_closed : (l : Link) → Fits l → IsClosed l (closed_link l)
+is_closed l fits = go (is_live l.port.phase) refl
+  where
+    not_both : (c : Bool) → c ≡ true → c ≡ false → ⊥
+    not_both true e f = absurd cc
+    not_both false e f = absurd cc
+
+    calling_live : (p : Phase) → is_calling p ≡ true → is_live p ≡ true
+    calling_live Calling e = refl
+    calling_live p e = absurd cc
+
+    open_live : (p : Phase) → is_open p ≡ true → is_live p ≡ true
+    open_live Calling e = refl
+    open_live Called e = refl
+    open_live Confirming e = refl
+    open_live Running e = refl
+    open_live p e = absurd cc
+
+    at_live : is_live l.port.phase ≡ true → IsClosed l (record l { port = record l.port { phase = Disconnecting } })
+    at_live live =
+        let waits = fits.waits live in
+        let phase : phase_of (record l { port = record l.port { phase = Disconnecting } }) ≡ Disconnecting =
+        ap (λ (w : Option Phase). (port_of_waiting w (record l.port { phase = Disconnecting })).phase) waits in
+        record {
+          phase = phase;
+          fits = record {
+            waits = λ e. waits;
+            ran = λ e. absurd (not_both _ e (ap (is_in Running) phase));
+            calling = λ e. absurd cc;
+          };
+          own = refl;
+          far = refl;
+          opened = refl;
+          partner = refl;
+          segsize = refl;
+          ran = refl;
+          accepted = refl;
+          said = refl;
+          gap = refl;
+          segments = refl;
+          meets = λ a c m partner size below used port. record {
+            port = port ∙ ap₂ (λ (b : Bool) (p : Port). record p { phase = cond b Disconnecting l.port.phase }) live m.port;
+            partner = partner ∙ m.partner;
+            segsize = size ∙ m.segsize;
+            received = below_on c.received a.received l.segments.received below m.received;
+            exact = λ e. absurd cc;
+            used = λ e. used ∙ sym phase;
+          };
+        }
+
+    at_end : is_live l.port.phase ≡ false → IsClosed l (record l { queue = record l.queue { waits = Some Disconnecting } })
+    at_end over = record {
+      phase = refl;
+      fits = record {
+        waits = λ e. absurd (not_both _ e over);
+        ran = λ e. absurd cc;
+        calling = λ e. absurd (not_both _ (calling_live l.port.phase e) over);
+      };
+      own = refl;
+      far = refl;
+      opened = refl;
+      partner = refl;
+      segsize = refl;
+      ran = refl;
+      accepted = refl;
+      said = refl;
+      gap = refl;
+      segments = refl;
+      meets = λ a c m partner size below used port. record {
+        port = port ∙ ap₂ (λ (b : Bool) (p : Port). record p { phase = cond b Disconnecting l.port.phase }) over m.port;
+        partner = partner ∙ m.partner;
+        segsize = size ∙ m.segsize;
+        received = below_on c.received a.received l.segments.received below m.received;
+        exact = λ e. absurd (not_both _ (open_live l.port.phase e) over);
+        used = λ e. used;
+      };
+    }
+
+    go : (b : Bool) → is_live l.port.phase ≡ b → IsClosed l (closed_link l)
+    go true e =
+        subst (λ (b : Bool). IsClosed l (cond b (record l { port = record l.port { phase = Disconnecting } })
+        (record l { queue = record l.queue { waits = Some Disconnecting } }))) (sym e) (at_live e)
+    go false e =
+        subst (λ (b : Bool). IsClosed l (cond b (record l { port = record l.port { phase = Disconnecting } })
+        (record l { queue = record l.queue { waits = Some Disconnecting } }))) (sym e) (at_end e)
+
+-- ---- both
+
+pub close_follows : (h : LateLink) (l : Link) (kept composed : List SentMessage) → IsAnswered l.segments → is_connected h.port.phase ≡ true →
+    Follows h l kept composed → Follows (in_phase Disconnecting h) (closed_link l) kept composed
+close_follows h l kept composed answered connected f =
+    let k = closed_link l in
+    let c = is_closed l f.fits in
+    let live = (connected_is l l h.port.phase connected).0 in
+    record {
+      used = Disconnecting;
+      of_use = λ e. refl;
+      fresh = λ e. absurd cc;
+      called = λ e. absurd cc;
+      ahead = ahead_closing l k
+          (λ x r closes m. c.meets x (closing x r) m refl refl closes.received refl
+          (ap (λ (b : Bool). record x.port { phase = cond b Disconnecting l.port.phase })
+          (sym (ap (λ (p : Port). is_live p.phase) (sym m.port) ∙ (connected_is l l x.port.phase closes.connected).0))))
+          (λ x r closes m. c.meets (over x) (closed x r) m refl refl closes.received refl
+          (ap (λ (p : Phase). record x.port { phase = cond (is_live p) Disconnecting p }) (ap (λ (p : Port). p.phase) m.port)))
+          kept (seen_as f.used h) h.segments.segments.received
+          (record { connected = connected; used = f.of_use live; received = below_itself h.segments.segments.received }) f.ahead;
+      acknowledged = subst (λ (g : TrueSegments). h.segments.segments.acknowledged ≤ g.acknowledged) (sym c.segments) f.acknowledged;
+      passed = ap (λ (g : TrueSegments). g.passed) c.segments ∙ f.passed;
+      accepted = λ e. absurd cc;
+      usable = λ e. ap is_live c.phase;
+      fits = c.fits;
+      can = can_more composed k (Grows None (lift h)) (Grows None (lift (in_phase Disconnecting h)))
+          (subst IsAnswered (sym c.segments) answered)
+          (can_grow None composed l k (Grows None (lift h)) (Grows None (lift h)) (record {
+            own = λ n at. ap (λ (o : Option ℕ). is_at o n) c.own ∙ at;
+            far = λ n at. ap (λ (o : Option ℕ). is_at o n) c.far ∙ at;
+            opened = c.opened;
+            usable = λ e. ap is_live c.phase;
+            closing = λ e. ap (is_in Disconnecting) c.phase;
+            ran = λ e. c.ran ∙ e;
+            accepted = λ e. c.accepted ∙ e;
+            silent = λ e. ap is_silent c.said ∙ e;
+            over = λ e. ap is_over c.said ∙ e;
+            gap = c.gap;
+            segsize = λ e. c.segsize;
+            segments = subst (Grown None l.segments) (sym c.segments) (grown_still l.segments answered);
+          }) f.can (λ x y grows p. grows_on None (lift h) x y p grows))
+          (λ e same g. record {
+            own = g.own;
+            far = g.far;
+            opened = g.opened;
+            usable = λ live. ap is_live (phase_same k e same ∙ c.phase);
+            closing = λ closing. ap (is_in Disconnecting) (phase_same k e same ∙ c.phase);
+            ran = λ run. absurd cc;
+            accepted = λ confirming. absurd cc;
+            silent = λ silent. absurd cc;
+            over = λ not_over. absurd cc;
+            gap = g.gap;
+            segsize = λ run. absurd cc;
+            segments = g.segments;
+          });
+    }

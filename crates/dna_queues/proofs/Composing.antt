@@ -1,0 +1,222 @@
+-- A message that the node with queues composes: its link, as one of the machine for which nothing waits, may send it.
+use Rattle.std.proofs.Common.{◌≡◌, ℕ, true, not, ◌&&◌, Option, Some, None, List, Result, Ok, Err, refl, sym, ap, ◌∙◌}
+use Rattle.std.proofs.Common.{subst}
+use Rattle.std.specs.Prelude.{slice_get}
+use Rattle.dna_packet.specs.declared.ack_word.AckWord.{AckWord}
+use Rattle.dna_packet.specs.Nsp.{SegmentValue, NspValue, DataSegment, LinkService, DataAck, OtherDataAck, ConnectAck, NoOperation, ConnectInitiate}
+use Rattle.dna_packet.specs.Nsp.{ConnectConfirm, DisconnectInitiate, DisconnectConfirm, IsInRange}
+use Rattle.dna_station.specs.declared.link_refusal.LinkRefusal.{LinkRefusal}
+use Rattle.dna_station.specs.declared.link_refusal.LinkRefusal.TheVariants.{NoLink, LinkState}
+use Rattle.dna_links.specs.declared.port.Phase.{Phase}
+use Rattle.dna_links.specs.declared.port.Phase.TheVariants.{Calling, Confirming, Running, Disconnecting}
+use Rattle.dna_links.specs.declared.port.LinkTest.{LinkTest}
+use Rattle.dna_links.specs.declared.port.LinkTest.TheVariants.{TheLink, OpenedAt, BegunBy}
+use Rattle.dna_links.specs.declared.queue.Queues.TheVariants.{Without}
+use Rattle.dna_links.specs.declared.queue.Said.TheVariants.{OfRun, Disconnect}
+use Rattle.dna_links.specs.LookUps.{passes, is_in}
+use Rattle.dna_links.specs.Segmentation.{Piece}
+use Rattle.dna_links.specs.SegmentBook.{Sending, Late}
+use Rattle.dna_links.specs.Links.{LinkTruth, check, with_link, changed, with_segments}
+use Rattle.dna_links.specs.Queues.{is_silent, is_over}
+use Rattle.dna_links.specs.LinkBook.{on_ok}
+use Rattle.dna_links.specs.inner.Forms.{truth_of, unchanged}
+use Rattle.dna_links.specs.Sending.{Sent, message_sent}
+use Rattle.dna_links.specs.CutSegments.{IsAnswered}
+use Rattle.dna_links.specs.TrueSegments.{TrueSegments, Numbers, sends_late, sends_acks}
+use Rattle.dna_links.proofs.Tables.Outcomes.{IsFound, looked, checked}
+use Rattle.dna_queues.specs.Hidden.{LateSegments, late_segments, late_sent, acks_sent, Links, is_composed}
+use Rattle.dna_queues.proofs.Words.{Carries}
+use Rattle.dna_queues.proofs.Segments.{late_grows, acks_grow}
+use Rattle.dna_queues.proofs.Goes.{Goes, said_as}
+use Rattle.dna_queues.proofs.WaitsToGo.{grown_itself}
+use Rattle.dna_queues.proofs.Acting.{LateLink, lift, level, seen_as}
+use Rattle.dna_queues.proofs.LinkLists.{IsSet, set_changed}
+
+-- what of a link no message that it sends changes
+pub record Keeps (h k : LateLink) : Type 0 where
+  pub seen : (used : Phase) → seen_as used k ≡ seen_as used h
+  pub acknowledged : k.segments.segments.acknowledged ≡ h.segments.segments.acknowledged
+  pub passed : k.segments.segments.passed ≡ h.segments.segments.passed
+
+keeps_itself : (h : LateLink) → Keeps h h
+keeps_itself h = record { seen = λ used. refl; acknowledged = refl; passed = refl }
+
+pub record Composed (s : Links) (m : NspValue) (made : Sent LateSegments Numbers) : Type 0 where
+  pub number : ℕ
+  pub link : LateLink
+  pub there : slice_get s.links number ≡ Some link
+  pub left : LateLink
+  pub set : IsSet s made.links number left
+  pub tag : made.truth.tag.link ≡ Some number
+  pub goes : IsInRange m → Goes (lift link) m (lift left)
+  pub keeps : IsInRange m → IsAnswered link.segments.segments → Keeps link left
+
+-- ---- phases
+
+run_may : (p : Phase) → is_in Running p ≡ true → ((is_in Running p && not (is_over (level p))) ≡ true) × (level p ≡ OfRun)
+run_may Running e = (refl, refl)
+run_may p e = absurd cc
+
+confirm_may : (p : Phase) → is_in Confirming p ≡ true → (is_in Confirming p && is_silent (level p)) ≡ true
+confirm_may Confirming e = refl
+confirm_may p e = absurd cc
+
+call_may : (p : Phase) → is_in Calling p ≡ true → is_silent (level p) ≡ true
+call_may Calling e = refl
+call_may p e = absurd cc
+
+close_said : (p : Phase) → is_in Disconnecting p ≡ true → level p ≡ Disconnect
+close_said Disconnecting e = refl
+close_said p e = absurd cc
+
+run_said : (h : LateLink) → level h.port.phase ≡ OfRun → lift h ≡ said_as OfRun (lift h)
+run_said h e = ap (λ s. record (lift h) { queue = record (lift h).queue { said = s } }) e
+    ∙ sym (ap (λ s. said_as OfRun (record (lift h) { queue = record (lift h).queue { said = s } })) e)
+
+closing_said : (h : LateLink) → level h.port.phase ≡ Disconnect → lift h ≡ said_as Disconnect (lift h)
+closing_said h e = ap (λ s. record (lift h) { queue = record (lift h).queue { said = s } }) e
+    ∙ sym (ap (λ s. said_as Disconnect (record (lift h) { queue = record (lift h).queue { said = s } })) e)
+
+-- ---- by message
+
+module _ (s : Links) (made : Sent LateSegments Numbers) where
+  same_made : (x y : Sent LateSegments Numbers) → ◌≡◌ {A = Result (Sent LateSegments Numbers) LinkRefusal} (Ok x) (Ok y) → x ≡ y
+  same_made x y e = cc
+
+  -- one that changes nothing
+  stays : (m : NspValue) (n : ℕ) (h : LateLink) → slice_get s.links n ≡ Some h → Goes (lift h) m (lift h) →
+      ◌≡◌ {A = Result (Sent LateSegments Numbers) LinkRefusal} (Ok (unchanged late_segments s n h)) (Ok made) → Composed s m made
+  stays m n h there goes e = subst (λ (x : Sent LateSegments Numbers). Composed s m x) (same_made _ made e) (record {
+    number = n;
+    link = h;
+    there = there;
+    left = h;
+    set = record { node = refl; peer = refl; size = refl; here = there; others = λ i differs. refl };
+    tag = refl;
+    goes = λ small. goes;
+    keeps = λ small answered. keeps_itself h;
+  })
+
+  in_phase : (m : NspValue) (test : LinkTest) (phase : Phase) →
+      with_link test s (Err NoLink) (λ n h. check (is_in phase h.port.phase) LinkState (Ok (unchanged late_segments s n h))) ≡ Ok made →
+      ((h : LateLink) → passes test h.port ≡ true → is_in phase h.port.phase ≡ true → Goes (lift h) m (lift h)) → Composed s m made
+  in_phase m test phase e goes =
+      looked test s (Err NoLink) (λ n h. check (is_in phase h.port.phase) LinkState (Ok (unchanged late_segments s n h))) (Ok made) e
+      (λ none e. absurd cc)
+      (λ n h found e. let c = checked (is_in phase h.port.phase) LinkState _ made e in stays m n h found.there (goes h found.passed c.0) c.1)
+
+  -- one with numbers
+  carries : (m : NspValue) (n : ℕ) (h : LateLink) (sent : Sending LateSegments Numbers) → slice_get s.links n ≡ Some h →
+      (IsInRange m → Goes (lift h) m (lift (with_segments sent.segments h))) →
+      (IsInRange m → IsAnswered h.segments.segments → Carries h.segments.segments sent.segments.segments) →
+      ◌≡◌ {A = Result (Sent LateSegments Numbers) LinkRefusal}
+      (Ok (record { links = changed n (with_segments sent.segments h) s; truth = truth_of late_segments n h sent.known })) (Ok made) →
+      Composed s m made
+  carries m n h sent there goes kept e = subst (λ (x : Sent LateSegments Numbers). Composed s m x) (same_made _ made e) (record {
+    number = n;
+    link = h;
+    there = there;
+    left = with_segments sent.segments h;
+    set = set_changed s n h (with_segments sent.segments h) there;
+    tag = refl;
+    goes = goes;
+    keeps = λ small answered. let c = kept small answered in record {
+      seen = λ used. ap (λ (ps : List (Option Piece)). record (seen_as used h) { received = ps }) c.received;
+      acknowledged = c.acknowledged;
+      passed = c.passed;
+    };
+  })
+
+  composes_segment : (segment : SegmentValue) → message_sent Without late_segments s (DataSegment segment) ≡ Ok made →
+      Composed s (DataSegment segment) made
+  composes_segment segment e =
+      looked (TheLink segment.srcaddr segment.dstaddr) s (Err NoLink) _ (Ok made) e (λ none e. absurd cc)
+      (λ n h found e. let c = checked (is_in Running h.port.phase) LinkState _ made e in
+      go n h found c.0 (sends_late h.segments.gap h.segsize segment h.segments.segments) refl c.1)
+    where
+      go : (n : ℕ) (h : LateLink) → IsFound (TheLink segment.srcaddr segment.dstaddr) s n h → is_in Running h.port.phase ≡ true →
+          (r : Result (Late TrueSegments Numbers) LinkRefusal) → sends_late h.segments.gap h.segsize segment h.segments.segments ≡ r →
+          on_ok (on_ok r (λ late. let x : Result (Sending LateSegments Numbers) LinkRefusal = Ok (late_sent late) in x))
+          (λ sent. let x : Result (Sent LateSegments Numbers) LinkRefusal =
+          Ok (record { links = changed n (with_segments sent.segments h) s; truth = truth_of late_segments n h sent.known }) in x) ≡ Ok made →
+          Composed s (DataSegment segment) made
+      go n h found run (Err refusal) does e = absurd cc
+      go n h found run (Ok late) does e =
+          let m = run_may h.port.phase run in
+          carries (DataSegment segment) n h (late_sent late) found.there
+          (λ small. record {
+            passed = found.passed;
+            moves = record {
+              run = m.0;
+              late = late;
+              does = does;
+              is = run_said (with_segments (late_sent late).segments h) m.1;
+            };
+          })
+          (λ small answered. (late_grows None h.segments.segments h.segments.segments (grown_itself h.segments.segments answered) h.segments.gap
+          h.segsize segment
+          late small.0 does).carries) e
+
+  composes_acks : (dst src : ℕ) (acks : List AckWord) → message_sent Without late_segments s (DataAck dst src acks) ≡ Ok made →
+      Composed s (DataAck dst src acks) made
+  composes_acks dst src acks e =
+      looked (TheLink src dst) s (Err NoLink) _ (Ok made) e (λ none e. absurd cc)
+      (λ n h found e. let c = checked (is_in Running h.port.phase) LinkState _ made e in
+      go n h found c.0 (sends_acks acks h.segments.segments) refl c.1)
+    where
+      go : (n : ℕ) (h : LateLink) → IsFound (TheLink src dst) s n h → is_in Running h.port.phase ≡ true →
+          (r : Result (Sending TrueSegments Numbers) LinkRefusal) → sends_acks acks h.segments.segments ≡ r →
+          on_ok (on_ok r (λ sent. let x : Result (Sending LateSegments Numbers) LinkRefusal = Ok (acks_sent h.segments sent) in x))
+          (λ sent. let x : Result (Sent LateSegments Numbers) LinkRefusal =
+          Ok (record { links = changed n (with_segments sent.segments h) s; truth = truth_of late_segments n h sent.known }) in x) ≡ Ok made →
+          Composed s (DataAck dst src acks) made
+      go n h found run (Err refusal) does e = absurd cc
+      go n h found run (Ok sent) does e =
+          let m = run_may h.port.phase run in
+          carries (DataAck dst src acks) n h (acks_sent h.segments sent) found.there
+          (λ small. record {
+            passed = found.passed;
+            moves = record {
+              run = m.0;
+              sent = sent;
+              does = does;
+              is = run_said (with_segments (acks_sent h.segments sent).segments h) m.1;
+            };
+          })
+          (λ small answered. (acks_grow None h.segments.segments h.segments.segments (grown_itself h.segments.segments answered) acks sent
+          small.0 does).carries) e
+
+  pub composes : (m : NspValue) → is_composed m ≡ true → message_sent Without late_segments s m ≡ Ok made → Composed s m made
+  composes (ConnectInitiate retransmitted src services info segsize user_data) is e =
+      in_phase _ (OpenedAt src) Calling e (λ h passed calling. record { passed = passed; moves = (call_may h.port.phase calling, refl) })
+  composes (ConnectAck dst) is e = absurd cc
+  composes (ConnectConfirm dst src services info segsize user_data) is e =
+      in_phase _ (TheLink src dst) Confirming e (λ h passed phase. record { passed = passed; moves = (confirm_may h.port.phase phase, refl) })
+  composes (DisconnectInitiate dst src reason user_data) is e =
+      in_phase _ (TheLink src dst) Disconnecting e
+      (λ h passed phase. record { passed = passed; moves = (phase, closing_said h (close_said h.port.phase phase)) })
+  composes (DisconnectConfirm dst src reason) is e = absurd cc
+  composes (DataSegment segment) is e = composes_segment segment e
+  composes (DataAck dst src acks) is e = composes_acks dst src acks e
+  composes (LinkService interrupt dst src rest) is e =
+      in_phase _ (TheLink src dst) Running e
+      (λ h passed phase. let m = run_may h.port.phase phase in record { passed = passed; moves = (m.0, run_said h m.1) })
+  composes (OtherDataAck dst src rest) is e =
+      in_phase _ (TheLink src dst) Running e
+      (λ h passed phase. let m = run_may h.port.phase phase in record { passed = passed; moves = (m.0, run_said h m.1) })
+  composes (NoOperation rest) is e = absurd cc
+
+-- a connect ack, of any link that a CI from its address began
+pub acknowledges : (s : Links) (m : NspValue) (truth : LinkTruth Numbers) (dst number : ℕ) (link : LateLink) → m ≡ ConnectAck dst →
+    slice_get s.links number ≡ Some link → passes (BegunBy dst) link.port ≡ true → truth.tag.link ≡ Some number →
+    Composed s m (record { links = s; truth = truth })
+acknowledges s m truth dst number link is there passed tag = record {
+  number = number;
+  link = link;
+  there = there;
+  left = link;
+  set = record { node = refl; peer = refl; size = refl; here = there; others = λ i differs. refl };
+  tag = tag;
+  goes = λ small. subst (λ (x : NspValue). Goes (lift link) x (lift link)) (sym is) (record { passed = passed; moves = refl });
+  keeps = λ small answered. keeps_itself link;
+}

@@ -1,0 +1,200 @@
+-- A DC is sent where nothing waits: the machine settles the link with its SRCADDR, or ends the call that it refuses.
+use Rattle.std.proofs.Common.{◌≡◌, ℕ, Bool, true, false, ◌&&◌, ◌==◌, cond, ◌⊎◌, inl, inr, Option, Some, None, List, [], Result, Ok, Err}
+use Rattle.std.proofs.Common.{refl, sym, ap, ap₂, ◌∙◌, subst}
+use Rattle.std.specs.Prelude.{slice_get}
+use Rattle.std.proofs.lemmas.Bool.{and_parts}
+use Rattle.dna_packet.specs.Nsp.{NoOperation, DisconnectConfirm}
+use Rattle.dna_station.specs.declared.link_refusal.LinkRefusal.{LinkRefusal}
+use Rattle.dna_station.specs.declared.link_refusal.LinkRefusal.TheVariants.{WrongNode, LinkState}
+use Rattle.dna_links.specs.declared.port.Port.{Port}
+use Rattle.dna_links.specs.declared.port.LinkTest.TheVariants.{HasAddress, TheLink, CalledBy}
+use Rattle.dna_links.specs.declared.queue.Queues.TheVariants.{Without, With}
+use Rattle.dna_links.specs.LookUps.{passes, is_live, is_at, is_called, has_both}
+use Rattle.dna_links.specs.Links.{Carried, number_of, with_link, changed}
+use Rattle.dna_links.specs.Queues.{drops, ended, settled}
+use Rattle.dna_links.specs.inner.Forms.{of_no_link, truth_of, ending}
+use Rattle.dna_links.specs.Sending.{Sent, sent_step, message_sent}
+use Rattle.dna_links.specs.TrueSegments.{TrueSegments, Numbers, sends_other, true_segments}
+use Rattle.dna_links.specs.TrueLinks as machine
+use Rattle.dna_links.proofs.Tables.Outcomes.{IsFound, looked, checked}
+use Rattle.dna_queues.specs.Records.{AreAnswered, links_left, next_links}
+use Rattle.dna_queues.specs.Records as records
+use Rattle.dna_queues.specs.Hidden.{LateSegments, late_segments, Links, Node, link_it_is_for, link_it_is_of, waiting}
+use Rattle.dna_queues.specs.Made.{IsFree, EndsCall}
+use Rattle.dna_queues.proofs.Goes.{Link}
+use Rattle.dna_queues.proofs.Acting.{LateLink}
+use Rattle.dna_queues.proofs.Follows.{Follows, is_behind}
+use Rattle.dna_queues.proofs.LinkLists.{set_changed, unique_set, IsChanged, WasAt, was_at, changed_none, changed_one, at_none, at_found, none_passes}
+use Rattle.dna_queues.proofs.Beside.{Beside, follows_as, unique_too, there_too}
+use Rattle.dna_queues.proofs.SentOn.{Follow}
+use Rattle.dna_queues.proofs.Given.{own_owns, meets_now, nothing_for, nothing_of, owner_same}
+use Rattle.dna_queues.proofs.Calls.{passed_check, set_beside, called_same, called_meets}
+use Rattle.dna_queues.proofs.Settled.{dead_follows, settled_follows}
+
+-- ---- the record
+
+link_owns : (own far : ℕ) (p : Port) → passes (TheLink own far) p ≡ true → is_at p.own own ≡ true
+link_owns own far p e = (and_parts (is_at p.own own) (is_at p.far far) (and_parts (is_live p.phase) (has_both p own far) e).1).0
+
+module _ (n : Node) (t : machine.Links) (b : Beside n t) (near : AreAnswered t) where
+  abbrev settled_of : ℕ → machine.Links
+  settled_of src = with_link (HasAddress src) t t (λ i l. changed i (settled true_segments l.queue.waits l) t)
+
+  settles : (src : ℕ) → IsChanged t (settled_of src) src (λ l. cond (is_at l.port.own src) (settled true_segments l.queue.waits l) l)
+  settles src =
+      looked (HasAddress src) t t (λ i l. changed i (settled true_segments l.queue.waits l) t) (settled_of src) refl
+      (λ none e. subst (λ x. IsChanged t x src (λ l. cond (is_at l.port.own src) (settled true_segments l.queue.waits l) l)) e
+      (changed_none t (unique_too n t b) src (passes (HasAddress src)) (λ l. settled true_segments l.queue.waits l) (own_owns src)
+      (none_passes (HasAddress src) t none)))
+      (λ i l found e. subst (λ x. IsChanged t x src (λ l. cond (is_at l.port.own src) (settled true_segments l.queue.waits l) l)) e
+      (changed_one t (unique_too n t b) src (passes (HasAddress src)) (λ l. settled true_segments l.queue.waits l) (own_owns src) i l found.there
+      found.passed))
+
+  settled_beside : (src : ℕ) → IsFree src n → Beside n (settled_of src)
+  settled_beside src free =
+      let c = settles src in
+      record {
+        node = b.node ∙ sym c.node;
+        peer = b.peer ∙ sym c.peer;
+        size = b.size ∙ sym c.size;
+        unique = b.unique;
+        for_links = b.for_links;
+        of_links = b.of_links;
+        all = λ i h k at_h at_k. one i h k at_h (was_at t (settled_of src) src _ c i k at_k);
+      }
+    where
+      one : (i : ℕ) (h : LateLink) (k : Link) → slice_get n.links.links i ≡ Some h →
+          WasAt t src (λ l. cond (is_at l.port.own src) (settled true_segments l.queue.waits l) l) i k →
+          Follows h k (waiting link_it_is_for h.port.own n.kept) (waiting link_it_is_of (Some i) n.composed)
+      one i h k at_h w = by w.is
+        where
+          f : Follows h w.link (waiting link_it_is_for h.port.own n.kept) (waiting link_it_is_of (Some i) n.composed)
+          f = b.all i h w.link at_h w.there
+
+          by : ((is_at w.link.port.own src ≡ true) ×
+              (cond (is_at w.link.port.own src) (settled true_segments w.link.queue.waits w.link) w.link ≡ k)) ⊎
+              ((is_at w.link.port.own src ≡ false) × (w.link ≡ k)) →
+              Follows h k (waiting link_it_is_for h.port.own n.kept) (waiting link_it_is_of (Some i) n.composed)
+          by (inl a) =
+              let own : is_at h.port.own src ≡ true = ap (λ (o : Option ℕ). is_at o src) (is_behind h w.link _ _ f).own ∙ a.0 in
+              let same : settled true_segments w.link.queue.waits w.link ≡ k =
+              sym (ap (λ (c : Bool). cond c (settled true_segments w.link.queue.waits w.link) w.link) a.0) ∙ a.1 in
+              let none_for = nothing_for n t b src free h own in
+              let none_of = nothing_of n t b src free i h at_h own in
+              subst (λ (x : Link). Follows h x (waiting link_it_is_for h.port.own n.kept) (waiting link_it_is_of (Some i) n.composed)) same
+              (follows_as h _ _ _ _ _ (sym none_for) (sym none_of) (settled_follows h w.link (follows_as h w.link _ _ _ _ none_for none_of f)))
+          by (inr a) =
+              subst (λ (x : Link). Follows h x (waiting link_it_is_for h.port.own n.kept) (waiting link_it_is_of (Some i) n.composed)) a.1 f
+
+  pub record ConfirmsToo (dst src reason : ℕ) (links : Links) : Type 0 where
+    pub made : Sent TrueSegments Numbers
+    pub does : message_sent With true_segments t (DisconnectConfirm dst src reason) ≡ Ok made
+    pub beside : Beside (record n { links = links }) made.links
+
+  same_made : (x y : Sent LateSegments Numbers) → ◌≡◌ {A = Result (Sent LateSegments Numbers) LinkRefusal} (Ok x) (Ok y) → x ≡ y
+  same_made x y e = cc
+
+  confirms_too : (dst src reason : ℕ) (made : Sent LateSegments Numbers) →
+      message_sent Without late_segments n.links (DisconnectConfirm dst src reason) ≡ Ok made →
+      IsFree src n → EndsCall (src == 0) made n → ConfirmsToo dst src reason made.links
+  confirms_too dst src reason made e free quiet =
+      looked (TheLink src dst) n.links _ (λ i h. Err LinkState) (Ok made) e
+      (λ none e. go (sym (owner_same n t b src free (TheLink src dst) (link_owns src dst)) ∙ none) (src == 0) refl e quiet)
+      (λ i h found e. absurd cc)
+    where
+      by_zero : Bool → Result (Sent TrueSegments Numbers) LinkRefusal
+      by_zero z = cond z (with_link {R = Result (Sent TrueSegments Numbers) LinkRefusal} (CalledBy dst) t (Ok (of_no_link true_segments t))
+          (λ i l. Ok (record {
+            links = changed i (drops true_segments With l) t;
+            truth = truth_of true_segments i (drops true_segments With l) (sends_other l.segments);
+          })))
+          (Ok (record (of_no_link true_segments t) { links = settled_of src }))
+
+      row : number_of (TheLink src dst) t ≡ None → (z : Bool) → (src == 0) ≡ z →
+          message_sent With true_segments t (DisconnectConfirm dst src reason) ≡ by_zero z
+      row none z is = at_none (TheLink src dst) t _ _ none ∙ ap by_zero is
+
+      ends : (number : ℕ) (h : LateLink) → IsFound (CalledBy dst) n.links number h → number_of (TheLink src dst) t ≡ None → (src == 0) ≡ true →
+          ending late_segments n.links number h ≡ made → waiting link_it_is_of (Some number) n.composed ≡ [] → ConfirmsToo dst src reason made.links
+      ends number h found none is same quiet = at (there_too t.links n.links.links number h (sym b.size) found.there)
+        where
+          at : (l : Link) × (slice_get t.links number ≡ Some l) → ConfirmsToo dst src reason made.links
+          at l =
+              let f = b.all number h l.0 found.there l.1 in
+              let called = (and_parts (is_called h.port.phase) (is_at h.port.far dst) found.passed).0 in
+              let nothing = called_meets n t b number h l.0 found.there l.1 called in
+              let m = meets_now h l.0 _ _ f nothing in
+              let set = set_changed n.links number h (ended late_segments h) found.there in
+              record {
+                made = record {
+                  links = changed number (drops true_segments With l.0) t;
+                  truth = truth_of true_segments number (drops true_segments With l.0) (sends_other l.0.segments);
+                };
+                does = row none true is ∙ at_found (CalledBy dst) t number l.0 _ _ (record {
+                  found = sym (called_same n t b dst) ∙ found.found;
+                  there = l.1;
+                  passed = ap (passes (CalledBy dst)) (sym m.port) ∙ found.passed;
+                });
+                beside = subst (λ (x : Sent LateSegments Numbers). Beside (record n { links = x.links }) (changed number (drops true_segments
+                    With l.0) t)) same
+                    (set_beside n t b (changed number (ended late_segments h) n.links) (changed number (drops true_segments With l.0) t) number
+                    (ended late_segments h) (drops true_segments With l.0) set (set_changed t number l.0 (drops true_segments With l.0) l.1)
+                    (unique_set n.links (changed number (ended late_segments h) n.links) number h (ended late_segments h) set found.there refl
+                    b.unique)
+                    (follows_as _ _ _ _ _ _ (sym nothing) (sym quiet)
+                    (dead_follows h (ended late_segments h) l.0 (drops true_segments With l.0) refl refl (follows_as h l.0 _ _ _ _ nothing quiet
+                    f))));
+              }
+
+      go : number_of (TheLink src dst) t ≡ None → (z : Bool) → (src == 0) ≡ z →
+          cond z (with_link {R = Result (Sent LateSegments Numbers) LinkRefusal} (CalledBy dst) n.links (Ok (of_no_link late_segments n.links))
+          (λ i h. Ok (ending late_segments n.links i h))) (Ok (of_no_link late_segments n.links)) ≡ Ok made → EndsCall z made n →
+          ConfirmsToo dst src reason made.links
+      go none false is e quiet = record {
+        made = record (of_no_link true_segments t) { links = settled_of src };
+        does = row none false is;
+        beside = subst (λ (x : Sent LateSegments Numbers). Beside (record n { links = x.links }) (settled_of src)) (same_made _ made e)
+            (settled_beside src free);
+      }
+      go none true is e quiet =
+          looked (CalledBy dst) n.links (Ok (of_no_link late_segments n.links)) (λ i h. Ok (ending late_segments n.links i h)) (Ok made) e
+          (λ missing e. record {
+            made = of_no_link true_segments t;
+            does = row none true is ∙ at_none (CalledBy dst) t _ _ (sym (called_same n t b dst) ∙ missing);
+            beside = subst (λ (x : Sent LateSegments Numbers). Beside (record n { links = x.links }) t) (same_made _ made e) b;
+          })
+          (λ number h found e. ends number h found none is (same_made _ made e)
+          (quiet number (ap (λ (x : Sent LateSegments Numbers). x.truth.tag.link) (sym (same_made _ made e)))))
+
+  goes_too : (packet : Carried) (made : Sent LateSegments Numbers) → sent_step Without late_segments n.links packet ≡ Ok made →
+      ((packet.src == t.node && packet.dst == t.peer) ≡ true) × (message_sent Without late_segments n.links packet.message ≡ Ok made)
+  goes_too packet made e =
+      let c = checked (packet.src == n.links.node && packet.dst == n.links.peer) WrongNode _ made e in
+      (ap₂ (λ (x y : ℕ). packet.src == x && packet.dst == y) (sym b.node) (sym b.peer) ∙ c.0, c.1)
+
+  pub confirms_beside : (packet : Carried) (dst src reason : ℕ) (made : Sent LateSegments Numbers) →
+      packet.message ≡ DisconnectConfirm dst src reason →
+      sent_step Without late_segments n.links packet ≡ Ok made → IsFree src n → EndsCall (src == 0) made n →
+      Follow (record n { links = made.links }) t (records.Sends packet)
+  confirms_beside packet dst src reason made is e free quiet =
+      let g = goes_too packet made e in
+      let c = confirms_too dst src reason made (ap (message_sent Without late_segments n.links) (sym is) ∙ g.1) free quiet in
+      record {
+        left = c.made.links;
+        is = ap links_left (passed_check (packet.src == t.node && packet.dst == t.peer) WrongNode (message_sent With true_segments t
+            packet.message) g.0
+            ∙ ap (message_sent With true_segments t) is ∙ c.does);
+        beside = λ near. c.beside;
+      }
+
+  pub nothing_beside : (packet : Carried) (rest : List ℕ) (made : Sent LateSegments Numbers) → packet.message ≡ NoOperation rest →
+      sent_step Without late_segments n.links packet ≡ Ok made → Follow n t (records.Sends packet)
+  nothing_beside packet rest made is e =
+      let g = goes_too packet made e in
+      record {
+        left = t;
+        is = ap links_left (passed_check (packet.src == t.node && packet.dst == t.peer) WrongNode (message_sent With true_segments t
+            packet.message) g.0
+            ∙ ap (message_sent With true_segments t) is);
+        beside = λ near. b;
+      }

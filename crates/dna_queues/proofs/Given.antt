@@ -1,0 +1,259 @@
+-- An address is given where nothing waits for it or of it: the link that had it is dead in the machine too.
+use Rattle.std.proofs.Common.{◌≡◌, ℕ, Bool, true, false, ◌&&◌, cond, ◌⊎◌, inl, inr, Option, Some, None, List, [], length}
+use Rattle.std.proofs.Common.{refl, sym, ap, ap₂, ◌∙◌, subst, eqb-true}
+use Rattle.std.specs.Prelude.{slice_get}
+use Rattle.std.proofs.lemmas.Bool.{and_parts}
+use Rattle.dna_links.specs.declared.port.Phase.{Phase}
+use Rattle.dna_links.specs.declared.port.Phase.TheVariants.{Running, Disconnecting, Ended}
+use Rattle.dna_links.specs.declared.port.Port.{Port}
+use Rattle.dna_links.specs.declared.port.LinkTest.{LinkTest}
+use Rattle.dna_links.specs.declared.port.LinkTest.TheVariants.{HasAddress, LiveAt}
+use Rattle.dna_links.specs.declared.queue.Queues.{Queues}
+use Rattle.dna_links.specs.declared.queue.Queues.TheVariants.{Without, With}
+use Rattle.dna_links.specs.LookUps.{passes, is_in, is_live, is_at}
+use Rattle.dna_links.specs.SegmentBook.{SegmentBook}
+use Rattle.dna_links.specs.Links.{LinksOf, number_of, begun, changed}
+use Rattle.dna_links.specs.Queues.{forgotten, freed}
+use Rattle.dna_links.specs.inner.Forms.{opened}
+use Rattle.dna_links.specs.User.{Open}
+use Rattle.dna_links.specs.TrueSegments.{true_segments}
+use Rattle.dna_links.specs.TrueLinks as machine
+use Rattle.dna_links.specs.Runs.{SentMessage}
+use Rattle.dna_links.proofs.Tables.Outcomes.{looked}
+use Rattle.dna_queues.specs.Records.{AreAnswered, next_links}
+use Rattle.dna_queues.specs.Records as records
+use Rattle.dna_queues.specs.Hidden.{late_segments, Node, link_it_is_for, link_it_is_of, waiting}
+use Rattle.dna_queues.specs.Made.{IsFree}
+use Rattle.dna_queues.proofs.Goes.{Link}
+use Rattle.dna_queues.proofs.Ahead.{Meets, Ahead}
+use Rattle.dna_queues.proofs.Acting.{LateLink, seen_as}
+use Rattle.dna_queues.proofs.Follows.{Follows, is_behind}
+use Rattle.dna_queues.proofs.Lists.{waiting_none}
+use Rattle.dna_queues.proofs.LinkLists.{IsUnique, IsChanged, WasAt, was_at, changed_none, changed_one, at_none}
+use Rattle.dna_queues.proofs.LinkLists.{none_passes, found_one, number_same}
+use Rattle.dna_queues.proofs.Beside.{Beside, follows_as, unique_too}
+use Rattle.dna_queues.proofs.Begun.{begun_beside, opened_follows}
+use Rattle.dna_queues.proofs.Waiting.{of_same}
+use Rattle.dna_queues.proofs.SentOn.{Follow}
+
+-- ---- the link that had the address
+
+pub own_owns : (own : ℕ) (p : Port) → passes (HasAddress own) p ≡ true → is_at p.own own ≡ true
+own_owns own p e = e
+
+pub freed_changed : {D K : Type 0} (book : SegmentBook D K) (queues : Queues) (own : ℕ) (s : LinksOf D) → IsUnique s →
+    IsChanged s (freed book queues own s) own (λ l. cond (passes (HasAddress own) l.port) (forgotten book queues l) l)
+freed_changed book queues own s unique =
+    looked (HasAddress own) s s (λ n l. changed n (forgotten book queues l) s) (freed book queues own s) refl
+    (λ none e. subst (λ x. IsChanged s x own (λ l. cond (passes (HasAddress own) l.port) (forgotten book queues l) l)) e
+    (changed_none s unique own (passes (HasAddress own)) (forgotten book queues) (own_owns own) (none_passes (HasAddress own) s none)))
+    (λ n l found e. subst (λ x. IsChanged s x own (λ l. cond (passes (HasAddress own) l.port) (forgotten book queues l) l)) e
+    (changed_one s unique own (passes (HasAddress own)) (forgotten book queues) (own_owns own) n l found.there found.passed))
+
+dead_phase : (p : Phase) → is_live p ≡ false → p ≡ Ended
+dead_phase Ended e = refl
+dead_phase p e = absurd cc
+
+pub not_both : (c : Bool) → c ≡ true → c ≡ false → ⊥
+not_both true e f = absurd cc
+not_both false e f = absurd cc
+
+pub meets_now : (h : LateLink) (l : Link) (kept composed : List SentMessage) (f : Follows h l kept composed) → kept ≡ [] → Meets (seen_as f.used h) l
+meets_now h l kept composed f none = subst (λ (us : List SentMessage). Ahead us (seen_as f.used h) l) none f.ahead
+
+-- a link that has ended, and of which nothing waits, is forgotten
+forgotten_follows : (h : LateLink) (l : Link) → h.port.phase ≡ Ended → Follows h l [] [] →
+    Follows (forgotten late_segments Without h) (forgotten true_segments With l) [] []
+forgotten_follows h l over f =
+    let meets = meets_now h l [] [] f refl in
+    let g = f.can in
+    let over_l : l.port.phase ≡ Ended = ap (λ (p : Port). p.phase) (sym meets.port) ∙ over in
+    record {
+      used = f.used;
+      of_use = f.of_use;
+      fresh = f.fresh;
+      called = λ e. refl;
+      ahead = record {
+        port = ap (λ (p : Port). record p { own = None }) meets.port;
+        partner = meets.partner;
+        segsize = meets.segsize;
+        received = meets.received;
+        exact = meets.exact;
+        used = λ e. absurd (not_both _ e (ap is_live over_l));
+      };
+      acknowledged = f.acknowledged;
+      passed = f.passed;
+      accepted = f.accepted;
+      usable = λ e. absurd (not_both _ e (ap is_live over));
+      fits = record {
+        waits = λ e. refl;
+        ran = λ e. absurd (not_both _ e (ap (is_in Running) over_l));
+        calling = f.fits.calling;
+      };
+      can = record {
+        own = λ n at. at;
+        far = g.far;
+        opened = g.opened;
+        usable = λ e. absurd (not_both _ e (ap is_live over));
+        closing = λ e. absurd (not_both _ e (ap (is_in Disconnecting) over));
+        ran = g.ran;
+        accepted = g.accepted;
+        silent = g.silent;
+        over = g.over;
+        gap = g.gap;
+        segsize = g.segsize;
+        segments = g.segments;
+      };
+    }
+
+module _ (n : Node) (t : machine.Links) (b : Beside n t) (own : ℕ) (free : IsFree own n) where
+  -- what waits for the link with this address, and of it
+  pub nothing_for : (h : LateLink) → is_at h.port.own own ≡ true → waiting link_it_is_for h.port.own n.kept ≡ []
+  nothing_for h at = go h.port.own at
+    where
+      go : (o : Option ℕ) → is_at o own ≡ true → waiting link_it_is_for o n.kept ≡ []
+      go None at = absurd cc
+      go (Some k) at = ap (λ (x : ℕ). waiting link_it_is_for (Some x) n.kept) (eqb-true k own at) ∙ free.nothing_for
+
+  pub nothing_of : (i : ℕ) (h : LateLink) → slice_get n.links.links i ≡ Some h → is_at h.port.own own ≡ true →
+      waiting link_it_is_of (Some i) n.composed ≡ []
+  nothing_of i h there at = free.nothing_of i (found_one n.links b.unique (HasAddress own) own i h (own_owns own) there at)
+
+  -- the link with this address is as seen in both
+  pub same_port : (i : ℕ) (h : LateLink) (l : Link) → slice_get n.links.links i ≡ Some h → slice_get t.links i ≡ Some l →
+      is_at h.port.own own ≡ true →
+      h.port ≡ l.port
+  same_port i h l at_h at_l e = (meets_now h l _ _ (b.all i h l at_h at_l) (nothing_for h e)).port
+
+  -- what is found by it in one is found in the other
+  pub owner_same : (test : LinkTest) → ((p : Port) → passes test p ≡ true → is_at p.own own ≡ true) → number_of test n.links ≡ number_of test t
+  owner_same test owns = number_same n.links t b.size test (λ i h l at_h at_l. go i h l at_h at_l (is_at h.port.own own) refl)
+    where
+      never : (p : Port) (c : Bool) → passes test p ≡ c → is_at p.own own ≡ false → passes test p ≡ false
+      never p false e none = e
+      never p true e none = absurd (not_both _ (owns p e) none)
+
+      go : (i : ℕ) (h : LateLink) (l : Link) → slice_get n.links.links i ≡ Some h → slice_get t.links i ≡ Some l → (c : Bool) →
+          is_at h.port.own own ≡ c → passes test h.port ≡ passes test l.port
+      go i h l at_h at_l true e = ap (passes test) (same_port i h l at_h at_l e)
+      go i h l at_h at_l false e =
+          never h.port _ refl e
+          ∙ sym (never l.port _ refl (ap (λ (o : Option ℕ). is_at o own) (sym (is_behind h l _ _ (b.all i h l at_h at_l)).own) ∙ e))
+
+  pub live_same : number_of (LiveAt own) n.links ≡ number_of (LiveAt own) t
+  live_same = owner_same (LiveAt own) (λ p e. (and_parts (is_live p.phase) (is_at p.own own) e).1)
+
+  module _ (none_live : number_of (LiveAt own) n.links ≡ None) where
+    abbrev pub free_node : Node
+    free_node = record n { links = freed late_segments Without own n.links }
+
+    pub left_h : IsChanged n.links (freed late_segments Without own n.links) own
+        (λ h. cond (passes (HasAddress own) h.port) (forgotten late_segments Without h) h)
+    left_h = freed_changed late_segments Without own n.links b.unique
+
+    pub left_l : IsChanged t (freed true_segments With own t) own (λ l. cond (passes (HasAddress own) l.port) (forgotten true_segments With l) l)
+    left_l = freed_changed true_segments With own t (unique_too n t b)
+
+    -- none has the address any more
+    pub no_owner : (i : ℕ) (g : LateLink) → slice_get (freed late_segments Without own n.links).links i ≡ Some g → is_at g.port.own own ≡ true → ⊥
+    no_owner i g at own_g = go (was_at n.links _ own _ left_h i g at)
+      where
+        go : WasAt n.links own (λ h. cond (passes (HasAddress own) h.port) (forgotten late_segments Without h) h) i g → ⊥
+        go w = by w.is
+          where
+            by : ((is_at w.link.port.own own ≡ true) × (cond (is_at w.link.port.own own) (forgotten late_segments Without w.link) w.link ≡ g)) ⊎
+                ((is_at w.link.port.own own ≡ false) × (w.link ≡ g)) → ⊥
+            by (inl a) =
+                let same : forgotten late_segments Without w.link ≡ g =
+                sym (ap (λ (c : Bool). cond c (forgotten late_segments Without w.link) w.link) a.0) ∙ a.1 in
+                let x : true ≡ false = sym own_g ∙ ap (λ (y : LateLink). is_at y.port.own own) (sym same) in absurd cc
+            by (inr a) = not_both _ own_g (ap (λ (y : LateLink). is_at y.port.own own) (sym a.1) ∙ a.0)
+
+    -- an address of a link that is left was its address before
+    owner_was : (i : ℕ) (g : LateLink) → slice_get (freed late_segments Without own n.links).links i ≡ Some g → (m : ℕ) → is_at g.port.own m ≡ true →
+        (h : LateLink) × (slice_get n.links.links i ≡ Some h) × (is_at h.port.own m ≡ true)
+    owner_was i g at m own_g = go (was_at n.links _ own _ left_h i g at)
+      where
+        go : WasAt n.links own (λ h. cond (passes (HasAddress own) h.port) (forgotten late_segments Without h) h) i g →
+            (h : LateLink) × (slice_get n.links.links i ≡ Some h) × (is_at h.port.own m ≡ true)
+        go w = by w.is
+          where
+            by : ((is_at w.link.port.own own ≡ true) × (cond (is_at w.link.port.own own) (forgotten late_segments Without w.link) w.link ≡ g)) ⊎
+                ((is_at w.link.port.own own ≡ false) × (w.link ≡ g)) →
+                (h : LateLink) × (slice_get n.links.links i ≡ Some h) × (is_at h.port.own m ≡ true)
+            by (inl a) =
+                let same : forgotten late_segments Without w.link ≡ g =
+                sym (ap (λ (c : Bool). cond c (forgotten late_segments Without w.link) w.link) a.0) ∙ a.1 in
+                let x : true ≡ false = sym own_g ∙ ap (λ (y : LateLink). is_at y.port.own m) (sym same) in absurd cc
+            by (inr a) = (w.link, w.there, ap (λ (y : LateLink). is_at y.port.own m) a.1 ∙ own_g)
+
+    pub free_beside : Beside free_node (freed true_segments With own t)
+    free_beside = record {
+      node = left_h.node ∙ b.node ∙ sym left_l.node;
+      peer = left_h.peer ∙ b.peer ∙ sym left_l.peer;
+      size = left_h.size ∙ b.size ∙ sym left_l.size;
+      unique = λ i j x y at_i at_j m own_x own_y.
+          let p = owner_was i x at_i m own_x in let q = owner_was j y at_j m own_y in b.unique i j p.0 q.0 p.1 q.1 m p.2 q.2;
+      for_links = b.for_links;
+      of_links = of_same _ _ _ free_node.links.node free_node.links.peer (length free_node.links.links) n.composed left_h.node left_h.peer
+          left_h.size
+          b.of_links;
+      all = λ i x y at_x at_y. one i x y (was_at n.links _ own _ left_h i x at_x) (was_at t _ own _ left_l i y at_y);
+    }
+      where
+        one : (i : ℕ) (x : LateLink) (y : Link) →
+            WasAt n.links own (λ h. cond (passes (HasAddress own) h.port) (forgotten late_segments Without h) h) i x →
+            WasAt t own (λ l. cond (passes (HasAddress own) l.port) (forgotten true_segments With l) l) i y →
+            Follows x y (waiting link_it_is_for x.port.own n.kept) (waiting link_it_is_of (Some i) n.composed)
+        one i x y v w = by v.is w.is
+          where
+            f : Follows v.link w.link (waiting link_it_is_for v.link.port.own n.kept) (waiting link_it_is_of (Some i) n.composed)
+            f = b.all i v.link w.link v.there w.there
+
+            own_same : is_at v.link.port.own own ≡ is_at w.link.port.own own
+            own_same = ap (λ (o : Option ℕ). is_at o own) (is_behind v.link w.link _ _ f).own
+
+            gone : is_at v.link.port.own own ≡ true → v.link.port.phase ≡ Ended
+            gone at = dead_phase v.link.port.phase (live (is_live v.link.port.phase) refl)
+              where
+                live : (c : Bool) → is_live v.link.port.phase ≡ c → is_live v.link.port.phase ≡ false
+                live false e = e
+                live true e =
+                    let never = none_passes (LiveAt own) n.links none_live i v.link v.there in
+                    absurd (not_both (passes (LiveAt own) v.link.port) (ap₂ (λ (c d : Bool). c && d) e at) never)
+
+            by : ((is_at v.link.port.own own ≡ true) × (cond (is_at v.link.port.own own) (forgotten late_segments Without v.link) v.link ≡ x)) ⊎
+                ((is_at v.link.port.own own ≡ false) × (v.link ≡ x)) →
+                ((is_at w.link.port.own own ≡ true) × (cond (is_at w.link.port.own own) (forgotten true_segments With w.link) w.link ≡ y)) ⊎
+                ((is_at w.link.port.own own ≡ false) × (w.link ≡ y)) →
+                Follows x y (waiting link_it_is_for x.port.own n.kept) (waiting link_it_is_of (Some i) n.composed)
+            by (inl p) (inl q) =
+                let same_x : forgotten late_segments Without v.link ≡ x =
+                sym (ap (λ (c : Bool). cond c (forgotten late_segments Without v.link) v.link) p.0) ∙ p.1 in
+                let same_y : forgotten true_segments With w.link ≡ y =
+                sym (ap (λ (c : Bool). cond c (forgotten true_segments With w.link) w.link) q.0) ∙ q.1 in
+                let none = nothing_of i v.link v.there p.0 in
+                subst (λ (z : LateLink). Follows z y (waiting link_it_is_for z.port.own n.kept) (waiting link_it_is_of (Some i) n.composed)) same_x
+                (subst (λ (z : Link). Follows (forgotten late_segments Without v.link) z (waiting link_it_is_for None n.kept)
+                (waiting link_it_is_of (Some i) n.composed)) same_y
+                (follows_as _ _ _ _ _ _ (sym (waiting_none link_it_is_for n.kept)) (sym none)
+                (forgotten_follows v.link w.link (gone p.0) (follows_as v.link w.link _ _ _ _ (nothing_for v.link p.0) none f))))
+            by (inl p) (inr q) = absurd (not_both _ p.0 (own_same ∙ q.0))
+            by (inr p) (inl q) = absurd (not_both _ q.0 (sym own_same ∙ p.0))
+            by (inr p) (inr q) =
+                subst (λ (z : LateLink). Follows z y (waiting link_it_is_for z.port.own n.kept) (waiting link_it_is_of (Some i) n.composed)) p.1
+                (subst (λ (z : Link). Follows v.link z (waiting link_it_is_for v.link.port.own n.kept) (waiting link_it_is_of (Some i)
+                n.composed)) q.1 f)
+
+    -- ---- a link is opened
+
+    pub opens_beside : Follow (record n { links = begun (opened late_segments own) (freed late_segments Without own n.links) }) t
+        (records.OfUser (Open own))
+    opens_beside = record {
+      left = begun (opened true_segments own) (freed true_segments With own t);
+      is = at_none (LiveAt own) t _ _ (sym live_same ∙ none_live);
+      beside = λ near. begun_beside free_node (freed true_segments With own t) free_beside (opened late_segments own) (opened true_segments own)
+          (free.nothing_for)
+          (λ i g at m own_g own_h. no_owner i g at (ap (is_at g.port.own) (eqb-true own m own_h) ∙ own_g))
+          (opened_follows own);
+    }

@@ -1,0 +1,180 @@
+-- What is kept waits: the machine acts on it, and follows the node as before.
+use Rattle.std.proofs.Common.{◌≡◌, ℕ, Bool, true, false, ◌&&◌, ◌==◌, cond, ◌⊎◌, inl, inr, Option, Some, None, List, [], ◌∷◌, ◌++◌}
+use Rattle.std.proofs.Common.{Result, Ok, refl, sym, ap, ap₂, ◌∙◌, subst, arith, append-nil}
+use Rattle.std.specs.Prelude.{slice_get}
+use Rattle.std.proofs.lemmas.Bool.{and_parts}
+use Rattle.std.proofs.lemmas.Option.{same_Some}
+use Rattle.dna_packet.specs.Nsp.{NspValue, DataSegment, LinkService, DataAck, OtherDataAck, ConnectAck, NoOperation, ConnectInitiate, ConnectConfirm}
+use Rattle.dna_packet.specs.Nsp.{DisconnectInitiate, DisconnectConfirm}
+use Rattle.dna_station.specs.declared.link_refusal.LinkRefusal.{LinkRefusal}
+use Rattle.dna_station.specs.declared.link_refusal.LinkRefusal.TheVariants.{WrongNode, CrossedLink}
+use Rattle.dna_links.specs.declared.port.Port.{Port}
+use Rattle.dna_links.specs.declared.port.LinkTest.TheVariants.{ActedOn}
+use Rattle.dna_links.specs.declared.queue.Queues.TheVariants.{Without, With}
+use Rattle.dna_links.specs.LookUps.{passes, is_at, is_connected, has_both}
+use Rattle.dna_links.specs.Links.{check, with_link, LinkTruth}
+use Rattle.dna_links.specs.LinkBook.{are_same}
+use Rattle.dna_links.specs.Arriving.{of_partner, is_of_pair, arrived_step, message_arrived}
+use Rattle.dna_links.specs.CutSegments.{IsAnswered, AcksAreNear}
+use Rattle.dna_links.specs.CutLinks.{ArrivesNear}
+use Rattle.dna_links.specs.TrueSegments.{Numbers, true_segments}
+use Rattle.dna_links.specs.TrueLinks as machine
+use Rattle.dna_links.specs.Runs.{SentMessage}
+use Rattle.dna_links.proofs.Tables.Outcomes.{looked, checked}
+use Rattle.dna_queues.specs.Records.{AreAnswered, links_left, next_links}
+use Rattle.dna_queues.specs.Records as records
+use Rattle.dna_queues.specs.Hidden.{late_segments, Links, Node, dstaddr, link_it_is_for, link_it_is_of, waiting, ComesTo, AllActed, Next}
+use Rattle.dna_queues.proofs.Goes.{Link, Grows}
+use Rattle.dna_queues.proofs.WaitsToGo.{can_grow}
+use Rattle.dna_queues.proofs.Ahead.{Ahead, takes_numbers}
+use Rattle.dna_queues.proofs.Came.{ComesOn, came_as, came}
+use Rattle.dna_queues.proofs.CameOn.{came_on, ahead_push}
+use Rattle.dna_queues.proofs.Acting.{LateLink, lift, seen_as}
+use Rattle.dna_queues.proofs.Follows.{Follows, is_behind}
+use Rattle.dna_queues.proofs.Lists.{waiting_push}
+use Rattle.dna_queues.proofs.LinkLists.{IsUnique, was_at, none_passes}
+use Rattle.dna_queues.proofs.MachineArrivals.{Alike, MachineActs, machine_acts}
+use Rattle.dna_queues.proofs.Waiting.{for_push}
+use Rattle.dna_queues.proofs.Beside.{Beside, unique_too, follows_as, acts_beside}
+use Rattle.dna_queues.proofs.SentOn.{grows_on, Follow, passed_check}
+
+-- ---- what all would come to
+
+pub record CameTo (n : Node) (all : Links) (t : machine.Links) : Type 0 where
+  pub last : Node
+  pub beside : Beside last t
+  pub none : last.kept ≡ []
+  pub is : last.links ≡ all
+
+pub comes_beside : {n : Node} {all : Links} (t : machine.Links) → Beside n t → AreAnswered t → ComesTo n all → CameTo n all t
+comes_beside t b answered (AllActed n none) = record { last = n; beside = b; none = none; is = refl }
+comes_beside t b answered (Next n unit left links further takes acts later) =
+    let r = comes_beside t (acts_beside n t b answered unit left links takes acts) answered later in
+    record { last = r.last; beside = r.beside; none = r.none; is = r.is }
+
+pub came_alike : (n : Node) (t : machine.Links) → Beside n t → n.kept ≡ [] → Alike n.links t
+came_alike n t b none = record {
+  node = b.node;
+  peer = b.peer;
+  size = b.size;
+  all = λ i h l at_h at_l. let f = b.all i h l at_h at_l in
+      let m = subst (λ (us : List SentMessage). Ahead us (seen_as f.used h) l) (ap (waiting link_it_is_for h.port.own) none) f.ahead in (
+        m.port,
+        m.partner,
+      );
+}
+
+-- ---- a packet that is kept waits
+
+pub kept_on : (h : LateLink) (l k : Link) (kept composed : List SentMessage) (unit : SentMessage) → ComesOn unit l k → IsAnswered k.segments →
+    Follows h l kept composed → Follows h k (kept ++ unit ∷ []) composed
+kept_on h l k kept composed unit on answered f =
+    let low = f.acknowledged in let more = on.acknowledged in
+    record {
+      used = f.used;
+      of_use = f.of_use;
+      fresh = f.fresh;
+      called = f.called;
+      ahead = ahead_push kept unit (seen_as f.used h) l k on f.ahead;
+      acknowledged = omega (arith, low, more);
+      passed = on.passed ∙ f.passed;
+      accepted = λ e. on.accepted ∙ f.accepted e;
+      usable = λ e. on.live (f.usable e);
+      fits = on.fits;
+      can = can_grow None composed l k (Grows None (lift h)) (Grows None (lift h)) (on.grows answered) f.can
+          (λ x y grows p. grows_on None (lift h) x y p grows);
+    }
+
+-- where a link acts on numbers, they are of its pair, and so near
+module _ (t left : machine.Links) (unique : IsUnique t) (truth : LinkTruth Numbers) (i : ℕ) (l : Link) (there : slice_get t.links i ≡ Some l) where
+  of_pair : (own far : ℕ) (next : ℕ → Link → Result machine.Links LinkRefusal) → passes (ActedOn own far) l.port ≡ true →
+      with_link (ActedOn own far) t (Ok t) (λ n k. check (is_of_pair n k.partner truth.tag) CrossedLink (next n k)) ≡ Ok left →
+      is_of_pair i l.partner truth.tag ≡ true
+  of_pair own far next passed e =
+      looked (ActedOn own far) t (Ok t) _ (Ok left) e
+      (λ none e. let never = none_passes (ActedOn own far) t none i l there in let x : true ≡ false = sym passed ∙ never in absurd cc)
+      (λ n k found e. let same : n ≡ i = unique n i k l found.there there own (owns k.port found.passed) (owns l.port passed) in
+      let link : k ≡ l = same_Some k l (sym found.there ∙ ap (slice_get t.links) same ∙ there) in
+      ap₂ (λ (j : ℕ) (x : Link). is_of_pair j x.partner truth.tag) (sym same) (sym link)
+      ∙ (checked (is_of_pair n k.partner truth.tag) CrossedLink _ left e).0)
+    where
+      owns : (p : Port) → passes (ActedOn own far) p ≡ true → is_at p.own own ≡ true
+      owns p e = (and_parts (is_at p.own own) (is_at p.far far) (and_parts (is_connected p.phase) (has_both p own far) e).1).0
+
+  pub near_here : (m : NspValue) → message_arrived With true_segments of_partner t m truth ≡ Ok left → ArrivesNear of_partner t m truth →
+      takes_numbers m l.port ≡ true → AcksAreNear l.segments truth.known.acknowledgements
+  near_here (DataSegment s) e near taken = (near i l there taken (of_pair s.dstaddr s.srcaddr _ taken e)).2
+  near_here (DataAck dst src acks) e near taken = (near i l there taken (of_pair dst src _ taken e)).1
+  near_here (ConnectInitiate retransmitted src services info segsize user_data) e near taken = absurd cc
+  near_here (ConnectConfirm dst src services info segsize user_data) e near taken = absurd cc
+  near_here (DisconnectInitiate dst src reason user_data) e near taken = absurd cc
+  near_here (DisconnectConfirm dst src reason) e near taken = absurd cc
+  near_here (LinkService interrupt dst src rest) e near taken = absurd cc
+  near_here (OtherDataAck dst src rest) e near taken = absurd cc
+  near_here (ConnectAck dst) e near taken = absurd cc
+  near_here (NoOperation rest) e near taken = absurd cc
+
+module _ (n : Node) (t : machine.Links) (b : Beside n t) (answered : AreAnswered t) where
+  pub keeps_beside : (unit : SentMessage) (address : ℕ) (all left : Links) → dstaddr unit.packet.message ≡ Some address → ComesTo n all →
+      arrived_step Without late_segments of_partner all unit.packet unit.truth ≡ Ok left → records.IsNear t (records.Keeps unit) →
+      Follow (record n { kept = n.kept ++ unit ∷ [] }) t (records.Keeps unit)
+  keeps_beside unit address all left is comes e near =
+      let to = comes_beside t b answered comes in
+      let alike = subst (λ (s : Links). Alike s t) to.is (came_alike to.last t to.beside to.none) in
+      let c = checked (unit.packet.src == all.peer && unit.packet.dst == all.node) WrongNode _ left e in
+      go alike (machine_acts all left t alike (unique_too n t b) unit.truth unit.packet.message address is c.1)
+      (ap₂ (λ (x y : ℕ). unit.packet.src == x && unit.packet.dst == y) (sym alike.peer) (sym alike.node) ∙ c.0)
+    where
+      go : (alike : Alike all t) → MachineActs all left t alike (unique_too n t b) unit.truth unit.packet.message address →
+          (unit.packet.src == t.peer && unit.packet.dst == t.node) ≡ true → Follow (record n { kept = n.kept ++ unit ∷ [] }) t (records.Keeps unit)
+      go alike acts may =
+          let c = acts.changed in
+          record {
+            left = acts.left;
+            is = passed_check (unit.packet.src == t.peer && unit.packet.dst == t.node) WrongNode
+                (message_arrived With true_segments of_partner t unit.packet.message unit.truth) may ∙ acts.is;
+            beside = λ near_left. record {
+              node = b.node ∙ sym c.node;
+              peer = b.peer ∙ sym c.peer;
+              size = b.size ∙ sym c.size;
+              unique = b.unique;
+              for_links = for_push n.kept unit b.for_links (address, is);
+              of_links = b.of_links;
+              all = λ i h k at_h at_k. let w = was_at t acts.left address (came_as unit.packet.message unit.truth) c i k at_k in
+                  one i h w.link k at_h w.there (near_left i k at_k) w.is;
+            };
+          }
+        where
+          one : (i : ℕ) (h : LateLink) (l k : Link) → slice_get n.links.links i ≡ Some h → slice_get t.links i ≡ Some l → IsAnswered k.segments →
+              ((is_at l.port.own address ≡ true) × (came_as unit.packet.message unit.truth l ≡ k)) ⊎
+              ((is_at l.port.own address ≡ false) × (l ≡ k)) →
+              Follows h k (waiting link_it_is_for h.port.own (n.kept ++ unit ∷ [])) (waiting link_it_is_of (Some i) n.composed)
+          one i h l k at_h at_l near_k w = at w
+            where
+              f : Follows h l (waiting link_it_is_for h.port.own n.kept) (waiting link_it_is_of (Some i) n.composed)
+              f = b.all i h l at_h at_l
+
+              own : (c : Bool) → is_at l.port.own address ≡ c → are_same (link_it_is_for unit) h.port.own ≡ c
+              own c e =
+                  ap (λ (o : Option ℕ). are_same o h.port.own) is ∙ ap (λ (o : Option ℕ). is_at o address) (is_behind h l _ _ f).own ∙ e
+
+              pushed : (c : Bool) → is_at l.port.own address ≡ c →
+                  waiting link_it_is_for h.port.own n.kept ++ cond c (unit ∷ []) [] ≡ waiting link_it_is_for h.port.own (n.kept ++ unit ∷ [])
+              pushed c e =
+                  sym (waiting_push link_it_is_for n.kept unit h.port.own
+                  ∙ ap (λ (c : Bool). waiting link_it_is_for h.port.own n.kept ++ cond c (unit ∷ []) []) (own c e))
+
+              at : ((is_at l.port.own address ≡ true) × (came_as unit.packet.message unit.truth l ≡ k)) ⊎
+                  ((is_at l.port.own address ≡ false) × (l ≡ k)) →
+                  Follows h k (waiting link_it_is_for h.port.own (n.kept ++ unit ∷ [])) (waiting link_it_is_of (Some i) n.composed)
+              at (inl a) =
+                  let on = came_on l f.fits unit (near_here t acts.left (unique_too n t b) unit.truth i l at_l unit.packet.message acts.is near) in
+                  subst (λ (x : Link). Follows h x (waiting link_it_is_for h.port.own (n.kept ++ unit ∷ [])) (waiting link_it_is_of (Some i)
+                  n.composed)) a.1
+                  (follows_as h (came unit l) _ _ _ _ (pushed true a.0) refl
+                  (kept_on h l (came unit l) (waiting link_it_is_for h.port.own n.kept) (waiting link_it_is_of (Some i) n.composed) unit on
+                  (subst (λ (x : Link). IsAnswered x.segments) (sym a.1) near_k) f))
+              at (inr a) =
+                  subst (λ (x : Link). Follows h x (waiting link_it_is_for h.port.own (n.kept ++ unit ∷ [])) (waiting link_it_is_of (Some i)
+                  n.composed)) a.1
+                  (follows_as h l _ _ _ _ (sym (append-nil (waiting link_it_is_for h.port.own n.kept)) ∙ pushed false a.0) refl f)

@@ -1,0 +1,200 @@
+-- Links of which at most one has an own address: what a row does by such an address it does to that link alone.
+use Rattle.std.proofs.Common.{◌≡◌, ℕ, zero, suc, Bool, true, false, cond, ◌⊎◌, inl, inr, Option, Some, None, List, [], ◌∷◌, length, map}
+use Rattle.std.proofs.Common.{refl, sym, ap, ap₂, ◌∙◌, arith, position, length-set}
+use Rattle.std.specs.Prelude.{slice_get, slice_set}
+use Rattle.std.proofs.lemmas.Bool.{cases_eq}
+use Rattle.std.proofs.lemmas.Option.{same_Some, slice_get_within}
+use Rattle.dna_links.specs.declared.port.Port.{Port}
+use Rattle.dna_links.specs.declared.port.LinkTest.{LinkTest}
+use Rattle.dna_links.specs.LookUps.{passes, is_at}
+use Rattle.dna_links.specs.Links.{LinkOf, LinksOf, number_of, on_link, at_number, with_link, changed}
+use Rattle.dna_links.proofs.Tables.Outcomes.{IsFound, position_passes, position_within, position_none}
+use Rattle.dna_links.proofs.Runs.Sides.{set_same, set_other}
+use Rattle.dna_links.proofs.Runs.Owners.{there_is}
+use Rattle.dna_links.proofs.Cut.LookUps.{position-map}
+
+module _ {D : Type 0} where
+  abbrev pub IsUnique : LinksOf D → Type 0
+  IsUnique s = (i j : ℕ) (l k : LinkOf D) → slice_get s.links i ≡ Some l → slice_get s.links j ≡ Some k → (n : ℕ) → is_at l.port.own n ≡ true →
+      is_at k.port.own n ≡ true → i ≡ j
+
+  -- the link with this address has become another, and all else is as it was
+  pub record IsChanged (s left : LinksOf D) (address : ℕ) (change : LinkOf D → LinkOf D) : Type 0 where
+    pub node : left.node ≡ s.node
+    pub peer : left.peer ≡ s.peer
+    pub size : length left.links ≡ length s.links
+    pub here : (i : ℕ) (l : LinkOf D) → slice_get s.links i ≡ Some l → is_at l.port.own address ≡ true → slice_get left.links i ≡ Some (change l)
+    pub other : (i : ℕ) (l : LinkOf D) → slice_get s.links i ≡ Some l → is_at l.port.own address ≡ false → slice_get left.links i ≡ Some l
+
+  pub record WasAt (s : LinksOf D) (address : ℕ) (change : LinkOf D → LinkOf D) (i : ℕ) (k : LinkOf D) : Type 0 where
+    pub link : LinkOf D
+    pub there : slice_get s.links i ≡ Some link
+    pub is : ((is_at link.port.own address ≡ true) × (change link ≡ k)) ⊎ ((is_at link.port.own address ≡ false) × (link ≡ k))
+
+  pub was_at : (s left : LinksOf D) (address : ℕ) (change : LinkOf D → LinkOf D) → IsChanged s left address change → (i : ℕ) (k : LinkOf D) →
+      slice_get left.links i ≡ Some k → WasAt s address change i k
+  was_at s left address change c i k at =
+      let w = slice_get_within left.links i k at in
+      let size = c.size in
+      let t = there_is s.links i (omega (arith, w, size)) in
+      go t.0 t.1 (is_at t.0.port.own address) refl
+    where
+      go : (l : LinkOf D) → slice_get s.links i ≡ Some l → (b : Bool) → is_at l.port.own address ≡ b → WasAt s address change i k
+      go l there true e =
+          record { link = l; there = there; is = inl (e, same_Some (change l) k (sym (c.here i l there e) ∙ at)) }
+      go l there false e = record { link = l; there = there; is = inr (e, same_Some l k (sym (c.other i l there e) ∙ at)) }
+
+  pub unique_changed : (s left : LinksOf D) (address : ℕ) (change : LinkOf D → LinkOf D) → IsChanged s left address change →
+      ((l : LinkOf D) → (change l).port.own ≡ l.port.own) → IsUnique s → IsUnique left
+  unique_changed s left address change c same unique i j l k at_i at_j n own_l own_k =
+      let p = was_at s left address change c i l at_i in
+      let q = was_at s left address change c j k at_j in
+      unique i j p.link q.link p.there q.there n (ap (λ (o : Option ℕ). is_at o n) (sym (own i l p)) ∙ own_l)
+      (ap (λ (o : Option ℕ). is_at o n) (sym (own j k q)) ∙ own_k)
+    where
+      own : (i : ℕ) (k : LinkOf D) (w : WasAt s address change i k) → k.port.own ≡ w.link.port.own
+      own i k w = go w.is
+        where
+          go : ((is_at w.link.port.own address ≡ true) × (change w.link ≡ k)) ⊎ ((is_at w.link.port.own address ≡ false) × (w.link ≡ k)) →
+              k.port.own ≡ w.link.port.own
+          go (inl a) = ap (λ (x : LinkOf D). x.port.own) (sym a.1) ∙ same w.link
+          go (inr a) = ap (λ (x : LinkOf D). x.port.own) (sym a.1)
+
+  pub changed_as : (s left : LinksOf D) (address : ℕ) (change further : LinkOf D → LinkOf D) → IsChanged s left address change →
+      ((l : LinkOf D) → change l ≡ further l) → IsChanged s left address further
+  changed_as s left address change further c same = record {
+    node = c.node;
+    peer = c.peer;
+    size = c.size;
+    here = λ i l there own. c.here i l there own ∙ ap Some (same l);
+    other = c.other;
+  }
+
+  -- ---- rows
+
+  module _ (s : LinksOf D) (unique : IsUnique s) (address : ℕ) (test : Port → Bool) (f : LinkOf D → LinkOf D)
+      (owns : (p : Port) → test p ≡ true → is_at p.own address ≡ true) where
+    abbrev pub if_passes : LinkOf D → LinkOf D
+    if_passes l = cond (test l.port) (f l) l
+
+    -- no link passes
+    pub changed_none : ((i : ℕ) (l : LinkOf D) → slice_get s.links i ≡ Some l → test l.port ≡ false) → IsChanged s s address if_passes
+    changed_none none = record {
+      node = refl;
+      peer = refl;
+      size = refl;
+      here = λ i l there own. there ∙ ap Some (ap (λ (b : Bool). cond b (f l) l) (sym (none i l there)));
+      other = λ i l there own. there;
+    }
+
+    -- this one does
+    pub changed_one : (n : ℕ) (l : LinkOf D) → slice_get s.links n ≡ Some l → test l.port ≡ true → IsChanged s (changed n (f l) s) address if_passes
+    changed_one n l there passed = record {
+      node = refl;
+      peer = refl;
+      size = length-set s.links n (f l);
+      here = λ i k at own. here i k at own (unique i n k l at there address own (owns l.port passed));
+      other = λ i k at own. set_other s.links n i (f l) (λ e. differs i k at own e) ∙ at;
+    }
+      where
+        here : (i : ℕ) (k : LinkOf D) → slice_get s.links i ≡ Some k → is_at k.port.own address ≡ true → i ≡ n →
+            slice_get (slice_set s.links n (f l)) i ≡ Some (if_passes k)
+        here i k at own e =
+            let same : l ≡ k = same_Some l k (sym there ∙ ap (slice_get s.links) (sym e) ∙ at) in
+            ap (slice_get (slice_set s.links n (f l))) e ∙ set_same s.links n l (f l) there
+            ∙ ap Some (sym (ap (λ (b : Bool). cond b (f l) l) passed) ∙ ap if_passes same)
+
+        differs : (i : ℕ) (k : LinkOf D) → slice_get s.links i ≡ Some k → is_at k.port.own address ≡ false → i ≡ n → ⊥
+        differs i k at own e =
+            let same : l ≡ k = same_Some l k (sym there ∙ ap (slice_get s.links) (sym e) ∙ at) in
+            let own_l : is_at l.port.own address ≡ true = owns l.port passed in
+            let x : true ≡ false = sym own_l ∙ ap (λ (y : LinkOf D). is_at y.port.own address) same ∙ own in absurd cc
+
+  pub at_found : {R : Type 0} (test : LinkTest) (s : LinksOf D) (n : ℕ) (l : LinkOf D) (otherwise : R) (next : ℕ → LinkOf D → R) →
+      IsFound test s n l →
+      with_link test s otherwise next ≡ next n l
+  at_found test s n l otherwise next found =
+      ap (λ (o : Option ℕ). at_number s.links o otherwise next) found.found ∙ ap (λ (o : Option (LinkOf D)). on_link n o otherwise next) found.there
+
+  pub at_none : {R : Type 0} (test : LinkTest) (s : LinksOf D) (otherwise : R) (next : ℕ → LinkOf D → R) → number_of test s ≡ None →
+      with_link test s otherwise next ≡ otherwise
+  at_none test s otherwise next none = ap (λ (o : Option ℕ). at_number s.links o otherwise next) none
+
+  pub none_passes : (test : LinkTest) (s : LinksOf D) → number_of test s ≡ None → (i : ℕ) (l : LinkOf D) → slice_get s.links i ≡ Some l →
+      passes test l.port ≡ false
+  none_passes test s none i l there = position_none (λ (x : LinkOf D). passes test x.port) s.links i l none there
+
+  -- ---- one link by its number
+
+  pub record IsSet (s left : LinksOf D) (number : ℕ) (k : LinkOf D) : Type 0 where
+    pub node : left.node ≡ s.node
+    pub peer : left.peer ≡ s.peer
+    pub size : length left.links ≡ length s.links
+    pub here : slice_get left.links number ≡ Some k
+    pub others : (i : ℕ) → (i ≡ number → ⊥) → slice_get left.links i ≡ slice_get s.links i
+
+  pub set_changed : (s : LinksOf D) (number : ℕ) (l k : LinkOf D) → slice_get s.links number ≡ Some l → IsSet s (changed number k s) number k
+  set_changed s number l k there = record {
+    node = refl;
+    peer = refl;
+    size = length-set s.links number k;
+    here = set_same s.links number l k there;
+    others = λ i differs. set_other s.links number i k differs;
+  }
+
+  pub was_set : (s left : LinksOf D) (number : ℕ) (k : LinkOf D) → IsSet s left number k → (i : ℕ) (x : LinkOf D) → slice_get left.links i ≡ Some x →
+      ((i ≡ number) × (k ≡ x)) ⊎ ((i ≡ number → ⊥) × (slice_get s.links i ≡ Some x))
+  was_set s left number k set i x at = go (cases_eq i number)
+    where
+      go : (i ≡ number) ⊎ (i ≡ number → ⊥) → ((i ≡ number) × (k ≡ x)) ⊎ ((i ≡ number → ⊥) × (slice_get s.links i ≡ Some x))
+      go (inl e) = inl (e, same_Some k x (sym set.here ∙ ap (slice_get left.links) (sym e) ∙ at))
+      go (inr d) = inr (d, sym (set.others i d) ∙ at)
+
+  pub unique_set : (s left : LinksOf D) (number : ℕ) (h k : LinkOf D) → IsSet s left number k → slice_get s.links number ≡ Some h →
+      k.port.own ≡ h.port.own → IsUnique s → IsUnique left
+  unique_set s left number h k set there own unique i j l m at_i at_j n own_l own_m =
+      let p = before i l at_i in
+      let q = before j m at_j in
+      unique i j p.0 q.0 p.1 q.1 n (ap (λ (o : Option ℕ). is_at o n) (sym p.2) ∙ own_l) (ap (λ (o : Option ℕ). is_at o n) (sym q.2) ∙ own_m)
+    where
+      before : (i : ℕ) (x : LinkOf D) → slice_get left.links i ≡ Some x → (g : LinkOf D) × (slice_get s.links i ≡ Some g) × (x.port.own ≡ g.port.own)
+      before i x at = go (was_set s left number k set i x at)
+        where
+          go : ((i ≡ number) × (k ≡ x)) ⊎ ((i ≡ number → ⊥) × (slice_get s.links i ≡ Some x)) →
+              (g : LinkOf D) × (slice_get s.links i ≡ Some g) × (x.port.own ≡ g.port.own)
+          go (inl a) = (h, ap (slice_get s.links) a.0 ∙ there, ap (λ (y : LinkOf D). y.port.own) (sym a.1) ∙ own)
+          go (inr a) = (x, a.1, refl)
+
+  -- where this is the only one that can pass it is found
+  pub found_one : (s : LinksOf D) → IsUnique s → (test : LinkTest) (own i : ℕ) (l : LinkOf D) →
+      ((p : Port) → passes test p ≡ true → is_at p.own own ≡ true) → slice_get s.links i ≡ Some l → passes test l.port ≡ true →
+      number_of test s ≡ Some i
+  found_one s unique test own i l owns there passed = go (number_of test s) refl
+    where
+      go : (o : Option ℕ) → number_of test s ≡ o → number_of test s ≡ Some i
+      go None none = let never = none_passes test s none i l there in let x : true ≡ false = sym passed ∙ never in absurd cc
+      go (Some j) found =
+          let k = there_is s.links j (position_within (λ (x : LinkOf D). passes test x.port) s.links j found) in
+          let at = position_passes (λ (x : LinkOf D). passes test x.port) s.links j k.0 found k.1 in
+          found ∙ ap Some (unique j i k.0 l k.1 there own (owns k.0.port at) (owns l.port passed))
+
+module _ {D E : Type 0} (s : LinksOf D) (t : LinksOf E) (size : length s.links ≡ length t.links) where
+  tests_alike : (test : LinkTest) (xs : List (LinkOf D)) (ys : List (LinkOf E)) → length xs ≡ length ys →
+      ((i : ℕ) (h : LinkOf D) (l : LinkOf E) → slice_get xs i ≡ Some h → slice_get ys i ≡ Some l → passes test h.port ≡ passes test l.port) →
+      map (λ (x : LinkOf D). passes test x.port) xs ≡ map (λ (y : LinkOf E). passes test y.port) ys
+  tests_alike test [] [] size same = refl
+  tests_alike test [] (y ∷ ys) size same = absurd (omega (arith, size))
+  tests_alike test (x ∷ xs) [] size same = absurd (omega (arith, size))
+  tests_alike test (x ∷ xs) (y ∷ ys) size same =
+      ap₂ (λ (p : Bool) (ps : List Bool). p ∷ ps) (same zero x y refl refl)
+      (tests_alike test xs ys (omega (arith, size)) (λ i h l at_h at_l. same (suc i) h l at_h at_l))
+
+  -- the same is found in both where the same pass
+  pub number_same : (test : LinkTest) →
+      ((i : ℕ) (h : LinkOf D) (l : LinkOf E) → slice_get s.links i ≡ Some h → slice_get t.links i ≡ Some l →
+      passes test h.port ≡ passes test l.port) →
+      number_of test s ≡ number_of test t
+  number_same test same =
+      sym (position-map (λ (b : Bool). b) (λ (x : LinkOf D). passes test x.port) s.links)
+      ∙ ap (position (λ (b : Bool). b)) (tests_alike test s.links t.links size same)
+      ∙ position-map (λ (b : Bool). b) (λ (y : LinkOf E). passes test y.port) t.links

@@ -1,0 +1,200 @@
+-- A packet that is kept, acted on by the machine: it changes the link with that address, as what all would come to has it.
+use Rattle.std.proofs.Common.{◌≡◌, ℕ, zero, suc, Bool, true, false, ◌||◌, cond, Option, Some, None, List, [], ◌∷◌, length, map, Result, Ok}
+use Rattle.std.proofs.Common.{refl, sym, ap, ap₂, ◌∙◌, subst, arith, position}
+use Rattle.std.specs.Prelude.{slice_get}
+use Rattle.std.proofs.lemmas.Bool.{and_parts}
+use Rattle.std.proofs.lemmas.Option.{same_Some}
+use Rattle.dna_packet.specs.Nsp.{NspValue, DataSegment, LinkService, DataAck, OtherDataAck, ConnectAck, NoOperation, ConnectInitiate}
+use Rattle.dna_packet.specs.Nsp.{ConnectConfirm, DisconnectInitiate, DisconnectConfirm}
+use Rattle.dna_station.specs.declared.link_refusal.LinkRefusal.{LinkRefusal}
+use Rattle.dna_station.specs.declared.link_refusal.LinkRefusal.TheVariants.{CrossedLink}
+use Rattle.dna_links.specs.declared.port.Phase.{Phase}
+use Rattle.dna_links.specs.declared.port.Phase.TheVariants.{Calling, Confirming, Running}
+use Rattle.dna_links.specs.declared.port.Port.{Port}
+use Rattle.dna_links.specs.declared.port.LinkTest.{LinkTest}
+use Rattle.dna_links.specs.declared.port.LinkTest.TheVariants.{TheLink, CallingAt, ActedOn}
+use Rattle.dna_links.specs.declared.queue.Queues.TheVariants.{Without, With}
+use Rattle.dna_links.specs.LookUps.{passes, is_in, is_live, is_at, is_connected, has_both}
+use Rattle.dna_links.specs.Links.{LinkTruth, check, number_of, with_link, changed, with_segments}
+use Rattle.dna_links.specs.Queues.{goes_on, ends_by_message, keeps_numbers, lets_go}
+use Rattle.dna_links.specs.Arriving.{of_partner, is_for, is_of_pair, message_arrived}
+use Rattle.dna_links.specs.TrueSegments.{TrueSegments, Numbers, takes_segment, takes_acks, true_segments}
+use Rattle.dna_links.specs.TrueLinks as machine
+use Rattle.dna_links.proofs.Tables.Outcomes.{IsFound, checked}
+use Rattle.dna_links.proofs.Cut.LookUps.{position-map}
+use Rattle.dna_queues.specs.Hidden.{late_segments, Links, dstaddr}
+use Rattle.dna_queues.proofs.Goes.{Link}
+use Rattle.dna_queues.proofs.Came.{confirmed_link, ended_link, run_link, came_as}
+use Rattle.dna_queues.proofs.Acting.{LateLink, confirmed_late, run_late}
+use Rattle.dna_queues.proofs.LinkLists.{IsUnique, IsChanged, changed_as, at_found}
+use Rattle.dna_queues.proofs.Arrivals.{calling_owns, acted_owns, row_made, either, either_made}
+
+-- ---- the machine, where the node's links are as its own
+
+pub record Alike (s : Links) (t : machine.Links) : Type 0 where
+  pub node : s.node ≡ t.node
+  pub peer : s.peer ≡ t.peer
+  pub size : length s.links ≡ length t.links
+  pub all : (i : ℕ) (h : LateLink) (l : Link) → slice_get s.links i ≡ Some h → slice_get t.links i ≡ Some l →
+      (h.port ≡ l.port) × (h.partner ≡ l.partner)
+
+abbrev late_port : LateLink → Port
+late_port h = h.port
+
+abbrev true_port : Link → Port
+true_port l = l.port
+
+ports_alike : (xs : List LateLink) (ys : List Link) → length xs ≡ length ys →
+    ((i : ℕ) (h : LateLink) (l : Link) → slice_get xs i ≡ Some h → slice_get ys i ≡ Some l → h.port ≡ l.port) → map late_port xs ≡ map true_port ys
+ports_alike [] [] size same = refl
+ports_alike [] (y ∷ ys) size same = absurd (omega (arith, size))
+ports_alike (x ∷ xs) [] size same = absurd (omega (arith, size))
+ports_alike (x ∷ xs) (y ∷ ys) size same =
+    ap₂ (λ (p : Port) (ps : List Port). p ∷ ps) (same zero x y refl refl)
+    (ports_alike xs ys (omega (arith, size)) (λ i h l at_h at_l. same (suc i) h l at_h at_l))
+
+module _ (s : Links) (t : machine.Links) (alike : Alike s t) where
+  pub number_alike : (test : LinkTest) → number_of test s ≡ number_of test t
+  number_alike test =
+      sym (position-map (passes test) late_port s.links)
+      ∙ ap (position (passes test)) (ports_alike s.links t.links alike.size (λ i h l at_h at_l. (alike.all i h l at_h at_l).0))
+      ∙ position-map (passes test) true_port t.links
+
+  pub record FoundToo (test : LinkTest) (n : ℕ) (l : Link) : Type 0 where
+    pub link : LateLink
+    pub found : IsFound test s n link
+    pub partner : link.partner ≡ l.partner
+
+  pub found_too : (test : LinkTest) (n : ℕ) (l : Link) → IsFound test t n l → FoundToo test n l
+  found_too test n l found = go (slice_get s.links n) refl
+    where
+      missing : (xs : List LateLink) (ys : List Link) (i : ℕ) → length xs ≡ length ys → slice_get xs i ≡ None → slice_get ys i ≡ Some l → ⊥
+      missing [] [] i size none at = cc
+      missing [] (y ∷ ys) i size none at = absurd (omega (arith, size))
+      missing (x ∷ xs) [] i size none at = absurd (omega (arith, size))
+      missing (x ∷ xs) (y ∷ ys) zero size none at = cc
+      missing (x ∷ xs) (y ∷ ys) (suc i) size none at = missing xs ys i (omega (arith, size)) none at
+
+      go : (o : Option LateLink) → slice_get s.links n ≡ o → FoundToo test n l
+      go None none = absurd (missing s.links t.links n alike.size none found.there)
+      go (Some h) there =
+          let same = alike.all n h l there found.there in
+          record {
+            link = h;
+            found = record {
+              found = number_alike test ∙ found.found;
+              there = there;
+              passed = ap (passes test) same.0 ∙ found.passed;
+            };
+            partner = same.1;
+          }
+
+-- ---- what the machine's rows make of a link
+
+lets_still : (before now : Bool) (f : TrueSegments) → lets_go true_segments before now f ≡ f
+lets_still true true f = refl
+lets_still true false f = refl
+lets_still false now f = refl
+
+ended_is : (l : Link) → ends_by_message true_segments With l ≡ ended_link l
+ended_is l = ap (λ (f : TrueSegments). record (ended_link l) { segments = f })
+    (lets_still (keeps_numbers l) (keeps_numbers (ended_link l)) l.segments)
+
+if_same : (b : Bool) (l x y : Link) → (b ≡ true → x ≡ y) → cond b x l ≡ cond b y l
+if_same true l x y same = same refl
+if_same false l x y same = refl
+
+connected_live : (p : Phase) → is_connected p ≡ true → is_live p ≡ true
+connected_live Confirming e = refl
+connected_live Running e = refl
+connected_live p e = absurd cc
+
+calling_live : (p : Phase) → is_in Calling p ≡ true → is_live p ≡ true
+calling_live Calling e = refl
+calling_live p e = absurd cc
+
+run_is : (own far : ℕ) (takes : TrueSegments → TrueSegments) (l : Link) → passes (ActedOn own far) l.port ≡ true →
+    with_segments (takes (goes_on true_segments (is_live l.port.phase) Running l).segments) (goes_on true_segments (is_live l.port.phase) Running l)
+    ≡ run_link (takes l.segments) l
+run_is own far takes l e =
+    ap (λ (b : Bool). with_segments (takes (goes_on true_segments b Running l).segments) (goes_on true_segments b Running l))
+    (connected_live l.port.phase (and_parts (is_connected l.port.phase) (has_both l.port own far) e).0)
+
+confirmed_is : (own far size : ℕ) (partner : Option ℕ) (l : Link) → passes (CallingAt own) l.port ≡ true →
+    goes_on true_segments (is_live l.port.phase) Running (record l { port = record l.port { far = Some far }; partner = partner; segsize = size })
+    ≡ confirmed_link far size partner l
+confirmed_is own far size partner l e =
+    ap (λ (b : Bool). goes_on true_segments b Running (record l { port = record l.port { far = Some far }; partner = partner; segsize = size }))
+    (calling_live l.port.phase (and_parts (is_in Calling l.port.phase) (is_at l.port.own own) e).0)
+
+module _ (s further : Links) (t : machine.Links) (alike : Alike s t) (unique : IsUnique t) (truth : LinkTruth Numbers) where
+  pub record MachineActs (m : NspValue) (address : ℕ) : Type 0 where
+    pub left : machine.Links
+    pub is : message_arrived With true_segments of_partner t m truth ≡ Ok left
+    pub changed : IsChanged t left address (came_as m truth)
+
+  acts_row : (m : NspValue) (test : LinkTest) (own address : ℕ) → own ≡ address → ((p : Port) → passes test p ≡ true → is_at p.own own ≡ true) →
+      (may : ℕ → Option ℕ → Bool) (f : LateLink → LateLink) (g : Link → Link) →
+      with_link {R = Result Links LinkRefusal} test s (Ok s) (λ n l. check (may n l.partner) CrossedLink (Ok (changed n (f l) s))) ≡ Ok further →
+      message_arrived With true_segments of_partner t m truth
+      ≡ with_link test t (Ok t) (λ n l. check (may n l.partner) CrossedLink (Ok (changed n (g l) t))) →
+      ((l : Link) → cond (passes test l.port) (g l) l ≡ came_as m truth l) → MachineActs m address
+  acts_row m test own address is owns may f g e does same =
+      let made = row_made t unique address test (λ p e. subst (λ (n : ℕ). is_at p.own n ≡ true) is (owns p e)) CrossedLink (λ n l. may n l.partner) g
+      (λ n l found. let h = found_too s t alike test n l found in
+      ap (may n) (sym h.partner)
+      ∙ (checked (may n h.link.partner) CrossedLink _ further (sym (at_found test s n h.link _ _ h.found) ∙ e)).0) in
+      record {
+        left = made.left;
+        is = does ∙ made.is;
+        changed = changed_as t made.left address (λ l. cond (passes test l.port) (g l) l) (came_as m truth) made.changed same;
+      }
+
+  ends_row : (m : NspValue) (dst src address : ℕ) (is : dst ≡ address) →
+      message_arrived With true_segments of_partner t m truth ≡ either t unique address dst src is (λ l. ends_by_message true_segments With l) →
+      ((l : Link) → cond (passes (TheLink dst src) l.port || passes (CallingAt dst) l.port) (ended_link l) l ≡ came_as m truth l) →
+      MachineActs m address
+  ends_row m dst src address is does same =
+      let made = either_made t unique address dst src is (ends_by_message true_segments With) in
+      record {
+        left = made.left;
+        is = does ∙ made.is;
+        changed = changed_as t made.left address
+            (λ l. cond (passes (TheLink dst src) l.port || passes (CallingAt dst) l.port) (ends_by_message true_segments With l) l)
+            (came_as m truth) made.changed
+            (λ l. ap (λ (x : Link). cond (passes (TheLink dst src) l.port || passes (CallingAt dst) l.port) x l) (ended_is l) ∙ same l);
+      }
+
+  pub machine_acts : (m : NspValue) (address : ℕ) → dstaddr m ≡ Some address →
+      message_arrived Without late_segments of_partner s m truth ≡ Ok further → MachineActs m address
+  machine_acts (ConnectConfirm dst src services info segsize user_data) address is e =
+      acts_row _ (CallingAt dst) dst address (same_Some dst address is) (calling_owns dst) (λ n partner. is_for n truth.tag)
+      (confirmed_late src segsize truth.tag.link)
+      (λ l. goes_on true_segments (is_live l.port.phase) Running
+      (record l { port = record l.port { far = Some src }; partner = truth.tag.link; segsize = segsize })) e refl
+      (λ l. if_same (passes (CallingAt dst) l.port) l _ _ (confirmed_is dst src segsize truth.tag.link l))
+  machine_acts (DisconnectInitiate dst src reason user_data) address is e = ends_row _ dst src address (same_Some dst address is) refl (λ l. refl)
+  machine_acts (DisconnectConfirm dst src reason) address is e = ends_row _ dst src address (same_Some dst address is) refl (λ l. refl)
+  machine_acts (DataSegment g) address is e =
+      acts_row _ (ActedOn g.dstaddr g.srcaddr) g.dstaddr address (same_Some g.dstaddr address is) (acted_owns g.dstaddr g.srcaddr)
+      (λ n partner. is_of_pair n partner truth.tag) (λ l. run_late (takes_segment g truth.known l.segments.segments) l)
+      (λ l. with_segments (takes_segment g truth.known (goes_on true_segments (is_live l.port.phase) Running l).segments)
+      (goes_on true_segments (is_live l.port.phase) Running l)) e refl
+      (λ l. if_same (passes (ActedOn g.dstaddr g.srcaddr) l.port) l _ _ (run_is g.dstaddr g.srcaddr (takes_segment g truth.known) l))
+  machine_acts (DataAck dst src acks) address is e =
+      acts_row _ (ActedOn dst src) dst address (same_Some dst address is) (acted_owns dst src) (λ n partner. is_of_pair n partner truth.tag)
+      (λ l. run_late (takes_acks acks truth.known l.segments.segments) l)
+      (λ l. with_segments (takes_acks acks truth.known (goes_on true_segments (is_live l.port.phase) Running l).segments)
+      (goes_on true_segments (is_live l.port.phase) Running l)) e refl
+      (λ l. if_same (passes (ActedOn dst src) l.port) l _ _ (run_is dst src (takes_acks acks truth.known) l))
+  machine_acts (LinkService interrupt dst src rest) address is e =
+      acts_row _ (ActedOn dst src) dst address (same_Some dst address is) (acted_owns dst src) (λ n partner. is_of_pair n partner truth.tag)
+      (λ l. run_late l.segments.segments l) (λ l. goes_on true_segments (is_live l.port.phase) Running l) e refl
+      (λ l. if_same (passes (ActedOn dst src) l.port) l _ _ (run_is dst src (λ f. f) l))
+  machine_acts (OtherDataAck dst src rest) address is e =
+      acts_row _ (ActedOn dst src) dst address (same_Some dst address is) (acted_owns dst src) (λ n partner. is_of_pair n partner truth.tag)
+      (λ l. run_late l.segments.segments l) (λ l. goes_on true_segments (is_live l.port.phase) Running l) e refl
+      (λ l. if_same (passes (ActedOn dst src) l.port) l _ _ (run_is dst src (λ f. f) l))
+  machine_acts (ConnectInitiate retransmitted src services info segsize user_data) address is e = absurd cc
+  machine_acts (ConnectAck dst) address is e = absurd cc
+  machine_acts (NoOperation rest) address is e = absurd cc

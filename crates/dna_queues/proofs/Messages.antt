@@ -1,0 +1,92 @@
+-- A link at which a message is handed in, or delivered.
+use Rattle.std.proofs.Common.{◌≡◌, ℕ, ◌+◌, Option, None, List, refl, sym, ap, ◌∙◌}
+use Rattle.std.proofs.Common.{subst, arith}
+use Rattle.dna_links.specs.Segmentation.{Piece, in_order}
+use Rattle.dna_links.specs.Links.{with_segments}
+use Rattle.dna_links.specs.CutSegments.{IsAnswered}
+use Rattle.dna_links.specs.TrueSegments.{TrueSegments}
+use Rattle.dna_links.specs.Runs.{SentMessage}
+use Rattle.dna_queues.specs.Hidden.{over}
+use Rattle.dna_queues.proofs.Pieces.{Below}
+use Rattle.dna_queues.proofs.Words.{added, Grown}
+use Rattle.dna_queues.proofs.Goes.{Link, Grows}
+use Rattle.dna_queues.proofs.WaitsToGo.{can_grow}
+use Rattle.dna_queues.proofs.Ahead.{Seen, Ahead, ahead_still}
+use Rattle.dna_queues.proofs.Acting.{LateLink, lift, seen_as}
+use Rattle.dna_queues.proofs.Follows.{Follows}
+use Rattle.dna_queues.proofs.SentOn.{grows_on}
+
+-- ---- a link of which only the messages change
+
+-- what is handed in, or delivered
+pub record OfMessages (more : Option (List ℕ)) (f : TrueSegments) (g : TrueSegments) : Type 0 where
+  pub received : g.received ≡ f.received
+  pub acknowledged : g.acknowledged ≡ f.acknowledged
+  pub grows : (answered : IsAnswered f) → Grown more f g
+
+pub messages_follow : (more : Option (List ℕ)) (h : LateLink) (l : Link) (f g : TrueSegments) (kept composed : List SentMessage) →
+    IsAnswered l.segments →
+    OfMessages more h.segments.segments f → OfMessages more l.segments g → f.passed + l.segments.passed ≡ h.segments.segments.passed + g.passed →
+    f.unsent ≡ added more h.segments.segments.unsent → f.given ≡ h.segments.segments.given → f.last ≡ h.segments.segments.last →
+    Follows h l kept composed → Follows (with_segments (over h.segments f) h) (with_segments g l) kept composed
+messages_follow more h l f g kept composed answered of_f of_g passed unsent given last x =
+    let k = with_segments (over h.segments f) h in
+    let y = with_segments g l in
+    let low = x.acknowledged in let ack_f = of_f.acknowledged in let ack_g = of_g.acknowledged in let was = x.passed in
+    record {
+      used = x.used;
+      of_use = x.of_use;
+      fresh = x.fresh;
+      called = x.called;
+      ahead = subst (λ (a : Seen). Ahead kept a y)
+          (ap (λ (ps : List (Option Piece)). record (seen_as x.used h) { received = ps }) (sym of_f.received))
+          (ahead_still kept (seen_as x.used h) l y (omega (arith, ack_g)) (λ a m. record {
+            port = m.port;
+            partner = m.partner;
+            segsize = m.segsize;
+            received = subst (λ (ps : List (Option Piece)). Below a.received ps) (sym of_g.received) m.received;
+            exact = λ e. m.exact e ∙ sym of_g.received;
+            used = m.used;
+          }) x.ahead);
+      acknowledged = omega (arith, low, ack_f, ack_g);
+      passed = omega (arith, passed, was);
+      accepted = x.accepted;
+      usable = x.usable;
+      fits = record { waits = x.fits.waits; ran = x.fits.ran; calling = x.fits.calling };
+      can = can_grow more composed l y (Grows None (lift h)) (Grows None (lift k)) (record {
+        own = λ n at. at;
+        far = λ n at. at;
+        opened = refl;
+        usable = λ e. e;
+        closing = λ e. e;
+        ran = λ e. e;
+        accepted = λ e. e;
+        silent = λ e. e;
+        over = λ e. e;
+        gap = refl;
+        segsize = λ e. refl;
+        segments = of_g.grows answered;
+      }) x.can (λ e z grows p. let q = grows_on more (lift h) e z p grows in let s = q.segments in let got = s.received in let acks =
+          s.acknowledged in
+          let order : in_order f.received ≡ in_order h.segments.segments.received = ap in_order of_f.received in record {
+            own = q.own;
+            far = q.far;
+            opened = q.opened;
+            usable = q.usable;
+            closing = q.closing;
+            ran = q.ran;
+            accepted = q.accepted;
+            silent = q.silent;
+            over = q.over;
+            gap = q.gap;
+            segsize = q.segsize;
+            segments = record {
+              given = s.given ∙ sym given;
+              last = s.last ∙ sym last;
+              received = omega (arith, got, order);
+              acknowledged = omega (arith, acks, ack_f);
+              unsent = s.unsent ∙ sym unsent;
+              answered = s.answered;
+            };
+          });
+    }

@@ -1,0 +1,146 @@
+-- One link of which nothing waits any more: it is settled by a DC.
+use Rattle.std.proofs.Common.{◌≡◌, Bool, true, false, Option, Some, None, []}
+use Rattle.std.proofs.Common.{refl, sym, ap, ◌∙◌, subst}
+use Rattle.dna_links.specs.declared.port.Phase.{Phase}
+use Rattle.dna_links.specs.declared.port.Phase.TheVariants.{Calling, Called, Confirming, Running, Disconnecting, Ended}
+use Rattle.dna_links.specs.declared.port.Port.{Port}
+use Rattle.dna_links.specs.declared.queue.Said.{Said}
+use Rattle.dna_links.specs.declared.queue.Said.TheVariants.{Nothing, OfRun, Disconnect}
+use Rattle.dna_links.specs.LookUps.{is_live}
+use Rattle.dna_links.specs.Queues.{settled, shows_by, further, is_silent, is_over, keeps_numbers, lets_go}
+use Rattle.dna_links.specs.TrueSegments.{TrueSegments, true_segments}
+use Rattle.dna_queues.proofs.Goes.{Link, said_as}
+use Rattle.dna_queues.proofs.Ahead.{Meets}
+use Rattle.dna_queues.proofs.Acting.{LateLink, level, seen_as}
+use Rattle.dna_queues.proofs.Follows.{Follows}
+use Rattle.dna_queues.proofs.Sending.{shows_is}
+use Rattle.dna_queues.proofs.Given.{not_both, meets_now}
+
+-- ---- one link that is settled
+
+lets_still : (before now : Bool) (f : TrueSegments) → lets_go true_segments before now f ≡ f
+lets_still true true f = refl
+lets_still true false f = refl
+lets_still false now f = refl
+
+-- a link of which no more is known than its own phase
+said_follows : (h : LateLink) (l : Link) (said : Said) → (is_silent (level h.port.phase) ≡ true → is_silent (further said l.queue.said) ≡ true) →
+    (is_over (level h.port.phase) ≡ false → is_over (further said l.queue.said) ≡ false) → Follows h l [] [] → Follows h (said_as said l) [] []
+said_follows h l said silent over f =
+    let m = meets_now h l [] [] f refl in
+    let g = f.can in
+    record {
+      used = f.used;
+      of_use = f.of_use;
+      fresh = f.fresh;
+      called = f.called;
+      ahead = record { port = m.port; partner = m.partner; segsize = m.segsize; received = m.received; exact = m.exact; used = m.used };
+      acknowledged = f.acknowledged;
+      passed = f.passed;
+      accepted = f.accepted;
+      usable = f.usable;
+      fits = record { waits = f.fits.waits; ran = f.fits.ran; calling = f.fits.calling };
+      can = record {
+        own = g.own;
+        far = g.far;
+        opened = g.opened;
+        usable = g.usable;
+        closing = g.closing;
+        ran = g.ran;
+        accepted = g.accepted;
+        silent = silent;
+        over = over;
+        gap = g.gap;
+        segsize = g.segsize;
+        segments = g.segments;
+      };
+    }
+
+-- one that has ended in both, and of which nothing waits any more
+pub dead_follows : (h k : LateLink) (l y : Link) → k ≡ record h { port = record h.port { phase = Ended } } →
+    y ≡ record l { port = record l.port { phase = Ended }; queue = record l.queue { waits = None } } →
+    Follows h l [] [] → Follows k y [] []
+dead_follows h k l y is_k is_y f =
+    subst (λ (x : LateLink). Follows x y [] []) (sym is_k) (subst (λ (x : Link). Follows (record h { port = record h.port { phase = Ended } }) x
+    [] []) (sym is_y)
+    (let m = meets_now h l [] [] f refl in
+    let g = f.can in
+    record {
+      used = f.used;
+      of_use = λ e. absurd cc;
+      fresh = λ e. absurd cc;
+      called = λ e. absurd cc;
+      ahead = record {
+        port = ap (λ (p : Port). record p { phase = Ended }) m.port;
+        partner = m.partner;
+        segsize = m.segsize;
+        received = m.received;
+        exact = λ e. absurd cc;
+        used = λ e. absurd cc;
+      };
+      acknowledged = f.acknowledged;
+      passed = f.passed;
+      accepted = λ e. absurd cc;
+      usable = λ e. absurd cc;
+      fits = record { waits = λ e. refl; ran = λ e. absurd cc; calling = λ e. absurd cc };
+      can = record {
+        own = g.own;
+        far = g.far;
+        opened = g.opened;
+        usable = λ e. absurd cc;
+        closing = λ e. absurd cc;
+        ran = λ e. absurd cc;
+        accepted = λ e. absurd cc;
+        silent = λ e. absurd cc;
+        over = λ e. absurd cc;
+        gap = g.gap;
+        segsize = λ e. absurd cc;
+        segments = g.segments;
+      };
+    }))
+
+pub settled_follows : (h : LateLink) (l : Link) → Follows h l [] [] → Follows h (settled true_segments l.queue.waits l) [] []
+settled_follows h l f = go l.queue.waits refl
+  where
+    m : Meets (seen_as f.used h) l
+    m = meets_now h l [] [] f refl
+
+    level_is : (p : Phase) → l.port.phase ≡ p → level h.port.phase ≡ level p
+    level_is p e = ap level (ap (λ (q : Port). q.phase) m.port ∙ e)
+
+    not_over : (s : Said) → is_over s ≡ false → is_over (further OfRun s) ≡ false
+    not_over Nothing e = refl
+    not_over OfRun e = refl
+    not_over Disconnect e = absurd cc
+
+    by : (p : Phase) → l.port.phase ≡ p → Follows h (shows_by true_segments p l) [] []
+    by Running e =
+        subst (λ (x : Link). Follows h x [] []) (sym (shows_is OfRun l)) (said_follows h l OfRun
+        (λ s. absurd (not_both _ s (ap is_silent (level_is Running e)))) (λ s. not_over l.queue.said (f.can.over s)) f)
+    by Disconnecting e =
+        subst (λ (x : Link). Follows h x [] []) (sym (shows_is Disconnect l)) (said_follows h l Disconnect
+        (λ s. absurd (not_both _ s (ap is_silent (level_is Disconnecting e)))) (λ s. absurd (not_both _ (ap is_over (level_is Disconnecting e))
+        s)) f)
+    by Calling e = f
+    by Called e = f
+    by Confirming e = f
+    by Ended e = f
+
+    ended_phase : (p : Phase) → (is_live p ≡ true → ⊥) → p ≡ Ended
+    ended_phase Ended never = refl
+    ended_phase Calling never = absurd (never refl)
+    ended_phase Called never = absurd (never refl)
+    ended_phase Confirming never = absurd (never refl)
+    ended_phase Running never = absurd (never refl)
+    ended_phase Disconnecting never = absurd (never refl)
+
+    go : (w : Option Phase) → l.queue.waits ≡ w → Follows h (settled true_segments w l) [] []
+    go None e = by l.port.phase refl
+    go (Some p) e =
+        let over : l.port.phase ≡ Ended = ended_phase l.port.phase (λ live. let x : None ≡ Some p = sym (f.fits.waits live) ∙ e in cc) in
+        let over_h : h.port.phase ≡ Ended = ap (λ (q : Port). q.phase) m.port ∙ over in
+        let late : Link = record l { queue = record l.queue { waits = None } } in
+        dead_follows h h l (settled true_segments (Some p) l)
+        (ap (λ (q : Phase). record h { port = record h.port { phase = q } }) over_h)
+        (ap (λ (g : TrueSegments). record late { segments = g }) (lets_still (keeps_numbers l) (keeps_numbers late) l.segments)
+        ∙ ap (λ (q : Phase). record late { port = record l.port { phase = q } }) over) f

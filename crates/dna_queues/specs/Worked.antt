@@ -1,0 +1,34 @@
+-- A link is closed from the other side while an acknowledgement that it has composed waits to be sent.
+use Rattle.std.specs.Prelude.{false, Some, List, [], ◌∷◌}
+use Rattle.dna_packet.specs.declared.ack_word.AckQualifier.TheVariants.{Ack}
+use Rattle.dna_packet.specs.Nsp.{NspValue, DataAck, ConnectInitiate, ConnectConfirm, DisconnectInitiate}
+use Rattle.dna_links.specs.Links.{Carried}
+use Rattle.dna_links.specs.User.{Open}
+use Rattle.dna_links.specs.TrueSegments.{true_segments}
+use Rattle.dna_links.specs.Runs.{SentMessage}
+use Rattle.dna_queues.specs.Records.{LinkRecord, OfUser, Sends, Keeps}
+
+-- node 1, link 7; node 2, link 9
+abbrev pub from_here : NspValue → Carried
+from_here message = record { dst = 2; src = 1; message = message }
+
+abbrev pub from_there : NspValue → SentMessage
+from_there message = record {
+  packet = record { dst = 1; src = 2; message = message };
+  truth = record { tag = record { link = Some 0; partner = Some 0 }; known = true_segments.sends_other true_segments.empty };
+}
+
+abbrev pub call : Carried
+call = from_here (ConnectInitiate false 7 1 2 512 [])
+
+abbrev pub confirmation : SentMessage
+confirmation = from_there (ConnectConfirm 7 9 1 2 512 [])
+
+abbrev pub acknowledgement : Carried
+acknowledgement = from_here (DataAck 9 7 (record { qualifier = Ack; number = 0 } ∷ []))
+
+abbrev pub closing : SentMessage
+closing = from_there (DisconnectInitiate 7 9 0 [])
+
+abbrev pub worked : List LinkRecord
+worked = OfUser (Open 7) ∷ Sends call ∷ Keeps confirmation ∷ Keeps closing ∷ Sends acknowledgement ∷ []

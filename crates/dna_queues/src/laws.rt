@@ -1,0 +1,29 @@
+//! What holds of nodes with queues beside the machine that judges them.
+
+ghost use Rattle.std.specs.Prelude.{◌≡◌, ℕ, List, Ok, Err};
+ghost use Rattle.dna_station.specs.declared.link_refusal.LinkRefusal.TheVariants.{NoLink};
+ghost use Rattle.dna_links.specs.TrueLinks.{Links, new_links};
+ghost use Rattle.dna_queues.specs.Records.{LinkRecord, AreNear, MadeByMachine, made_without, AreInRange};
+ghost use Rattle.dna_queues.specs.Made.{new_node, MadeByHidden};
+ghost use Rattle.dna_queues.specs.Worked.{worked};
+
+/// Complete: where hidden steps make all records of one end, the machine makes them too, whatever times the steps had. Of what comes it asks
+/// only what holds beside each right other end: numbers that are near (`AreNear`).
+pub fn machine_accepts_nodes_with_queues()
+    ensures { (node peer : ℕ) (made : List LinkRecord) → AreNear (new_links node peer) made → MadeByHidden (new_node node peer) made
+        → MadeByMachine (new_links node peer) made }
+{}
+
+/// A node without queues is one with queues: where links without queues make all records, so do hidden steps that stand at the records.
+pub fn nodes_without_queues_are_among_them()
+    ensures { (node peer : ℕ) (made : List LinkRecord) (left : Links) → made_without (new_links node peer) made ≡ Ok left → AreInRange made
+        → MadeByHidden (new_node node peer) made }
+{}
+
+/// A worked list: a DI is kept, and then an acknowledgement is sent that the link composed before. A node with queues makes it, so the
+/// machine does; links without queues refuse it, since their link has ended.
+pub fn acknowledgement_sent_after_the_end()
+    ensures made { MadeByHidden (new_node 1 2) worked }
+    ensures by_machine { MadeByMachine (new_links 1 2) worked }
+    ensures refused { made_without (new_links 1 2) worked ≡ Err NoLink }
+{}

@@ -1,0 +1,10 @@
+//! Nodes with queues between NSP and DDCMP: what they are, by steps that no record shows, and that the links with queues of `dna_links`, which
+//! judge in one pass, accept whatever such nodes make. It has no code that runs.
+#![tactic(auto)]
+
+pub mod laws;
+
+pub use laws::{
+    acknowledgement_sent_after_the_end, machine_accepts_nodes_with_queues,
+    nodes_without_queues_are_among_them,
+};

@@ -1,0 +1,221 @@
+-- What the rows of `Table` of `dna_links` come to at the links of a node, with queues or without, for private contracts and for proofs.
+use Rattle.std.specs.Prelude.{ℕ, Bool, true, false, ◌==◌, if◌then◌else◌, Option, Some, None, List, position, Result, Ok, Err}
+use Rattle.dna_packet.specs.declared.ack_word.AckWord.{AckWord}
+use Rattle.dna_packet.specs.Nsp.{SegmentValue, NspValue, DataSegment, LinkService, DataAck, OtherDataAck, ConnectAck, NoOperation, ConnectInitiate}
+use Rattle.dna_packet.specs.Nsp.{ConnectConfirm, DisconnectInitiate, DisconnectConfirm}
+use Rattle.dna_station.specs.declared.link_refusal.LinkRefusal.{LinkRefusal}
+use Rattle.dna_station.specs.declared.link_refusal.LinkRefusal.TheVariants.{NoLink, LinkState, CrossedLink}
+use Rattle.dna_links.specs.declared.port.Phase.{Phase}
+use Rattle.dna_links.specs.declared.port.Phase.TheVariants.{Calling, Confirming, Running, Disconnecting}
+use Rattle.dna_links.specs.declared.port.LinkTest.{LinkTest}
+use Rattle.dna_links.specs.declared.port.LinkTest.TheVariants.{HasAddress, LiveAt, TheLink, LiveTo, OpenedAt, CallingAt, CalledBy, BegunBy, ActedOn}
+use Rattle.dna_links.specs.declared.queue.Queues.{Queues}
+use Rattle.dna_links.specs.declared.queue.Queues.TheVariants.{Without, With}
+use Rattle.dna_links.specs.declared.queue.Said.{Said}
+use Rattle.dna_links.specs.declared.queue.Said.TheVariants.{OfRun, Disconnect}
+use Rattle.dna_links.specs.declared.tag.LinkTag.{LinkTag}
+use Rattle.dna_links.specs.LookUps.{is_connected, takes_messages, passes}
+use Rattle.dna_links.specs.SegmentBook.{Late, wider}
+use Rattle.dna_links.specs.Links.{LinkOf, check, number_of, with_link, with_seen, at_number, begun, changed, with_segments}
+use Rattle.dna_links.specs.LinkBook.{on_ok}
+use Rattle.dna_links.specs.Queues.{in_use, may_send, goes_to, ends_by_message, drops, freed, shows, settled}
+use Rattle.dna_links.specs.Sending.{Sent}
+use Rattle.dna_links.specs.Arriving.{PartnerRule, is_for, is_of_pair, of_partner}
+use Rattle.dna_links.specs.User.{LinkEventValue, Open, Accept, Reject, In, Up, Close}
+use Rattle.dna_links.specs.inner.Forms as forms
+use Rattle.dna_links.specs.inner.Forms.{called, delivered, of_no_link, opened, segment_of, truth_of, unchanged}
+use Rattle.dna_links.specs.WireSegments.{WireSegments, wire_segments, delivers, hands_in, is_new, sends_acks, sends_late, takes_acks, takes_segment, went_on}
+use Rattle.dna_links.specs.WireLinks.{WireLinks}
+
+-- ---- which link
+
+abbrev pub first_of : Option ℕ → Option ℕ → Option ℕ
+first_of None next = next
+first_of (Some number) next = Some number
+
+-- the number of the link that its user, or a message that is sent, finds: by its port, or else with queues by its port in use
+abbrev pub number_in_use : Queues → LinkTest → WireLinks → Option ℕ
+number_in_use Without test s = number_of test s
+number_in_use With test s = first_of (number_of test s) (position (λ (l : LinkOf WireSegments). passes test (in_use With l)) s.links)
+
+-- an own address is asked for, which one link has at most
+abbrev pub is_of_own : LinkTest → Bool
+is_of_own (HasAddress own) = true
+is_of_own (LiveAt own) = true
+is_of_own (TheLink own far) = true
+is_of_own (OpenedAt own) = true
+is_of_own (CallingAt own) = true
+is_of_own (ActedOn own far) = true
+is_of_own test = false
+
+-- ---- what a message makes of its link
+
+-- what is sent of its numbers
+abbrev pub numbers_of : WireSegments → (gap : ℕ) → LinkOf WireSegments → LinkOf WireSegments
+numbers_of segments gap link = record link { segments = segments; queue = record link.queue { gap = gap } }
+
+abbrev pub numbered_late : SegmentValue → LinkOf WireSegments → Result (Late WireSegments (Unit {0})) LinkRefusal
+numbered_late segment link = sends_late link.queue.gap link.segsize segment link.segments
+
+module _ {R : Type 0} where
+  -- a segment; then what the link has become
+  abbrev pub numbered : Queues → SegmentValue → LinkOf WireSegments → (LinkOf WireSegments → Result R LinkRefusal) → Result R LinkRefusal
+  numbered Without segment link next = on_ok (segment_of wire_segments segment link) (λ sent. next (with_segments sent.segments link))
+  numbered With segment link next =
+      on_ok (numbered_late segment link) (λ sent. next (shows wire_segments OfRun (numbers_of sent.sent.segments sent.gap link)))
+
+  -- acknowledgement words alone; likewise
+  abbrev pub acked : Queues → List AckWord → LinkOf WireSegments → (LinkOf WireSegments → Result R LinkRefusal) → Result R LinkRefusal
+  acked Without words link next = on_ok (sends_acks words link.segments) (λ sent. next (with_segments sent.segments link))
+  acked With words link next =
+      on_ok (sends_acks words link.segments) (λ sent. next (shows wire_segments OfRun
+      (numbers_of sent.segments (wider link.queue.gap (went_on link.segments sent.segments)) link)))
+
+-- the message makes this of the link
+abbrev pub sent_by : WireLinks → ℕ → LinkOf WireSegments → LinkOf WireSegments → Sent WireSegments (Unit {0})
+sent_by s number link after = record { links = changed number after s; truth = truth_of wire_segments number link tt }
+
+-- how far the link has come
+abbrev pub said_as : Queues → Said → WireLinks → ℕ → LinkOf WireSegments → Sent WireSegments (Unit {0})
+said_as Without said s number link = unchanged wire_segments s number link
+said_as With said s number link =
+    record { links = changed number (shows wire_segments said link) s; truth = truth_of wire_segments number link tt }
+
+-- a connect acknowledgement where no live link is found: with queues one may have ended
+abbrev pub known_waiting : Queues → LinkTest → WireLinks → Result (Sent WireSegments (Unit {0})) LinkRefusal
+known_waiting Without test s = Err NoLink
+known_waiting With test s = with_seen (in_use With) test s (Err NoLink) (λ number link. Ok (of_no_link wire_segments s))
+
+-- a DC with this own address
+abbrev pub settles : Queues → (own : ℕ) → WireLinks → Sent WireSegments (Unit {0})
+settles Without own s = of_no_link wire_segments s
+settles With own s = record {
+  links = with_link (HasAddress own) s s (λ number link. changed number (settled wire_segments link.queue.waits link) s);
+  truth = record { tag = record { link = None; partner = None }; known = tt };
+}
+
+-- a CC: the sender is its partner
+abbrev pub connected : (far segsize : ℕ) → LinkTag → LinkOf WireSegments → LinkOf WireSegments
+connected far segsize tag link = record link { port = record link.port { far = Some far }; partner = tag.link; segsize = segsize }
+
+abbrev pub takes_in : (WireSegments → WireSegments) → LinkOf WireSegments → LinkOf WireSegments
+takes_in takes link = with_segments (takes link.segments) link
+
+module _ (queues : Queues) where
+  abbrev pub found_in_use : {R : Type 0} → LinkTest → WireLinks → R → (ℕ → LinkOf WireSegments → R) → R
+  found_in_use test s otherwise next = at_number s.links (number_in_use queues test s) otherwise next
+
+  -- ---- the user
+
+  abbrev pub answered : Phase → (own : ℕ) → LinkOf WireSegments → LinkOf WireSegments
+  answered phase own link = goes_to wire_segments queues phase (record link { port = record link.port { own = Some own } })
+
+  abbrev pub answers : Phase → (far own : ℕ) → WireLinks → Result WireLinks LinkRefusal
+  answers phase far own s = with_link (CalledBy far) s (Err NoLink) (λ number link.
+      forms.gives wire_segments own s (changed number (answered phase own link) (freed wire_segments queues own s)))
+
+  abbrev pub opens : (own : ℕ) → WireLinks → Result WireLinks LinkRefusal
+  opens own s = forms.gives wire_segments own s (begun (opened wire_segments own) (freed wire_segments queues own s))
+
+  abbrev pub hands : (own : ℕ) → List ℕ → WireLinks → Result WireLinks LinkRefusal
+  hands own message s = found_in_use (LiveAt own) s (Err NoLink) (λ number link.
+      check (takes_messages (in_use queues link).phase) LinkState (Ok (changed number (with_segments (hands_in message link.segments) link) s)))
+
+  abbrev pub closes : (own : ℕ) → WireLinks → Result WireLinks LinkRefusal
+  closes own s = found_in_use (LiveAt own) s (Err NoLink) (λ number link.
+      check (is_connected (in_use queues link).phase) LinkState (Ok (changed number (goes_to wire_segments queues Disconnecting link) s)))
+
+  abbrev pub delivers_up : (own : ℕ) → List ℕ → WireLinks → Result WireLinks LinkRefusal
+  delivers_up own message s = with_link (HasAddress own) s (Err NoLink) (λ number link.
+      delivered wire_segments number link s (delivers message link.segments))
+
+  abbrev pub acts : WireLinks → LinkEventValue → Result WireLinks LinkRefusal
+  acts s (Open own) = opens own s
+  acts s (Accept far own) = answers Confirming far own s
+  acts s (Reject far own) = answers Disconnecting far own s
+  acts s (In own message) = hands own message s
+  acts s (Up own message) = delivers_up own message s
+  acts s (Close own) = closes own s
+
+  -- ---- what is sent
+
+  abbrev pub in_turn : LinkTest → Phase → (ℕ → LinkOf WireSegments → Result (Sent WireSegments (Unit {0})) LinkRefusal) → WireLinks →
+      Result (Sent WireSegments (Unit {0})) LinkRefusal
+  in_turn test phase next s = found_in_use test s (Err NoLink) (λ number link. check (may_send queues phase link) LinkState (next number link))
+
+  abbrev pub in_its_turn : LinkTest → Phase → WireLinks → Result (Sent WireSegments (Unit {0})) LinkRefusal
+  in_its_turn test phase s = in_turn test phase (λ number link. Ok (unchanged wire_segments s number link)) s
+
+  -- one that shows how far the link has come, and nothing else
+  abbrev pub says : LinkTest → Phase → Said → WireLinks → Result (Sent WireSegments (Unit {0})) LinkRefusal
+  says test phase said s = in_turn test phase (λ number link. Ok (said_as queues said s number link)) s
+
+  abbrev pub knows : LinkTest → WireLinks → Result (Sent WireSegments (Unit {0})) LinkRefusal
+  knows test s = with_link test s (known_waiting queues test s) (λ number link. Ok (unchanged wire_segments s number link))
+
+  abbrev pub confirms_end : (src dst : ℕ) → WireLinks → Result (Sent WireSegments (Unit {0})) LinkRefusal
+  confirms_end src dst s =
+      with_link (TheLink src dst) s
+      (if src == 0 then with_link (CalledBy dst) s (Ok (of_no_link wire_segments s)) (λ number link.
+      Ok (sent_by s number link (drops wire_segments queues link))) else Ok (settles queues src s))
+      (λ number link. Err LinkState)
+
+  abbrev pub sends : WireLinks → NspValue → Result (Sent WireSegments (Unit {0})) LinkRefusal
+  sends s (ConnectInitiate retransmitted src services info segsize user_data) = in_its_turn (OpenedAt src) Calling s
+  sends s (ConnectAck dst) = knows (BegunBy dst) s
+  sends s (ConnectConfirm dst src services info segsize user_data) = in_its_turn (TheLink src dst) Confirming s
+  sends s (DisconnectInitiate dst src reason user_data) = says (TheLink src dst) Disconnecting Disconnect s
+  sends s (DisconnectConfirm dst src reason) = confirms_end src dst s
+  sends s (DataSegment segment) =
+      in_turn (TheLink segment.srcaddr segment.dstaddr) Running (λ number link. numbered queues segment link (λ after. Ok (sent_by s number link after))) s
+  sends s (DataAck dst src acks) =
+      in_turn (TheLink src dst) Running (λ number link. acked queues acks link (λ after. Ok (sent_by s number link after))) s
+  sends s (LinkService interrupt dst src rest) = says (TheLink src dst) Running OfRun s
+  sends s (OtherDataAck dst src rest) = says (TheLink src dst) Running OfRun s
+  sends s (NoOperation rest) = Ok (of_no_link wire_segments s)
+
+  -- a segment takes memory if it is new
+  abbrev pub gives : WireLinks → SegmentValue → Bool
+  gives s segment = found_in_use (TheLink segment.srcaddr segment.dstaddr) s false (λ number link. is_new segment link.segments.variables)
+
+  -- so does no other message
+  abbrev pub takes_memory : WireLinks → NspValue → Bool
+  takes_memory s (DataSegment segment) = gives s segment
+  takes_memory s m = false
+
+  -- ---- what comes
+
+  abbrev pub runs : (WireSegments → WireSegments) → LinkOf WireSegments → LinkOf WireSegments
+  runs takes link = takes_in takes (goes_to wire_segments queues Running link)
+
+  abbrev pub confirmed : (far segsize : ℕ) → LinkTag → LinkOf WireSegments → LinkOf WireSegments
+  confirmed far segsize tag link = goes_to wire_segments queues Running (connected far segsize tag link)
+
+  abbrev pub calls : (far segsize : ℕ) → LinkTag → WireLinks → Result WireLinks LinkRefusal
+  calls far segsize tag s = with_link (LiveTo far) s (Ok (begun (called wire_segments of_partner far segsize tag) s)) (λ number link. Ok s)
+
+  abbrev pub ends_by : (own far : ℕ) → WireLinks → Result WireLinks LinkRefusal
+  ends_by own far s =
+      with_link (TheLink own far) s
+      (with_link (CallingAt own) s (Ok s) (λ number link. Ok (changed number (ends_by_message wire_segments queues link) s)))
+      (λ number link. Ok (changed number (ends_by_message wire_segments queues link) s))
+
+module _ (queues : Queues) (rule : PartnerRule) where
+  abbrev pub acted_on : (own far : ℕ) → LinkTag → (WireSegments → WireSegments) → WireLinks → Result WireLinks LinkRefusal
+  acted_on own far tag takes s = with_link (ActedOn own far) s (Ok s) (λ number link.
+      check (rule (is_of_pair number link.partner tag)) CrossedLink (Ok (changed number (runs queues takes link) s)))
+
+  abbrev pub confirms : (own far segsize : ℕ) → LinkTag → WireLinks → Result WireLinks LinkRefusal
+  confirms own far segsize tag s = with_link (CallingAt own) s (Ok s) (λ number link.
+      check (rule (is_for number tag)) CrossedLink (Ok (changed number (confirmed queues far segsize tag link) s)))
+
+  abbrev pub takes : WireLinks → NspValue → LinkTag → Result WireLinks LinkRefusal
+  takes s (ConnectInitiate retransmitted src services info segsize user_data) tag = calls queues src segsize tag s
+  takes s (ConnectConfirm dst src services info segsize user_data) tag = confirms dst src segsize tag s
+  takes s (DisconnectInitiate dst src reason user_data) tag = ends_by queues dst src s
+  takes s (DisconnectConfirm dst src reason) tag = ends_by queues dst src s
+  takes s (DataSegment segment) tag = acted_on segment.dstaddr segment.srcaddr tag (takes_segment segment tt) s
+  takes s (DataAck dst src acks) tag = acted_on dst src tag (takes_acks acks tt) s
+  takes s (LinkService interrupt dst src rest) tag = acted_on dst src tag (λ segments. segments) s
+  takes s (OtherDataAck dst src rest) tag = acted_on dst src tag (λ segments. segments) s
+  takes s m tag = Ok s
