@@ -27,7 +27,7 @@ use Rattle.ddcap.proofs.AnsweringAlone.{without_memory}
 
 -- ---- what is told of a refusal tells it in either form
 
-module _ {X E : Type 0} (bytes : X → List ℕ) (layers : Layers) (s : Stop) (told : EndRefusal) (is_told : IsToldOf told s) where
+module _ {X E : Type 0} (bytes : X → List ℕ) (layers : Layers) (s : Stop) (told : EndRefusal) (is_told : IsToldOf layers told s) where
   tells : (form : Form) (r : Result X E) → IfOk r (λ text. IsEndText layers form told s (bytes text)) →
       IfOk r (λ text. TellsEnd layers form s (bytes text))
   tells form r is_text = IfOk-weaker r (λ text. IsEndText layers form told s (bytes text)) (λ text. TellsEnd layers form s (bytes text))

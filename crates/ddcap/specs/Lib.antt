@@ -3,6 +3,7 @@ pub mod Covering
 pub mod Shown
 pub mod Showing
 pub mod PrintedAlone
+pub mod Layers
 pub mod Conversion
 pub mod Playing
 pub mod Accepting

@@ -4,7 +4,6 @@ use Rattle.std.specs.Io.KnownBytes.{Appends}
 use Rattle.wire_base.specs.declared.side.Side.{Side}
 use Rattle.capture.specs.Entries.{record_with}
 use Rattle.capture.specs.declared.entry.Entry.{Entry}
-use Rattle.dna_node.specs.Kind.{both_layers}
 use Rattle.pair_judge.specs.Ends.{ShownEnds, StandsFor, verdict_in}
 use Rattle.pair_judge.specs.FailedIn.{IsFailedIn}
 use Rattle.pair_judge.specs.Finding.{of_side}
@@ -20,7 +19,10 @@ use Rattle.why.specs.declared.accusation.Accusation.{Accusation}
 use Rattle.why.specs.declared.accusation.Accusation.TheVariants.{Queue}
 use Rattle.why.specs.declared.why_text.Refusal.{Refusal}
 use Rattle.why.specs.Refused.{BeginsWith, accuses, line_of, refused_line}
+use Rattle.ddcap.specs.Layers.{nodes_of, queues_of, verdict_text_over}
 use Rattle.ddcap.specs.Printed.{Moved, TellsFault, Writes, fault_text, verdict_text}
+use Rattle.ddcap.specs.declared.layers.Layers.{Layers}
+use Rattle.ddcap.specs.declared.layers.Layers.TheVariants.{Both, Queued, Station}
 use Rattle.ddcap.specs.declared.telling.Form.{Form}
 use Rattle.ddcap.specs.declared.telling.Form.TheVariants.{Rows, Json}
 use Rattle.ddcap.specs.declared.telling.Refused.{Refused}
@@ -30,32 +32,32 @@ abbrev pub IsAccused : Reason → Entry → Accusation → Type 0
 IsAccused reason entry accusation = (accusation ≡ accuses reason entry) ⊎ (accusation ≡ Queue)
 
 -- what is told of a refusal is told of the record ahead of its side, and the check that is named is the first of the verdict's reason that fails there
-pub record IsTold (ends : ShownEnds) (refused : Refused) (told : Refusal) : Type 0 where
+pub record IsTold (layers : Layers) (ends : ShownEnds) (refused : Refused) (told : Refusal) : Type 0 where
   pub side : told.side ≡ refused.side
   pub place : told.place ≡ refused.place
   pub reason : told.reason ≡ refused.reason
   pub accused : IsAccused refused.reason told.says told.accusation
   pub ahead : (of_side refused.side ends.a ends.b).ahead ≡ Some (record_with told.says told.bytes.now)
   pub failing : Side
-  pub failed : IsFailedIn ends (Some (failing, told.failed))
+  pub failed : IsFailedIn (queues_of layers) ends (Some (failing, told.failed))
 
 -- in rows the line of the verdict comes first, and as JSON objects that of the refusal; what follows is not claimed
 abbrev pub IsWhyText : Form → Refusal → ShownEnds → List ℕ → Type 0
 IsWhyText Rows told ends text = BeginsWith (verdict_text ends.verdict) text
 IsWhyText Json told ends text = BeginsWith (refused_line (line_of told)) text
 
-pub record IsTelling (form : Form) (ends : ShownEnds) (refused : Refused) (text : List ℕ) : Type 0 where
+pub record IsTelling (layers : Layers) (form : Form) (ends : ShownEnds) (refused : Refused) (text : List ℕ) : Type 0 where
   pub told : Refusal
-  pub is_told : IsTold ends refused told
+  pub is_told : IsTold layers ends refused told
   pub is_text : IsWhyText form told ends text
 
 -- where no check is named, the line of the verdict stands alone
-abbrev pub TellsRefusal : Form → ShownEnds → Refused → List ℕ → Type 0
-TellsRefusal form ends refused text = IsTelling form ends refused text ⊎ (text ≡ verdict_text ends.verdict)
+abbrev pub TellsRefusal : Layers → Form → ShownEnds → Refused → List ℕ → Type 0
+TellsRefusal layers form ends refused text = IsTelling layers form ends refused text ⊎ (text ≡ verdict_text ends.verdict)
 
-abbrev pub accepted_text : Form → Summary → List ℕ
-accepted_text Rows summary = verdict_text (Accepted summary)
-accepted_text Json summary = codes "{\"what\": \"accepted\"}\n"
+abbrev pub accepted_text : Layers → Form → Summary → List ℕ
+accepted_text layers Rows summary = verdict_text_over layers (Accepted summary)
+accepted_text layers Json summary = codes "{\"what\": \"accepted\"}\n"
 
 -- What is said of a refusal is written, with status 1, and the other stream stays as it is; or it is written whole, and behind it that a read failed
 -- while the captures were read again for small edits, with status 3
@@ -66,14 +68,14 @@ WritesRefusal out err text status =
     × Writes err.old err.new (fault_text (Capture side Read)) 3 status)
 
 -- a verdict is written to standard output and a fault to standard error; the other stream stays as it is
-module _ (form : Form) (out err : Moved) where
+module _ (layers : Layers) (form : Form) (out err : Moved) where
   pub record PrintsRefusal (ends : ShownEnds) (refused : Refused) (status : ℕ) : Type 0 where
     pub text : List ℕ
-    pub tells : TellsRefusal form ends refused text
+    pub tells : TellsRefusal layers form ends refused text
     pub written : WritesRefusal out err text status
 
   abbrev pub PrintsVerdict : ShownEnds → Verdict → ℕ → Type 0
-  PrintsVerdict ends (Accepted summary) status = Writes out.old out.new (accepted_text form summary) 0 status × (err.new ≡ err.old)
+  PrintsVerdict ends (Accepted summary) status = Writes out.old out.new (accepted_text layers form summary) 0 status × (err.new ≡ err.old)
   PrintsVerdict ends (IsRefused side place reason) status =
       PrintsRefusal ends (record { side = side; place = place; reason = reason }) status
 
@@ -82,15 +84,21 @@ module _ (form : Form) (out err : Moved) where
   PrintsWhy (Err fault) status = TellsFault err fault status × (out.new ≡ out.old)
 
 -- an acceptance is written, or that there was no memory for its text
-abbrev pub PrintsAcceptance : Form → Moved × Moved → Summary → ℕ → Type 0
-PrintsAcceptance form streams summary status =
-    (Writes streams.0.old streams.0.new (accepted_text form summary) 0 status × (streams.1.new ≡ streams.1.old))
+abbrev pub PrintsAcceptance : Layers → Form → Moved × Moved → Summary → ℕ → Type 0
+PrintsAcceptance layers form streams summary status =
+    (Writes streams.0.old streams.0.new (accepted_text layers form summary) 0 status × (streams.1.new ≡ streams.1.old))
     ⊎ (TellsFault streams.1 OutOfMemory status × (streams.0.new ≡ streams.0.old))
 
--- One call of `why`: what is printed, with its status, is an answer of which all is true that the judge's contract says of its own; and both
--- ends that it shows stand where the record is refused.
-pub record Explains (form : Form) (text_a text_b : Option (List ℕ)) (streams : Moved × Moved) (status : ℕ) : Type 0 where
+-- both ends that are shown stand where the record is refused, which is claimed of nodes without queues
+abbrev pub StandsOver : Layers → (text_a text_b : Option (List ℕ)) → ShownEnds → Type 0
+StandsOver Both text_a text_b ends = StandsFor text_a text_b ends ends.verdict
+StandsOver Queued text_a text_b ends = Unit {0}
+StandsOver Station text_a text_b ends = Unit {0}
+
+-- One call of `why`: what is printed, with its status, is an answer of which all is true that the contract of the judge of these layers says of its
+-- own
+pub record Explains (how : Layers × Form) (text_a text_b : Option (List ℕ)) (streams : Moved × Moved) (status : ℕ) : Type 0 where
   pub answer : Result ShownEnds JudgeFault
-  pub judged : IsAnswer both_layers text_a text_b (verdict_in answer)
-  pub stands : IfOk answer (λ ends. StandsFor text_a text_b ends ends.verdict)
-  pub printed : PrintsWhy form streams.0 streams.1 answer status
+  pub judged : IsAnswer (nodes_of how.0) text_a text_b (verdict_in answer)
+  pub stands : IfOk answer (StandsOver how.0 text_a text_b)
+  pub printed : PrintsWhy how.0 how.1 streams.0 streams.1 answer status

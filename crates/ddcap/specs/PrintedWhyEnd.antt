@@ -16,6 +16,7 @@ use Rattle.pair_judge.specs.declared.end_verdict.EndVerdict.TheVariants.{Passed,
 use Rattle.pair_judge.specs.declared.summary.SideSummary.{SideSummary}
 use Rattle.why.specs.declared.end_text.EndRefusal.{EndRefusal}
 use Rattle.why.specs.Refused.{BeginsWith, end_accuses, line_of_end, refused_line}
+use Rattle.ddcap.specs.Layers.{queues_of}
 use Rattle.ddcap.specs.Printed.{Moved, Writes}
 use Rattle.ddcap.specs.PrintedAlone.{TellsEndFault, end_of, end_text_over}
 use Rattle.ddcap.specs.declared.layers.Layers.{Layers}
@@ -31,12 +32,12 @@ abbrev pub stop : EndVerdict → ShownEnd → Stop
 stop verdict end = record { verdict = verdict; end = end }
 
 -- what is told of a refusal is told of the record ahead, and the check that is named, if one is, is one of its reason
-pub record IsToldOf (told : EndRefusal) (s : Stop) : Type 0 where
+pub record IsToldOf (layers : Layers) (told : EndRefusal) (s : Stop) : Type 0 where
   pub accused : Accused
   pub is_refused : s.verdict ≡ Refused told.place accused told.reason
   pub accusation : told.accusation ≡ end_accuses accused told.reason told.says
   pub ahead : s.end.ahead ≡ Some (record_with told.says told.bytes.now)
-  pub failed : IsFailedAlone s.end told.reason told.failed
+  pub failed : IsFailedAlone (queues_of layers) s.end told.reason told.failed
 
 -- over these layers
 module _ (layers : Layers) where
@@ -47,7 +48,7 @@ module _ (layers : Layers) where
 
   pub record IsEndTelling (form : Form) (s : Stop) (text : List ℕ) : Type 0 where
     pub told : EndRefusal
-    pub is_told : IsToldOf told s
+    pub is_told : IsToldOf layers told s
     pub is_text : IsEndText form told s text
 
   -- where no record is ahead, the line of the verdict stands alone

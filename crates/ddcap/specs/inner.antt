@@ -1,7 +1,6 @@
 -- What contracts of private functions speak of; no public claim rests on it
 pub mod Edits
 pub mod LastRows
-pub mod Layers
 pub mod NotOpened
 pub mod TapParts
 pub mod Statuses

@@ -6,7 +6,7 @@ ghost use Rattle.dna_links.specs.declared.queue.Queues.TheVariants.{With};
 ghost use Rattle.dna_node.specs.Kind.{both_layers, layers_kind, stations_alone};
 ghost use Rattle.ddcap.specs.Printed.{Checks, TellsFault, Writes, moved, stream_of};
 ghost use Rattle.ddcap.specs.Printed.{fault_text as text_of, line_verdict_text as line_verdict_text_of, verdict_text as verdict_text_of};
-ghost use Rattle.ddcap.specs.inner.Layers.{nodes_of, verdict_text_over};
+ghost use Rattle.ddcap.specs.Layers.{nodes_of, verdict_text_over};
 
 use crate::layers::{Layers, judge_over};
 use crate::text::{FAILED, FAULTY, line_fault_text, verdict_status, verdict_text};

@@ -37,12 +37,13 @@ fn alone<'a>(alloc: Global) -> Result<Command<'a>, AllocError> {
         .arg(as_json(alloc))
 }
 
-// `why [--line] [--full] [--json] A [B]`
+// `why [--line | --queued] [--full] [--json] A [B]`
 fn why<'a>(alloc: Global) -> Result<Command<'a>, AllocError> {
     Command::new(alloc, "why")
         .arg(Arg::new(alloc, "A").required(true))?
         .arg(Arg::new(alloc, "B"))?
         .arg(line_alone(alloc))?
+        .arg(with_queues(alloc))?
         .arg(
             Arg::new(alloc, "full")
                 .long("full")

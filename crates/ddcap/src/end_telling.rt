@@ -10,7 +10,7 @@ use crate::alone::print_end_fault;
 use crate::check::{print, print_out_of_memory};
 use crate::end_text::end_text;
 use crate::last_rows::LastRows;
-use crate::layers::{Layers, watch_end_over};
+use crate::layers::{Layers, failed_end_over, watch_end_over};
 use crate::telling::{Form, REFUSED, ladder_text};
 use ladder::Ladder;
 use pair_judge::{EndVerdict, SideEnd, SideSummary, WatchedEnd};
@@ -94,7 +94,7 @@ pub fn end_refused_text(
         end,
         observer: LastRows { mut ladder, past },
     } = watched;
-    let Some(refusal) = refusal_of(verdict, &end, &past) else {
+    let Some(refusal) = refusal_of(printout.layers, verdict, &end, &past) else {
         return end_text(alloc, printout.layers, verdict);
     };
     match printout.form {
@@ -107,8 +107,13 @@ pub fn end_refused_text(
 }
 
 // What is told of the refused record; `None` where none is ahead.
-fn refusal_of<'t>(verdict: EndVerdict, end: &'t SideEnd, past: &LinkPast) -> Option<EndRefusal<'t>>
-    ensures { IfSome result (λ told. IsToldOf told (stop verdict end.now)) }
+fn refusal_of<'t>(
+    layers: Layers,
+    verdict: EndVerdict,
+    end: &'t SideEnd,
+    past: &LinkPast,
+) -> Option<EndRefusal<'t>>
+    ensures { IfSome result (λ told. IsToldOf layers told (stop verdict end.now)) }
 {
     let Some((entry, bytes)) = end.ahead() else {
         return None;
@@ -125,7 +130,7 @@ fn refusal_of<'t>(verdict: EndVerdict, end: &'t SideEnd, past: &LinkPast) -> Opt
         place,
         reason,
         accusation: Accusation::of_end(accused, reason, entry),
-        failed: end.failed_alone(reason),
+        failed: failed_end_over(layers, end, reason),
         says: entry,
         bytes,
         lines: past.lines(Side::A, addresses_of(entry, bytes)),

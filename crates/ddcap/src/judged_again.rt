@@ -2,7 +2,7 @@
 
 ghost use Rattle.pair_judge.specs.Judged.{IsAnswer};
 ghost use Rattle.ddcap.specs.inner.Edits.{with_changes};
-ghost use Rattle.ddcap.specs.inner.Layers.{nodes_of};
+ghost use Rattle.ddcap.specs.Layers.{nodes_of};
 
 use crate::layers::{Layers, judge_over};
 use edited::{Change, EditedReader};

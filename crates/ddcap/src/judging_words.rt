@@ -40,8 +40,10 @@ pub fn explained_of<'a>(found: &ArgMatches<'a>) -> Result<Task<'a>, WordsFault> 
     let Some(a) = found.get_str("A") else {
         return Err(WordsFault::BadWords);
     };
+    let Some(layers) = judged_layers_of(found) else {
+        return Err(WordsFault::BadWords);
+    };
     let form = form_of(found);
-    let layers = layers_of(found);
     let full = found.get_flag("full");
     match found.get_str("B") {
         Some(b) => Ok(Task::Why {
@@ -108,15 +110,7 @@ fn form_of(found: &ArgMatches<'_>) -> Form {
     }
 }
 
-// What is judged.
-fn layers_of(found: &ArgMatches<'_>) -> Layers {
-    match found.get_flag("line") {
-        true => Layers::Station,
-        false => Layers::Both,
-    }
-}
-
-// What is judged, where nodes with queues may be named; `None` where two kinds are.
+// What is judged; `None` where two kinds of node are named.
 fn judged_layers_of(found: &ArgMatches<'_>) -> Option<Layers> {
     match (found.get_flag("line"), found.get_flag("queued")) {
         (true, true) => None,

@@ -5,18 +5,23 @@ ghost use Rattle.capture.specs.declared.fault.CaptureFault.TheVariants as Captur
 ghost use Rattle.capture.specs.Faulty.{CountsReads, is_failed_read};
 ghost use Rattle.pair_judge.specs.EndJudged.{IsJudgedAlone};
 ghost use Rattle.pair_judge.specs.EndShown.{StandsAlone};
+ghost use Rattle.pair_judge.specs.Ends.{verdict_in};
+ghost use Rattle.pair_judge.specs.FailedIn.{IsFailedAlone, IsFailedIn};
 ghost use Rattle.pair_judge.specs.Faulty.{is_failed_read_of};
 ghost use Rattle.pair_judge.specs.Judged.{IsAnswer};
 ghost use Rattle.pair_judge.specs.Watched.{only};
 ghost use Rattle.wire_base.specs.Tally.{tally_faults, tally_lent};
 ghost use Rattle.ddcap.specs.PrintedAlone.{end_of};
-ghost use Rattle.ddcap.specs.inner.Layers.{nodes_of};
+ghost use Rattle.ddcap.specs.Layers.{nodes_of, queues_of};
+ghost use Rattle.ddcap.specs.PrintedWhy.{StandsOver};
 
 use capture::CaptureFault;
+use nsp_link::{WITH_QUEUES, WITHOUT_QUEUES};
 use pair_judge::{
-    EndVerdict, JudgeFault, Observer, Verdict, WatchedEnd, judge, judge_end, judge_end_watched,
-    judge_line, judge_line_end, judge_line_end_watched, judge_queued, judge_queued_end,
-    judge_queued_end_watched,
+    EndVerdict, FailedCheck, JudgeFault, JudgedEnds, Observer, Reason, SideEnd, Verdict, Watched,
+    WatchedEnd, judge, judge_end, judge_end_watched, judge_line, judge_line_end,
+    judge_line_end_watched, judge_line_told, judge_queued, judge_queued_end,
+    judge_queued_end_watched, judge_queued_told, judge_watched,
 };
 use std::alloc::Global;
 use std::io::Read;
@@ -31,6 +36,26 @@ pub enum Layers {
     Queued,
     /// Stations and line alone.
     Station,
+}
+
+/// The side of the refused record, and the check that it does not pass, where these layers were judged; `None` where none is named.
+pub fn failed_over(layers: Layers, ends: &JudgedEnds) -> Option<(Side, FailedCheck)>
+    ensures { IsFailedIn (queues_of layers) ends.now result }
+{
+    match layers {
+        Layers::Queued => ends.failed::<WITH_QUEUES>(),
+        Layers::Both | Layers::Station => ends.failed::<WITHOUT_QUEUES>(),
+    }
+}
+
+/// The same of one end, refused for this reason.
+pub fn failed_end_over(layers: Layers, end: &SideEnd, reason: Reason) -> Option<FailedCheck>
+    ensures { IsFailedAlone (queues_of layers) end.now reason result }
+{
+    match layers {
+        Layers::Queued => end.failed_alone::<WITH_QUEUES>(reason),
+        Layers::Both | Layers::Station => end.failed_alone::<WITHOUT_QUEUES>(reason),
+    }
 }
 
 /// Judges the captures that two readers give.
@@ -48,6 +73,27 @@ pub fn judge_over<A: Read, B: Read>(
         Layers::Both => judge(alloc, a, b),
         Layers::Queued => judge_queued(alloc, a, b),
         Layers::Station => judge_line(alloc, a, b),
+    }
+}
+
+/// Judges the captures that two readers give while an observer is told of each record that is made, and gives both ends as they are then.
+pub fn watch_over<O: Observer, A: Read, B: Read>(
+    alloc: Global,
+    layers: Layers,
+    a: &mut Tally<A>,
+    b: &mut Tally<B>,
+    observer: O,
+) -> Result<Watched<O>, JudgeFault>
+    requires { O.told observer [] }
+    ensures judged { IsAnswer (nodes_of layers) (A.remaining (tally_lent a.old)) (B.remaining (tally_lent b.old))
+        (verdict_in (only result (λ watched. watched.ends))) }
+    ensures stands { IfOk result (λ watched.
+        StandsOver layers (A.remaining (tally_lent a.old)) (B.remaining (tally_lent b.old)) watched.ends) }
+{
+    match layers {
+        Layers::Both => judge_watched(alloc, a, b, observer),
+        Layers::Queued => judge_queued_told(alloc, a, b, observer),
+        Layers::Station => judge_line_told(alloc, a, b, observer),
     }
 }
 

@@ -54,7 +54,6 @@ mod tap_files;
 mod tap_naming;
 mod tap_object;
 mod telling;
-mod telling_line;
 mod text;
 mod unit_changes;
 mod usages;

@@ -7,10 +7,11 @@ ghost use Rattle.drawing.specs.Drawing.{kind_by};
 ghost use Rattle.drawing.specs.declared.range.TheConstants.{MAX_ROWS};
 ghost use Rattle.ddcap.specs.PrintedDrawing.{verdict_answered};
 
+use crate::layers::{Layers, failed_over};
 use crate::near::{near_of, what_is_asked};
 use capture::CaptureFault;
 use ddcmp_msg::read_unit;
-use drawing::{DrawnPair, MAX_ROWS, Range, drawing_of};
+use drawing::{DrawnPair, Judging, MAX_ROWS, Range, drawing_of};
 use ladder::Caption;
 use pair_judge::{JudgeFault, JudgedEnds, Verdict};
 use std::alloc::{AllocError, Global};
@@ -45,7 +46,7 @@ pub fn picture_of<A: Read + Seek, B: Read + Seek>(
         Ok(pair) => pair,
         Err(fault) => return Err(fault),
     };
-    match svg_of(alloc, &pair, a, b, title) {
+    match svg_of(alloc, range.judging, &pair, a, b, title) {
         Ok(svg) => Ok(Picture {
             verdict: pair.ends.verdict(),
             svg,
@@ -56,6 +57,7 @@ pub fn picture_of<A: Read + Seek, B: Read + Seek>(
 
 fn svg_of<A: Read + Seek, B: Read + Seek>(
     alloc: Global,
+    judging: Judging,
     pair: &DrawnPair,
     a: &mut A,
     b: &mut B,
@@ -65,7 +67,7 @@ fn svg_of<A: Read + Seek, B: Read + Seek>(
 {
     let verdict = verdict_words(alloc, pair.ends.verdict())?;
     let unit = unit_named(alloc, a, b, &pair.ends)?;
-    let check = check_words(alloc, &pair.ends, &unit)?;
+    let check = check_words(alloc, judging, &pair.ends, &unit)?;
     let (seen, allowed) = seen_and_allowed(check.as_str());
     let caption = Caption {
         title,
@@ -92,16 +94,29 @@ fn verdict_words(alloc: Global, verdict: Verdict) -> Result<String, AllocError> 
     }
 }
 
+// The layers that are judged so.
+fn layers_of(judging: Judging) -> Layers {
+    match judging {
+        Judging::Links => Layers::Both,
+        Judging::Queued => Layers::Queued,
+        Judging::Line => Layers::Station,
+    }
+}
+
 // What is said of the check that the refused record does not pass, as an object; nothing where none is refused.
 fn check_words(
     alloc: Global,
+    judging: Judging,
     ends: &JudgedEnds,
     unit: &Option<Vec<u8>>,
 ) -> Result<String, AllocError> {
     let Verdict::Refused { side, reason, .. } = ends.verdict() else {
         return Ok(String::new(alloc));
     };
-    let (Some((_, failed)), Some((entry, bytes))) = (ends.failed(), ends.ahead(side)) else {
+    let (Some((_, failed)), Some((entry, bytes))) = (
+        failed_over(layers_of(judging), ends),
+        ends.ahead(side),
+    ) else {
         return Ok(String::new(alloc));
     };
     let unit = match unit {

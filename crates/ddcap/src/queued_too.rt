@@ -1,5 +1,6 @@
 //! What is answered of a refused pair as that of nodes with queues.
 
+use crate::layers::Layers;
 use crate::recorder::{Tried, stopped};
 use pair_judge::{JudgeFault, Reason, TextFault, Verdict, judge_queued};
 use std::alloc::{AllocError, Global};
@@ -7,17 +8,18 @@ use std::io::{Read, Seek};
 use why::QueuedAnswer;
 use wire_base::Tally;
 
-/// Judges the pair again as that of nodes with queues, where such nodes may do what is refused for this reason, and keeps the answer beside what small
-/// edits told. It is not asked where a file can't be read again from its beginning, or where a read of one failed before; and nothing is kept where
+/// Judges the pair again as that of nodes with queues, where both layers were judged without them and such nodes may do what is refused for this
+/// reason, and keeps the answer beside what small edits told. It is not asked where a file can't be read again from its beginning, or where a read of one failed before; and nothing is kept where
 /// a text departs from its format further on. `AllocError`: there is no memory to judge it.
 pub fn with_queues_too<A: Read + Seek, B: Read + Seek>(
     alloc: Global,
+    layers: Layers,
     a: &mut A,
     b: &mut B,
     reason: Reason,
     mut tried: Tried,
 ) -> Result<Tried, AllocError> {
-    if tried.failed.is_some() || !is_by_queues(reason) {
+    if tried.failed.is_some() || layers != Layers::Both || !is_by_queues(reason) {
         return Ok(tried);
     }
     if a.rewind().is_err() || b.rewind().is_err() {

@@ -127,7 +127,7 @@ pub fn try_edits<A: Read + Seek, B: Read + Seek>(
     };
     let records = records_behind(ends, &near_a, &near_b);
     let edits = edits_near(alloc, ends, side, &near_a, &near_b)?;
-    let units = unit_changes(alloc, ends, side, &near_a, &near_b)?;
+    let units = unit_changes(alloc, layers, ends, side, &near_a, &near_b)?;
     let (unit, later) = what_is_left(near_a, near_b);
     let tried = Tried::nothing(alloc, Some(records), later, unit);
     if records < FEW_RECORDS {

@@ -16,12 +16,10 @@ use crate::explanations::explanation_of;
 use crate::fault_told::FaultTold;
 use crate::files::{Named, Wanted, opened, opened_plain};
 use crate::help::help_to;
-use crate::layers::Layers;
 use crate::play::play_to;
 use crate::show::show_to;
 use crate::tap_files::tap_files;
 use crate::telling::{Printout, why_to};
-use crate::telling_line::why_line_to;
 use crate::text::FAULTY;
 use crate::usages::advice_on;
 use crate::words::{Task, WordsFault, task_of};
@@ -88,12 +86,13 @@ impl<R: Files + AllocGlobal, O: Write, E: Write> Program<'_, '_, '_, R, O, E> {
                 b,
             } => {
                 let printout = Printout {
+                    layers,
                     form,
                     full,
                     name_a: a,
                     name_b: b,
                 };
-                self.why(layers, printout)
+                self.why(printout)
             }
             Task::WhyAlone {
                 form,
@@ -134,7 +133,7 @@ impl<R: Files + AllocGlobal, O: Write, E: Write> Program<'_, '_, '_, R, O, E> {
         opened(self.rt, wanted, self.err)
     }
 
-    fn why(&mut self, layers: Layers, printout: Printout<'_>) -> Result<u8, FaultTold> {
+    fn why(&mut self, printout: Printout<'_>) -> Result<u8, FaultTold> {
         let mut a = opened_plain(
             self.rt,
             Wanted::by_path(Named::A, printout.name_a),
@@ -146,14 +145,9 @@ impl<R: Files + AllocGlobal, O: Write, E: Write> Program<'_, '_, '_, R, O, E> {
             self.err,
         )?;
         let alloc = self.rt.alloc();
-        let status = match layers {
-            Layers::Both | Layers::Queued => why_to(
-                alloc, printout, &mut a, &mut b, self.out, self.err,
-            ),
-            Layers::Station => why_line_to(alloc, printout, &mut a, &mut b, self.out, self.err),
-        };
+        let status = why_to(alloc, printout, &mut a, &mut b, self.out, self.err);
         if status == FAULTY {
-            explain_departure_of_pair(alloc, layers, &mut a, &mut b, self.err);
+            explain_departure_of_pair(alloc, printout.layers, &mut a, &mut b, self.err);
         }
         Ok(status)
     }

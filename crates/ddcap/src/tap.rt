@@ -12,7 +12,7 @@ ghost use Rattle.ddcap.specs.Printed.{Writes, fault_text, moved, stream_of};
 ghost use Rattle.ddcap.specs.Printed.{line_verdict_text as line_verdict_text_of, verdict_text as verdict_text_of};
 ghost use Rattle.ddcap.specs.PrintedTap.{ChecksTap, IsRefusedAt, TellsTapFault, no_unit_text, streams, wire_line_text};
 ghost use Rattle.ddcap.specs.inner.TapParts.{TellsTold, WritesBehind, both_streams};
-ghost use Rattle.ddcap.specs.inner.Layers.{nodes_of, verdict_text_over};
+ghost use Rattle.ddcap.specs.Layers.{nodes_of, verdict_text_over};
 
 use crate::check::{print, print_fault, print_out_of_memory};
 use crate::layers::{Layers, judge_over};

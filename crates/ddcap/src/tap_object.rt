@@ -4,7 +4,7 @@ ghost use Rattle.std.specs.Prelude.{◌≡◌, true, is_ok, IfOk};
 ghost use Rattle.wire_base.specs.Tally.{tally_lent};
 ghost use Rattle.tap_answer.specs.Telling.{telling};
 ghost use Rattle.ddcap.specs.inner.Statuses.{EndsAsTapped, EndsWith, told_status};
-ghost use Rattle.ddcap.specs.inner.Layers.{nodes_of};
+ghost use Rattle.ddcap.specs.Layers.{nodes_of};
 
 use crate::answers::{print_object, print_told};
 use crate::check::{print, print_fault, print_out_of_memory};

@@ -8,13 +8,13 @@ ghost use Rattle.ddcap.specs.PrintedWhy.{Explains, IsAccused, IsTold, PrintsAcce
 
 use crate::check::{print, print_failed_read, print_fault, print_out_of_memory};
 use crate::last_rows::{LastRows, ROWS_BEFORE};
-use crate::layers::Layers;
+use crate::layers::{Layers, failed_over, watch_over};
 use crate::queued_too::with_queues_too;
 use crate::recorder::{ComesLater, Tried, try_edits};
 use crate::text::{FAILED, verdict_text};
 use capture::Entry;
 use ladder::{Drawn, Ladder, Sending, What};
-use pair_judge::{JudgedEnds, Reason, Summary, Verdict, Watched, judge_watched};
+use pair_judge::{JudgedEnds, Reason, Summary, Verdict, Watched};
 use std::alloc::{AllocError, Global};
 use std::io::{Read, Seek, Write};
 use why::{
@@ -42,9 +42,10 @@ pub struct Refused {
     pub reason: Reason,
 }
 
-/// How the answer is printed, and the names of both captures in it.
+/// What is judged, how the answer is printed, and the names of both captures in it.
 #[derive(Clone, Copy)]
 pub struct Printout<'n> {
+    pub layers: Layers,
     pub form: Form,
     /// Whether all bytes of the record are printed in rows.
     pub full: bool,
@@ -52,7 +53,7 @@ pub struct Printout<'n> {
     pub name_b: &'n str,
 }
 
-/// Judges the captures that two files give from where they stand, prints what is answered and why, and answers the status.
+/// Judges the captures that two files give from where they stand, over these layers, prints what is answered and why, and answers the status.
 ///
 /// An accepted pair and a fault are printed as `check` does (of JSON objects `{"what": "accepted"}` alone). Behind a refusal comes what is said of
 /// it; small edits of both captures are judged as far as the files can be read again from their beginning. Where a read fails meanwhile, that is told
@@ -65,20 +66,21 @@ pub fn why_to<A: Read + Seek, B: Read + Seek, O: Write, E: Write>(
     out: &mut Tally<O>,
     err: &mut Tally<E>,
 ) -> u8
-    ensures { Explains printout.entry.form (A.remaining a.old) (B.remaining b.old)
+    ensures { Explains (printout.entry.layers, printout.entry.form) (A.remaining a.old) (B.remaining b.old)
         (moved O.contents out.old out.new, moved E.contents err.old err.new) result }
 {
     let Ok(rows) = LastRows::new(alloc) else {
         return print_out_of_memory(err);
     };
+    let layers = printout.layers;
     let mut tally_a = Tally::new(&mut *a);
     let mut tally_b = Tally::new(&mut *b);
-    let watched = match judge_watched(alloc, &mut tally_a, &mut tally_b, rows) {
+    let watched = match watch_over(alloc, layers, &mut tally_a, &mut tally_b, rows) {
         Ok(watched) => watched,
         Err(fault) => return print_fault(alloc, fault, err),
     };
     match watched.ends.verdict() {
-        Verdict::Accepted(summary) => print_accepted(alloc, printout.form, summary, out, err),
+        Verdict::Accepted(summary) => print_accepted(alloc, printout, summary, out, err),
         Verdict::Refused {
             side,
             place,
@@ -89,11 +91,11 @@ pub fn why_to<A: Read + Seek, B: Read + Seek, O: Write, E: Write>(
                 place,
                 reason,
             };
-            let tried = match try_edits(alloc, Layers::Both, a, b, &watched.ends, side) {
+            let tried = match try_edits(alloc, layers, a, b, &watched.ends, side) {
                 Ok(tried) => tried,
                 Err(_) => return print_out_of_memory(err),
             };
-            let tried = match with_queues_too(alloc, a, b, reason, tried) {
+            let tried = match with_queues_too(alloc, layers, a, b, reason, tried) {
                 Ok(tried) => tried,
                 Err(_) => return print_out_of_memory(err),
             };
@@ -109,16 +111,16 @@ pub fn why_to<A: Read + Seek, B: Read + Seek, O: Write, E: Write>(
 // Prints that the pair is a run.
 fn print_accepted<O: Write, E: Write>(
     alloc: Global,
-    form: Form,
+    printout: Printout<'_>,
     summary: Summary,
     out: &mut Tally<O>,
     err: &mut Tally<E>,
 ) -> u8
-    ensures { PrintsAcceptance form (moved O.contents out.old out.new, moved E.contents err.old err.new) summary result }
+    ensures { PrintsAcceptance printout.entry.layers printout.entry.form (moved O.contents out.old out.new, moved E.contents err.old err.new) summary result }
 {
-    match form {
+    match printout.form {
         Form::Json => print(out, b"{\"what\": \"accepted\"}\n", 0),
-        Form::Rows => match verdict_text(alloc, Layers::Both, Verdict::Accepted(summary)) {
+        Form::Rows => match verdict_text(alloc, printout.layers, Verdict::Accepted(summary)) {
             Ok(text) => print(out, text.as_bytes(), 0),
             Err(_) => print_out_of_memory(err),
         },
@@ -151,13 +153,13 @@ pub fn refused_text(
     watched: Watched<LastRows>,
     tried: Tried,
 ) -> Result<String, AllocError>
-    ensures { IfOk result (λ text. TellsRefusal printout.entry.form watched.ends refused (string_bytes text)) }
+    ensures { IfOk result (λ text. TellsRefusal printout.entry.layers printout.entry.form watched.ends refused (string_bytes text)) }
 {
     let Watched {
         ends,
         observer: LastRows { mut ladder, past },
     } = watched;
-    let Some(refusal) = refusal_of(refused, &ends, &tried, &past) else {
+    let Some(refusal) = refusal_of(printout.layers, refused, &ends, &tried, &past) else {
         return verdict_text(alloc, Layers::Both, ends.verdict());
     };
     match printout.form {
@@ -173,17 +175,18 @@ pub fn refused_text(
 
 // What is told of the record; `None` where none is ahead, or no check is named.
 fn refusal_of<'t>(
+    layers: Layers,
     refused: Refused,
     ends: &'t JudgedEnds,
     tried: &'t Tried,
     past: &LinkPast,
 ) -> Option<Refusal<'t>>
-    ensures { IfSome result (λ told. IsTold ends.now refused told) }
+    ensures { IfSome result (λ told. IsTold layers ends.now refused told) }
 {
     let Some((entry, bytes)) = ends.ahead(refused.side) else {
         return None;
     };
-    let Some((_, failed)) = ends.failed() else {
+    let Some((_, failed)) = failed_over(layers, ends) else {
         return None;
     };
     let named = addresses_of(entry, bytes);

@@ -7,7 +7,7 @@ ghost use Rattle.pair_judge.specs.declared.fault.TextFault.TheVariants.{Departs}
 ghost use Rattle.ddcap.specs.Covering as covering;
 ghost use Rattle.ddcap.specs.Printed as printed;
 ghost use Rattle.ddcap.specs.PrintedAlone.{counts_line};
-ghost use Rattle.ddcap.specs.inner.Layers.{verdict_text_over};
+ghost use Rattle.ddcap.specs.Layers.{verdict_text_over};
 
 use crate::layers::Layers;
 use capture::Departure;

@@ -1,6 +1,7 @@
 //! What explains a refused unit as well as a mistake of the recorder: a node that is wrong in this unit alone.
 
 use crate::judged_again::PairChanges;
+use crate::layers::{Layers, failed_over};
 use crate::near::Near;
 use crate::right_units::right_units;
 use capture::Entry;
@@ -9,10 +10,11 @@ use pair_judge::{JudgedEnds, Reason, Verdict};
 use std::alloc::{AllocError, Global};
 use wire_base::Side;
 
-/// The changes of both captures under which the refused unit of this side is one that is right there, at both ends; none where no unit is refused that
+/// The changes of both captures, judged over these layers, under which the refused unit of this side is one that is right there, at both ends; none where no unit is refused that
 /// was sent. `AllocError` where there is no memory for them.
 pub fn unit_changes(
     alloc: Global,
+    layers: Layers,
     ends: &JudgedEnds,
     side: Side,
     near_a: &Near,
@@ -23,7 +25,7 @@ pub fn unit_changes(
         Side::A => (near_a, near_b),
         Side::B => (near_b, near_a),
     };
-    let (Some((_, failed)), Some(row)) = (ends.failed(), own.row_ahead()) else {
+    let (Some((_, failed)), Some(row)) = (failed_over(layers, ends), own.row_ahead()) else {
         return Ok(changes);
     };
     if row.entry != Entry::Sent {

@@ -7,7 +7,7 @@ const CHECK: &str = "usage: ddcap check [--line | --queued] [--json] A B [A B ..
 
 const ALONE: &str = "usage: ddcap alone [--line | --queued] [--json] A\n";
 
-const WHY: &str = "usage: ddcap why [--line] [--full] [--json] A [B]\n";
+const WHY: &str = "usage: ddcap why [--line | --queued] [--full] [--json] A [B]\n";
 
 const COVER: &str = "usage: ddcap cover [--line | --queued] [--json] [--missing] A B [A B ..]\n";
 

@@ -3,7 +3,7 @@
 ghost use Rattle.wire_base.specs.Tally.{tally_lent};
 ghost use Rattle.pair_judge.specs.Judged.{IsAnswer};
 ghost use Rattle.pair_judge.specs.Watched.{only};
-ghost use Rattle.ddcap.specs.inner.Layers.{nodes_of};
+ghost use Rattle.ddcap.specs.Layers.{nodes_of};
 
 use crate::layers::Layers;
 use coverage::{Counts, Cover, ROWS, STATION_ROWS, judge_covered};

@@ -12,12 +12,12 @@ use Rattle.dna_links.specs.SegmentBook.{REACH, distance, wire}
 use Rattle.dna_links.specs.Links.{LinkOf, number_of}
 use Rattle.dna_links.specs.LookUps.{passes}
 use Rattle.dna_links.specs.Segmentation.{Piece, Unsent, Whole, alike, is_next_of, is_next_piece, is_piece_of, same_piece}
-use Rattle.dna_links.specs.WireSegments.{LastSent, WireSegments, highest_given, is_ahead, is_behind, last_named, moved_to}
+use Rattle.dna_links.specs.WireSegments.{LastSent, LateSent, WireSegments, highest_given, is_ahead, is_behind, last_named, last_named_late, moved_to}
 use Rattle.dna_links.specs.WireLinks.{WireLinks}
 use Rattle.nsp_link.specs.inner.Index.{passes_in}
 use Rattle.nsp_link.specs.FailedEvent.{is_whole}
 use Rattle.nsp_link.specs.FailedSending.{from_below, front_piece, is_again, is_allowed, may_repeat, segment_numbers, segments_back, word_numbers}
-use Rattle.nsp_link.specs.FailedSending.{words_back}
+use Rattle.nsp_link.specs.FailedSending.{late_numbers, words_back}
 use Rattle.nsp_link.proofs.LookUps.{IsFound, Nowhere, both_true, found}
 
 -- ---- a link
@@ -84,6 +84,27 @@ word_passes again received number sent low e =
           or_so (is_ahead received number sent) (is_again (from_below sent.last (words_back sent)) sent.last number) (is_behind number sent)
           (λ again. behind_by sent number (again_within sent.last (words_back sent) number low (words_few sent.is_high sent.last) again)) h
       either false h = h
+
+-- with queues
+both_few : (gap back : ℕ) → back ≤ 2047 → min gap back ≤ 2047
+both_few gap back few = omega (arith, few)
+
+pub late_passes : (received number : ℕ) (late : LateSent) → late.sent.last < 4096 →
+    is_allowed (late_numbers received late) number ≡ true → is_some (last_named_late received number late) ≡ true
+late_passes received number late low e =
+    named_by (is_ahead received number late.sent) (leb (distance number late.sent.last) late.gap && is_behind number late.sent)
+    (moved_to number late.sent) late.sent
+    (or_so (is_ahead received number late.sent) (is_again (from_below late.sent.last (min late.gap (words_back late.sent))) late.sent.last number)
+    (leb (distance number late.sent.last) late.gap && is_behind number late.sent) (λ again. behind again) e)
+  where
+    behind : is_again (from_below late.sent.last (min late.gap (words_back late.sent))) late.sent.last number ≡ true →
+        (leb (distance number late.sent.last) late.gap && is_behind number late.sent) ≡ true
+    behind again =
+        let within = again_within late.sent.last (min late.gap (words_back late.sent)) number low
+        (both_few late.gap (words_back late.sent) (words_few late.sent.is_high late.sent.last)) again in
+        both_true (leb (distance number late.sent.last) late.gap) (is_behind number late.sent)
+        (le-leb (distance number late.sent.last) late.gap (omega (arith, within)))
+        (behind_by late.sent number (omega (arith, within)))
 
 -- ---- segments
 

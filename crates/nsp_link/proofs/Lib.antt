@@ -1,5 +1,7 @@
 mod Words
 mod FailedWords
+mod FailedLate
+mod FailedTurn
 pub mod FailedSending
 pub mod FailedEvent
 pub mod FailedArrival

@@ -1,12 +1,14 @@
--- The first check that an event of the links' user does not pass, by its name, with what is seen there and what is allowed. The checks are those
--- of `Table` of `dna_links`, in their order.
+-- The first check that an event of the links' user does not pass, with queues or without, by its name, with what is seen there and what is allowed.
+-- The checks are those of `Table` of `dna_links`, in their order.
 use Rattle.std.specs.Prelude.{ℕ, Bool, false, Option, Some, None, List, length}
 use Rattle.std.specs.Str.{bytes_eq}
 use Rattle.dna_station.specs.declared.link_refusal.LinkRefusal.{LinkRefusal}
 use Rattle.dna_station.specs.declared.link_refusal.LinkRefusal.TheVariants.{NoLink, LinkState, WrongDelivery, AddressInUse}
 use Rattle.dna_links.specs.declared.port.LinkTest.{LinkTest}
 use Rattle.dna_links.specs.declared.port.LinkTest.TheVariants.{HasAddress, LiveAt, CalledBy}
+use Rattle.dna_links.specs.declared.queue.Queues.{Queues}
 use Rattle.dna_links.specs.Links.{LinkOf, with_link}
+use Rattle.dna_links.specs.Queues.{in_use, with_in_use}
 use Rattle.dna_links.specs.LookUps.{is_connected, takes_messages}
 use Rattle.dna_links.specs.Segmentation.{Piece, Whole, next_message}
 use Rattle.dna_links.specs.User.{LinkEventValue, Open, Accept, Reject, In, Up, Close}
@@ -39,22 +41,31 @@ failed_delivery link message pieces =
 abbrev pub failed_answer : (far own : ℕ) → WireLinks → Option FailedLinkEvent
 failed_answer far own s = on_link_asked (CalledBy far) s (λ number link. failed_address own s)
 
-abbrev pub failed_handing_in : (own : ℕ) → WireLinks → Option FailedLinkEvent
-failed_handing_in own s = on_link_asked (LiveAt own) s (λ number link.
-    named (takes_messages link.port.phase) (failed.TakesMessages number link.port.phase) None)
+abbrev pub failed_delivering : (own : ℕ) → List ℕ → WireLinks → Option FailedLinkEvent
+failed_delivering own message s =
+    on_link_asked (HasAddress own) s (λ number link. failed_delivery number message link.segments.variables.pieces)
 
-abbrev pub failed_close : (own : ℕ) → WireLinks → Option FailedLinkEvent
-failed_close own s = on_link_asked (LiveAt own) s (λ number link.
-    named (is_connected link.port.phase) (failed.IsConnected number link.port.phase) None)
+module _ (queues : Queues) where
+  -- with queues the link may have ended, and something of it waits
+  abbrev pub on_link_in_use : (own : ℕ) → WireLinks → (ℕ → LinkOf WireSegments → Option FailedLinkEvent) → Option FailedLinkEvent
+  on_link_in_use own s next = with_in_use queues (LiveAt own) s (Some (failed.NoLink (missing (LiveAt own) s))) next
 
--- a row for each event
-abbrev pub failed_event : WireLinks → LinkEventValue → Option FailedLinkEvent
-failed_event s (Open own) = failed_address own s
-failed_event s (Accept far own) = failed_answer far own s
-failed_event s (Reject far own) = failed_answer far own s
-failed_event s (In own message) = failed_handing_in own s
-failed_event s (Up own message) = on_link_asked (HasAddress own) s (λ number link. failed_delivery number message link.segments.variables.pieces)
-failed_event s (Close own) = failed_close own s
+  abbrev pub failed_handing_in : (own : ℕ) → WireLinks → Option FailedLinkEvent
+  failed_handing_in own s = on_link_in_use own s (λ number link.
+      named (takes_messages (in_use queues link).phase) (failed.TakesMessages number (in_use queues link).phase) None)
+
+  abbrev pub failed_close : (own : ℕ) → WireLinks → Option FailedLinkEvent
+  failed_close own s = on_link_in_use own s (λ number link.
+      named (is_connected (in_use queues link).phase) (failed.IsConnected number (in_use queues link).phase) None)
+
+  -- a row for each event
+  abbrev pub failed_event : WireLinks → LinkEventValue → Option FailedLinkEvent
+  failed_event s (Open own) = failed_address own s
+  failed_event s (Accept far own) = failed_answer far own s
+  failed_event s (Reject far own) = failed_answer far own s
+  failed_event s (In own message) = failed_handing_in own s
+  failed_event s (Up own message) = failed_delivering own message s
+  failed_event s (Close own) = failed_close own s
 
 -- the refusal of each
 abbrev pub refusal_of_event : FailedLinkEvent → LinkRefusal

@@ -1,5 +1,5 @@
--- The first check that a message does not pass which a node's links send, by its name, with what is seen there and what is allowed. The checks
--- are those of `Table` and `WireSegments` of `dna_links`, in their order.
+-- The first check that a message does not pass which a node's links send, with queues or without, by its name, with what is seen there and what is
+-- allowed. The checks are those of `Table` and `WireSegments` of `dna_links`, in their order.
 use Rattle.std.specs.Prelude.{ℕ, ◌+◌, ◌-◌, Bool, true, false, ◌&&◌, ◌||◌, not, ◌==◌, nat_lt, nat_le, min, if◌then◌else◌, Option, Some, None, List, []}
 use Rattle.std.specs.Prelude.{◌∷◌, length, take, slice_get}
 use Rattle.dna_packet.specs.Nsp.{SegmentValue, NspValue, DataSegment, LinkService, DataAck, OtherDataAck, ConnectAck, NoOperation, ConnectInitiate}
@@ -12,13 +12,15 @@ use Rattle.dna_links.specs.declared.port.Phase.{Phase}
 use Rattle.dna_links.specs.declared.port.Phase.TheVariants.{Calling, Confirming, Running, Disconnecting}
 use Rattle.dna_links.specs.declared.port.LinkTest.{LinkTest}
 use Rattle.dna_links.specs.declared.port.LinkTest.TheVariants.{TheLink, OpenedAt, BegunBy}
+use Rattle.dna_links.specs.declared.queue.Queues.{Queues}
+use Rattle.dna_links.specs.declared.queue.Queues.TheVariants.{Without, With}
 use Rattle.dna_links.specs.SegmentBook.{REACH, wire, distance, is_of_data}
-use Rattle.dna_links.specs.Links.{LinkOf, Carried, with_link}
+use Rattle.dna_links.specs.Links.{LinkOf, Carried, with_link, with_seen}
+use Rattle.dna_links.specs.Queues.{in_use, with_in_use, may_send}
 use Rattle.dna_links.specs.Segmentation.{Piece, piece_of, same_piece, Unsent, is_next_piece}
-use Rattle.dna_links.specs.WireSegments.{WireSegments, LastSent, last_named, last_of, is_new, highest_given}
+use Rattle.dna_links.specs.WireSegments.{WireSegments, LastSent, LateSent, last_named, last_named_late, gap_at, last_of, is_new, highest_given}
 use Rattle.dna_links.specs.WireLinks.{WireLinks}
 use Rattle.nsp_link.specs.Missing.{missing}
-use Rattle.nsp_link.specs.Phases.{is_in}
 use Rattle.nsp_link.specs.declared.failed.FailedLinkSending.{FailedLinkSending}
 use Rattle.nsp_link.specs.declared.failed.FailedLinkSending.TheVariants as failed
 use Rattle.nsp_link.specs.declared.failed.NextPiece.{NextPiece}
@@ -77,6 +79,22 @@ failed_words again received (word ∷ words) sent =
 abbrev pub failed_acks : List AckWord → WireSegments → Option FailedLinkSending
 failed_acks words f = failed_words false f.variables.received words (last_of f)
 
+-- with queues: in a new segment, where a word may lie so far below the last one sent
+abbrev pub late_numbers : (received : ℕ) → LateSent → Numbers
+late_numbers received late = record {
+  lowest = late.sent.last;
+  highest = received;
+  again = from_below late.sent.last (min late.gap (words_back late.sent));
+}
+
+abbrev pub failed_late : (received : ℕ) → List AckWord → LateSent → Option FailedLinkSending
+failed_late received [] late = None
+failed_late received (word ∷ words) late =
+    if is_of_data word.qualifier
+    then failed_behind (last_named_late received word.number late) (failed.Acknowledgement word.number (late_numbers received late))
+    (λ next. failed_late received words (record { sent = next; gap = gap_at received word.number late.sent }))
+    else failed_late received words late
+
 -- ---- segments
 
 abbrev pub shape_of : Piece → PieceShape
@@ -134,48 +152,72 @@ failed_segment segsize s f =
     or_next (failed_words (not (is_new s f.variables)) f.variables.received s.acks (last_of f))
     (if is_new s f.variables then failed_new segsize (piece_of s) f else failed_again (distance s.number (highest_given f.variables)) s f)
 
+-- with queues the words of a new one may reach back
+abbrev pub failed_segment_late : (gap segsize : ℕ) → SegmentValue → WireSegments → Option FailedLinkSending
+failed_segment_late gap segsize s f =
+    if is_new s f.variables
+    then or_next (failed_late f.variables.received s.acks (record { sent = last_of f; gap = gap })) (failed_new segsize (piece_of s) f)
+    else failed_segment segsize s f
+
+abbrev pub failed_segment_of : Queues → SegmentValue → LinkOf WireSegments → Option FailedLinkSending
+failed_segment_of Without s link = failed_segment link.segsize s link.segments
+failed_segment_of With s link = failed_segment_late link.queue.gap link.segsize s link.segments
+
 -- ---- which link
 
-abbrev pub failed_phase : LinkTest → Phase → WireLinks → Option FailedLinkSending
-failed_phase test wanted s = with_link test s (Some (failed.NoLink (missing test s))) (λ number link.
-    named (is_in wanted link.port.phase) (failed.Phase number link.port.phase wanted) None)
+abbrev pub nodes_of : Carried → Nodes
+nodes_of packet = record { source = packet.src; destination = packet.dst }
 
-abbrev pub failed_in_run : (src dst : ℕ) → (LinkOf WireSegments → Option FailedLinkSending) → WireLinks → Option FailedLinkSending
-failed_in_run src dst fails s = with_link (TheLink src dst) s (Some (failed.NoLink (missing (TheLink src dst) s))) (λ number link.
-    named (is_in Running link.port.phase) (failed.Phase number link.port.phase Running) (fails link))
+-- the phase that is seen; with queues that in which something waits, and what is remembered
+abbrev pub out_of_turn : Queues → Phase → ℕ → LinkOf WireSegments → FailedLinkSending
+out_of_turn Without wanted number link = failed.Phase number link.port.phase wanted
+out_of_turn With wanted number link = failed.Turn number (in_use With link).phase link.queue wanted
+
+-- a connect acknowledgement where no live link is found
+abbrev pub failed_waiting : Queues → LinkTest → WireLinks → Option FailedLinkSending
+failed_waiting Without test s = Some (failed.NoLink (missing test s))
+failed_waiting With test s = with_seen (in_use With) test s (Some (failed.NoLink (missing test s))) (λ number link. None)
 
 -- a DC between the addresses of a live link
 abbrev pub failed_end : (src dst : ℕ) → WireLinks → Option FailedLinkSending
 failed_end src dst s = with_link (TheLink src dst) s None (λ number link. Some (failed.Live number))
 
--- ---- a row for each message
+module _ (queues : Queues) where
+  abbrev pub failed_in_turn : LinkTest → Phase → (LinkOf WireSegments → Option FailedLinkSending) → WireLinks → Option FailedLinkSending
+  failed_in_turn test wanted fails s = with_in_use queues test s (Some (failed.NoLink (missing test s))) (λ number link.
+      named (may_send queues wanted link) (out_of_turn queues wanted number link) (fails link))
 
-abbrev pub failed_message : WireLinks → NspValue → Option FailedLinkSending
-failed_message s (ConnectInitiate retransmitted src services info segsize user_data) = failed_phase (OpenedAt src) Calling s
-failed_message s (ConnectAck dst) = with_link (BegunBy dst) s (Some (failed.NoLink (missing (BegunBy dst) s))) (λ number link. None)
-failed_message s (ConnectConfirm dst src services info segsize user_data) = failed_phase (TheLink src dst) Confirming s
-failed_message s (DisconnectInitiate dst src reason user_data) = failed_phase (TheLink src dst) Disconnecting s
-failed_message s (DisconnectConfirm dst src reason) = failed_end src dst s
-failed_message s (DataSegment segment) =
-    failed_in_run segment.srcaddr segment.dstaddr (λ link. failed_segment link.segsize segment link.segments) s
-failed_message s (DataAck dst src acks) = failed_in_run src dst (λ link. failed_acks acks link.segments) s
-failed_message s (LinkService interrupt dst src rest) = failed_phase (TheLink src dst) Running s
-failed_message s (OtherDataAck dst src rest) = failed_phase (TheLink src dst) Running s
-failed_message s (NoOperation rest) = None
+  abbrev pub failed_phase : LinkTest → Phase → WireLinks → Option FailedLinkSending
+  failed_phase test wanted s = failed_in_turn test wanted (λ link. None) s
 
-abbrev pub nodes_of : Carried → Nodes
-nodes_of packet = record { source = packet.src; destination = packet.dst }
+  abbrev pub failed_in_run : (src dst : ℕ) → (LinkOf WireSegments → Option FailedLinkSending) → WireLinks → Option FailedLinkSending
+  failed_in_run src dst fails s = failed_in_turn (TheLink src dst) Running fails s
 
-abbrev pub failed_sending : WireLinks → Carried → Option FailedLinkSending
-failed_sending s packet =
-    named (packet.src == s.node && packet.dst == s.peer) (failed.Nodes (nodes_of packet) (record { source = s.node; destination = s.peer }))
-    (failed_message s packet.message)
+  -- ---- a row for each message
+
+  abbrev pub failed_message : WireLinks → NspValue → Option FailedLinkSending
+  failed_message s (ConnectInitiate retransmitted src services info segsize user_data) = failed_phase (OpenedAt src) Calling s
+  failed_message s (ConnectAck dst) = with_link (BegunBy dst) s (failed_waiting queues (BegunBy dst) s) (λ number link. None)
+  failed_message s (ConnectConfirm dst src services info segsize user_data) = failed_phase (TheLink src dst) Confirming s
+  failed_message s (DisconnectInitiate dst src reason user_data) = failed_phase (TheLink src dst) Disconnecting s
+  failed_message s (DisconnectConfirm dst src reason) = failed_end src dst s
+  failed_message s (DataSegment segment) = failed_in_run segment.srcaddr segment.dstaddr (failed_segment_of queues segment) s
+  failed_message s (DataAck dst src acks) = failed_in_run src dst (λ link. failed_acks acks link.segments) s
+  failed_message s (LinkService interrupt dst src rest) = failed_phase (TheLink src dst) Running s
+  failed_message s (OtherDataAck dst src rest) = failed_phase (TheLink src dst) Running s
+  failed_message s (NoOperation rest) = None
+
+  abbrev pub failed_sending : WireLinks → Carried → Option FailedLinkSending
+  failed_sending s packet =
+      named (packet.src == s.node && packet.dst == s.peer) (failed.Nodes (nodes_of packet) (record { source = s.node; destination = s.peer }))
+      (failed_message s packet.message)
 
 -- the refusal of each
 abbrev pub refusal_of_sending : FailedLinkSending → LinkRefusal
 refusal_of_sending (failed.Nodes seen allowed) = WrongNode
 refusal_of_sending (failed.NoLink link) = NoLink
 refusal_of_sending (failed.Phase link seen allowed) = LinkState
+refusal_of_sending (failed.Turn link seen queue wanted) = LinkState
 refusal_of_sending (failed.Live link) = LinkState
 refusal_of_sending (failed.Acknowledgement seen allowed) = WrongAck
 refusal_of_sending (failed.Room seen allowed) = LinkWindowFull

@@ -18,7 +18,7 @@ numbers_of f = record {
 }
 
 abbrev pub view_of : LinkOf WireSegments → LinkView
-view_of l = record { port = l.port; partner = l.partner; segsize = l.segsize; numbers = numbers_of l.segments }
+view_of l = record { port = l.port; partner = l.partner; segsize = l.segsize; numbers = numbers_of l.segments; queue = l.queue }
 
 -- what is left of the message that it sends, if there is one
 abbrev pub rest_of : LinkOf WireSegments → Option (List ℕ)
@@ -35,4 +35,4 @@ true_numbers f = record {
 }
 
 abbrev pub true_view : LinkOf TrueSegments → LinkView
-true_view l = record { port = l.port; partner = l.partner; segsize = l.segsize; numbers = true_numbers l.segments }
+true_view l = record { port = l.port; partner = l.partner; segsize = l.segsize; numbers = true_numbers l.segments; queue = l.queue }

@@ -5,3 +5,4 @@ pub mod Indexing
 pub mod Queue
 pub mod Late
 pub mod Rows
+pub mod Failed

@@ -1,7 +1,7 @@
 //! Which check a message or an event does not pass, with what is seen and what is allowed.
 
 use crate::LinkTag;
-use dna_links::{LinkTest, Phase};
+use dna_links::{LinkQueue, LinkTest, Phase};
 
 /// The first check that a message does not pass which the node of the links sent (NSP 4.0, port states, data segments and acknowledgements),
 /// with what is seen there and what is allowed. Numbers of segments are those of messages, 0 to 4,095.
@@ -19,6 +19,14 @@ pub enum FailedLinkSending {
     Phase {
         link: u64,
         seen: Phase,
+        allowed: Phase,
+    },
+    /// With queues: the link with this number is not in the turn of a message that asks for this phase (reason 19). Seen are its phase, or that
+    /// in which something of it waits, and what is remembered of what it reached and sent.
+    Turn {
+        link: u64,
+        seen: Phase,
+        queue: LinkQueue,
         allowed: Phase,
     },
     /// A DC goes between the addresses of this live link (reason 19). Allowed: those of none.

@@ -1,6 +1,7 @@
 //! What holds of what is shown of a link, and of the check that a message does not pass.
 
 ghost use Rattle.std.specs.Prelude.{◌≡◌, ◌≤◌, ◌<◌, ◌+◌, ℕ, Bool, true, Some, List, length, is_some, nat_lt, option_map, slice_get};
+ghost use Rattle.dna_links.specs.declared.queue.Queues.{Queues};
 ghost use Rattle.dna_links.specs.declared.queue.Queues.TheVariants.{Without};
 ghost use Rattle.dna_links.specs.CutSegments.{IsOrdered};
 ghost use Rattle.dna_links.specs.CutLinks.{cut_link};
@@ -15,9 +16,9 @@ ghost use Rattle.dna_links.specs.SegmentBook.{REACH, distance, wire};
 ghost use Rattle.dna_links.specs.User.{LinkEventValue};
 ghost use Rattle.dna_links.specs.WireLinks.{WireLinks, wire_links_arrived, wire_links_sent, wire_links_user};
 ghost use Rattle.nsp_link.specs.FailedArrival.{failed_arrival, refusal_of_arrival};
-ghost use Rattle.dna_links.specs.WireSegments.{LastSent, WireSegments, highest_given, last_named};
+ghost use Rattle.dna_links.specs.WireSegments.{LastSent, LateSent, WireSegments, highest_given, last_named, last_named_late};
 ghost use Rattle.nsp_link.specs.FailedEvent.{failed_event, is_whole, refusal_of_event};
-ghost use Rattle.nsp_link.specs.FailedSending.{failed_sending, front_piece, is_allowed};
+ghost use Rattle.nsp_link.specs.FailedSending.{failed_sending, front_piece, is_allowed, late_numbers};
 ghost use Rattle.nsp_link.specs.FailedSending.{may_repeat, refusal_of_sending, segment_numbers, word_numbers};
 ghost use Rattle.nsp_link.specs.Missing.{refusal_in};
 ghost use Rattle.nsp_link.specs.View.{true_view, view_of};
@@ -27,14 +28,14 @@ pub fn link_view_shows_truth()
     ensures { (l : LinkOf TrueSegments) → is_live l.port.phase ≡ true → IsOrdered l.segments → view_of (cut_link Without l) ≡ true_view l }
 {}
 
-/// The check that a message or an event does not pass is the one for which the links refuse it.
+/// The check that a message or an event does not pass is the one for which the links refuse it, with queues or without.
 pub fn failed_as_refused()
-    ensures sending { (s : WireLinks) (packet : Carried) → option_map refusal_of_sending (failed_sending s packet) ≡
-        refusal_in (wire_links_sent Without s packet) }
-    ensures event { (s : WireLinks) (event : LinkEventValue) → option_map refusal_of_event (failed_event s event) ≡
-        refusal_in (wire_links_user Without s event) }
-    ensures arrival { (s : WireLinks) (packet : Carried) (tag : LinkTag) →
-        option_map refusal_of_arrival (failed_arrival s packet tag) ≡ refusal_in (wire_links_arrived Without of_partner s packet tag) }
+    ensures sending { (queues : Queues) (s : WireLinks) (packet : Carried) → option_map refusal_of_sending (failed_sending queues s packet) ≡
+        refusal_in (wire_links_sent queues s packet) }
+    ensures event { (queues : Queues) (s : WireLinks) (event : LinkEventValue) → option_map refusal_of_event (failed_event queues s event) ≡
+        refusal_in (wire_links_user queues s event) }
+    ensures arrival { (queues : Queues) (s : WireLinks) (packet : Carried) (tag : LinkTag) →
+        option_map refusal_of_arrival (failed_arrival s packet tag) ≡ refusal_in (wire_links_arrived queues of_partner s packet tag) }
 {}
 
 /// With what is allowed in the place of what is seen, the check is passed that a message or an event did not pass: a link that is as it asks for;
@@ -45,6 +46,8 @@ pub fn allowed_at_links()
         passes test link.port ≡ true → is_some (number_of test s) ≡ true }
     ensures word { (again : Bool) (received number : ℕ) (sent : LastSent) → sent.last < 4096 →
         is_allowed (word_numbers again received sent) number ≡ true → is_some (last_named again received number sent) ≡ true }
+    ensures late { (received number : ℕ) (late : LateSent) → late.sent.last < 4096 →
+        is_allowed (late_numbers received late) number ≡ true → is_some (last_named_late received number late) ≡ true }
     ensures number { (f : WireSegments) (number : ℕ) → number < 4096 → is_allowed (segment_numbers f) number ≡ true →
         (number ≡ wire (highest_given f.variables + 1) → ⊥) → may_repeat (distance number (highest_given f.variables)) f ≡ true }
     ensures next { (u : Unsent) (rest : List ℕ) (count : ℕ) → slice_get u.messages 0 ≡ Some rest → count ≤ length rest →

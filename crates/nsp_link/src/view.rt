@@ -1,6 +1,6 @@
 //! What is shown of a link.
 
-use dna_links::Port;
+use dna_links::{LinkQueue, Port};
 
 /// One end of a logical link at one moment (NSP 4.0, ports), to be shown.
 #[derive(Clone, Copy, Debug, PartialEq, Eq)]
@@ -13,6 +13,8 @@ pub struct LinkView {
     pub segsize: u16,
     /// The numbers of its segments.
     pub numbers: LinkNumbers,
+    /// What the queues of its node leave open of it; without queues as it began.
+    pub queue: LinkQueue,
 }
 
 /// The numbers of a link's segments, both ways (NSP 4.0, data segments and acknowledgements), 0 to 4,095 as messages have them. All are 0

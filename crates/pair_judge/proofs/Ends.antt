@@ -14,6 +14,7 @@ use Rattle.dna_station.specs.Bounds.{IsOrdered}
 use Rattle.dna_station.specs.Cut.{AreLabelled, cut}
 use Rattle.dna_station.specs.Station.{Station}
 use Rattle.dna_station.specs.WireStation.{HeldPacket}
+use Rattle.dna_links.specs.declared.queue.Queues.{Queues}
 use Rattle.dna_links.specs.declared.queue.Queues.TheVariants.{Without}
 use Rattle.dna_links.specs.CutLinks.{cut_links}
 use Rattle.dna_links.specs.Runs.{SentMessage}
@@ -53,7 +54,7 @@ use Rattle.pair_judge.specs.Order.{MadeRecord, records_of}
 use Rattle.pair_judge.specs.Watched.{WasTold}
 use Rattle.pair_judge.specs.inner.Runs.{tag_of}
 use Rattle.pair_judge.specs.inner.Stopped.{IsStoppedIn, ends_of, found_of}
-use Rattle.pair_judge.specs.inner.Tops.{links_on_top}
+use Rattle.pair_judge.specs.inner.Tops.{links_on_top, links_on_top_by}
 use Rattle.pair_judge.specs.inner.Wire.{JudgeHalf, JudgeTop, JudgeWorld, judge_pair}
 use Rattle.pair_judge.proofs.FailsThere.{cause_there, fails_same, order_named, step_named, unit_named, waits_by_hint}
 use Rattle.pair_judge.proofs.Runs.{length-units_from}
@@ -185,52 +186,52 @@ module _ (top : JudgeTop)
 
 -- ---- a check of the reason fails where the judge stops
 
-module _ (text_a text_b : Option (List ℕ)) (tells : List MadeRecord → Type 0) (s : Stopped)
-    (i : IsStoppedIn links_on_top text_a text_b tells s) where
+module _ (queues : Queues) (text_a text_b : Option (List ℕ)) (tells : List MadeRecord → Type 0) (s : Stopped)
+    (i : IsStoppedIn (links_on_top_by queues) text_a text_b tells s) where
   abbrev of_a : Track
   of_a = along text_a s.a i.come_a i.made_a
 
   abbrev of_b : Track
   of_b = along text_b s.b i.come_b i.made_b
 
-  named_at : (side : Side) (place : ℕ) (cause : Cause) → StopsAt links_on_top of_a of_b side place cause →
-      ¬ IsFirstOf (reason_of cause) (checks_at side (ends_of links_on_top s)) None
+  named_at : (side : Side) (place : ℕ) (cause : Cause) → StopsAt (links_on_top_by queues) of_a of_b side place cause →
+      ¬ IsFirstOf (reason_of cause) (checks_at queues side (ends_of (links_on_top_by queues) s)) None
   named_at A place (Step refusal) q =
       let h = q.reached in
-      step_named (shown_end s.a s.b.end.line.gone) (shown_end s.b s.a.end.line.gone) (held s.b.end.line) q.next refusal
+      step_named queues (shown_end s.a s.b.end.line.gone) (shown_end s.b s.a.end.line.gone) (held s.b.end.line) q.next refusal
       (is_ahead s.a.capture.bytes s.a.ahead q.next q.ahead)
-      (fails_same s.a.end s.b.end.line h.world.a h.world.b h.stands_a h.stands_b.sent q.next ∙ ap cause_there q.becomes)
+      (fails_same queues s.a.end s.b.end.line h.world.a h.world.b h.stands_a h.stands_b.sent q.next ∙ ap cause_there q.becomes)
   named_at B place (Step refusal) q =
       let h = q.reached in
-      step_named (shown_end s.b s.a.end.line.gone) (shown_end s.a s.b.end.line.gone) (held s.a.end.line) q.next refusal
+      step_named queues (shown_end s.b s.a.end.line.gone) (shown_end s.a s.b.end.line.gone) (held s.a.end.line) q.next refusal
       (is_ahead s.b.capture.bytes s.b.ahead q.next q.ahead)
-      (fails_same s.b.end s.a.end.line h.world.b h.world.a h.stands_b h.stands_a.sent q.next ∙ ap cause_there q.becomes)
+      (fails_same queues s.b.end s.a.end.line h.world.b h.world.a h.stands_b h.stands_a.sent q.next ∙ ap cause_there q.becomes)
   named_at A place NoSuchUnit q =
-      let w = waits_by_hint q.reached.world.a q.reached.world.b q.next q.becomes in
-      unit_named (shown_end s.a s.b.end.line.gone) (shown_end s.b s.a.end.line.gone) (held s.b.end.line) w.0
+      let w = waits_by_hint queues q.reached.world.a q.reached.world.b q.next q.becomes in
+      unit_named queues (shown_end s.a s.b.end.line.gone) (shown_end s.b s.a.end.line.gone) (held s.b.end.line) w.0
       (ap hint_of (is_ahead s.a.capture.bytes s.a.ahead q.next q.ahead) ∙ w.1)
   named_at B place NoSuchUnit q =
-      let w = waits_by_hint q.reached.world.b q.reached.world.a q.next q.becomes in
-      unit_named (shown_end s.b s.a.end.line.gone) (shown_end s.a s.b.end.line.gone) (held s.a.end.line) w.0
+      let w = waits_by_hint queues q.reached.world.b q.reached.world.a q.next q.becomes in
+      unit_named queues (shown_end s.b s.a.end.line.gone) (shown_end s.a s.b.end.line.gone) (held s.a.end.line) w.0
       (ap hint_of (is_ahead s.b.capture.bytes s.b.ahead q.next q.ahead) ∙ w.1)
   named_at A place NoOrder q =
-      let w = waits_by_hint q.reached.world.a q.reached.world.b q.next q.becomes in
-      let far = waits_by_hint q.reached.world.b q.reached.world.a q.other.0 q.other.2 in
-      order_named (shown_end s.a s.b.end.line.gone) (shown_end s.b s.a.end.line.gone) (held s.b.end.line) w.0 far.0
+      let w = waits_by_hint queues q.reached.world.a q.reached.world.b q.next q.becomes in
+      let far = waits_by_hint queues q.reached.world.b q.reached.world.a q.other.0 q.other.2 in
+      order_named queues (shown_end s.a s.b.end.line.gone) (shown_end s.b s.a.end.line.gone) (held s.b.end.line) w.0 far.0
       (ap hint_of (is_ahead s.a.capture.bytes s.a.ahead q.next q.ahead) ∙ w.1)
       (ap hint_of (is_ahead s.b.capture.bytes s.b.ahead q.other.0 q.other.1) ∙ far.1)
   named_at B place NoOrder q =
-      let w = waits_by_hint q.reached.world.b q.reached.world.a q.next q.becomes in
-      let far = waits_by_hint q.reached.world.a q.reached.world.b q.other.0 q.other.2 in
-      order_named (shown_end s.b s.a.end.line.gone) (shown_end s.a s.b.end.line.gone) (held s.a.end.line) w.0 far.0
+      let w = waits_by_hint queues q.reached.world.b q.reached.world.a q.next q.becomes in
+      let far = waits_by_hint queues q.reached.world.a q.reached.world.b q.other.0 q.other.2 in
+      order_named queues (shown_end s.b s.a.end.line.gone) (shown_end s.a s.b.end.line.gone) (held s.a.end.line) w.0 far.0
       (ap hint_of (is_ahead s.b.capture.bytes s.b.ahead q.next q.ahead) ∙ w.1)
       (ap hint_of (is_ahead s.a.capture.bytes s.a.ahead q.other.0 q.other.1) ∙ far.1)
 
-  pub named_there : NamesOne (ends_of links_on_top s)
+  pub named_there : NamesOne queues (ends_of (links_on_top_by queues) s)
   named_there = by_finding s.finding _ i.stops
     where
-      by_finding : (finding : Finding) (summary : Summary) → StopsFor links_on_top of_a of_b finding →
-          NamesOneBy (ends_of links_on_top s) (answer_of finding summary)
+      by_finding : (finding : Finding) (summary : Summary) → StopsFor (links_on_top_by queues) of_a of_b finding →
+          NamesOneBy queues (ends_of (links_on_top_by queues) s) (answer_of finding summary)
       by_finding Accepted summary stops = tt
       by_finding (Refused side place cause) summary stops = named_at side place cause stops
 

@@ -28,7 +28,7 @@ use Rattle.dna_station.specs.PeriodRule.{of_period}
 use Rattle.dna_station.specs.Table.{user_refusal}
 use Rattle.dna_station.specs.WireBook.{gives_new, wire_book, wire_sending_refusal, wire_after_sending, wire_arrival_refusal, wire_after_arrival}
 use Rattle.dna_station.specs.WireStation.{WireStation}
-use Rattle.dna_links.specs.declared.queue.Queues.TheVariants.{Without}
+use Rattle.dna_links.specs.declared.queue.Queues.{Queues}
 use Rattle.dna_links.specs.declared.tag.LinkTag.{LinkTag}
 use Rattle.dna_links.specs.Links.{Carried}
 use Rattle.dna_links.specs.User.{LinkEventValue, Open, Accept, Reject, In, Up, Close}
@@ -36,7 +36,7 @@ use Rattle.dna_links.specs.WireLinks.{wire_links_arrived, wire_links_sent, wire_
 use Rattle.dna_node.specs.declared.finding.Cause.{Cause}
 use Rattle.dna_node.specs.declared.finding.Cause.TheVariants.{Step}
 use Rattle.dna_node.specs.Content.{content, content_of, is_returned, message_in}
-use Rattle.dna_node.specs.TagRules.{judged}
+use Rattle.dna_node.specs.TagRules.{judged_by}
 use Rattle.dna_node.specs.WireLayers.{LayersTag, WireLayers, tag_or_none, to_wire_station, wire_keeps, wire_keeps_packet, wire_layers_machine}
 use Rattle.dna_node.specs.WireLayers.{wire_meets_on, wire_sends_again, wire_sends_first, wire_sends_on, with_tag, with_wire_links, with_wire_station}
 use Rattle.nsp_link.specs.FailedArrival as arrives
@@ -110,66 +110,66 @@ without_link link (Sound m tag) = refl
 without_link link HeaderBad = refl
 without_link link DataBad = refl
 
-first_same : (s : WireLayers) (m : MessageValue) (after : WireStation LinkTag × Tag) →
-    caused (failed_first s m) ≡ cause_in (wire_sends_on judged s m (Ok after))
-first_same s m after = by_new (gives_new s.station m) where
+first_same : (queues : Queues) (s : WireLayers) (m : MessageValue) (after : WireStation LinkTag × Tag) →
+    caused (failed_first queues s m) ≡ cause_in (wire_sends_on (judged_by queues) s m (Ok after))
+first_same queues s m after = by_new (gives_new s.station m) where
   by_new : (b : Bool) →
-      caused (cond b (failed_packet (λ packet. option_map LinkSending (sends.failed_sending s.links packet)) (body_of m)) None) ≡
-      cause_in (cond b (wire_sends_first judged s after (content (body_of m))) (Ok (wire_sends_again s m after)))
+      caused (cond b (failed_packet (λ packet. option_map LinkSending (sends.failed_sending queues s.links packet)) (body_of m)) None) ≡
+      cause_in (cond b (wire_sends_first (judged_by queues) s after (content (body_of m))) (Ok (wire_sends_again s m after)))
   by_new true =
-      packet_same (λ packet. option_map LinkSending (sends.failed_sending s.links packet)) (wire_sends_first judged s after) refl (λ refusal. refl)
+      packet_same (λ packet. option_map LinkSending (sends.failed_sending queues s.links packet)) (wire_sends_first (judged_by queues) s after) refl (λ refusal. refl)
       (λ packet. linked_same LinkSending sends.refusal_of_sending (with_tag after) (λ failed. refl) (λ made. refl) (λ refusal. refl)
-      (sends.failed_sending s.links packet) (wire_links_sent Without s.links packet) (sending_same s.links packet))
+      (sends.failed_sending queues s.links packet) (wire_links_sent queues s.links packet) (sending_same queues s.links packet))
       (body_of m)
   by_new false = refl
 
-message_by : (s : WireLayers) (m : MessageValue) (after : WireStation LinkTag × Tag) (o : Option FailedSending) (p : Option StationRefusal) →
+message_by : (queues : Queues) (s : WireLayers) (m : MessageValue) (after : WireStation LinkTag × Tag) (o : Option FailedSending) (p : Option StationRefusal) →
     option_map of_station.refusal_of_failed o ≡ p →
-    caused (or_next (option_map StationSending o) (failed_first s m)) ≡ cause_in (wire_sends_on judged s m (unless_refused p after))
-message_by s m after (Some failed) p same = ap (λ (q : Option StationRefusal). cause_in (wire_sends_on judged s m (unless_refused q after))) same
-message_by s m after None p same =
-    first_same s m after ∙ ap (λ (q : Option StationRefusal). cause_in (wire_sends_on judged s m (unless_refused q after))) same
+    caused (or_next (option_map StationSending o) (failed_first queues s m)) ≡ cause_in (wire_sends_on (judged_by queues) s m (unless_refused p after))
+message_by queues s m after (Some failed) p same = ap (λ (q : Option StationRefusal). cause_in (wire_sends_on (judged_by queues) s m (unless_refused q after))) same
+message_by queues s m after None p same =
+    first_same queues s m after ∙ ap (λ (q : Option StationRefusal). cause_in (wire_sends_on (judged_by queues) s m (unless_refused q after))) same
 
-pub message_same : (s : WireLayers) (m : MessageValue) → caused (failed_message s m) ≡ cause_in ((wire_layers_machine judged).sends s m)
-message_same s m =
-    message_by s m (wire_after_sending s.station m, wire_book.known s.station (wire_after_sending s.station m) m)
+pub message_same : (queues : Queues) (s : WireLayers) (m : MessageValue) → caused (failed_message queues s m) ≡ cause_in ((wire_layers_machine (judged_by queues)).sends s m)
+message_same queues s m =
+    message_by queues s m (wire_after_sending s.station m, wire_book.known s.station (wire_after_sending s.station m) m)
     (of_station.failed_sending s.station m) (wire_sending_refusal s.station m) (refuses_same s.station m)
 
 -- ---- an arrival
 
-kept_same : (s : WireLayers) (after : WireStation LinkTag) (arrival : ArrivalValue LayersTag) →
-    caused (failed_kept s arrival) ≡ cause_in (wire_keeps judged (record s { station = after }) arrival)
-kept_same s after (Sound m known) =
+kept_same : (queues : Queues) (s : WireLayers) (after : WireStation LinkTag) (arrival : ArrivalValue LayersTag) →
+    caused (failed_kept s arrival) ≡ cause_in (wire_keeps (judged_by queues) (record s { station = after }) arrival)
+kept_same queues s after (Sound m known) =
     packet_same (λ packet. option_map LinkArrival (arrives.failed_arrival s.links packet (tag_or_none known.link)))
-    (wire_keeps_packet judged (record s { station = after }) (tag_or_none known.link)) refl (λ refusal. refl)
+    (wire_keeps_packet (judged_by queues) (record s { station = after }) (tag_or_none known.link)) refl (λ refusal. refl)
     (λ packet. linked_same LinkArrival arrives.refusal_of_arrival (with_wire_links (record s { station = after })) (λ failed. refl) (λ made. refl)
     (λ refusal. refl) (arrives.failed_arrival s.links packet (tag_or_none known.link))
-    (wire_links_arrived Without judged.partners s.links packet (tag_or_none known.link)) (link_arrival_same s.links packet (tag_or_none known.link)))
+    (wire_links_arrived queues (judged_by queues).partners s.links packet (tag_or_none known.link)) (link_arrival_same queues s.links packet (tag_or_none known.link)))
     (body_of m)
-kept_same s after HeaderBad = refl
-kept_same s after DataBad = refl
+kept_same queues s after HeaderBad = refl
+kept_same queues s after DataBad = refl
 
-met_same : (s : WireLayers) (arrival : ArrivalValue LayersTag) (kept : Bool) (after : WireStation LinkTag) →
-    caused (cond kept (failed_kept s arrival) None) ≡ cause_in (wire_meets_on judged s arrival kept (Ok after))
-met_same s arrival true after = kept_same s after arrival
-met_same s arrival false after = refl
+met_same : (queues : Queues) (s : WireLayers) (arrival : ArrivalValue LayersTag) (kept : Bool) (after : WireStation LinkTag) →
+    caused (cond kept (failed_kept s arrival) None) ≡ cause_in (wire_meets_on (judged_by queues) s arrival kept (Ok after))
+met_same queues s arrival true after = kept_same queues s after arrival
+met_same queues s arrival false after = refl
 
-arrival_by : (s : WireLayers) (arrival : ArrivalValue LayersTag) (kept : Bool) (after : WireStation LinkTag) (o : Option FailedArrival)
+arrival_by : (queues : Queues) (s : WireLayers) (arrival : ArrivalValue LayersTag) (kept : Bool) (after : WireStation LinkTag) (o : Option FailedArrival)
     (p : Option StationRefusal) → option_map of_station.refusal_of_arrival o ≡ p →
     caused (or_next (option_map StationArrival o) (cond kept (failed_kept s arrival) None)) ≡
-    cause_in (wire_meets_on judged s arrival kept (unless_refused p after))
-arrival_by s arrival kept after (Some failed) p same =
-    ap (λ (q : Option StationRefusal). cause_in (wire_meets_on judged s arrival kept (unless_refused q after))) same
-arrival_by s arrival kept after None p same =
-    met_same s arrival kept after
-    ∙ ap (λ (q : Option StationRefusal). cause_in (wire_meets_on judged s arrival kept (unless_refused q after))) same
+    cause_in (wire_meets_on (judged_by queues) s arrival kept (unless_refused p after))
+arrival_by queues s arrival kept after (Some failed) p same =
+    ap (λ (q : Option StationRefusal). cause_in (wire_meets_on (judged_by queues) s arrival kept (unless_refused q after))) same
+arrival_by queues s arrival kept after None p same =
+    met_same queues s arrival kept after
+    ∙ ap (λ (q : Option StationRefusal). cause_in (wire_meets_on (judged_by queues) s arrival kept (unless_refused q after))) same
 
-pub arrival_same : (s : WireLayers) (arrival : ArrivalValue LayersTag) (kept : Bool) →
-    caused (failed_arrival s arrival kept) ≡ cause_in ((wire_layers_machine judged).arrives s arrival kept)
-arrival_same s arrival kept =
-    arrival_by s arrival kept (wire_after_arrival s.station (to_wire_station arrival) kept)
+pub arrival_same : (queues : Queues) (s : WireLayers) (arrival : ArrivalValue LayersTag) (kept : Bool) →
+    caused (failed_arrival s arrival kept) ≡ cause_in ((wire_layers_machine (judged_by queues)).arrives s arrival kept)
+arrival_same queues s arrival kept =
+    arrival_by queues s arrival kept (wire_after_arrival s.station (to_wire_station arrival) kept)
     (of_station.failed_arrival of_period s.station (to_wire_station arrival) kept)
-    (wire_arrival_refusal judged.periods s.station (to_wire_station arrival) kept)
+    (wire_arrival_refusal (judged_by queues).periods s.station (to_wire_station arrival) kept)
     (station_arrival_same of_period s.station (to_wire_station arrival) kept)
 
 -- ---- the user
@@ -188,18 +188,18 @@ halt_same s after Istrt = refl
 halt_same s after Astrt = refl
 halt_same s after Running = refl
 
-links_same : (s : WireLayers) (event : LinkEventValue) →
-    caused (failed_at_links s (Some event)) ≡ cause_in (with_wire_links s (wire_links_user Without s.links event))
-links_same s event =
+links_same : (queues : Queues) (s : WireLayers) (event : LinkEventValue) →
+    caused (failed_at_links queues s (Some event)) ≡ cause_in (with_wire_links s (wire_links_user queues s.links event))
+links_same queues s event =
     linked_same LinkEvent happens.refusal_of_event (with_wire_links s) (λ failed. refl) (λ made. refl) (λ refusal. refl)
-    (happens.failed_event s.links event) (wire_links_user Without s.links event) (event_same s.links event)
+    (happens.failed_event queues s.links event) (wire_links_user queues s.links event) (event_same queues s.links event)
 
-pub user_same : (s : WireLayers) (event : Event) → caused (failed_user s event) ≡ cause_in ((wire_layers_machine judged).user s event)
-user_same s events.Start = start_same s (wire_book.after_event s.station Start) s.station.variables.state
-user_same s events.Halt = halt_same s (wire_book.after_event s.station Halt) s.station.variables.state
-user_same s (events.Open link) = links_same s (Open link)
-user_same s (events.Accept partner link) = links_same s (Accept partner link)
-user_same s (events.Reject partner link) = links_same s (Reject partner link)
-user_same s (events.In link message) = links_same s (In link message)
-user_same s (events.Up link message) = links_same s (Up link message)
-user_same s (events.Close link) = links_same s (Close link)
+pub user_same : (queues : Queues) (s : WireLayers) (event : Event) → caused (failed_user queues s event) ≡ cause_in ((wire_layers_machine (judged_by queues)).user s event)
+user_same queues s events.Start = start_same s (wire_book.after_event s.station Start) s.station.variables.state
+user_same queues s events.Halt = halt_same s (wire_book.after_event s.station Halt) s.station.variables.state
+user_same queues s (events.Open link) = links_same queues s (Open link)
+user_same queues s (events.Accept partner link) = links_same queues s (Accept partner link)
+user_same queues s (events.Reject partner link) = links_same queues s (Reject partner link)
+user_same queues s (events.In link message) = links_same queues s (In link message)
+user_same queues s (events.Up link message) = links_same queues s (Up link message)
+user_same queues s (events.Close link) = links_same queues s (Close link)

@@ -15,6 +15,7 @@ use Rattle.dna_station.specs.Line.{coming, damage}
 use Rattle.dna_station.specs.Machine.{comes, does, met, noise_comes, receives, sends, sent_step}
 use Rattle.dna_station.specs.declared.refusal.StepRefusal.{StepRefusal}
 use Rattle.dna_station.specs.declared.refusal.StepRefusal.TheVariants.{HintOrder}
+use Rattle.dna_links.specs.declared.queue.Queues.{Queues}
 use Rattle.dna_node.specs.declared.finding.Cause.{Cause}
 use Rattle.dna_node.specs.declared.finding.Cause.TheVariants.{Step, NoSuchUnit, NoOrder}
 use Rattle.dna_node.specs.WireLayers.{LayersTag, WireLayers, WireLayersNode, WireLayersUnit}
@@ -30,7 +31,7 @@ use Rattle.pair_judge.specs.FailedIn.{IsFirstOf, IsOf, awaited, both_await, chec
 use Rattle.pair_judge.specs.Reason.{reason_of}
 use Rattle.pair_judge.specs.inner.Lines.{Shows, held}
 use Rattle.pair_judge.specs.inner.Making.{StandsFor}
-use Rattle.pair_judge.specs.inner.Tops.{layers_run, links_on_top}
+use Rattle.pair_judge.specs.inner.Tops.{layers_run_by, links_on_top_by}
 use Rattle.pair_judge.specs.inner.Wire.{JudgeHalf, judge_step}
 use Rattle.pair_judge.proofs.FailedAsRefused.{arrival_same, message_same, user_same}
 use Rattle.pair_judge.proofs.Sent.{held_at, item_within}
@@ -46,7 +47,7 @@ cause_there (Refused refusal) = Some (Step refusal)
 
 -- ---- a step of both layers
 
-module _ (own other : JudgeHalf) where
+module _ (queues : Queues) (own other : JudgeHalf) where
   does_same : (o : Result WireLayers StepRefusal) → cause_there (answered own other (does {K = LayersTag} own.state o)) ≡ cause_in o
   does_same (Ok s) = refl
   does_same (Err refusal) = refl
@@ -62,29 +63,29 @@ module _ (own other : JudgeHalf) where
   met_same front (Err refusal) = refl
 
   sent_same : (bytes : List ℕ) (read : ReadingValue) →
-      caused (failed_sent own.state.station read) ≡ cause_there (answered own other (sent_step layers_run own.state bytes read))
-  sent_same bytes (Sound m) = message_same own.state.station m ∙ sym (sends_same bytes m (layers_run.sends own.state.station m))
+      caused (failed_sent queues own.state.station read) ≡ cause_there (answered own other (sent_step (layers_run_by queues) own.state bytes read))
+  sent_same bytes (Sound m) = message_same queues own.state.station m ∙ sym (sends_same bytes m ((layers_run_by queues).sends own.state.station m))
   sent_same bytes HeaderBad = refl
   sent_same bytes DataBad = refl
   sent_same bytes (Malformed departure) = refl
 
   noise_same : (o : Option (ArrivalValue LayersTag)) → caused (failed_noise own.state.station o) ≡
-      cause_there (answered own other (does {K = LayersTag} own.state (noise_comes layers_run own.state.station o)))
+      cause_there (answered own other (does {K = LayersTag} own.state (noise_comes (layers_run_by queues) own.state.station o)))
   noise_same None = refl
   noise_same (Some arrival) =
-      arrival_same own.state.station arrival false ∙ sym (does_same (layers_run.arrives own.state.station arrival false))
+      arrival_same queues own.state.station arrival false ∙ sym (does_same ((layers_run_by queues).arrives own.state.station arrival false))
 
   comes_same : (hint : ℕ) (kept : Bool) (came : Option (ArrivalValue LayersTag)) → caused (failed_coming own.state.station hint kept came) ≡
-      cause_there (concluded {U = WireLayersUnit} own (comes layers_run own.state (hint + 1) kept came))
+      cause_there (concluded {U = WireLayersUnit} own (comes (layers_run_by queues) own.state (hint + 1) kept came))
   comes_same hint kept None = refl
   comes_same hint kept (Some arrival) =
-      arrival_same own.state.station arrival kept ∙ sym (met_same (hint + 1) (layers_run.arrives own.state.station arrival kept))
+      arrival_same queues own.state.station arrival kept ∙ sym (met_same (hint + 1) ((layers_run_by queues).arrives own.state.station arrival kept))
 
   -- ---- a receipt
 
   receives_by : (hint : ℕ) (kept : Bool) (bytes : List ℕ) (unit : WireLayersUnit) (back : Bool) →
       caused (cond back (Some (failed.HintOrder hint own.state.front)) (failed_receipt own.state.station hint kept bytes (Some unit))) ≡
-      cause_there (concluded {U = WireLayersUnit} own (cond back (Err HintOrder) (comes layers_run own.state (hint + 1) kept (coming unit bytes))))
+      cause_there (concluded {U = WireLayersUnit} own (cond back (Err HintOrder) (comes (layers_run_by queues) own.state (hint + 1) kept (coming unit bytes))))
   receives_by hint kept bytes unit true = refl
   receives_by hint kept bytes unit false = comes_same hint kept (coming unit bytes)
 
@@ -94,8 +95,8 @@ module _ (own other : JudgeHalf) where
 
     receipt_by : (o : Option WireLayersUnit) → (own.state.front ≤ hint → slice_get units (hint - own.state.front) ≡ o) →
         (hint < own.state.front → o ≡ None → ⊥) →
-        caused (failed_record own.state.station own.state.front units (Received hint kept bytes)) ≡
-        cause_there (any.read own (receives layers_run own.state hint kept bytes) o)
+        caused (failed_record queues own.state.station own.state.front units (Received hint kept bytes)) ≡
+        cause_there (any.read own (receives (layers_run_by queues) own.state hint kept bytes) o)
     receipt_by None there sent = elim (cases_lt hint own.state.front) [
       | inl below ↦ absurd (sent below refl)
       | inr at_least ↦
@@ -106,7 +107,7 @@ module _ (own other : JudgeHalf) where
       | inl below ↦
           ap (λ (back : Bool). caused (at_front back (slice_get units (hint - own.state.front)))) (lt-ltb hint own.state.front below)
           ∙ sym (ap (λ (back : Bool). cause_there (concluded {U = WireLayersUnit} own (cond back (Err HintOrder)
-          (comes layers_run own.state (hint + 1) kept (coming unit bytes))))) (lt-ltb hint own.state.front below))
+          (comes (layers_run_by queues) own.state (hint + 1) kept (coming unit bytes))))) (lt-ltb hint own.state.front below))
       | inr at_least ↦
           ap (λ (found : Option WireLayersUnit). caused (at_front (nat_lt hint own.state.front) found)) (there at_least)
           ∙ receives_by hint kept bytes unit (nat_lt hint own.state.front)
@@ -114,15 +115,15 @@ module _ (own other : JudgeHalf) where
 
 -- ---- a record at an end
 
-module _ (own : End) (incoming : Line) (mine theirs : JudgeHalf) (stands : StandsFor own incoming mine) (shows : Shows incoming theirs.sent) where
-  at_state : (r : Record) → caused (failed_record mine.state.station mine.state.front (held incoming) r) ≡
-      cause_there (advance (judge_step links_on_top) mine theirs r)
-  at_state (Sent bytes) = sent_same mine theirs bytes (reading bytes)
-  at_state (Noise bytes) = noise_same mine theirs (damage (reading bytes))
+module _ (queues : Queues) (own : End) (incoming : Line) (mine theirs : JudgeHalf) (stands : StandsFor own incoming mine) (shows : Shows incoming theirs.sent) where
+  at_state : (r : Record) → caused (failed_record queues mine.state.station mine.state.front (held incoming) r) ≡
+      cause_there (advance (judge_step (links_on_top_by queues)) mine theirs r)
+  at_state (Sent bytes) = sent_same queues mine theirs bytes (reading bytes)
+  at_state (Noise bytes) = noise_same queues mine theirs (damage (reading bytes))
   at_state (User event) =
-      user_same mine.state.station event ∙ sym (does_same mine theirs (layers_run.user mine.state.station event))
+      user_same queues mine.state.station event ∙ sym (does_same queues mine theirs ((layers_run_by queues).user mine.state.station event))
   at_state (Received hint kept bytes) =
-      receipt_by mine theirs (held incoming) hint kept bytes (slice_get theirs.sent hint)
+      receipt_by queues mine theirs (held incoming) hint kept bytes (slice_get theirs.sent hint)
       (λ at_least.
       ap (λ (front : ℕ). slice_get (held incoming) (hint - front)) stands.front
       ∙ held_at incoming theirs.sent hint shows (subst (λ (front : ℕ). front ≤ hint) stands.front at_least))
@@ -132,11 +133,11 @@ module _ (own : End) (incoming : Line) (mine theirs : JudgeHalf) (stands : Stand
       let item = item_within theirs.sent hint (omega arith) in
       absurd (cc))
 
-  pub fails_same : (r : Record) → caused (failed_record own.layers incoming.gone (held incoming) r) ≡
-      cause_there (advance (judge_step links_on_top) mine theirs r)
+  pub fails_same : (r : Record) → caused (failed_record queues own.layers incoming.gone (held incoming) r) ≡
+      cause_there (advance (judge_step (links_on_top_by queues)) mine theirs r)
   fails_same r =
-      ap (λ (layers : WireLayers). caused (failed_record layers incoming.gone (held incoming) r)) (sym stands.layers)
-      ∙ ap (λ (front : ℕ). caused (failed_record mine.state.station front (held incoming) r)) (sym stands.front)
+      ap (λ (layers : WireLayers). caused (failed_record queues layers incoming.gone (held incoming) r)) (sym stands.layers)
+      ∙ ap (λ (front : ℕ). caused (failed_record queues mine.state.station front (held incoming) r)) (sym stands.front)
       ∙ at_state r
 
 -- ---- a record that waits is a receipt
@@ -150,20 +151,20 @@ sends_no_wait : (own other : JudgeHalf) (bytes : List ℕ) (m : MessageValue) (o
 sends_no_wait own other bytes m (Ok after) waits = absurd (cc)
 sends_no_wait own other bytes m (Err refusal) waits = absurd (cc)
 
-sent_not_waits : (own other : JudgeHalf) (bytes : List ℕ) (read : ReadingValue) →
-    answered own other (sent_step layers_run own.state bytes read) ≡ Waits → ⊥
-sent_not_waits own other bytes (Sound m) waits = sends_no_wait own other bytes m (layers_run.sends own.state.station m) waits
-sent_not_waits own other bytes HeaderBad waits = absurd (cc)
-sent_not_waits own other bytes DataBad waits = absurd (cc)
-sent_not_waits own other bytes (Malformed departure) waits = absurd (cc)
+sent_not_waits : (queues : Queues) (own other : JudgeHalf) (bytes : List ℕ) (read : ReadingValue) →
+    answered own other (sent_step (layers_run_by queues) own.state bytes read) ≡ Waits → ⊥
+sent_not_waits queues own other bytes (Sound m) waits = sends_no_wait own other bytes m ((layers_run_by queues).sends own.state.station m) waits
+sent_not_waits queues own other bytes HeaderBad waits = absurd (cc)
+sent_not_waits queues own other bytes DataBad waits = absurd (cc)
+sent_not_waits queues own other bytes (Malformed departure) waits = absurd (cc)
 
-pub waits_by_hint : (own other : JudgeHalf) (r : Record) → advance (judge_step links_on_top) own other r ≡ Waits →
+pub waits_by_hint : (queues : Queues) (own other : JudgeHalf) (r : Record) → advance (judge_step (links_on_top_by queues)) own other r ≡ Waits →
     (hint : ℕ) × (hint_of (Some r) ≡ Some hint)
-waits_by_hint own other (Received hint kept bytes) waits = (hint, refl)
-waits_by_hint own other (Sent bytes) waits = absurd (sent_not_waits own other bytes (reading bytes) waits)
-waits_by_hint own other (Noise bytes) waits =
-    absurd (does_not_wait own other (noise_comes layers_run own.state.station (damage (reading bytes))) waits)
-waits_by_hint own other (User event) waits = absurd (does_not_wait own other (layers_run.user own.state.station event) waits)
+waits_by_hint queues own other (Received hint kept bytes) waits = (hint, refl)
+waits_by_hint queues own other (Sent bytes) waits = absurd (sent_not_waits queues own other bytes (reading bytes) waits)
+waits_by_hint queues own other (Noise bytes) waits =
+    absurd (does_not_wait own other (noise_comes (layers_run_by queues) own.state.station (damage (reading bytes))) waits)
+waits_by_hint queues own other (User event) waits = absurd (does_not_wait own other ((layers_run_by queues).user own.state.station event) waits)
 
 -- ---- so one is named
 
@@ -189,9 +190,9 @@ of_cause None cause same = absurd (cc)
 awaits : (own other : ShownEnd) (hint : ℕ) → hint_of own.ahead ≡ Some hint → awaited own other ≡ Some (record { hint = hint; sent = other.sent })
 awaits own other hint is = ap (λ (found : Option ℕ). option_map (λ (h : ℕ). record { hint = h; sent = other.sent }) found) is
 
-module _ (own other : ShownEnd) (units : List WireLayersUnit) where
+module _ (queues : Queues) (own other : ShownEnd) (units : List WireLayersUnit) where
   abbrev first : Option FailedCheck
-  first = failed_ahead own units own.ahead
+  first = failed_ahead queues own units own.ahead
 
   abbrev unit : Option FailedCheck
   unit = option_map failed.NoSuchUnit (awaited own other)
@@ -199,20 +200,20 @@ module _ (own other : ShownEnd) (units : List WireLayersUnit) where
   abbrev order : Option FailedCheck
   order = both_await (awaited own other) (awaited other own)
 
-  pub step_named : (r : Record) (refusal : StepRefusal) → own.ahead ≡ Some r → caused (failed_record own.layers own.front units r) ≡ Some (Step refusal)
-      → ¬ IsFirstOf (reason_of (Step refusal)) (checks_by own other units) None
+  pub step_named : (r : Record) (refusal : StepRefusal) → own.ahead ≡ Some r → caused (failed_record queues own.layers own.front units r) ≡ Some (Step refusal)
+      → ¬ IsFirstOf (reason_of (Step refusal)) (checks_by queues own other units) None
   step_named r refusal ahead same =
       named_at (reason_of (Step refusal)) first (unit ∷ order ∷ [])
-      (of_cause first (Step refusal) (ap (λ (o : Option Record). caused (failed_ahead own units o)) ahead ∙ same))
+      (of_cause first (Step refusal) (ap (λ (o : Option Record). caused (failed_ahead queues own units o)) ahead ∙ same))
 
-  pub unit_named : (hint : ℕ) → hint_of own.ahead ≡ Some hint → ¬ IsFirstOf (reason_of NoSuchUnit) (checks_by own other units) None
+  pub unit_named : (hint : ℕ) → hint_of own.ahead ≡ Some hint → ¬ IsFirstOf (reason_of NoSuchUnit) (checks_by queues own other units) None
   unit_named hint is =
       named_behind (reason_of NoSuchUnit) first (unit ∷ order ∷ [])
       (named_at (reason_of NoSuchUnit) unit (order ∷ []) (of_cause unit NoSuchUnit
       (ap (λ (found : Option Awaited). caused (option_map failed.NoSuchUnit found)) (awaits own other hint is))))
 
   pub order_named : (hint far : ℕ) → hint_of own.ahead ≡ Some hint → hint_of other.ahead ≡ Some far →
-      ¬ IsFirstOf (reason_of NoOrder) (checks_by own other units) None
+      ¬ IsFirstOf (reason_of NoOrder) (checks_by queues own other units) None
   order_named hint far is is_far =
       named_behind (reason_of NoOrder) first (unit ∷ order ∷ [])
       (named_behind (reason_of NoOrder) unit (order ∷ [])

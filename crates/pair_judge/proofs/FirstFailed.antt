@@ -4,6 +4,7 @@ use Rattle.wire_base.specs.declared.side.Side.{Side}
 use Rattle.capture.specs.declared.entry.Entry.{Entry}
 use Rattle.capture.specs.declared.entry.Entry.TheVariants as entries
 use Rattle.capture.specs.Entries.{record_with}
+use Rattle.dna_links.specs.declared.queue.Queues.{Queues}
 use Rattle.dna_node.specs.WireLayers.{WireLayers}
 use Rattle.pair_judge.specs.declared.failed_check.FailedCheck.{FailedCheck}
 use Rattle.pair_judge.specs.declared.reason.Reason.{Reason}
@@ -27,33 +28,33 @@ module _ (reason : Reason) where
 
 -- ---- of a verdict
 
-pub failed_in : (ends : ShownEnds) (side : Side) (place : ℕ) (reason : Reason) (found : Option FailedCheck) →
-    ends.verdict ≡ Refused side place reason → IsFirstOf reason (checks_at side ends) found →
-    IsFailedIn ends (option_map (λ (check : FailedCheck). (side, check)) found)
-failed_in ends side place reason (Some check) is first =
-    subst (λ (verdict : Verdict). IsNamedBy ends verdict (Some (side, check))) (sym is) (refl, first)
-failed_in ends side place reason None is first =
-    subst (λ (verdict : Verdict). IsNamedBy ends verdict None) (sym is) (tt, first)
+pub failed_in : (queues : Queues) (ends : ShownEnds) (side : Side) (place : ℕ) (reason : Reason) (found : Option FailedCheck) →
+    ends.verdict ≡ Refused side place reason → IsFirstOf reason (checks_at queues side ends) found →
+    IsFailedIn queues ends (option_map (λ (check : FailedCheck). (side, check)) found)
+failed_in queues ends side place reason (Some check) is first =
+    subst (λ (verdict : Verdict). IsNamedBy queues ends verdict (Some (side, check))) (sym is) (refl, first)
+failed_in queues ends side place reason None is first =
+    subst (λ (verdict : Verdict). IsNamedBy queues ends verdict None) (sym is) (tt, first)
 
 -- ---- of one end alone
 
-alone_by : (s : WireLayers) (front : ℕ) (entry : Entry) (bytes : List ℕ) → is_receipt entry ≡ false →
-    checks_alone s front (Some (record_with entry bytes)) ≡ failed_record s front [] (record_with entry bytes) ∷ []
-alone_by s front entries.Sent bytes other = refl
-alone_by s front (entries.Received kept hint) bytes other = absurd (cc)
-alone_by s front entries.Noise bytes other = refl
-alone_by s front entries.Start bytes other = refl
-alone_by s front entries.Halt bytes other = refl
-alone_by s front (entries.Open link) bytes other = refl
-alone_by s front (entries.Accept partner link) bytes other = refl
-alone_by s front (entries.Reject partner link) bytes other = refl
-alone_by s front (entries.In link) bytes other = refl
-alone_by s front (entries.Up link) bytes other = refl
-alone_by s front (entries.Close link) bytes other = refl
+alone_by : (queues : Queues) (s : WireLayers) (front : ℕ) (entry : Entry) (bytes : List ℕ) → is_receipt entry ≡ false →
+    checks_alone queues s front (Some (record_with entry bytes)) ≡ failed_record queues s front [] (record_with entry bytes) ∷ []
+alone_by queues s front entries.Sent bytes other = refl
+alone_by queues s front (entries.Received kept hint) bytes other = absurd (cc)
+alone_by queues s front entries.Noise bytes other = refl
+alone_by queues s front entries.Start bytes other = refl
+alone_by queues s front entries.Halt bytes other = refl
+alone_by queues s front (entries.Open link) bytes other = refl
+alone_by queues s front (entries.Accept partner link) bytes other = refl
+alone_by queues s front (entries.Reject partner link) bytes other = refl
+alone_by queues s front (entries.In link) bytes other = refl
+alone_by queues s front (entries.Up link) bytes other = refl
+alone_by queues s front (entries.Close link) bytes other = refl
 
-pub alone_first : (reason : Reason) (s : WireLayers) (front : ℕ) (entry : Entry) (bytes : List ℕ) (check found : Option FailedCheck) →
-    is_receipt entry ≡ false → check ≡ failed_record s front [] (record_with entry bytes) → Follows reason check None found →
-    IsFirstOf reason (checks_alone s front (Some (record_with entry bytes))) found
-alone_first reason s front entry bytes check found other is follows =
+pub alone_first : (queues : Queues) (reason : Reason) (s : WireLayers) (front : ℕ) (entry : Entry) (bytes : List ℕ) (check found : Option FailedCheck) →
+    is_receipt entry ≡ false → check ≡ failed_record queues s front [] (record_with entry bytes) → Follows reason check None found →
+    IsFirstOf reason (checks_alone queues s front (Some (record_with entry bytes))) found
+alone_first queues reason s front entry bytes check found other is follows =
     subst (λ (l : List (Option FailedCheck)). IsFirstOf reason l found)
-    (ap (λ (c : Option FailedCheck). c ∷ []) is ∙ sym (alone_by s front entry bytes other)) (follows [] refl)
+    (ap (λ (c : Option FailedCheck). c ∷ []) is ∙ sym (alone_by queues s front entry bytes other)) (follows [] refl)

@@ -13,7 +13,7 @@ use Rattle.dna_station.specs.declared.tag.Tag.{Tag}
 use Rattle.dna_links.specs.declared.tag.LinkTag.{LinkTag}
 use Rattle.dna_station.specs.Book.{Sound, HeaderBad, DataBad}
 use Rattle.dna_station.specs.Line.{damage}
-use Rattle.dna_station.specs.Machine.{NodeOf, noise_comes}
+use Rattle.dna_station.specs.Machine.{noise_comes}
 use Rattle.dna_station.specs.WireNode.{WireNode, new_wire_node}
 use Rattle.dna_station.specs.WireStation.{WireStation}
 use Rattle.dna_node.specs.WireLayers.{WireLayers, WireLayersNode, with_wire_station}

@@ -1,5 +1,5 @@
 -- Nodes with queues beside nodes without, of the same two texts: each run of these is one of those, with the same counts.
-use Rattle.std.proofs.Common.{◌≡◌, ℕ, List, Some, Ok, Err, sym, ap, ◌∙◌}
+use Rattle.std.proofs.Common.{ℕ, List, Some, Ok, Err, sym, ap, ◌∙◌}
 use Rattle.two_nodes.specs.Nodes.{World, Run}
 use Rattle.capture.specs.declared.record.Record.{Record}
 use Rattle.dna_station.specs.declared.head.Head.{Head}

@@ -28,6 +28,7 @@ use Rattle.dna_station.specs.Line.{coming, damage}
 use Rattle.dna_station.specs.PeriodRule.{of_period}
 use Rattle.dna_station.specs.Table.{user_refusal}
 use Rattle.dna_station.specs.WireBook.{gives_new}
+use Rattle.dna_links.specs.declared.queue.Queues.{Queues}
 use Rattle.dna_links.specs.Links.{Carried}
 use Rattle.dna_links.specs.User.{LinkEventValue}
 use Rattle.dna_node.specs.declared.finding.Cause.{Cause}
@@ -76,15 +77,16 @@ module _ (linked : Carried → Option FailedCheck) where
 
 -- ---- both layers
 
--- the links meet a packet when it is first sent
-abbrev pub failed_first : WireLayers → MessageValue → Option FailedCheck
-failed_first s m =
-    if gives_new s.station m
-    then failed_packet (λ packet. option_map failed.LinkSending (sends.failed_sending s.links packet)) (body_of m)
-    else None
+module _ (queues : Queues) where
+  -- the links meet a packet when it is first sent
+  abbrev pub failed_first : WireLayers → MessageValue → Option FailedCheck
+  failed_first s m =
+      if gives_new s.station m
+      then failed_packet (λ packet. option_map failed.LinkSending (sends.failed_sending queues s.links packet)) (body_of m)
+      else None
 
-abbrev pub failed_message : WireLayers → MessageValue → Option FailedCheck
-failed_message s m = or_next (option_map failed.StationSending (of_station.failed_sending s.station m)) (failed_first s m)
+  abbrev pub failed_message : WireLayers → MessageValue → Option FailedCheck
+  failed_message s m = or_next (option_map failed.StationSending (of_station.failed_sending s.station m)) (failed_first s m)
 
 -- and when it is kept
 abbrev pub failed_kept : WireLayers → ArrivalValue LayersTag → Option FailedCheck
@@ -102,22 +104,23 @@ abbrev pub failed_start : State → Option StationRefusal → Option FailedCheck
 failed_start state None = None
 failed_start state (Some refusal) = Some (failed.StationEvent state)
 
-abbrev pub failed_at_links : WireLayers → Option LinkEventValue → Option FailedCheck
-failed_at_links s None = None
-failed_at_links s (Some event) = option_map failed.LinkEvent (events.failed_event s.links event)
+module _ (queues : Queues) where
+  abbrev pub failed_at_links : WireLayers → Option LinkEventValue → Option FailedCheck
+  failed_at_links s None = None
+  failed_at_links s (Some event) = option_map failed.LinkEvent (events.failed_event queues s.links event)
 
--- a start may be refused, and a halt is not
-abbrev pub failed_user : WireLayers → Event → Option FailedCheck
-failed_user s user.Start = failed_start s.station.variables.state (user_refusal s.station.variables.state Start)
-failed_user s event = failed_at_links s (link_event event)
+  -- a start may be refused, and a halt is not
+  abbrev pub failed_user : WireLayers → Event → Option FailedCheck
+  failed_user s user.Start = failed_start s.station.variables.state (user_refusal s.station.variables.state Start)
+  failed_user s event = failed_at_links s (link_event event)
 
--- ---- a record
+  -- ---- a record
 
-abbrev pub failed_sent : WireLayers → ReadingValue → Option FailedCheck
-failed_sent s (Sound m) = failed_message s m
-failed_sent s read.HeaderBad = Some (failed.Message not_sound.HeaderBad)
-failed_sent s read.DataBad = Some (failed.Message not_sound.DataBad)
-failed_sent s (Malformed departure) = Some (failed.Message (not_sound.Malformed departure))
+  abbrev pub failed_sent : WireLayers → ReadingValue → Option FailedCheck
+  failed_sent s (Sound m) = failed_message queues s m
+  failed_sent s read.HeaderBad = Some (failed.Message not_sound.HeaderBad)
+  failed_sent s read.DataBad = Some (failed.Message not_sound.DataBad)
+  failed_sent s (Malformed departure) = Some (failed.Message (not_sound.Malformed departure))
 
 abbrev pub failed_noise : WireLayers → Option (ArrivalValue LayersTag) → Option FailedCheck
 failed_noise s None = Some failed.Noise
@@ -133,14 +136,14 @@ failed_receipt s hint kept bytes None = None
 failed_receipt s hint kept bytes (Some unit) = failed_coming s hint kept (coming unit bytes)
 
 -- of a node at this front, to which the line leads that holds these units from there on
-abbrev pub failed_record : WireLayers → (front : ℕ) → List WireLayersUnit → Record → Option FailedCheck
-failed_record s front units (Sent bytes) = failed_sent s (reading bytes)
-failed_record s front units (Received hint kept bytes) =
+abbrev pub failed_record : Queues → WireLayers → (front : ℕ) → List WireLayersUnit → Record → Option FailedCheck
+failed_record queues s front units (Sent bytes) = failed_sent queues s (reading bytes)
+failed_record queues s front units (Received hint kept bytes) =
     if nat_lt hint front
     then Some (failed.HintOrder hint front)
     else failed_receipt s hint kept bytes (slice_get units (hint - front))
-failed_record s front units (Noise bytes) = failed_noise s (damage (reading bytes))
-failed_record s front units (User event) = failed_user s event
+failed_record queues s front units (Noise bytes) = failed_noise s (damage (reading bytes))
+failed_record queues s front units (User event) = failed_user queues s event
 
 -- the refusal that goes with each
 abbrev pub cause_of : FailedCheck → Cause

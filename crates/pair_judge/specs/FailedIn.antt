@@ -10,6 +10,7 @@ use Rattle.capture.specs.declared.record.Record.TheVariants.{Sent, Received, Noi
 use Rattle.ddcmp_msg.specs.Message.{Data}
 use Rattle.ddcmp_msg.specs.Reading.{ReadingValue, reading, Sound, Malformed}
 use Rattle.ddcmp_station.specs.declared.failed.FailedArrival.TheVariants.{Keep}
+use Rattle.dna_links.specs.declared.queue.Queues.{Queues}
 use Rattle.dna_node.specs.WireLayers.{WireLayers, WireLayersUnit}
 use Rattle.pair_judge.specs.declared.failed_check.Awaited.{Awaited}
 use Rattle.pair_judge.specs.declared.failed_check.FailedCheck.{FailedCheck}
@@ -52,38 +53,39 @@ both_await (Some own) (Some other) = Some (failed.NoOrder own other)
 both_await (Some own) None = None
 both_await None other = None
 
--- The checks of a record in their order, where these units of the other side may still come
-abbrev pub failed_ahead : ShownEnd → List WireLayersUnit → Option Record → Option FailedCheck
-failed_ahead end units None = None
-failed_ahead end units (Some r) = failed_record end.layers end.front units r
+module _ (queues : Queues) where
+  -- The checks of a record in their order, where these units of the other side may still come
+  abbrev pub failed_ahead : ShownEnd → List WireLayersUnit → Option Record → Option FailedCheck
+  failed_ahead end units None = None
+  failed_ahead end units (Some r) = failed_record queues end.layers end.front units r
 
-abbrev pub checks_by : (own other : ShownEnd) → List WireLayersUnit → List (Option FailedCheck)
-checks_by own other units =
-    failed_ahead own units own.ahead
-    ∷ option_map failed.NoSuchUnit (awaited own other)
-    ∷ both_await (awaited own other) (awaited other own)
-    ∷ []
+  abbrev pub checks_by : (own other : ShownEnd) → List WireLayersUnit → List (Option FailedCheck)
+  checks_by own other units =
+      failed_ahead own units own.ahead
+      ∷ option_map failed.NoSuchUnit (awaited own other)
+      ∷ both_await (awaited own other) (awaited other own)
+      ∷ []
 
--- all that may fail at a side
-abbrev pub checks_at : Side → ShownEnds → List (Option FailedCheck)
-checks_at side ends = checks_by (of_side side ends.a ends.b) (of_side (other_side side) ends.a ends.b) (to_side side ends)
+  -- all that may fail at a side
+  abbrev pub checks_at : Side → ShownEnds → List (Option FailedCheck)
+  checks_at side ends = checks_by (of_side side ends.a ends.b) (of_side (other_side side) ends.a ends.b) (to_side side ends)
 
--- What is named of a verdict: of a refusal its side, and the first of these checks that is of its reason
-abbrev pub IsNamedBy : ShownEnds → Verdict → Option (Side × FailedCheck) → Type 0
-IsNamedBy ends (Accepted summary) named = named ≡ None
-IsNamedBy ends (Refused side place reason) named =
-    IfSome named (λ failed. failed.0 ≡ side) × IsFirstOf reason (checks_at side ends) (option_map (λ (failed : Side × FailedCheck). failed.1) named)
+  -- What is named of a verdict: of a refusal its side, and the first of these checks that is of its reason
+  abbrev pub IsNamedBy : ShownEnds → Verdict → Option (Side × FailedCheck) → Type 0
+  IsNamedBy ends (Accepted summary) named = named ≡ None
+  IsNamedBy ends (Refused side place reason) named =
+      IfSome named (λ failed. failed.0 ≡ side) × IsFirstOf reason (checks_at side ends) (option_map (λ (failed : Side × FailedCheck). failed.1) named)
 
-abbrev pub IsFailedIn : ShownEnds → Option (Side × FailedCheck) → Type 0
-IsFailedIn ends named = IsNamedBy ends ends.verdict named
+  abbrev pub IsFailedIn : ShownEnds → Option (Side × FailedCheck) → Type 0
+  IsFailedIn ends named = IsNamedBy ends ends.verdict named
 
--- where a record is refused, one of these checks is of the reason
-abbrev pub NamesOneBy : ShownEnds → Verdict → Type 0
-NamesOneBy ends (Accepted summary) = Unit {0}
-NamesOneBy ends (Refused side place reason) = ¬ IsFirstOf reason (checks_at side ends) None
+  -- where a record is refused, one of these checks is of the reason
+  abbrev pub NamesOneBy : ShownEnds → Verdict → Type 0
+  NamesOneBy ends (Accepted summary) = Unit {0}
+  NamesOneBy ends (Refused side place reason) = ¬ IsFirstOf reason (checks_at side ends) None
 
-abbrev pub NamesOne : ShownEnds → Type 0
-NamesOne ends = NamesOneBy ends ends.verdict
+  abbrev pub NamesOne : ShownEnds → Type 0
+  NamesOne ends = NamesOneBy ends ends.verdict
 
 -- ---- of one end alone
 
@@ -94,13 +96,13 @@ failed_bytes (Sound (Data flags resp num body)) = failed_packet (λ packet. None
 failed_bytes read = None
 
 -- Of a receipt its hint, a packet that is not taken, and its bytes; of another record those of a pair, for which nothing is asked of the line
-abbrev pub checks_alone : WireLayers → (front : ℕ) → Option Record → List (Option FailedCheck)
-checks_alone s front (Some (Received hint kept bytes)) =
+abbrev pub checks_alone : Queues → WireLayers → (front : ℕ) → Option Record → List (Option FailedCheck)
+checks_alone queues s front (Some (Received hint kept bytes)) =
     Some (failed.HintOrder hint front) ∷ Some (failed.StationArrival Keep) ∷ failed_bytes (reading bytes) ∷ []
-checks_alone s front (Some (Sent bytes)) = failed_record s front [] (Sent bytes) ∷ []
-checks_alone s front (Some (Noise bytes)) = failed_record s front [] (Noise bytes) ∷ []
-checks_alone s front (Some (User event)) = failed_record s front [] (User event) ∷ []
-checks_alone s front None = []
+checks_alone queues s front (Some (Sent bytes)) = failed_record queues s front [] (Sent bytes) ∷ []
+checks_alone queues s front (Some (Noise bytes)) = failed_record queues s front [] (Noise bytes) ∷ []
+checks_alone queues s front (Some (User event)) = failed_record queues s front [] (User event) ∷ []
+checks_alone queues s front None = []
 
-abbrev pub IsFailedAlone : ShownEnd → Reason → Option FailedCheck → Type 0
-IsFailedAlone end reason named = IsFirstOf reason (checks_alone end.layers end.front end.ahead) named
+abbrev pub IsFailedAlone : Queues → ShownEnd → Reason → Option FailedCheck → Type 0
+IsFailedAlone queues end reason named = IsFirstOf reason (checks_alone queues end.layers end.front end.ahead) named

@@ -80,6 +80,7 @@ fn link_sending(failed: FailedLinkSending) -> LinkRefusal
         FailedLinkSending::Nodes { .. } => LinkRefusal::WrongNode,
         FailedLinkSending::NoLink(_) => LinkRefusal::NoLink,
         FailedLinkSending::Phase { .. } => LinkRefusal::LinkState,
+        FailedLinkSending::Turn { .. } => LinkRefusal::LinkState,
         FailedLinkSending::Live { .. } => LinkRefusal::LinkState,
         FailedLinkSending::Acknowledgement { .. } => LinkRefusal::WrongAck,
         FailedLinkSending::Room { .. } => LinkRefusal::LinkWindowFull,

@@ -6,6 +6,7 @@ ghost use Rattle.capture.specs.Entries.{record_with};
 ghost use Rattle.capture.specs.declared.record.Record.TheVariants as Record;
 ghost use Rattle.dna_node.specs.WireLayers.{WireLayersUnit};
 ghost use Rattle.dna_station.specs.Line.{damage};
+ghost use Rattle.nsp_link.specs.Kinds.{queues_of};
 ghost use Rattle.pair_judge.specs.FailedCheck as spec;
 ghost use Rattle.pair_judge.specs.inner.Lines.{held};
 ghost use Rattle.pair_judge.specs.inner.Making.{is_receipt};
@@ -23,60 +24,66 @@ use nsp_link::LinkEvent;
 /// The first check that this record does not pass at a side, to which this line leads from the other one, with what is seen there and what is
 /// allowed; `None` where it is made, or waits. The record is that of the entry and these bytes. Takes no memory.
 #[tactic(auto, using(crate::proofs::Entries::no_receipt))]
-pub fn failed_record(
+pub fn failed_record<const QUEUES: u8>(
     layers: &Layers,
     incoming: &Line,
     entry: Entry,
     bytes: &[u8],
 ) -> Option<FailedCheck>
-    ensures { result ≡ spec.failed_record layers.now incoming.now.gone (held incoming.now) (record_with entry bytes.now) }
+    ensures { result ≡ spec.failed_record (queues_of QUEUES) layers.now incoming.now.gone (held incoming.now) (record_with entry bytes.now) }
 {
     match entry {
-        Entry::Received { kept, hint } => failed_receipt(layers, incoming, hint, kept, bytes),
-        _ => failed_own(layers, entry, bytes),
+        Entry::Received { kept, hint } => failed_receipt::<QUEUES>(
+            layers, incoming, hint, kept, bytes,
+        ),
+        _ => failed_own::<QUEUES>(layers, entry, bytes),
     }
 }
 
 /// The same of a record that is no receipt, for which nothing is asked of the line. Takes no memory.
-pub fn failed_own(layers: &Layers, entry: Entry, bytes: &[u8]) -> Option<FailedCheck>
+pub fn failed_own<const QUEUES: u8>(
+    layers: &Layers,
+    entry: Entry,
+    bytes: &[u8],
+) -> Option<FailedCheck>
     requires { is_receipt entry ≡ false }
-    ensures { (front : ℕ) (units : List WireLayersUnit) → result ≡ spec.failed_record layers.now front units (record_with entry bytes.now) }
+    ensures { (front : ℕ) (units : List WireLayersUnit) → result ≡ spec.failed_record (queues_of QUEUES) layers.now front units (record_with entry bytes.now) }
 {
     match entry {
-        Entry::Sent => failed_sent(layers, bytes),
+        Entry::Sent => failed_sent::<QUEUES>(layers, bytes),
         Entry::Received { .. } => unreachable!(),
         Entry::Noise => failed_noise(layers, bytes),
         Entry::Start => layers.failed_start(),
         Entry::Halt => None,
-        Entry::Open { link } => layers.failed_link_event(LinkEvent::Open { link }),
+        Entry::Open { link } => layers.failed_link_event::<QUEUES>(LinkEvent::Open { link }),
         Entry::Accept { partner, link } => {
-            layers.failed_link_event(LinkEvent::Accept { partner, link })
+            layers.failed_link_event::<QUEUES>(LinkEvent::Accept { partner, link })
         }
         Entry::Reject { partner, link } => {
-            layers.failed_link_event(LinkEvent::Reject { partner, link })
+            layers.failed_link_event::<QUEUES>(LinkEvent::Reject { partner, link })
         }
         Entry::In { link } => {
-            layers.failed_link_event(LinkEvent::In {
+            layers.failed_link_event::<QUEUES>(LinkEvent::In {
                 link,
                 message: bytes,
             })
         }
         Entry::Up { link } => {
-            layers.failed_link_event(LinkEvent::Up {
+            layers.failed_link_event::<QUEUES>(LinkEvent::Up {
                 link,
                 message: bytes,
             })
         }
-        Entry::Close { link } => layers.failed_link_event(LinkEvent::Close { link }),
+        Entry::Close { link } => layers.failed_link_event::<QUEUES>(LinkEvent::Close { link }),
     }
 }
 
 // Bytes that are sent.
-fn failed_sent(layers: &Layers, bytes: &[u8]) -> Option<FailedCheck>
-    ensures { result ≡ spec.failed_sent layers.now (reading bytes.now) }
+fn failed_sent<const QUEUES: u8>(layers: &Layers, bytes: &[u8]) -> Option<FailedCheck>
+    ensures { result ≡ spec.failed_sent (queues_of QUEUES) layers.now (reading bytes.now) }
 {
     match read_unit(bytes) {
-        Reading::Sound(message) => layers.failed_message(&message),
+        Reading::Sound(message) => layers.failed_message::<QUEUES>(&message),
         Reading::HeaderBad => Some(FailedCheck::Message(NotSound::HeaderBad)),
         Reading::DataBad => Some(FailedCheck::Message(NotSound::DataBad)),
         Reading::Malformed(departure) => {
@@ -86,14 +93,14 @@ fn failed_sent(layers: &Layers, bytes: &[u8]) -> Option<FailedCheck>
 }
 
 // Bytes that come for the unit with this number.
-fn failed_receipt(
+fn failed_receipt<const QUEUES: u8>(
     layers: &Layers,
     incoming: &Line,
     hint: u64,
     kept: bool,
     bytes: &[u8],
 ) -> Option<FailedCheck>
-    ensures { result ≡ spec.failed_record layers.now incoming.now.gone (held incoming.now) (Record.Received hint kept bytes.now) }
+    ensures { result ≡ spec.failed_record (queues_of QUEUES) layers.now incoming.now.gone (held incoming.now) (Record.Received hint kept bytes.now) }
 {
     if hint < incoming.gone {
         return Some(FailedCheck::HintOrder {

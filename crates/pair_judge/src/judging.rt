@@ -36,6 +36,7 @@ use crate::verdict::Verdict;
 use capture::{CaptureReader, MAX_RECORDS, text_read_on, whole_text};
 use dna_node::Finding;
 use dna_station::Head;
+use nsp_link::WITHOUT_QUEUES;
 pub use queued::{judge_queued, judge_queued_told};
 use std::alloc::Global;
 use std::io::Read;
@@ -91,7 +92,7 @@ pub fn judge<R: Read, S: Read>(
     ensures reads_a { CountsReads (is_failed_read_of Side.A result) (tally_faults a.old) (tally_faults a.new) }
     ensures reads_b { CountsReads (is_failed_read_of Side.B result) (tally_faults b.old) (tally_faults b.new) }
 {
-    match decide::<LinksOnTop<0>, Nobody, R, S>(alloc, a, b, Nobody) {
+    match decide::<LinksOnTop<WITHOUT_QUEUES>, Nobody, R, S>(alloc, a, b, Nobody) {
         Ok(watched) => Ok(watched.ends.verdict()),
         Err(fault) => Err(fault),
     }

@@ -25,6 +25,7 @@ use crate::top::Top;
 use capture::{CaptureFault, CaptureReader, MAX_RECORDS, text_read_on, whole_text};
 use dna_node::Cause;
 use dna_station::Head;
+use nsp_link::WITHOUT_QUEUES;
 pub use queued::{judge_queued_end, judge_queued_end_watched};
 use std::alloc::Global;
 use std::io::Read;
@@ -47,7 +48,7 @@ pub fn judge_end<R: Read>(alloc: Global, a: &mut Tally<R>) -> Result<EndVerdict,
     ensures first { IfErr result (λ fault. fault ≢ CaptureFault.Failed) }
     ensures reads { CountsReads (is_failed_read result) (tally_faults a.old) (tally_faults a.new) }
 {
-    find_end::<LinksOnTop<0>, R>(alloc, a)
+    find_end::<LinksOnTop<WITHOUT_QUEUES>, R>(alloc, a)
 }
 
 /// Decides the same of a station alone: a packet is any bytes and is not read, so that it may be one of another layer or of a third node; and the
@@ -92,7 +93,7 @@ pub fn judge_end_watched<O: Observer, R: Read>(
     ensures first { IfErr result (λ fault. fault ≢ CaptureFault.Failed) }
     ensures reads { CountsReads (is_failed_read result) (tally_faults a.old) (tally_faults a.new) }
 {
-    watch_end::<LinksOnTop<0>, O, R>(alloc, a, observer)
+    watch_end::<LinksOnTop<WITHOUT_QUEUES>, O, R>(alloc, a, observer)
 }
 
 /// Decides the same as `judge_line_end`, of whose answer all that is said there holds of this verdict, while an observer is told of each record that

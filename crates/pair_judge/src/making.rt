@@ -1,6 +1,6 @@
 //! One record of one side.
 
-ghost use Rattle.std.specs.Prelude.{◌≡◌, ◌≤◌, IfOk, IfErr};
+ghost use Rattle.std.specs.Prelude.{◌≡◌, ◌≤◌, Some, IfOk, IfErr};
 ghost use Rattle.ddcmp_msg.specs.Reading.{IsSound, reading};
 ghost use Rattle.capture.specs.declared.record.Record.TheVariants as Record;
 ghost use Rattle.capture.specs.Entries.{record_with};
@@ -62,7 +62,7 @@ pub fn make<T: Top>(
     ensures counts { IfOk result (λ made. IfFails made (own.new.counts ≡ own.old.counts)) }
     ensures still { IfOk result (λ made. IfFails made (own.new ≡ own.old)) }
     ensures same_line { IfOk result (λ made. IfFails made (incoming.new ≡ incoming.old)) }
-    ensures memory { IfErr result (λ _. MayTakeMemory own.old.layers (record_with entry bytes.now)) }
+    ensures memory { IfErr result (λ _. MayTakeMemory T.top.machine own.old.layers (record_with entry bytes.now)) }
     ensures head { own.new.head ≡ own.old.head }
 {
     match entry {
@@ -85,7 +85,7 @@ fn make_event_copied<T: Top>(own: &mut End, entry: Entry, bytes: &[u8]) -> Resul
     ensures waits { IfOk result NeverWaits }
     ensures counts { IfOk result (λ made. IfFails made (own.new.counts ≡ own.old.counts)) }
     ensures still { IfOk result (λ made. IfFails made (own.new ≡ own.old)) }
-    ensures memory { IfErr result (λ _. MayTakeMemory own.old.layers (record_with entry bytes.now)) }
+    ensures memory { IfErr result (λ _. MayTakeMemory T.top.machine own.old.layers (record_with entry bytes.now)) }
     ensures head { own.new.head ≡ own.old.head }
 {
     let event = entry;
@@ -104,7 +104,7 @@ fn make_event<T: Top>(own: &mut End, entry: Entry, bytes: &[u8]) -> Result<Made,
     ensures waits { IfOk result NeverWaits }
     ensures counts { IfOk result (λ made. IfFails made (own.new.counts ≡ own.old.counts)) }
     ensures still { IfOk result (λ made. IfFails made (own.new ≡ own.old)) }
-    ensures memory { IfErr result (λ _. MayTakeMemory own.old.layers (record_with entry bytes.now)) }
+    ensures memory { IfErr result (λ _. MayTakeMemory T.top.machine own.old.layers (record_with entry bytes.now)) }
     ensures head { own.new.head ≡ own.old.head }
 {
     match entry {
@@ -242,7 +242,8 @@ fn make_link_event<T: Top>(own: &mut End, event: LinkEvent) -> Result<Made, Allo
     ensures waits { IfOk result NeverWaits }
     ensures counts { IfOk result (λ made. IfFails made (own.new.counts ≡ own.old.counts)) }
     ensures still { IfOk result (λ made. IfFails made (own.new ≡ own.old)) }
-    ensures memory { IfErr result (λ _. MayEnter own.old.layers.links (view event.entry)) }
+    ensures memory { IfErr result (λ _.
+        MayEnter T.top.machine own.old.layers (event_of_links (view event.entry)) (Some (view event.entry))) }
     ensures head { own.new.head ≡ own.old.head }
 {
     let delivers = is_delivery(&event);

@@ -51,7 +51,8 @@ pub trait Top {
         ensures ok { OnOk result (top.machine.user layers.old (event_of_links (link_view event.entry)) ≡ Ok layers.new) }
         ensures refused { IfErr result (IfRefused (λ refusal. top.machine.user layers.old (event_of_links (link_view event.entry)) ≡ Err refusal)) }
         ensures still { IfErr result (IfRefused (λ refusal. layers.new ≡ layers.old)) }
-        ensures memory { IfErr result (IfNoMemory (MayEnter layers.old.links (link_view event.entry))) }
+        ensures memory { IfErr result (IfNoMemory (
+            MayEnter top.machine layers.old (event_of_links (link_view event.entry)) (Some (link_view event.entry)))) }
         ensures station { layers.new.station ≡ layers.old.station };
 
     /// The node sent this message: the tags that its unit goes with.

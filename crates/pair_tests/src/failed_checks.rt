@@ -26,7 +26,7 @@ fn failed(alloc: Global, a: &str, rest: &str, b: &str) -> Option<(Side, FailedCh
     let mut of_a = Tally::new(text.as_bytes());
     let mut of_b = Tally::new(b.as_bytes());
     match judge_with_ends(alloc, &mut of_a, &mut of_b) {
-        Ok(ends) => ends.failed(),
+        Ok(ends) => ends.failed::<WITHOUT_QUEUES>(),
         Err(_) => None,
     }
 }

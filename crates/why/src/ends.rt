@@ -23,7 +23,8 @@ pub fn state_at(side: Side, end: &SideEnd) -> StateLine
     }
 }
 
-/// The live links of this end as they were before the refused record, in the order in which they began. Fails for want of memory alone.
+/// The live links of this end as they were before the refused record, in the order in which they began; with queues also those that have ended, of
+/// which something waits. Fails for want of memory alone.
 pub fn live_links(alloc: Global, end: &SideEnd) -> Result<Vec<LinkView>, AllocError>
     ensures { IfOk result (λ live. live.items ≡ spec.live_by end.now) }
 {
@@ -38,11 +39,11 @@ pub fn live_links(alloc: Global, end: &SideEnd) -> Result<Vec<LinkView>, AllocEr
     Err(AllocError)
 }
 
-// Keeps a link that is live.
+// Keeps a link that is live, or of which something waits.
 fn push_live(live: &mut Vec<LinkView>, link: LinkView) -> Result<(), AllocError>
     ensures { OnOk result (live.new.items ≡ live.old.items ++ spec.if_live link) }
 {
-    if is_live(link.port.phase) {
+    if is_live(link.port.phase) || link.queue.waits.is_some() {
         live.push(link)?;
     }
     Ok(())

@@ -5,7 +5,7 @@ ghost use Rattle.why.specs.inner.LinkLine as spec;
 
 use crate::form::Form;
 use crate::words::short_number_or;
-use dna_links::{Phase, Port};
+use dna_links::{LinkQueue, Phase, Port, Said};
 use nsp_link::{LinkNumbers, LinkView};
 use std::fmt::{self, Formatter, Write};
 use wire_base::Side;
@@ -32,7 +32,28 @@ fn write_object<W: Write>(f: &mut Formatter<W>, side: Side, link: LinkView) -> f
     write_port(f, link.port, link.segsize)?;
     f.write_str(", ")?;
     write_numbers(f, Form::Object, link.numbers)?;
+    if has_queue(link.queue) {
+        write_queue_keys(f, link.queue)?;
+    }
     f.write_str("}\n")
+}
+
+// Writes the keys of what the queues of its node leave open of a link.
+fn write_queue_keys<W: Write>(f: &mut Formatter<W>, queue: LinkQueue) -> fmt::Result {
+    let LinkQueue { ran, accepted, .. } = queue;
+    let said = match queue.said {
+        Said::Nothing => "null",
+        Said::OfRun => "\"RUN\"",
+        Said::Disconnect => "\"DI\"",
+    };
+    write!(
+        f,
+        ", \"accepted\": {accepted}, \"ran\": {ran}, \"said\": {said}, \"ending\": "
+    )?;
+    match queue.waits {
+        Some(phase) => write!(f, "\"{}\"", phase_name(phase)),
+        None => f.write_str("null"),
+    }
 }
 
 // Writes the keys of a link's addresses, its phase and SEGSIZE.
@@ -57,7 +78,43 @@ fn write_row<W: Write>(f: &mut Formatter<W>, link: LinkView) -> fmt::Result {
     }
     f.write_str("\n           ")?;
     write_numbers(f, Form::Rows, link.numbers)?;
+    if has_queue(link.queue) {
+        write_queue(f, link.queue)?;
+    }
     f.write_str("\n")
+}
+
+// Writes how far a link of a node with queues has come, and in which phase it ended while something of it waits.
+fn write_queue<W: Write>(f: &mut Formatter<W>, queue: LinkQueue) -> fmt::Result {
+    let come = match (queue.ran, queue.accepted) {
+        (true, _) => "reached RUN",
+        (false, true) => "accepted",
+        (false, false) => "has not reached RUN",
+    };
+    let said = match queue.said {
+        Said::Nothing => "no message of RUN and no DI sent",
+        Said::OfRun => "a message of RUN sent",
+        Said::Disconnect => "a DI sent",
+    };
+    write!(f, "\n           {come}, {said}")?;
+    match queue.waits {
+        Some(phase) => {
+            let phase = phase_name(phase);
+            write!(
+                f,
+                "; ended in {phase}, and may still send what it composed before"
+            )
+        }
+        None => Ok(()),
+    }
+}
+
+// Whether something is remembered of a link for its node's queues: never without queues.
+fn has_queue(queue: LinkQueue) -> bool {
+    if queue.ran || queue.accepted {
+        return true;
+    }
+    queue.waits.is_some() || !matches!(queue.said, Said::Nothing)
 }
 
 // Writes the numbers of a link's segments.

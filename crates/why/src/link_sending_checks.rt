@@ -6,6 +6,7 @@ use crate::packet_words::NodesWords;
 use crate::past::Lines;
 use crate::piece_fields::{ShapeWords, write_next};
 use crate::words::ByteCount;
+use dna_links::{LinkQueue, Phase, Said};
 use nsp_link::FailedLinkSending;
 use std::fmt::{self, Formatter, Write};
 
@@ -15,6 +16,7 @@ pub fn link_sending_check(failed: FailedLinkSending) -> &'static str {
         FailedLinkSending::Nodes { .. } => "nodes",
         FailedLinkSending::NoLink(_) => "link",
         FailedLinkSending::Phase { .. } => "phase",
+        FailedLinkSending::Turn { .. } => "phase",
         FailedLinkSending::Live { .. } => "phase",
         FailedLinkSending::Acknowledgement { .. } => "acknowledgement",
         FailedLinkSending::Room { .. } => "window",
@@ -36,6 +38,15 @@ pub fn write_link_sending_seen<W: Write>(
         FailedLinkSending::Nodes { seen, .. } => write!(f, "{}", NodesWords { nodes: seen }),
         FailedLinkSending::NoLink(missing) => write_missing(f, missing, lines),
         FailedLinkSending::Phase { seen, .. } => write!(f, "a link in {}", phase_name(seen)),
+        FailedLinkSending::Turn {
+            seen,
+            queue,
+            allowed,
+            ..
+        } => {
+            write!(f, "a link in {}", phase_name(seen))?;
+            f.write_str(turn_seen(queue, allowed))
+        }
         FailedLinkSending::Live { .. } => f.write_str("a DC between the addresses of a live link"),
         FailedLinkSending::Acknowledgement { seen, .. } => write!(f, "ACK {seen}"),
         FailedLinkSending::Room { seen, .. } => {
@@ -67,6 +78,7 @@ pub fn write_link_sending_allowed<W: Write>(
         FailedLinkSending::Phase { allowed, .. } => {
             write!(f, "a link in {}", phase_name(allowed))
         }
+        FailedLinkSending::Turn { allowed, .. } => f.write_str(turn_allowed(allowed)),
         FailedLinkSending::Live { .. } => f.write_str("a DC between the addresses of none"),
         FailedLinkSending::Acknowledgement { allowed, .. } => write_ack_range(f, allowed),
         FailedLinkSending::Room { allowed, .. } => {
@@ -96,5 +108,32 @@ pub fn write_link_sending_allowed<W: Write>(
             };
             write!(f, "segment {number} again, as first sent: {shape}")
         }
+    }
+}
+
+// With queues: what keeps a link from sending a message that asks for this phase.
+fn turn_seen(queue: LinkQueue, wanted: Phase) -> &'static str {
+    match wanted {
+        Phase::Running => match queue.ran {
+            true => " that has sent a DI",
+            false => " that has not reached RUN",
+        },
+        Phase::Confirming if !queue.accepted => " that was not accepted",
+        Phase::Calling | Phase::Confirming => match queue.said {
+            Said::Nothing => "",
+            Said::OfRun => " that has sent a message of RUN",
+            Said::Disconnect => " that has sent a DI",
+        },
+        Phase::Called | Phase::Disconnecting | Phase::Ended => "",
+    }
+}
+
+// The link that a message may be sent on which asks for this phase.
+fn turn_allowed(wanted: Phase) -> &'static str {
+    match wanted {
+        Phase::Calling => "a link that has sent no message of RUN and no DI",
+        Phase::Confirming => "a link that was accepted and has sent no message of RUN and no DI",
+        Phase::Running => "a link that has reached RUN and sent no DI",
+        Phase::Called | Phase::Disconnecting | Phase::Ended => "a link in DI",
     }
 }

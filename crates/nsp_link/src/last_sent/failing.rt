@@ -6,6 +6,7 @@ ghost use Rattle.dna_packet.specs.AckWord.{IsAckWord};
 ghost use Rattle.nsp_link.specs.FailedSending as spec;
 
 use super::LastSent;
+use super::late::LateSent;
 use crate::failed::{FailedLinkSending, Numbers};
 use dna_packet::AckWord;
 use link_segments::{REACH, is_of_data};
@@ -33,6 +34,32 @@ impl LastSent {
                     });
                 };
                 sent = next;
+            }
+        }
+        None
+    }
+
+    /// The same of the words of a new segment of a node with queues, which may lie so far below the last one sent, as in `behind_all_late`.
+    #[tactic(auto, using(crate::proofs::FailedLate::word_by_word))]
+    pub fn failed_late(
+        self,
+        gap: u16,
+        received: Seq<4096>,
+        words: &[AckWord],
+    ) -> Option<FailedLinkSending>
+        requires { AllByRecursion IsAckWord words.now }
+        ensures { result ≡ spec.failed_late received words.now (record { sent = self; gap = gap }) }
+    {
+        let mut late = LateSent { sent: self, gap };
+        for word in words {
+            if is_of_data(word.qualifier) {
+                let Some(next) = late.sent.behind_late(late.gap, received, word.number) else {
+                    return Some(FailedLinkSending::Acknowledgement {
+                        seen: word.number,
+                        allowed: late.numbers(received),
+                    });
+                };
+                late = next;
             }
         }
         None
@@ -67,6 +94,22 @@ impl LastSent {
             return REACH;
         }
         REACH.min(self.last.value())
+    }
+}
+
+impl LateSent {
+    // The numbers that a word of a new segment may have behind it.
+    fn numbers(self, received: Seq<4096>) -> Numbers
+        ensures { result ≡ spec.late_numbers received self }
+    {
+        let LateSent { sent, gap } = self;
+        let reach = sent.back();
+        let back = if gap < reach { gap } else { reach };
+        Numbers {
+            lowest: sent.last.value(),
+            highest: received.value(),
+            again: from_below(sent.last, back),
+        }
     }
 }
 

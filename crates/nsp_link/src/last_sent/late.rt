@@ -55,8 +55,8 @@ impl LastSent {
         Some(late)
     }
 
-    // The last one behind such a word with this number, where it may be sent.
-    fn behind_late(self, gap: u16, received: Seq<4096>, number: u16) -> Option<LateSent>
+    /// The last one behind such a word with this number, where it may be sent.
+    pub fn behind_late(self, gap: u16, received: Seq<4096>, number: u16) -> Option<LateSent>
         requires { number < 4096 }
         ensures { result ≡ after_late received number self (last_named_late received number (record { sent = self; gap = gap })) }
     {

@@ -22,6 +22,7 @@ impl<W: Window<Piece, 4096> + Drop> Link<W> {
             partner: self.partner,
             segsize: self.segsize,
             numbers,
+            queue: self.queue,
         }
     }
 

@@ -2,7 +2,7 @@
 
 ghost use Rattle.std.specs.Prelude.{◌≡◌, option_map};
 ghost use Rattle.dna_packet.specs.Nsp as nsp;
-ghost use Rattle.dna_links.specs.declared.queue.Queues.TheVariants.{Without};
+ghost use Rattle.dna_links.specs.declared.queue.Queues.{Queues};
 ghost use Rattle.dna_links.specs.Arriving.{of_partner};
 ghost use Rattle.dna_links.specs.WireLinks.{wire_links_arrived};
 ghost use Rattle.nsp_link.specs.FailedArrival.{refusal_of_arrival};
@@ -20,7 +20,7 @@ use wire_base::Window;
 impl<W: Window<Piece, 4096> + Drop> Links<W> {
     /// The first check that this message does not pass, if it came now from node `src` to node `dst` with this tag (NSP 4.0, port states),
     /// with what is seen there and what is allowed; `None` where it is taken or ignored. It is the check for which [`Links::arrived`] refuses,
-    /// as a judge of two captures asks it. Takes no memory.
+    /// as a judge of two captures asks it, with queues and without. Takes no memory.
     pub fn failed_arrival(
         &self,
         dst: u16,
@@ -29,8 +29,8 @@ impl<W: Window<Piece, 4096> + Drop> Links<W> {
         tag: LinkTag,
     ) -> Option<FailedLinkArrival>
         ensures named { result ≡ spec.failed_arrival self.now (record { dst = dst; src = src; message = nsp.view message.now }) tag }
-        ensures refuses { option_map refusal_of_arrival result ≡
-            refusal_in (wire_links_arrived Without of_partner self.now (record { dst = dst; src = src; message = nsp.view message.now }) tag) }
+        ensures refuses { (queues : Queues) → option_map refusal_of_arrival result ≡
+            refusal_in (wire_links_arrived queues of_partner self.now (record { dst = dst; src = src; message = nsp.view message.now }) tag) }
     {
         self.failed_come(dst, src, message, tag)
     }

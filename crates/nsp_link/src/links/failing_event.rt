@@ -1,12 +1,13 @@
 //! Which check an event of the links' user does not pass.
 
 ghost use Rattle.std.specs.Prelude.{◌≡◌, option_map};
-ghost use Rattle.dna_links.specs.declared.queue.Queues.TheVariants.{Without};
 ghost use Rattle.dna_links.specs.User as user;
 ghost use Rattle.dna_links.specs.WireLinks.{wire_links_user};
 ghost use Rattle.nsp_link.specs.FailedEvent.{refusal_of_event};
 ghost use Rattle.nsp_link.specs.FailedEvent as spec;
+ghost use Rattle.nsp_link.specs.Kinds.{queues_of};
 ghost use Rattle.nsp_link.specs.Missing.{refusal_in};
+ghost use Rattle.nsp_link.specs.inner.Failed.{fails_to_close, fails_to_hand_in};
 
 use super::Links;
 use crate::failed::FailedLinkEvent;
@@ -17,25 +18,28 @@ use wire_base::Window;
 
 impl<W: Window<Piece, 4096> + Drop> Links<W> {
     /// The first check that this event does not pass, if it were now (NSP 4.0, session control interface), with what is seen there and what
-    /// is allowed; `None` where the user may do it. It is the check for which [`Links::user`] refuses. Takes no memory.
-    pub fn failed_event(&self, event: LinkEvent) -> Option<FailedLinkEvent>
-        ensures named { result ≡ spec.failed_event self.now (user.view event.entry) }
-        ensures refuses { option_map refusal_of_event result ≡ refusal_in (wire_links_user Without self.now (user.view event.entry)) }
+    /// is allowed; `None` where the user may do it. It is the check for which [`Links::user`] of the same kind of node refuses. Takes no
+    /// memory.
+    pub fn failed_event<const QUEUES: u8>(&self, event: LinkEvent) -> Option<FailedLinkEvent>
+        ensures named { result ≡ spec.failed_event (queues_of QUEUES) self.now (user.view event.entry) }
+        ensures refuses { option_map refusal_of_event result ≡
+            refusal_in (wire_links_user (queues_of QUEUES) self.now (user.view event.entry)) }
     {
-        self.failed_check(event)
+        self.failed_check::<QUEUES>(event)
     }
 
     // The same, with the check alone.
-    fn failed_check(&self, event: LinkEvent) -> Option<FailedLinkEvent>
-        ensures { result ≡ spec.failed_event self.now (user.view event.entry) }
+    #[tactic(auto, using(crate::proofs::FailedTurn::event_in_use))]
+    fn failed_check<const QUEUES: u8>(&self, event: LinkEvent) -> Option<FailedLinkEvent>
+        ensures { result ≡ spec.failed_event (queues_of QUEUES) self.now (user.view event.entry) }
     {
         match event {
             LinkEvent::Open { link } => self.failed_address(link),
             LinkEvent::Accept { partner, link } => self.failed_answer(partner, link),
             LinkEvent::Reject { partner, link } => self.failed_answer(partner, link),
-            LinkEvent::In { link, message: _ } => self.failed_handing_in(link),
+            LinkEvent::In { link, message: _ } => self.failed_handing_in::<QUEUES>(link),
             LinkEvent::Up { link, message } => self.failed_delivery(link, message),
-            LinkEvent::Close { link } => self.failed_close(link),
+            LinkEvent::Close { link } => self.failed_close::<QUEUES>(link),
         }
     }
 
@@ -66,15 +70,15 @@ impl<W: Window<Piece, 4096> + Drop> Links<W> {
     }
 
     // A message is handed in.
-    #[tactic(auto, using(crate::proofs::Found::found_links))]
-    fn failed_handing_in(&self, own: u16) -> Option<FailedLinkEvent>
-        ensures { result ≡ spec.failed_handing_in own self.now }
+    #[tactic(auto, using(crate::proofs::FailedTurn::uses_found))]
+    fn failed_handing_in<const QUEUES: u8>(&self, own: u16) -> Option<FailedLinkEvent>
+        ensures { result ≡ fails_to_hand_in (queues_of QUEUES) own self.now }
     {
         let test = LinkTest::LiveAt { own };
-        let Some((number, link)) = self.found(test) else {
+        let Some((number, link)) = self.found_in_use::<QUEUES>(test) else {
             return Some(FailedLinkEvent::NoLink(self.missing(test)));
         };
-        let seen = link.port().phase;
+        let seen = link.port_in_use::<QUEUES>().phase;
         if takes_messages(seen) {
             return None;
         }
@@ -85,15 +89,15 @@ impl<W: Window<Piece, 4096> + Drop> Links<W> {
     }
 
     // A link is closed.
-    #[tactic(auto, using(crate::proofs::Found::found_links))]
-    fn failed_close(&self, own: u16) -> Option<FailedLinkEvent>
-        ensures { result ≡ spec.failed_close own self.now }
+    #[tactic(auto, using(crate::proofs::FailedTurn::uses_found))]
+    fn failed_close<const QUEUES: u8>(&self, own: u16) -> Option<FailedLinkEvent>
+        ensures { result ≡ fails_to_close (queues_of QUEUES) own self.now }
     {
         let test = LinkTest::LiveAt { own };
-        let Some((number, link)) = self.found(test) else {
+        let Some((number, link)) = self.found_in_use::<QUEUES>(test) else {
             return Some(FailedLinkEvent::NoLink(self.missing(test)));
         };
-        let seen = link.port().phase;
+        let seen = link.port_in_use::<QUEUES>().phase;
         if is_connected(seen) {
             return None;
         }
@@ -106,7 +110,7 @@ impl<W: Window<Piece, 4096> + Drop> Links<W> {
     // A message is delivered.
     #[tactic(auto, using(crate::proofs::Found::found_links))]
     fn failed_delivery(&self, own: u16, message: &[u8]) -> Option<FailedLinkEvent>
-        ensures { result ≡ spec.failed_event self.now (user.Up own message.now) }
+        ensures { result ≡ spec.failed_delivering own message.now self.now }
     {
         let test = LinkTest::HasAddress { own };
         let Some((number, link)) = self.found(test) else {

@@ -44,6 +44,26 @@ impl<W: Window<Piece, 4096> + Drop> Segments<W> {
         self.failed_again(segment)
     }
 
+    /// The same of a link of a node with queues, where a word of a new segment may lie so far below the last one sent.
+    pub fn failed_segment_late(
+        &self,
+        gap: u16,
+        segsize: u16,
+        segment: &Segment,
+    ) -> Option<FailedLinkSending>
+        requires acks { AllByRecursion IsAckWord segment.now.acks.items }
+        requires number { segment.now.number < 4096 }
+        ensures { result ≡ spec.failed_segment_late gap segsize (segment_view segment.now) self.now }
+    {
+        if !self.is_new(segment) {
+            return self.failed_segment(segsize, segment);
+        }
+        if let Some(failed) = self.last.failed_late(gap, self.received, &segment.acks) {
+            return Some(failed);
+        }
+        self.failed_new(segsize, segment)
+    }
+
     // The check that a segment with the next number does not pass.
     fn failed_new(&self, segsize: u16, segment: &Segment) -> Option<FailedLinkSending>
         ensures { result ≡ spec.failed_new segsize (piece_of (segment_view segment.now)) self.now }

@@ -3,12 +3,12 @@ use Rattle.std.specs.Prelude.{◌≡◌, Bool, true, false, Option, Some, None, 
 use Rattle.ddcmp_msg.specs.Reading.{ReadingValue, reading, Sound, HeaderBad, DataBad, Malformed}
 use Rattle.capture.specs.declared.record.Record.{Record}
 use Rattle.capture.specs.declared.record.Record.TheVariants.{Sent, Received, Noise, User}
+use Rattle.capture.specs.declared.event.Event.{Event}
 use Rattle.dna_node.specs.Content.{link_event}
-use Rattle.dna_links.specs.declared.queue.Queues.{Queues}
 use Rattle.dna_links.specs.User.{LinkEventValue}
+use Rattle.dna_station.specs.Machine.{Machine}
 use Rattle.dna_station.specs.WireBook.{wire_sending_refusal}
-use Rattle.dna_node.specs.WireLayers.{WireLayers}
-use Rattle.dna_links.specs.WireLinks.{WireLinks, wire_links_user}
+use Rattle.dna_node.specs.WireLayers.{LayersTag, WireLayers}
 use Rattle.nsp_link.specs.Phases.{event_takes_memory}
 use Rattle.pair_judge.specs.declared.step_fault.StepFault.{StepFault}
 use Rattle.pair_judge.specs.declared.step_fault.StepFault.TheVariants.{Refused, OutOfMemory}
@@ -30,18 +30,16 @@ MaySend s (Malformed departure) = ⊥
 abbrev pub MayKeep : (kept damaged : Bool) → Type 0
 MayKeep kept damaged = (kept ≡ true) × (damaged ≡ false)
 
--- an event that the links of a node allow, with queues or without, and that begins a link, gives it an address or hands a message in
-abbrev pub MayEnter : WireLinks → LinkEventValue → Type 0
-MayEnter links event = ((queues : Queues) × IsOk (wire_links_user queues links event)) × (event_takes_memory event ≡ true)
+module _ (machine : Machine WireLayers LayersTag) where
+  -- an event that a node of this machine allows, and that begins a link, gives it an address or hands a message in
+  abbrev pub MayEnter : WireLayers → Event → Option LinkEventValue → Type 0
+  MayEnter s event None = ⊥
+  MayEnter s event (Some of_links) = IsOk (machine.user s event) × (event_takes_memory of_links ≡ true)
 
-abbrev pub MayEnterAny : WireLinks → Option LinkEventValue → Type 0
-MayEnterAny links None = ⊥
-MayEnterAny links (Some event) = MayEnter links event
-
--- no other record does: not a start, halt, delivery or close, not noise, not a receipt that is damaged or not kept, and no event that
--- breaks a rule
-abbrev pub MayTakeMemory : WireLayers → Record → Type 0
-MayTakeMemory s (Sent bytes) = MaySend s (reading bytes)
-MayTakeMemory s (Received hint kept bytes) = MayKeep kept (shows_damage (reading bytes))
-MayTakeMemory s (Noise bytes) = ⊥
-MayTakeMemory s (User event) = MayEnterAny s.links (link_event event)
+  -- no other record does: not a start, halt, delivery or close, not noise, not a receipt that is damaged or not kept, and no event that
+  -- breaks a rule
+  abbrev pub MayTakeMemory : WireLayers → Record → Type 0
+  MayTakeMemory s (Sent bytes) = MaySend s (reading bytes)
+  MayTakeMemory s (Received hint kept bytes) = MayKeep kept (shows_damage (reading bytes))
+  MayTakeMemory s (Noise bytes) = ⊥
+  MayTakeMemory s (User event) = MayEnter s event (link_event event)

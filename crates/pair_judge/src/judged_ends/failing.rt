@@ -1,6 +1,7 @@
 //! Which check the refused record does not pass.
 
 ghost use Rattle.std.specs.Prelude.{◌≡◌, option_and_then, option_copied, option_map, slice_get};
+ghost use Rattle.nsp_link.specs.Kinds.{queues_of};
 ghost use Rattle.nsp_link.specs.View.{rest_of};
 ghost use Rattle.pair_judge.specs.FailedIn as spec;
 ghost use Rattle.pair_judge.specs.Finding.{of_side};
@@ -16,10 +17,10 @@ use crate::verdict::Verdict;
 use wire_base::Side;
 
 impl JudgedEnds {
-    /// The side of the refused record, and the check that the record does not pass, with what is seen there and what is allowed. The check is
-    /// one of the reason of the verdict. `None` where the pair is accepted. Takes no memory.
-    pub fn failed(&self) -> Option<(Side, FailedCheck)>
-        ensures { spec.IsFailedIn self.now result }
+    /// The side of the refused record, and the check that the record does not pass, with what is seen there and what is allowed: of
+    /// nodes with queues, or without, as was judged. The check is one of the reason of the verdict. `None` where the pair is accepted. Takes no memory.
+    pub fn failed<const QUEUES: u8>(&self) -> Option<(Side, FailedCheck)>
+        ensures { spec.IsFailedIn (queues_of QUEUES) self.now result }
     {
         let Verdict::Refused {
             side,
@@ -29,19 +30,19 @@ impl JudgedEnds {
         else {
             return None;
         };
-        match self.first_at(side, reason) {
+        match self.first_at::<QUEUES>(side, reason) {
             Some(check) => Some((side, check)),
             None => None,
         }
     }
 
     // The first check of this reason that fails at this side.
-    fn first_at(&self, side: Side, reason: Reason) -> Option<FailedCheck>
-        ensures { spec.IsFirstOf reason (spec.checks_at side self.now) result }
+    fn first_at<const QUEUES: u8>(&self, side: Side, reason: Reason) -> Option<FailedCheck>
+        ensures { spec.IsFirstOf reason (spec.checks_at (queues_of QUEUES) side self.now) result }
     {
         match side {
-            Side::A => first_of(reason, &self.a, &self.b, &self.line_b),
-            Side::B => first_of(reason, &self.b, &self.a, &self.line_a),
+            Side::A => first_of::<QUEUES>(reason, &self.a, &self.b, &self.line_b),
+            Side::B => first_of::<QUEUES>(reason, &self.b, &self.a, &self.line_a),
         }
     }
 
@@ -58,15 +59,20 @@ impl JudgedEnds {
 }
 
 // The first check of this reason that fails at a side, to which this line leads from the other one.
-fn first_of(reason: Reason, own: &SideEnd, other: &SideEnd, incoming: &Line) -> Option<FailedCheck>
+fn first_of<const QUEUES: u8>(
+    reason: Reason,
+    own: &SideEnd,
+    other: &SideEnd,
+    incoming: &Line,
+) -> Option<FailedCheck>
     requires { own.now.front ≡ incoming.now.gone }
-    ensures { spec.IsFirstOf reason (spec.checks_by own.now other.now (held incoming.now)) result }
+    ensures { spec.IsFirstOf reason (spec.checks_by (queues_of QUEUES) own.now other.now (held incoming.now)) result }
 {
     let here = awaited(own, other);
     let there = awaited(other, own);
     let no_order = of_reason(reason, both_await(here, there), None);
     let no_unit = of_reason(reason, one_awaits(here), no_order);
-    of_reason(reason, own.failed_ahead(incoming), no_unit)
+    of_reason(reason, own.failed_ahead::<QUEUES>(incoming), no_unit)
 }
 
 // What a side waits for, if it does.

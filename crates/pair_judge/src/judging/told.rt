@@ -15,6 +15,7 @@ use super::with_ends::Watched;
 use crate::fault::JudgeFault;
 use crate::layers::{LinksOnTop, NothingOnTop};
 use crate::observer::Observer;
+use nsp_link::WITHOUT_QUEUES;
 use std::alloc::Global;
 use std::io::Read;
 use wire_base::Tally;
@@ -41,7 +42,7 @@ pub fn judge_told<O: Observer, R: Read, S: Read>(
     ensures reads_a { CountsReads (is_failed_read_of Side.A result) (tally_faults a.old) (tally_faults a.new) }
     ensures reads_b { CountsReads (is_failed_read_of Side.B result) (tally_faults b.old) (tally_faults b.new) }
 {
-    decide::<LinksOnTop<0>, O, R, S>(alloc, a, b, observer)
+    decide::<LinksOnTop<WITHOUT_QUEUES>, O, R, S>(alloc, a, b, observer)
 }
 
 /// Decides the same as `judge_line`, of whose answer all that is said there holds of this verdict, while an observer is told of each record that is

@@ -4,6 +4,7 @@ ghost use Rattle.std.specs.Prelude.{IfOk, []};
 ghost use Rattle.wire_base.specs.Tally.{tally_faults, tally_lent};
 ghost use Rattle.wire_base.specs.declared.side.Side.{Side};
 ghost use Rattle.capture.specs.Faulty.{CountsReads};
+ghost use Rattle.dna_links.specs.declared.queue.Queues.TheVariants.{Without};
 ghost use Rattle.dna_node.specs.Kind.{both_layers};
 ghost use Rattle.pair_judge.specs.Ends.{StandsFor, verdict_in};
 ghost use Rattle.pair_judge.specs.FailedIn.{NamesOne};
@@ -20,6 +21,7 @@ use ddcmp_station::view_shows_truth;
 use dna_links::LinkTag;
 use dna_node::{layers_run_as_stations, wire_layers_see_right};
 use dna_station::numbers_within_bounds;
+use nsp_link::WITHOUT_QUEUES;
 use std::alloc::Global;
 use std::io::Read;
 use wire_base::Tally;
@@ -45,7 +47,7 @@ pub fn judge_with_ends<R: Read, S: Read>(
 ) -> Result<JudgedEnds, JudgeFault>
     ensures answer { IsAnswer both_layers (R.remaining (tally_lent a.old)) (S.remaining (tally_lent b.old)) (verdict_in result) }
     ensures stands { IfOk result (λ ends. StandsFor (R.remaining (tally_lent a.old)) (S.remaining (tally_lent b.old)) ends ends.verdict) }
-    ensures fails { IfOk result NamesOne }
+    ensures fails { IfOk result (NamesOne Without) }
     ensures reads_a { CountsReads (is_failed_read_of Side.A result) (tally_faults a.old) (tally_faults a.new) }
     ensures reads_b { CountsReads (is_failed_read_of Side.B result) (tally_faults b.old) (tally_faults b.new) }
 {
@@ -72,7 +74,7 @@ pub fn judge_watched<O: Observer, R: Read, S: Read>(
         (verdict_in (only result (λ watched. watched.ends))) }
     ensures stands { IfOk result (λ watched.
         StandsFor (R.remaining (tally_lent a.old)) (S.remaining (tally_lent b.old)) watched.ends watched.ends.verdict) }
-    ensures fails { IfOk result (λ watched. NamesOne watched.ends) }
+    ensures fails { IfOk result (λ watched. NamesOne Without watched.ends) }
     ensures told { IfOk result (λ watched.
         WasTold both_layers (R.remaining (tally_lent a.old)) (S.remaining (tally_lent b.old)) watched.ends (O.told watched.observer)) }
     ensures reads_a { CountsReads (is_failed_read_of Side.A result) (tally_faults a.old) (tally_faults a.new) }
@@ -82,5 +84,5 @@ pub fn judge_watched<O: Observer, R: Read, S: Read>(
     numbers_within_bounds();
     view_shows_truth::<LinkTag>();
     wire_layers_see_right();
-    decide::<LinksOnTop<0>, O, R, S>(alloc, a, b, observer)
+    decide::<LinksOnTop<WITHOUT_QUEUES>, O, R, S>(alloc, a, b, observer)
 }

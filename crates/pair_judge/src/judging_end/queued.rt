@@ -15,6 +15,7 @@ use crate::end_verdict::EndVerdict;
 use crate::layers::LinksOnTop;
 use crate::observer::Observer;
 use capture::CaptureFault;
+use nsp_link::WITH_QUEUES;
 use std::alloc::Global;
 use std::io::Read;
 use wire_base::Tally;
@@ -31,7 +32,7 @@ pub fn judge_queued_end<R: Read>(
     ensures first { IfErr result (λ fault. fault ≢ CaptureFault.Failed) }
     ensures reads { CountsReads (is_failed_read result) (tally_faults a.old) (tally_faults a.new) }
 {
-    find_end::<LinksOnTop<1>, R>(alloc, a)
+    find_end::<LinksOnTop<WITH_QUEUES>, R>(alloc, a)
 }
 
 /// Decides the same, while an observer is told of each record that is made, as one of side a; and gives the end as it is then.
@@ -49,5 +50,5 @@ pub fn judge_queued_end_watched<O: Observer, R: Read>(
     ensures first { IfErr result (λ fault. fault ≢ CaptureFault.Failed) }
     ensures reads { CountsReads (is_failed_read result) (tally_faults a.old) (tally_faults a.new) }
 {
-    watch_end::<LinksOnTop<1>, O, R>(alloc, a, observer)
+    watch_end::<LinksOnTop<WITH_QUEUES>, O, R>(alloc, a, observer)
 }

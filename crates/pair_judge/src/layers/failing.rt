@@ -11,6 +11,7 @@ ghost use Rattle.ddcmp_station.specs.Arrival.{arrival_view};
 ghost use Rattle.nsp_link.specs.FailedArrival as link_arrival;
 ghost use Rattle.nsp_link.specs.FailedEvent as link_event;
 ghost use Rattle.nsp_link.specs.FailedSending as link_sending;
+ghost use Rattle.nsp_link.specs.Kinds.{queues_of};
 ghost use Rattle.pair_judge.specs.FailedCheck as spec;
 ghost use Rattle.pair_judge.specs.inner.Steps.{with_link};
 
@@ -28,11 +29,11 @@ use nsp_link::LinkEvent;
 
 impl Layers {
     /// The first check that this message does not pass, if the node sent it now; `None` where it may be sent. Takes no memory.
-    pub fn failed_message(&self, message: &Message) -> Option<FailedCheck>
-        ensures { result ≡ spec.failed_message self.now (view message.now) }
+    pub fn failed_message<const QUEUES: u8>(&self, message: &Message) -> Option<FailedCheck>
+        ensures { result ≡ spec.failed_message (queues_of QUEUES) self.now (view message.now) }
     {
         match self.station.ask_to_send(message) {
-            Ok(SendPermit::FirstSending) => self.failed_first(body_of(message)),
+            Ok(SendPermit::FirstSending) => self.failed_first::<QUEUES>(body_of(message)),
             Ok(SendPermit::Control | SendPermit::Repeat) => None,
             Err(check) => Some(FailedCheck::StationSending(
                 self.station.tell_sending(message, check),
@@ -41,23 +42,27 @@ impl Layers {
     }
 
     // The check that a packet does not pass at the links, if it is first sent now.
-    fn failed_first(&self, packet: &[u8]) -> Option<FailedCheck>
+    fn failed_first<const QUEUES: u8>(&self, packet: &[u8]) -> Option<FailedCheck>
         ensures { result ≡ spec.failed_packet
-            (λ carried. option_map FailedCheck.LinkSending (link_sending.failed_sending self.now.links carried)) packet.now }
+            (λ carried. option_map FailedCheck.LinkSending (link_sending.failed_sending (queues_of QUEUES) self.now.links carried)) packet.now }
     {
         match carried(packet) {
-            Ok(Some(carried)) => self.failed_link_sending(carried),
+            Ok(Some(carried)) => self.failed_link_sending::<QUEUES>(carried),
             Ok(None) => None,
             Err(fault) => Some(FailedCheck::Packet(fault)),
         }
     }
 
-    fn failed_link_sending(&self, carried: Carried) -> Option<FailedCheck>
-        ensures { result ≡ spec.failed_nsp (λ carried. option_map FailedCheck.LinkSending (link_sending.failed_sending self.now.links carried))
+    fn failed_link_sending<const QUEUES: u8>(&self, carried: Carried) -> Option<FailedCheck>
+        ensures { result ≡ spec.failed_nsp
+            (λ carried. option_map FailedCheck.LinkSending (link_sending.failed_sending (queues_of QUEUES) self.now.links carried))
             carried.entry.dst carried.entry.src (nsp_at carried.entry.message.now) }
     {
         match &read_nsp(carried.message) {
-            Ok(message) => match self.links.failed_sending(carried.dst, carried.src, message) {
+            Ok(message) => match self
+                .links
+                .failed_sending::<QUEUES>(carried.dst, carried.src, message)
+            {
                 Some(failed) => Some(FailedCheck::LinkSending(failed)),
                 None => None,
             },
@@ -131,10 +136,10 @@ impl Layers {
     }
 
     /// The check that this event of the links' user does not pass; `None` where the user may do it. Takes no memory.
-    pub fn failed_link_event(&self, event: LinkEvent) -> Option<FailedCheck>
-        ensures { result ≡ option_map FailedCheck.LinkEvent (link_event.failed_event self.now.links (links.view event.entry)) }
+    pub fn failed_link_event<const QUEUES: u8>(&self, event: LinkEvent) -> Option<FailedCheck>
+        ensures { result ≡ option_map FailedCheck.LinkEvent (link_event.failed_event (queues_of QUEUES) self.now.links (links.view event.entry)) }
     {
-        match self.links.failed_event(event) {
+        match self.links.failed_event::<QUEUES>(event) {
             Some(failed) => Some(FailedCheck::LinkEvent(failed)),
             None => None,
         }

@@ -1,6 +1,6 @@
 //! What the user of a side does.
 
-ghost use Rattle.std.specs.Prelude.{◌≡◌, ◌+◌, ◌^◌, ◌<◌, ◌≤◌, Ok, Err, OnOk, OnErr, IfErr};
+ghost use Rattle.std.specs.Prelude.{◌≡◌, ◌+◌, ◌^◌, ◌<◌, ◌≤◌, Ok, Err, Some, OnOk, OnErr, IfErr};
 ghost use Rattle.dna_links.specs.User.{view};
 ghost use Rattle.nsp_link.specs.Kinds.{queues_of};
 ghost use Rattle.dna_station.specs.WireStation.{load};
@@ -36,9 +36,11 @@ impl Layers {
     #[tactic(auto, using(crate::proofs::LinkEvents::made_by_links))]
     pub fn at_links<const QUEUES: u8>(&mut self, event: LinkEvent) -> Result<(), StepFault>
         ensures ok { OnOk result ((layers_run_by (queues_of QUEUES)).user self.old (event_of_links (view event.entry)) ≡ Ok self.new) }
-        ensures refused { IfErr result (IfRefused (λ refusal. (layers_run_by (queues_of QUEUES)).user self.old (event_of_links (view event.entry)) ≡ Err refusal)) }
+        ensures refused { IfErr result (IfRefused (λ refusal.
+            (layers_run_by (queues_of QUEUES)).user self.old (event_of_links (view event.entry)) ≡ Err refusal)) }
         ensures err { OnErr result (self.new ≡ self.old) }
-        ensures memory { IfErr result (IfNoMemory (MayEnter self.old.links (view event.entry))) }
+        ensures memory { IfErr result (IfNoMemory (
+            MayEnter (layers_run_by (queues_of QUEUES)) self.old (event_of_links (view event.entry)) (Some (view event.entry)))) }
         ensures station { self.new.station ≡ self.old.station }
     {
         match self.links.user::<QUEUES>(event) {

@@ -3,6 +3,7 @@
 ghost use Rattle.std.specs.Prelude.{◌≡◌, List, [], ◌∷◌, Option, Some, None, option_and_then, option_copied, slice_get};
 ghost use Rattle.capture.specs.Entries.{record_with};
 ghost use Rattle.ddcmp_msg.specs.Reading.{reading};
+ghost use Rattle.nsp_link.specs.Kinds.{queues_of};
 ghost use Rattle.nsp_link.specs.View.{rest_of};
 ghost use Rattle.pair_judge.specs.FailedCheck as of_any;
 ghost use Rattle.pair_judge.specs.FailedIn as spec;
@@ -25,27 +26,27 @@ use dna_packet::read_nsp;
 impl SideEnd {
     /// The first check that the record ahead does not pass, where this line leads from the other side; `None` where it is made, or waits, or there
     /// is none. Takes no memory.
-    pub(crate) fn failed_ahead(&self, incoming: &Line) -> Option<FailedCheck>
+    pub(crate) fn failed_ahead<const QUEUES: u8>(&self, incoming: &Line) -> Option<FailedCheck>
         requires { self.now.front ≡ incoming.now.gone }
-        ensures { result ≡ spec.failed_ahead self.now (held incoming.now) self.now.ahead }
+        ensures { result ≡ spec.failed_ahead (queues_of QUEUES) self.now (held incoming.now) self.now.ahead }
     {
         let Ahead::Waits(entry) = self.ahead else {
             return None;
         };
-        failed_record(&self.layers, incoming, entry, self.capture.bytes())
+        failed_record::<QUEUES>(&self.layers, incoming, entry, self.capture.bytes())
     }
 
-    /// The check that the record ahead of an end alone does not pass, which is refused for this reason, with what is seen there and what is allowed.
-    /// The check is one of this reason. `None` where none is named: a response or an acknowledgement that no right other end sends, or a message of
-    /// other nodes, that came. Takes no memory.
-    pub fn failed_alone(&self, reason: Reason) -> Option<FailedCheck>
-        ensures { spec.IsFailedAlone self.now reason result }
+    /// The check that the record ahead of an end alone does not pass, which is refused for this reason, with what is seen there and what is allowed:
+    /// of a node with queues, or without, as was judged. The check is one of this reason. `None` where none is named: a response or an
+    /// acknowledgement that no right other end sends, or a message of other nodes, that came. Takes no memory.
+    pub fn failed_alone<const QUEUES: u8>(&self, reason: Reason) -> Option<FailedCheck>
+        ensures { spec.IsFailedAlone (queues_of QUEUES) self.now reason result }
     {
         let Ahead::Waits(entry) = self.ahead else {
             return None;
         };
         let bytes = self.capture.bytes();
-        failed_entry(reason, &self.layers, self.front, entry, bytes)
+        failed_entry::<QUEUES>(reason, &self.layers, self.front, entry, bytes)
     }
 
     /// The hint of the record ahead, where it is a receipt.
@@ -71,18 +72,18 @@ impl SideEnd {
 
 // What fails of this record at an end alone at this front, and is of this reason.
 #[tactic(auto, using(crate::proofs::Entries::no_receipt))]
-fn failed_entry(
+fn failed_entry<const QUEUES: u8>(
     reason: Reason,
     layers: &Layers,
     front: u64,
     entry: Entry,
     bytes: &[u8],
 ) -> Option<FailedCheck>
-    ensures { spec.IsFirstOf reason (spec.checks_alone layers.now front (Some (record_with entry bytes.now))) result }
+    ensures { spec.IsFirstOf reason (spec.checks_alone (queues_of QUEUES) layers.now front (Some (record_with entry bytes.now))) result }
 {
     match entry {
         Entry::Received { hint, .. } => failed_receipt(reason, front, hint, bytes),
-        _ => of_reason(reason, failed_own(layers, entry, bytes), None),
+        _ => of_reason(reason, failed_own::<QUEUES>(layers, entry, bytes), None),
     }
 }
 

@@ -1,5 +1,5 @@
 -- What both ends show where a record is refused.
-use Rattle.std.specs.Prelude.{Bool, if◌then◌else◌, List, [], ◌∷◌, map}
+use Rattle.std.specs.Prelude.{Bool, ◌||◌, if◌then◌else◌, is_some, List, [], ◌∷◌, map}
 use Rattle.std.specs.List.{filter}
 use Rattle.wire_base.specs.declared.side.Side.{Side}
 use Rattle.nsp_link.specs.View.{view_of}
@@ -13,8 +13,9 @@ use Rattle.why.specs.inner.LinkLine.{is_live}
 abbrev pub state_by : Side → ShownEnd → StateLine
 state_by side e = record { side = side; records = e.records; station = e.station; sent = e.sent; front = e.front }
 
+-- with queues also one that has ended, of which something waits
 abbrev pub is_live_view : LinkView → Bool
-is_live_view v = is_live v.port.phase
+is_live_view v = is_live v.port.phase || is_some v.queue.waits
 
 -- a link, where it is live
 abbrev pub if_live : LinkView → List LinkView

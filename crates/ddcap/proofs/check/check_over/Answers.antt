@@ -1,6 +1,6 @@
 -- What is printed of a fault is told by `print_fault`; where there is no memory for the text of a verdict, the answer is `out of memory`.
 use Rattle.std.proofs.Common.{refl}
-use Rattle.ddcap.specs.inner.Layers.{nodes_of, verdict_text_over}
+use Rattle.ddcap.specs.Layers.{nodes_of, verdict_text_over}
 use Rattle.ddcap.proofs.Answering.{checks_fault, checks_nothing}
 use Rattle.ddcap.proofs.check.check_over.Goals as goal
 

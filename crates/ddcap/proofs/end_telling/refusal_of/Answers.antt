@@ -6,5 +6,5 @@ returns c = record {
   is_refused = c.in-Refused.is;
   accusation = c.of_end.ensures;
   ahead = c.in-Some.ensures.some;
-  failed = c.failed_alone.ensures;
+  failed = c.failed_end_over.ensures;
 }

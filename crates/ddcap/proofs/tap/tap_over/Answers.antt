@@ -2,7 +2,7 @@
 use Rattle.std.proofs.Common.{refl}
 use Rattle.ddcap.specs.Printed.{moved}
 use Rattle.ddcap.specs.PrintedTap.{streams}
-use Rattle.ddcap.specs.inner.Layers.{nodes_of, verdict_text_over}
+use Rattle.ddcap.specs.Layers.{nodes_of, verdict_text_over}
 use Rattle.ddcap.proofs.TapTelling.{tells_fault, tells_verdict, told_there}
 use Rattle.tap_answer.specs.Telling.{telling}
 use Rattle.ddcap.proofs.tap.tap_over.Goals as goal

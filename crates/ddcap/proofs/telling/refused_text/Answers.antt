@@ -3,9 +3,9 @@ use Rattle.ddcap.proofs.Tellings.{tells_as_objects, tells_in_rows}
 use Rattle.ddcap.proofs.telling.refused_text.Goals as goal
 
 pub returns-in-Json : goal.returns-in-Json
-returns-in-Json c = tells_as_objects string_bytes c.args.watched.ends c.args.refused _ c.in-Some.ensures c.args.printout.form c.in-Json.is
+returns-in-Json c = tells_as_objects c.args.printout.layers string_bytes c.args.watched.ends c.args.refused _ c.in-Some.ensures c.args.printout.form c.in-Json.is
     c.objects_text.result c.objects_text.ensures
 
 pub returns : goal.returns
-returns c = tells_in_rows string_bytes c.args.watched.ends c.args.refused _ c.in-Some.ensures c.args.printout.form c.in-Rows.is c.rows_text.result
+returns c = tells_in_rows c.args.printout.layers string_bytes c.args.watched.ends c.args.refused _ c.in-Some.ensures c.args.printout.form c.in-Rows.is c.rows_text.result
     c.rows_text.ensures

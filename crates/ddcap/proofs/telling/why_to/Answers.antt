@@ -7,34 +7,34 @@ use Rattle.ddcap.proofs.AnsweringWhy.{explains_acceptance, explains_nothing, exp
 use Rattle.ddcap.proofs.telling.why_to.Goals as goal
 
 pub returns-in_default : goal.returns-in_default
-returns-in_default g c = explains_nothing c.args.printout.form _ _ _ _ _ c.print_out_of_memory.ensures refl
+returns-in_default g c = explains_nothing c.args.printout.layers c.args.printout.form _ _ _ _ _ c.print_out_of_memory.ensures refl
 
 pub returns-in-Err-try_edits : goal.returns-in-Err-try_edits
-returns-in-Err-try_edits g c = explains_nothing c.args.printout.form _ _ _ _ _ c.print_out_of_memory-in-Err-try_edits.ensures refl
+returns-in-Err-try_edits g c = explains_nothing c.args.printout.layers c.args.printout.form _ _ _ _ _ c.print_out_of_memory-in-Err-try_edits.ensures refl
 
 pub returns-in-Err-with_queues_too : goal.returns-in-Err-with_queues_too
 returns-in-Err-with_queues_too g c =
-    explains_nothing c.args.printout.form _ _ _ _ _ c.print_out_of_memory-in-Err-with_queues_too.ensures refl
+    explains_nothing c.args.printout.layers c.args.printout.form _ _ _ _ _ c.print_out_of_memory-in-Err-with_queues_too.ensures refl
 
 pub returns-in-Err-refused_text : goal.returns-in-Err-refused_text
-returns-in-Err-refused_text g c = explains_nothing c.args.printout.form _ _ _ _ _ c.print_out_of_memory-in-Err-refused_text.ensures refl
+returns-in-Err-refused_text g c = explains_nothing c.args.printout.layers c.args.printout.form _ _ _ _ _ c.print_out_of_memory-in-Err-refused_text.ensures refl
 
 pub returns-in-Accepted : goal.returns-in-Accepted
 returns-in-Accepted g c =
-    let told = c.in-Ok-judge_watched in
+    let told = c.in-Ok-watch_over in
     let of_a = c.new-tally_a.ensures.lent in
     let of_b = c.new-tally_b.ensures.lent in
-    explains_acceptance c.args.printout.form _ _ _ _ _ told.watched.ends
-    (judged_there of_a of_b (λ lent. g.A.Read.remaining lent.now) (λ lent. g.B.Read.remaining lent.now) _ told.ensures.answer)
+    explains_acceptance c.args.printout.layers c.args.printout.form _ _ _ _ _ told.watched.ends
+    (judged_there c.args.printout.layers of_a of_b (λ lent. g.A.Read.remaining lent.now) (λ lent. g.B.Read.remaining lent.now) _ told.ensures.judged)
     (rw (of_a, of_b) at told.ensures.stands) c.in-Accepted.summary (sym c.verdict.ensures ∙ c.in-Accepted.is) c.print_accepted.ensures
 
 pub returns-in-Ok-refused_text : goal.returns-in-Ok-refused_text
 returns-in-Ok-refused_text g c =
-    let told = c.in-Ok-judge_watched in
+    let told = c.in-Ok-watch_over in
     let of_a = c.new-tally_a.ensures.lent in
     let of_b = c.new-tally_b.ensures.lent in
-    explains_refusal c.args.printout.form _ _ _ _ _ told.watched.ends
-    (judged_there of_a of_b (λ lent. g.A.Read.remaining lent.now) (λ lent. g.B.Read.remaining lent.now) _ told.ensures.answer)
+    explains_refusal c.args.printout.layers c.args.printout.form _ _ _ _ _ told.watched.ends
+    (judged_there c.args.printout.layers of_a of_b (λ lent. g.A.Read.remaining lent.now) (λ lent. g.B.Read.remaining lent.now) _ told.ensures.judged)
     (rw (of_a, of_b) at told.ensures.stands)
     (record { side = c.in-Refused.side; place = c.in-Refused.place; reason = c.in-Refused.reason })
     (sym c.verdict.ensures ∙ c.in-Refused.is) _ c.in-Ok-refused_text.ensures

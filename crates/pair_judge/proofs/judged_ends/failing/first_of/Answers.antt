@@ -6,7 +6,7 @@ use Rattle.pair_judge.proofs.FirstFailed.{of_three}
 use Rattle.pair_judge.proofs.judged_ends.failing.first_of.Goals as goal
 
 pub returns : goal.returns
-returns c =
+returns g c =
     of_three c.args.reason _ _ _ c.failed_ahead.result c.one_awaits.result c.both_await.result
     c.of_reason.result c.of_reason-no_unit.result c.of_reason-no_order.result
     c.failed_ahead.ensures

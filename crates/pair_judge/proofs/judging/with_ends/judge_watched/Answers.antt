@@ -30,5 +30,5 @@ returns-clause-fails g c =
     let text_a = g.R.Read.remaining (tally_lent c.args.a.now) in
     let text_b = g.S.Read.remaining (tally_lent c.args.b.now) in
     IfOk-weaker c.decide.result _ _
-    (λ watched s. subst (λ (ends : ShownEnds). NamesOne ends) (sym s.shown) (named_there text_a text_b _ s.stopped s.is_stopped))
+    (λ watched s. subst (λ (ends : ShownEnds). NamesOne Without ends) (sym s.shown) (named_there Without text_a text_b _ s.stopped s.is_stopped))
     c.decide.ensures.shown

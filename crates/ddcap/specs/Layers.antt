@@ -1,6 +1,7 @@
 -- What goes by whether the links on top of a station are judged too.
 use Rattle.std.specs.Prelude.{ℕ, List}
-use Rattle.dna_links.specs.declared.queue.Queues.TheVariants.{With}
+use Rattle.dna_links.specs.declared.queue.Queues.{Queues}
+use Rattle.dna_links.specs.declared.queue.Queues.TheVariants.{Without, With}
 use Rattle.dna_node.specs.Kind.{NodeKind, both_layers, layers_kind, stations_alone}
 use Rattle.pair_judge.specs.declared.verdict.Verdict.{Verdict}
 use Rattle.ddcap.specs.declared.layers.Layers.{Layers}
@@ -13,6 +14,12 @@ abbrev pub nodes_of : Layers → NodeKind
 nodes_of Both = both_layers
 nodes_of Queued = layers_kind With
 nodes_of Station = stations_alone
+
+-- whether the nodes have queues
+abbrev pub queues_of : Layers → Queues
+queues_of Both = Without
+queues_of Queued = With
+queues_of Station = Without
 
 -- the text of a verdict on a pair
 abbrev pub verdict_text_over : Layers → Verdict → List ℕ

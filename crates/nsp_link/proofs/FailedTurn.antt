@@ -1,0 +1,70 @@
+-- The link in use that a check is asked of.
+use Rattle.std.proofs.Common.{◌≡◌, ℕ, Bool, true, false, Option, Some, None, ap, ◌∙◌}
+use Rattle.std.specs.Prelude.{slice_get}
+use Rattle.dna_links.specs.declared.port.LinkTest.{LinkTest}
+use Rattle.dna_links.specs.declared.port.LinkTest.TheVariants.{LiveAt}
+use Rattle.dna_links.specs.declared.port.Phase.{Phase}
+use Rattle.dna_links.specs.declared.queue.Queues.{Queues}
+use Rattle.dna_links.specs.Links.{LinkOf, at_number, on_link}
+use Rattle.dna_links.specs.Queues.{may_send}
+use Rattle.dna_links.specs.WireSegments.{WireSegments}
+use Rattle.dna_links.specs.WireLinks.{WireLinks}
+use Rattle.nsp_link.specs.FailedEvent.{failed_close, failed_handing_in}
+use Rattle.nsp_link.specs.FailedSending.{failed_in_turn, named, out_of_turn}
+use Rattle.nsp_link.specs.Missing.{missing}
+use Rattle.nsp_link.specs.declared.failed.FailedLinkSending.{FailedLinkSending}
+use Rattle.nsp_link.specs.declared.failed.FailedLinkSending.TheVariants.{NoLink}
+use Rattle.nsp_link.specs.inner.Failed.{fails_in_turn, fails_to_close, fails_to_hand_in}
+use Rattle.nsp_link.specs.inner.Rows.{found_in_use, number_in_use}
+use Rattle.nsp_link.proofs.InUse.{running_keeps, seen_waiting, unseen_waiting}
+use Rattle.nsp_link.proofs.Rows.{in_use_same}
+
+module _ {R : Type 0} (queues : Queues) (test : LinkTest) (s : WireLinks) (otherwise : R) (next : ℕ → LinkOf WireSegments → R) where
+  pub use_found : (n : ℕ) (l : LinkOf WireSegments) → number_in_use queues test s ≡ Some n → slice_get s.links n ≡ Some l →
+      found_in_use queues test s otherwise next ≡ next n l
+  use_found n l e there =
+      ap (λ (r : Option ℕ). at_number s.links r otherwise next) e ∙ ap (λ (o : Option (LinkOf WireSegments)). on_link n o otherwise next) there
+
+  pub use_none : number_in_use queues test s ≡ None → found_in_use queues test s otherwise next ≡ otherwise
+  use_none e = ap (λ (r : Option ℕ). at_number s.links r otherwise next) e
+
+-- ---- a message
+
+module _ (queues : Queues) (test : LinkTest) (wanted : Phase) (fails : LinkOf WireSegments → Option FailedLinkSending) (s : WireLinks) where
+  abbrev none : Option FailedLinkSending
+  none = Some (NoLink (missing test s))
+
+  abbrev asked : ℕ → LinkOf WireSegments → Option FailedLinkSending
+  asked number link = named (may_send queues wanted link) (out_of_turn queues wanted number link) (fails link)
+
+  pub turn_none : number_in_use queues test s ≡ None → fails_in_turn queues test wanted fails s ≡ Some (NoLink (missing test s))
+  turn_none e = use_none queues test s none asked e
+
+  module _ (n : ℕ) (l : LinkOf WireSegments) (e : number_in_use queues test s ≡ Some n) (there : slice_get s.links n ≡ Some l) where
+    by_turn : (b : Bool) → may_send queues wanted l ≡ b →
+        fails_in_turn queues test wanted fails s ≡ named b (out_of_turn queues wanted n l) (fails l)
+    by_turn b is =
+        use_found queues test s none asked n l e there ∙ ap (λ (b : Bool). named b (out_of_turn queues wanted n l) (fails l)) is
+
+    pub turn_passed : may_send queues wanted l ≡ true → fails_in_turn queues test wanted fails s ≡ fails l
+    turn_passed is = by_turn true is
+
+    pub turn_failed : may_send queues wanted l ≡ false → fails_in_turn queues test wanted fails s ≡ Some (out_of_turn queues wanted n l)
+    turn_failed is = by_turn false is
+
+  pub turn_same : fails_in_turn queues test wanted fails s ≡ failed_in_turn queues test wanted fails s
+  turn_same = in_use_same test s none asked queues
+
+pub ruleset turns = (turn_none, turn_passed, turn_failed, running_keeps, seen_waiting, unseen_waiting)
+
+-- ---- an event
+
+pub close_same : (queues : Queues) (own : ℕ) (s : WireLinks) → fails_to_close queues own s ≡ failed_close queues own s
+close_same queues own s = in_use_same (LiveAt own) s _ _ queues
+
+pub hand_same : (queues : Queues) (own : ℕ) (s : WireLinks) → fails_to_hand_in queues own s ≡ failed_handing_in queues own s
+hand_same queues own s = in_use_same (LiveAt own) s _ _ queues
+
+pub ruleset event_in_use = (close_same, hand_same)
+
+pub ruleset uses_found = (use_found, use_none)

@@ -1,0 +1,16 @@
+use Rattle.dna_links.specs.declared.queue.Queues.TheVariants.{With}
+use Rattle.std.proofs.Common.{sym, subst}
+use Rattle.std.proofs.lemmas.Result.{IfOk-weaker}
+use Rattle.wire_base.specs.Tally.{tally_lent}
+use Rattle.pair_judge.specs.Ends.{ShownEnds}
+use Rattle.pair_judge.specs.FailedIn.{NamesOne}
+use Rattle.pair_judge.proofs.Ends.{named_there}
+use Rattle.pair_judge.proofs.judging.queued.judge_queued_told.Goals as goal
+
+pub returns-clause-fails : goal.returns-clause-fails
+returns-clause-fails g c =
+    let text_a = g.R.Read.remaining (tally_lent c.args.a.now) in
+    let text_b = g.S.Read.remaining (tally_lent c.args.b.now) in
+    IfOk-weaker c.decide.result _ _
+    (λ watched s. subst (λ (ends : ShownEnds). NamesOne With ends) (sym s.shown) (named_there With text_a text_b _ s.stopped s.is_stopped))
+    c.decide.ensures.shown
