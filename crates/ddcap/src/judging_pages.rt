@@ -98,8 +98,9 @@ With --json, before or after the files, each of these is an object on a line of
 its own. For a pair that is not refused, the answer is that of check.
 
 docs/KEYS.md has the keys of these objects. With --line only DDCMP is judged,
-as by check. With --full all bytes of the record are printed, and not only the
-first 64.
+and with --queued nodes with queues between NSP and DDCMP, as by check; then
+each link also says how far it has come. With --full all bytes of the record
+are printed, and not only the first 64.
 
 At a faulty line it says on standard error what is there, at which column, and
 what would be correct.

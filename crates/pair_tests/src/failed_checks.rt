@@ -1,6 +1,6 @@
 //! Which check the refused record of two texts does not pass.
 
-use nsp_link::{FailedLinkSending, NextPiece, Numbers, PieceShape};
+use nsp_link::{FailedLinkSending, NextPiece, Numbers, PieceShape, WITHOUT_QUEUES};
 use pair_judge::{FailedCheck, judge_with_ends};
 use std::alloc::Global;
 use wire_base::{Side, Tally};

@@ -1,7 +1,7 @@
 use capture::Entry;
 use ddcmp_msg::{Flags, Message, Reading, read_unit};
 use ddcmp_station::{DataByte, FailedSending, OpenCauses, State, StationView};
-use dna_links::{Phase, Port};
+use dna_links::{LinkQueue, Phase, Port, Said};
 use nsp_link::{FailedLinkSending, LinkNumbers, LinkView, NextPiece, PieceShape};
 use pair_judge::{FailedCheck, Reason, Verdict, judge_with_ends};
 use std::alloc::{AllocError, Global};
@@ -154,6 +154,13 @@ fn quiet_link() -> LinkView {
             outstanding: 0,
             received: 0,
             last_sent: 0,
+        },
+        queue: LinkQueue {
+            waits: None,
+            ran: false,
+            accepted: false,
+            said: Said::Nothing,
+            gap: 0,
         },
     }
 }

@@ -102,7 +102,7 @@ fn write_queue<W: Write>(f: &mut Formatter<W>, queue: LinkQueue) -> fmt::Result 
             let phase = phase_name(phase);
             write!(
                 f,
-                "; ended in {phase}, and may still send what it composed before"
+                "\n           ended in {phase}; what it composed before may still be sent"
             )
         }
         None => Ok(()),
