@@ -96,11 +96,11 @@ lets_still true true f = refl
 lets_still true false f = refl
 lets_still false now f = refl
 
-ended_is : (l : Link) → ends_by_message true_segments With l ≡ ended_link l
+pub ended_is : (l : Link) → ends_by_message true_segments With l ≡ ended_link l
 ended_is l = ap (λ (f : TrueSegments). record (ended_link l) { segments = f })
     (lets_still (keeps_numbers l) (keeps_numbers (ended_link l)) l.segments)
 
-if_same : (b : Bool) (l x y : Link) → (b ≡ true → x ≡ y) → cond b x l ≡ cond b y l
+pub if_same : (b : Bool) (l x y : Link) → (b ≡ true → x ≡ y) → cond b x l ≡ cond b y l
 if_same true l x y same = same refl
 if_same false l x y same = refl
 
@@ -113,14 +113,14 @@ calling_live : (p : Phase) → is_in Calling p ≡ true → is_live p ≡ true
 calling_live Calling e = refl
 calling_live p e = absurd cc
 
-run_is : (own far : ℕ) (takes : TrueSegments → TrueSegments) (l : Link) → passes (ActedOn own far) l.port ≡ true →
+pub run_is : (own far : ℕ) (takes : TrueSegments → TrueSegments) (l : Link) → passes (ActedOn own far) l.port ≡ true →
     with_segments (takes (goes_on true_segments (is_live l.port.phase) Running l).segments) (goes_on true_segments (is_live l.port.phase) Running l)
     ≡ run_link (takes l.segments) l
 run_is own far takes l e =
     ap (λ (b : Bool). with_segments (takes (goes_on true_segments b Running l).segments) (goes_on true_segments b Running l))
     (connected_live l.port.phase (and_parts (is_connected l.port.phase) (has_both l.port own far) e).0)
 
-confirmed_is : (own far size : ℕ) (partner : Option ℕ) (l : Link) → passes (CallingAt own) l.port ≡ true →
+pub confirmed_is : (own far size : ℕ) (partner : Option ℕ) (l : Link) → passes (CallingAt own) l.port ≡ true →
     goes_on true_segments (is_live l.port.phase) Running (record l { port = record l.port { far = Some far }; partner = partner; segsize = size })
     ≡ confirmed_link far size partner l
 confirmed_is own far size partner l e =

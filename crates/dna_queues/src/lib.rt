@@ -6,5 +6,5 @@ pub mod laws;
 
 pub use laws::{
     acknowledgement_sent_after_the_end, machine_accepts_nodes_with_queues,
-    nodes_without_queues_are_among_them,
+    nodes_with_queues_make_what_the_machine_accepts, nodes_without_queues_are_among_them,
 };
