@@ -1,8 +1,7 @@
 -- Where an address is given, or a DC has it, what waits for it is acted on before; and its link then has nothing more to say of what is past.
-use Rattle.std.proofs.Common.{◌≡◌, ℕ, Bool, true, false, ◌&&◌, ◌==◌, ◌⊎◌, inl, inr, Option, Some, None, List, [], ◌∷◌, length}
+use Rattle.std.proofs.Common.{◌≡◌, ℕ, Bool, true, false, ◌&&◌, Option, Some, None, List, [], ◌∷◌}
 use Rattle.std.proofs.Common.{refl, sym, ap, ap₂, ◌∙◌, subst}
 use Rattle.std.specs.Prelude.{slice_get}
-use Rattle.std.proofs.lemmas.Bool.{cases_eq, and_parts}
 use Rattle.std.proofs.lemmas.Option.{same_Some}
 use Rattle.dna_links.specs.declared.port.Phase.{Phase}
 use Rattle.dna_links.specs.declared.port.Phase.TheVariants.{Called, Ended}
@@ -15,7 +14,8 @@ use Rattle.dna_links.specs.Links.{Carried, number_of, with_link, changed}
 use Rattle.dna_links.specs.Queues.{in_use, port_of_waiting}
 use Rattle.dna_links.specs.TrueLinks as machine
 use Rattle.dna_links.specs.Runs.{SentMessage}
-use Rattle.dna_links.proofs.Tables.Outcomes.{IsFound, looked, position_passes}
+use Rattle.dna_links.proofs.Tables.Outcomes.{IsFound, looked}
+use Rattle.dna_queues.proofs.Facts.{dead_phase}
 use Rattle.dna_queues.specs.Hidden.{Links, Node, waiting, link_it_is_for, link_it_is_of}
 use Rattle.dna_queues.specs.Made.{IsFree}
 use Rattle.dna_queues.proofs.Goes.{Link, phase_of, use_own}
@@ -25,22 +25,15 @@ use Rattle.dna_queues.proofs.Beside.{there_too}
 use Rattle.dna_queues.proofs.Turns.{Sane, can_end}
 use Rattle.dna_queues.proofs.Early.{CanGo, AreEarly}
 use Rattle.dna_queues.proofs.Hide.{LateLink, hide}
-use Rattle.dna_queues.proofs.Timed.{Due, put, put_here, put_other, Went, went_use, AreDue, AreSane, Awaits, AreKept, kept_as, EndsFirst, is_end, packets_of}
+use Rattle.dna_queues.proofs.Dues.{put_packets, none_link, Due, put, put_here, Went, went_use, AreDue, AreSane}
+use Rattle.dna_queues.proofs.Timed.{Awaits, kept_as, is_end, packets_of}
 use Rattle.dna_queues.proofs.Timed.{Timed, unique_hidden}
-use Rattle.dna_queues.proofs.Prepared.{TimedBut, due_none, set_timed_but}
+use Rattle.dna_queues.proofs.Prepared.{due_none, set_timed_but}
 use Rattle.dna_queues.proofs.Pending.{AreGood, GoodFor, then_ended, Flushed, flush}
 
 -- the link of the node as what all would come to has it
 abbrev pub stripped : Link → Link → LateLink
 stripped l x = record (hide x) { port = l.port }
-
-not_both : (c : Bool) → c ≡ true → c ≡ false → ⊥
-not_both true e f = absurd cc
-not_both false e f = absurd cc
-
-dead_phase : (p : Phase) → is_live p ≡ false → p ≡ Ended
-dead_phase Ended e = refl
-dead_phase p e = absurd cc
 
 module _ (l x : Link) (sane : Sane l) (went : Went l x) where
   pub good_link : (kept : List SentMessage) → Awaits l kept → GoodFor (hide x) kept
@@ -221,8 +214,8 @@ module _ (s : machine.Links) (sane : AreSane s) where
           due_before = subst (λ (x : machine.Links). AreDue x dues) (sym same) due;
           free = λ n t. says_no_more address dues n t (λ i l found. let never : None ≡ Some i = sym missing ∙ found.found in absurd cc);
           here = λ n t i l found. let never : None ≡ Some i = sym missing ∙ found.found in absurd cc;
-          timed = λ n t links links_same others. subst (λ (x : machine.Links). Timed x dues (record (flushed dues n t address).next { links = links }))
-              same
+          timed = λ n t links links_same others.
+              subst (λ (x : machine.Links). Timed x dues (record (flushed dues n t address).next { links = links })) same
               (subst (λ (y : Links). Timed s dues (record (flushed dues n t address).next { links = y })) (sym (links_same missing))
               (flushed_none dues n t address missing));
         }
@@ -263,8 +256,7 @@ module _ (s : machine.Links) (sane : AreSane s) where
             nothing = let d = due.each i (g l) set.here in none i l found (dues i).packets (λ x. x ≡ (dues i).link) d.early d.can
 
             link_is : g l ≡ (dues i).link
-            link_is =
-                subst (λ (ps : List Carried). CanGo left.node left.peer ps (g l) (λ x. x ≡ (dues i).link)) nothing (due.each i (g l) set.here).can
+            link_is = none_link left.node left.peer (g l) (dues i) (due.each i (g l) set.here) nothing
 
             timed : (n : Node) (t : Timed s (put i mine dues) n) (links : Links) →
                 IsSet (flushed (put i mine dues) n t address).next.links links i (hide (g l)) →
@@ -283,8 +275,4 @@ module _ (s : machine.Links) (sane : AreSane s) where
                 (awaits i l found f.next.kept f.none)
                 (λ j x differs at. flushed_awaits (put i mine dues) n t address j x at (own_other j x differs at))
                 (λ j. ap (λ (us : List SentMessage). packets_of (waiting link_it_is_of (Some j) us)) f.composed ∙ t.composed j
-                ∙ packets j (cases_eq j i))
-              where
-                packets : (j : ℕ) → (j ≡ i) ⊎ (j ≡ i → ⊥) → (put i mine dues j).packets ≡ (dues j).packets
-                packets j (inl e) = ap (λ (d : Due). d.packets) (put_here i j mine dues e) ∙ sym nothing ∙ ap (λ (m : ℕ). (dues m).packets) (sym e)
-                packets j (inr differs) = ap (λ (d : Due). d.packets) (put_other i j mine dues differs)
+                ∙ put_packets i j mine dues (sym nothing))

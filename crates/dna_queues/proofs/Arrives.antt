@@ -1,5 +1,5 @@
 -- A packet that the machine acts on the node with queues may act on: what it does to the link with its address in both.
-use Rattle.std.proofs.Common.{◌≡◌, ℕ, Bool, true, false, ◌&&◌, ◌||◌, cond, Option, Some, None, Result, Ok, refl, sym, ap, ap₂, ◌∙◌, subst}
+use Rattle.std.proofs.Common.{◌≡◌, ℕ, Bool, true, false, ◌||◌, cond, Option, Some, None, Result, Ok, refl, sym, ap, ◌∙◌, subst}
 use Rattle.std.specs.Prelude.{slice_get}
 use Rattle.std.proofs.lemmas.Bool.{and_parts}
 use Rattle.std.proofs.lemmas.Option.{same_Some}
@@ -8,7 +8,7 @@ use Rattle.dna_packet.specs.Nsp.{ConnectConfirm, DisconnectInitiate, DisconnectC
 use Rattle.dna_station.specs.declared.link_refusal.LinkRefusal.{LinkRefusal}
 use Rattle.dna_station.specs.declared.link_refusal.LinkRefusal.TheVariants.{CrossedLink}
 use Rattle.dna_links.specs.declared.port.Phase.{Phase}
-use Rattle.dna_links.specs.declared.port.Phase.TheVariants.{Calling, Called, Confirming, Running, Disconnecting, Ended}
+use Rattle.dna_links.specs.declared.port.Phase.TheVariants.{Calling, Running, Disconnecting}
 use Rattle.dna_links.specs.declared.port.Port.{Port}
 use Rattle.dna_links.specs.declared.port.LinkTest.{LinkTest}
 use Rattle.dna_links.specs.declared.port.LinkTest.TheVariants.{TheLink, CallingAt, ActedOn}
@@ -20,6 +20,7 @@ use Rattle.dna_links.specs.Arriving.{of_partner, is_for, is_of_pair, message_arr
 use Rattle.dna_links.specs.TrueSegments.{TrueSegments, Numbers, takes_segment, takes_acks, true_segments}
 use Rattle.dna_links.specs.TrueLinks as machine
 use Rattle.dna_links.proofs.Tables.Outcomes.{IsFound}
+use Rattle.dna_queues.proofs.Facts.{connected_live, not_both}
 use Rattle.dna_queues.specs.Hidden.{late_segments, Links, dstaddr}
 use Rattle.dna_queues.proofs.Goes.{Link, phase_of}
 use Rattle.dna_queues.proofs.Came.{confirmed_link, ended_link, run_link, came_as}
@@ -143,11 +144,6 @@ pub data CameTo (m : NspValue) (truth : LinkTruth Numbers) (l : Link) : Link →
       acts_as m truth (hide l) ≡ hide k → CameTo m truth l k
   IsOver : is_end m l.port ≡ true → CameTo m truth l (ended_link l)
 
-connected_live : (p : Phase) → is_connected p ≡ true → is_live p ≡ true
-connected_live Confirming e = refl
-connected_live Running e = refl
-connected_live p e = absurd cc
-
 module _ (truth : LinkTruth Numbers) (l : Link) (sane : Sane l) (live : is_live l.port.phase ≡ true) (none : l.queue.waits ≡ None) where
   in_use_is : in_use With l ≡ l.port
   in_use_is = ap (λ (w : Option Phase). port_of_waiting w l.port) none
@@ -201,10 +197,6 @@ module _ (truth : LinkTruth Numbers) (l : Link) (sane : Sane l) (live : is_live 
     where
       began : Began l.port.phase l.port.opened l.queue.accepted l.queue.ran
       began = subst (λ (p : Port). Began p.phase l.port.opened l.queue.accepted l.queue.ran) in_use_is sane.began
-
-      not_both : (c : Bool) → c ≡ true → c ≡ false → ⊥
-      not_both true e f = absurd cc
-      not_both false e f = absurd cc
 
       calling_opened : (p : Phase) → is_in Calling p ≡ true → Began p l.port.opened l.queue.accepted l.queue.ran → l.port.opened ≡ true
       calling_opened Calling e b = b.0

@@ -1,19 +1,18 @@
 -- A link begins, in the machine and in the node with queues.
-use Rattle.std.proofs.Common.{◌≡◌, ℕ, zero, suc, Bool, true, false, ◌⊎◌, inl, inr, Option, Some, None, List, [], ◌∷◌, ◌++◌, length}
+use Rattle.std.proofs.Common.{◌≡◌, ℕ, zero, suc, true, false, ◌⊎◌, inl, inr, Option, Some, None, List, [], ◌∷◌, ◌++◌, length}
 use Rattle.std.proofs.Common.{refl, sym, ap, ◌∙◌, subst, arith, length-append}
 use Rattle.std.specs.Prelude.{slice_get}
-use Rattle.std.proofs.lemmas.Option.{same_Some, slice_get_within}
 use Rattle.two_nodes.proofs.NumberedSteps.{at_pushed}
 use Rattle.dna_links.specs.LookUps.{is_at}
-use Rattle.dna_links.specs.Links.{Carried, begun}
+use Rattle.dna_links.specs.Links.{begun}
 use Rattle.dna_links.specs.TrueLinks as machine
-use Rattle.dna_links.specs.Runs.{SentMessage}
 use Rattle.dna_queues.specs.Hidden.{Node, waiting, link_it_is_for}
 use Rattle.dna_queues.proofs.Goes.{Link, phase_of}
 use Rattle.dna_queues.proofs.Turns.{Sane, has_run}
-use Rattle.dna_queues.proofs.Early.{CanGo, none_before}
-use Rattle.dna_queues.proofs.Hide.{LateLink, hide}
-use Rattle.dna_queues.proofs.Timed.{Due, went_can, IsDue, AreDue, AreSane, Awaits, Timed}
+use Rattle.dna_queues.proofs.Early.{none_before}
+use Rattle.dna_queues.proofs.Hide.{hide}
+use Rattle.dna_queues.proofs.Dues.{none_link, Due, went_can, IsDue, AreDue, AreSane}
+use Rattle.dna_queues.proofs.Timed.{Awaits, Timed}
 
 there_still : {X : Type 0} (xs : List X) (y x : X) (i : ℕ) → slice_get xs i ≡ Some x → slice_get (xs ++ y ∷ []) i ≡ Some x
 there_still [] y x i at = absurd cc
@@ -58,7 +57,7 @@ module _ (s : machine.Links) (k : Link) where
     none_due = none_before s.node s.peer (dues (length s.links)).packets k (λ x. x ≡ (dues (length s.links)).link) before last_due.early last_due.can
 
     last_link : k ≡ (dues (length s.links)).link
-    last_link = subst (λ (ps : List Carried). CanGo s.node s.peer ps k (λ x. x ≡ (dues (length s.links)).link)) none_due last_due.can
+    last_link = none_link s.node s.peer k (dues (length s.links)) last_due none_due
 
     pub begun_due : AreDue s dues
     begun_due = record {

@@ -1,5 +1,6 @@
 -- What a link's user was given of its segments no sending looks at, and none changes.
-use Rattle.std.proofs.Common.{◌≡◌, ℕ, ◌+◌, ◌-◌, ◌&&◌, Bool, true, false, not, nat_le, nat_lt, cond, Option, Some, None, List, Result, Ok, Err, refl, sym, ap, ap₂, ◌∙◌}
+use Rattle.std.proofs.Common.{◌≡◌, ℕ, ◌-◌, ◌&&◌, Bool, true, false, not, nat_le, nat_lt, cond}
+use Rattle.std.proofs.Common.{Option, Some, None, List, Result, Ok, Err, refl, sym, ap, ◌∙◌}
 use Rattle.std.proofs.Common.{length, subst}
 use Rattle.dna_packet.specs.declared.ack_word.AckWord.{AckWord}
 use Rattle.dna_packet.specs.Nsp.{SegmentValue}
@@ -7,12 +8,11 @@ use Rattle.dna_station.specs.declared.link_refusal.LinkRefusal.{LinkRefusal}
 use Rattle.dna_station.specs.declared.link_refusal.LinkRefusal.TheVariants.{WrongSegment, SegmentTooLong, LinkWindowFull}
 use Rattle.dna_links.specs.Segmentation.{Piece, piece_of, is_next_piece}
 use Rattle.dna_links.specs.SegmentBook.{Sending, Late, with_gap, wider, REACH, wire, distance}
-use Rattle.dna_links.specs.Links.{check}
 use Rattle.dna_links.specs.TrueSegments.{TrueSegments, Numbers, Named, NamedLate, highest_given, highest_received, all_named, all_named_late}
 use Rattle.dna_links.specs.TrueSegments.{is_new, is_repeat, sends_new, sends_again, segment_named, sends_segment, sends_late, new_late, went_on}
 use Rattle.dna_links.specs.TrueSegments.{acks_named, sends_acks}
 use Rattle.dna_links.proofs.Tables.Outcomes.{checked}
-use Rattle.dna_queues.proofs.SentOn.{passed_check}
+use Rattle.dna_queues.proofs.Facts.{passed_check, same_Ok}
 
 -- these messages were delivered, which came in so many segments
 abbrev pub given_user : List (List ℕ) → ℕ → TrueSegments → TrueSegments
@@ -34,9 +34,6 @@ pub record SendsStill (does : TrueSegments → Result (Sending TrueSegments Numb
     (sent : Sending TrueSegments Numbers) : Type 0 where
   pub leaves : Leaves f sent.segments
   pub still : (messages : List (List ℕ)) (pieces : ℕ) → does (given_user messages pieces f) ≡ Ok (sending_of messages pieces sent)
-
-same_Ok : (x y : Sending TrueSegments Numbers) → ◌≡◌ {A = Result (Sending TrueSegments Numbers) LinkRefusal} (Ok x) (Ok y) → x ≡ y
-same_Ok x y e = cc
 
 new_still : (segsize : ℕ) (p : Piece) (names : Named) (f : TrueSegments) (sent : Sending TrueSegments Numbers) →
     sends_new segsize p names f ≡ Ok sent → SendsStill (sends_new segsize p names) f sent

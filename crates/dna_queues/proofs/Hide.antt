@@ -1,5 +1,5 @@
 -- A link of the machine as the node with queues has it, and the messages that it composes then.
-use Rattle.std.proofs.Common.{◌≡◌, ℕ, Bool, true, false, Option, Some, None, Result, Ok, Err, refl, sym, ap, ◌∙◌, subst}
+use Rattle.std.proofs.Common.{◌≡◌, ℕ, true, Some, Result, Ok, Err, refl, sym, ap, ◌∙◌, subst}
 use Rattle.std.specs.Prelude.{slice_get}
 use Rattle.dna_packet.specs.Nsp.{NspValue, DataSegment, LinkService, DataAck, OtherDataAck, ConnectAck, NoOperation, ConnectInitiate}
 use Rattle.dna_packet.specs.Nsp.{ConnectConfirm, DisconnectInitiate, DisconnectConfirm}
@@ -7,24 +7,23 @@ use Rattle.dna_station.specs.declared.link_refusal.LinkRefusal.{LinkRefusal}
 use Rattle.dna_station.specs.declared.link_refusal.LinkRefusal.TheVariants.{NoLink, LinkState}
 use Rattle.dna_links.specs.declared.port.Phase.{Phase}
 use Rattle.dna_links.specs.declared.port.Phase.TheVariants.{Calling, Confirming, Running, Disconnecting}
-use Rattle.dna_links.specs.declared.port.Port.{Port}
 use Rattle.dna_links.specs.declared.port.LinkTest.{LinkTest}
 use Rattle.dna_links.specs.declared.port.LinkTest.TheVariants.{TheLink, OpenedAt}
 use Rattle.dna_links.specs.declared.queue.Queues.TheVariants.{Without, With}
 use Rattle.dna_links.specs.LookUps.{passes, is_in}
 use Rattle.dna_links.specs.SegmentBook.{Sending, Late}
-use Rattle.dna_links.specs.Links.{LinkOf, check, number_of, with_link, changed, with_segments}
+use Rattle.dna_links.specs.Links.{LinkOf, check, with_link, changed, with_segments}
 use Rattle.dna_links.specs.Queues.{in_use, fresh}
 use Rattle.dna_links.specs.LinkBook.{on_ok}
 use Rattle.dna_links.specs.inner.Forms.{truth_of, unchanged}
 use Rattle.dna_links.specs.Sending.{Sent, message_sent}
 use Rattle.dna_links.specs.TrueSegments.{TrueSegments, Numbers}
 use Rattle.dna_links.proofs.Tables.Outcomes.{IsFound}
+use Rattle.dna_queues.proofs.Facts.{passed_check}
 use Rattle.dna_queues.specs.Hidden.{LateSegments, late_segments, late_sent, acks_sent, Links}
 use Rattle.dna_queues.proofs.Goes.{Link, phase_of, Goes}
-use Rattle.dna_queues.proofs.LinkLists.{IsUnique, IsSet, set_changed, found_one, at_found}
+use Rattle.dna_queues.proofs.LinkLists.{still_set, IsUnique, IsSet, set_changed, found_one, at_found}
 use Rattle.dna_queues.proofs.Sending.{Owns, link_owns, opened_owns}
-use Rattle.dna_queues.proofs.SentOn.{passed_check}
 use Rattle.dna_queues.proofs.Turns.{asks, is_now}
 
 abbrev pub LateLink : Type 0
@@ -62,7 +61,7 @@ module _ (s : Links) (unique : IsUnique s) (i : ℕ) (l : Link) (there : slice_g
     made = unchanged late_segments s i (hide l);
     does = row ∙ at_found test s i (hide l) _ _ (found test own owns passed) ∙ passed_check (is_in phase (phase_of l)) LinkState _ stands;
     set = subst (λ (y : LateLink). IsSet s s i y) (sym same)
-        (record { node = refl; peer = refl; size = refl; here = there; others = λ j differs. refl });
+        (still_set _ _ _ there);
     tag = refl;
   }
 
@@ -112,7 +111,8 @@ module _ (s : Links) (unique : IsUnique s) (i : ℕ) (l : Link) (there : slice_g
       (ap hide m.is)
   composes_now (DataAck dst src acks) x phase is g stands =
       let m = g.moves in
-      carries (DataAck dst src acks) x src dst (λ h. late_segments.sends_acks acks h.segments) (acks_sent (hide l).segments m.sent) refl g.passed stands
+      carries (DataAck dst src acks) x src dst (λ h. late_segments.sends_acks acks h.segments) (acks_sent (hide l).segments m.sent) refl g.passed
+      stands
       (ap (λ (r : Result (Sending TrueSegments Numbers) LinkRefusal). on_ok r (λ sent. let a : Result (Sending LateSegments Numbers) LinkRefusal =
       Ok (acks_sent (hide l).segments sent) in a)) m.does)
       (ap hide m.is)

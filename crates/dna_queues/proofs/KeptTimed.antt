@@ -1,162 +1,46 @@
 -- A packet that the machine acts on: the node with queues acts on it at once, but where it ends its link, or that has ended.
-use Rattle.std.proofs.Common.{◌≡◌, ℕ, zero, suc, Bool, true, false, ◌&&◌, ◌||◌, ◌==◌, cond, ◌⊎◌, inl, inr, Option, Some, None, List, [], ◌∷◌, ◌++◌, length}
-use Rattle.std.proofs.Common.{Result, Ok, refl, sym, ap, ap₂, ◌∙◌, subst, eqb-true, arith, append-nil}
+use Rattle.std.proofs.Common.{◌≡◌, ℕ, Bool, true, false, ◌&&◌, ◌==◌, cond, Option, Some, None, List, [], ◌∷◌, ◌++◌}
+use Rattle.std.proofs.Common.{Ok, refl, sym, ap, ap₂, ◌∙◌, subst, append-nil}
 use Rattle.std.specs.Prelude.{slice_get}
-use Rattle.std.proofs.lemmas.Bool.{cases_eq, and_parts}
-use Rattle.std.proofs.lemmas.Option.{same_Some, slice_get_within}
-use Rattle.dna_packet.specs.Nsp.{NspValue}
+use Rattle.std.proofs.lemmas.Option.{same_Some}
 use Rattle.dna_station.specs.declared.link_refusal.LinkRefusal.TheVariants.{WrongNode}
 use Rattle.dna_links.specs.declared.port.Phase.{Phase}
 use Rattle.dna_links.specs.declared.port.Phase.TheVariants.{Calling, Called, Confirming, Running, Disconnecting, Ended}
 use Rattle.dna_links.specs.declared.port.Port.{Port}
-use Rattle.dna_links.specs.declared.port.LinkTest.{LinkTest}
-use Rattle.dna_links.specs.declared.port.LinkTest.TheVariants.{TheLink, CallingAt, HasAddress}
+use Rattle.dna_links.specs.declared.port.LinkTest.TheVariants.{HasAddress}
 use Rattle.dna_links.specs.declared.queue.Queues.TheVariants.{Without, With}
 use Rattle.dna_links.specs.LookUps.{passes, is_live, is_called, is_at}
-use Rattle.dna_links.specs.Links.{Carried, LinksOf, LinkOf, number_of}
 use Rattle.dna_links.specs.LinkBook.{are_same}
-use Rattle.dna_links.specs.Queues.{in_use, port_of_waiting}
-use Rattle.dna_links.specs.Arriving.{of_partner, arrived_step, message_arrived}
+use Rattle.dna_links.specs.Queues.{in_use}
+use Rattle.dna_links.specs.Arriving.{of_partner, message_arrived}
 use Rattle.dna_links.specs.TrueSegments.{TrueSegments, true_segments}
 use Rattle.dna_links.specs.TrueLinks as machine
 use Rattle.dna_links.specs.Runs.{SentMessage}
 use Rattle.dna_links.proofs.Tables.Outcomes.{IsFound, looked}
-use Rattle.dna_links.proofs.Runs.Owners.{there_is}
+use Rattle.dna_queues.proofs.Facts.{passed_check}
 use Rattle.dna_queues.specs.Records.{LinkRecord, Keeps}
-use Rattle.dna_queues.specs.Hidden.{late_segments, Links, Node, Takes, First, Behind, Acts, ComesTo, dstaddr, waiting, link_it_is_for, link_it_is_of}
+use Rattle.dna_queues.specs.Hidden.{late_segments, Node, Acts, dstaddr, waiting, link_it_is_for}
 use Rattle.dna_queues.specs.Made.{MakesStep, KeepsForLink, MadeByHidden, Hides, Makes}
-use Rattle.dna_queues.proofs.Goes.{Link, phase_of, test_of, use_own}
+use Rattle.dna_queues.proofs.Goes.{Link, phase_of, test_of}
 use Rattle.dna_queues.proofs.Came.{ended_link, came_as}
 use Rattle.dna_queues.proofs.Acting.{acts_as}
 use Rattle.dna_queues.proofs.Lists.{waiting_push}
-use Rattle.dna_queues.proofs.LinkLists.{IsUnique, IsSet, IsChanged, none_passes, number_same}
-use Rattle.dna_queues.proofs.Beside.{there_too}
-use Rattle.dna_queues.proofs.SentOn.{passed_check}
+use Rattle.dna_queues.proofs.LinkLists.{still_set, IsUnique, IsSet, none_passes}
 use Rattle.dna_queues.proofs.Delivered.{given_user}
-use Rattle.dna_queues.proofs.Turns.{Sane, Began, can_end}
+use Rattle.dna_queues.proofs.Turns.{Sane, Began, can_end, live_use, live_waits}
 use Rattle.dna_queues.proofs.Early.{CanGo}
 use Rattle.dna_queues.proofs.Moved.{moved, gone_before}
 use Rattle.dna_queues.proofs.Starts.{started_before}
 use Rattle.dna_queues.proofs.Hide.{LateLink, hide}
-use Rattle.dna_queues.proofs.Timed.{Due, put, put_here, put_other, Went, went_use, IsDue, AreDue, AreSane, Awaits, EndsFirst, is_end, AreKept, IsKept, kept_as}
-use Rattle.dna_queues.proofs.Timed.{packets_of, Timed, unique_hidden}
+use Rattle.dna_queues.proofs.Dues.{put_packets, Due, put, put_here, Went, went_use, IsDue, AreSane}
+use Rattle.dna_queues.proofs.Timed.{Awaits, is_end, AreKept}
+use Rattle.dna_queues.proofs.Timed.{Timed, unique_hidden}
 use Rattle.dna_queues.proofs.Prepared.{prepare_set, set_timed, set_sane}
 use Rattle.dna_queues.proofs.SentTimed.{Sound}
-use Rattle.dna_queues.proofs.Pending.{ComesAll, comes_all, then_ended}
-use Rattle.dna_queues.proofs.Addressed.{stripped, stripped_is, good_timed, awaits_nothing}
-use Rattle.dna_queues.proofs.Arrives.{Arrives, ArrivesToo, arrives_both, CameTo, Still, GoesOn, IsOver, came_kind, came_dead}
-
--- ---- lists
-
--- one that changes at most the link with this address, of links that have it at most once
-none_too : {X Y : Type 0} (xs : List X) (ys : List Y) (i : ℕ) → length ys ≡ length xs → slice_get xs i ≡ None → slice_get ys i ≡ None
-none_too [] [] i size none = refl
-none_too [] (y ∷ ys) i size none = absurd (omega (arith, size))
-none_too (x ∷ xs) [] i size none = refl
-none_too (x ∷ xs) (y ∷ ys) zero size none = absurd cc
-none_too (x ∷ xs) (y ∷ ys) (suc i) size none = none_too xs ys i (omega (arith, size)) none
-
-module _ {D : Type 0} (s left : LinksOf D) (address : ℕ) (f : LinkOf D → LinkOf D) (c : IsChanged s left address f) (unique : IsUnique s) where
-  pub set_of_changed : (i : ℕ) (l : LinkOf D) → slice_get s.links i ≡ Some l → is_at l.port.own address ≡ true → IsSet s left i (f l)
-  set_of_changed i l at own = record {
-    node = c.node;
-    peer = c.peer;
-    size = c.size;
-    here = c.here i l at own;
-    others = λ j differs. others j differs (slice_get s.links j) refl;
-  }
-    where
-      by_own : (j : ℕ) (k : LinkOf D) → (j ≡ i → ⊥) → slice_get s.links j ≡ Some k → (b : Bool) → is_at k.port.own address ≡ b →
-          slice_get left.links j ≡ slice_get s.links j
-      by_own j k differs at_k true e = absurd (differs (unique j i k l at_k at address e own))
-      by_own j k differs at_k false e = c.other j k at_k e ∙ sym at_k
-
-      others : (j : ℕ) → (j ≡ i → ⊥) → (o : Option (LinkOf D)) → slice_get s.links j ≡ o → slice_get left.links j ≡ slice_get s.links j
-      others j differs None e = none_too s.links left.links j c.size e ∙ sym e
-      others j differs (Some k) e = by_own j k differs e _ refl
-
-same_lists : {X : Type 0} (xs ys : List X) → length ys ≡ length xs → ((i : ℕ) (x : X) → slice_get xs i ≡ Some x → slice_get ys i ≡ Some x) → ys ≡ xs
-same_lists [] [] size same = refl
-same_lists [] (y ∷ ys) size same = absurd (omega (arith, size))
-same_lists (x ∷ xs) [] size same = absurd (omega (arith, size))
-same_lists (x ∷ xs) (y ∷ ys) size same =
-    ap₂ (λ z zs. z ∷ zs) (same_Some y x (same zero x refl)) (same_lists xs ys (omega (arith, size)) (λ i z at. same (suc i) z at))
-
-takes_last : (units : List SentMessage) (unit : SentMessage) (address : ℕ) → link_it_is_for unit ≡ Some address →
-    waiting link_it_is_for (Some address) units ≡ [] → Takes link_it_is_for (units ++ unit ∷ []) unit units
-takes_last [] unit address is none = First unit []
-takes_last (first ∷ units) unit address is none = go (are_same (link_it_is_for first) (Some address)) refl none (λ f. takes_last units unit address is f)
-  where
-    go : (b : Bool) → are_same (link_it_is_for first) (Some address) ≡ b →
-        cond b (first ∷ waiting link_it_is_for (Some address) units) (waiting link_it_is_for (Some address) units) ≡ [] →
-        (waiting link_it_is_for (Some address) units ≡ [] → Takes link_it_is_for (units ++ unit ∷ []) unit units) →
-        Takes link_it_is_for (first ∷ units ++ unit ∷ []) unit (first ∷ units)
-    go true same e further = absurd cc
-    go false other e further =
-        Behind first unit (units ++ unit ∷ []) units (ap (λ (o : Option ℕ). are_same (link_it_is_for first) o) is ∙ other) (further e)
-
-at_is : (o : Option ℕ) (n : ℕ) → is_at o n ≡ true → o ≡ Some n
-at_is None n e = absurd cc
-at_is (Some x) n e = ap Some (eqb-true x n e)
-
-kept_push : (node peer : ℕ) (units : List SentMessage) (unit : SentMessage) → AreKept node peer units → IsKept node peer unit →
-    AreKept node peer (units ++ unit ∷ [])
-kept_push node peer [] unit are is = (is, tt)
-kept_push node peer (first ∷ units) unit are is = (are.0, kept_push node peer units unit are.1 is)
-
--- what waits at a link that is over, when more comes for it
-first_push : (l : Link) (kept : List SentMessage) (unit : SentMessage) → EndsFirst l kept → EndsFirst l (kept ++ unit ∷ [])
-first_push l [] unit e = absurd e
-first_push l (first ∷ kept) unit e = e
-
-awaits_push : (l : Link) (kept : List SentMessage) (unit : SentMessage) → is_live l.port.phase ≡ false → Awaits l kept → Awaits l (kept ++ unit ∷ [])
-awaits_push l kept unit over a = record {
-  live = λ e. let never : true ≡ false = sym e ∙ over in absurd cc;
-  over = λ p e. first_push l kept unit (a.over p e);
-}
-
--- ---- what all would come to
-
-module _ (s : machine.Links) (sane : AreSane s) (dues : ℕ → Due) (n : Node) (t : Timed s dues n) where
-  pub all_come : ComesAll n
-  all_come = comes_all n.links n.kept n.composed (unique_hidden s sane dues n t)
-      (kept_as s.node s.peer n.links.node n.links.peer n.kept (sym t.node) (sym t.peer) t.kept) (good_timed s sane dues n t)
-
-  pub all_is : (i : ℕ) (l : Link) → slice_get s.links i ≡ Some l → slice_get all_come.links.links i ≡ Some (stripped l (dues i).link)
-  all_is i l at =
-      all_come.all i (hide (dues i).link) (t.all i l at)
-      ∙ ap (λ (o : Option ℕ). Some (then_ended (waiting link_it_is_for o n.kept) (hide (dues i).link)))
-      (use_own (dues i).link ∙ ap (λ (p : Port). p.own) (t.went i l at).port)
-      ∙ ap Some (stripped_is l (dues i).link (sane.each i l at) (t.went i l at) _ (t.awaits i l at))
-
-  -- each of its links is the machine's, as it is seen
-  pub all_seen : (i : ℕ) (h : LateLink) → slice_get all_come.links.links i ≡ Some h →
-      (l : Link) × (slice_get s.links i ≡ Some l) × (h.port ≡ l.port) × (h.partner ≡ l.partner)
-  all_seen i h at = go (there_too s.links all_come.links.links i h (sym (all_come.size ∙ t.size)) at)
-    where
-      go : (l : Link) × (slice_get s.links i ≡ Some l) →
-          (l : Link) × (slice_get s.links i ≡ Some l) × (h.port ≡ l.port) × (h.partner ≡ l.partner)
-      go l =
-          let same : h ≡ stripped l.0 (dues i).link = same_Some h _ (sym at ∙ all_is i l.0 l.1) in (
-            l.0,
-            l.1,
-            ap (λ (x : LateLink). x.port) same,
-            ap (λ (x : LateLink). x.partner) same ∙ (t.went i l.0 l.1).partner,
-          )
-
-  pub all_number : (test : LinkTest) → number_of test all_come.links ≡ number_of test s
-  all_number test = number_same all_come.links s (all_come.size ∙ t.size) test (λ i h l at_h at_l. go i h l at_h at_l (all_seen i h at_h))
-    where
-      go : (i : ℕ) (h : LateLink) (l : Link) → slice_get all_come.links.links i ≡ Some h → slice_get s.links i ≡ Some l →
-          (k : Link) × (slice_get s.links i ≡ Some k) × (h.port ≡ k.port) × (h.partner ≡ k.partner) → passes test h.port ≡ passes test l.port
-      go i h l at_h at_l k = ap (passes test) k.2 ∙ ap (λ (x : Link). passes test x.port) (same_Some k.0 l (sym k.1 ∙ at_l))
-
-  pub all_may : (unit : SentMessage) → (unit.packet.src == s.peer && unit.packet.dst == s.node) ≡ true →
-      (unit.packet.src == all_come.links.peer && unit.packet.dst == all_come.links.node) ≡ true
-  all_may unit may =
-      ap₂ (λ (a b : ℕ). unit.packet.src == a && unit.packet.dst == b) (all_come.peer ∙ t.peer) (all_come.node ∙ t.node) ∙ may
-
--- ---- the record
+use Rattle.dna_queues.proofs.Addressed.{awaits_nothing}
+use Rattle.dna_queues.proofs.Arrives.{Arrives, arrives_both, CameTo, Still, GoesOn, IsOver, came_kind, came_dead}
+use Rattle.dna_queues.proofs.KeptLists.{set_of_changed, same_lists, takes_last, at_is, kept_push, awaits_push}
+use Rattle.dna_queues.proofs.AllTimed.{all_come, all_seen, all_may}
 
 module _ (s : machine.Links) (sane : AreSane s) (unit : SentMessage) (address : ℕ) (is : dstaddr unit.packet.message ≡ Some address)
     (may : (unit.packet.src == s.peer && unit.packet.dst == s.node) ≡ true) (left : machine.Links)
@@ -237,14 +121,10 @@ module _ (s : machine.Links) (sane : AreSane s) (unit : SentMessage) (address : 
   module _ (i : ℕ) (l : Link) (at : slice_get s.links i ≡ Some l) (own : is_at l.port.own address ≡ true)
       (live : is_live l.port.phase ≡ true) where
     none : l.queue.waits ≡ None
-    none = go l.queue.waits refl
-      where
-        go : (w : Option Phase) → l.queue.waits ≡ w → l.queue.waits ≡ None
-        go None e = e
-        go (Some p) e = let never : true ≡ false = sym live ∙ ap is_live ((sane.each i l at).waits p e).0 in absurd cc
+    none = live_waits l (sane.each i l at) live
 
     in_use_is : in_use With l ≡ l.port
-    in_use_is = ap (λ (w : Option Phase). port_of_waiting w l.port) none
+    in_use_is = live_use l (sane.each i l at) live
 
     nothing : (kept : List SentMessage) → Awaits l (waiting link_it_is_for l.port.own kept) → waiting link_it_is_for (Some address) kept ≡ []
     nothing kept a = ap (λ (o : Option ℕ). waiting link_it_is_for o kept) (sym (at_is l.port.own address own)) ∙ a.live live
@@ -255,11 +135,6 @@ module _ (s : machine.Links) (sane : AreSane s) (unit : SentMessage) (address : 
         go : (b : Bool) → is_at x.port.own address ≡ b → is_at x.port.own address ≡ false
         go false e = e
         go true e = absurd (differs (sane.unique j i x l at_x at address e own))
-
-    packets : (r : Sound left later) (x : Link) (j : ℕ) → (j ≡ i) ⊎ (j ≡ i → ⊥) →
-        (put i (record { packets = (r.dues i).packets; link = x }) r.dues j).packets ≡ (r.dues j).packets
-    packets r x j (inl e) = ap (λ (a : Due). a.packets) (put_here i j _ r.dues e) ∙ ap (λ (m : ℕ). (r.dues m).packets) (sym e)
-    packets r x j (inr differs) = ap (λ (a : Due). a.packets) (put_other i j _ r.dues differs)
 
     module _ (k : Link) (set : IsSet s left i k) (own_same : k.port.own ≡ l.port.own) (k_sane : Sane k) (becomes : Link → Link → Type 0)
         (chain : (due : Due) → IsDue s.node s.peer k due → CanGo s.node s.peer due.packets l (λ x. becomes x due.link))
@@ -311,7 +186,7 @@ module _ (s : machine.Links) (sane : AreSane s) (unit : SentMessage) (address : 
             (set_of_changed n.links too.links address (acts_as unit.packet.message unit.truth) too.changed unique i (hide x) there hidden_own))
             u.kept
             (awaits_nothing k _ k_waits (ap (λ (o : Option ℕ). waiting link_it_is_for o n.kept) (own_same ∙ at_is l.port.own address own) ∙ empty))
-            (λ j y differs at_y. u.awaits j y at_y) (λ j. u.composed j ∙ packets r x j (cases_eq j i)))))
+            (λ j y differs at_y. u.awaits j y at_y) (λ j. u.composed j ∙ put_packets i j mine r.dues refl))))
           where
             seen : (x : Link) (n : Node) → Went l x → IsUnique n.links → slice_get n.links.links i ≡ Some (hide x) →
                 is_at (hide x).port.own address ≡ true → (j : ℕ) (h : LateLink) → slice_get n.links.links j ≡ Some h →
@@ -367,13 +242,7 @@ module _ (s : machine.Links) (sane : AreSane s) (unit : SentMessage) (address : 
             (ap₂ (λ (ms : List (List ℕ)) (m : ℕ). given_user ms m x.segments) went.leaves.delivered went.leaves.passed) in
             Makes n (keeping n) (Keeps unit) later (keeps dues n u)
             (r.made (keeping n)
-            (set_timed s sane i l at left (ended_link l) set r.dues r.due mine n (keeping n) u (record {
-              node = refl;
-              peer = refl;
-              size = refl;
-              here = there ∙ ap Some (still ∙ ap hide q);
-              others = λ j differs. refl;
-            })
+            (set_timed s sane i l at left (ended_link l) set r.dues r.due mine n (keeping n) u (still_set _ _ _ (there ∙ ap Some (still ∙ ap hide q)))
             (kept_too n u.kept)
             (subst (Awaits (ended_link l)) (sym (pushed l.port.own n.kept true own
             ∙ ap (λ (us : List SentMessage). us ++ unit ∷ []) ((u.awaits i l at).live live))) (record {
@@ -381,7 +250,7 @@ module _ (s : machine.Links) (sane : AreSane s) (unit : SentMessage) (address : 
               over = λ p e. ends;
             }))
             (λ j y differs at_y. awaits_other y n.kept (own_other j y differs at_y) (u.awaits j y at_y))
-            (λ j. u.composed j ∙ packets r x j (cases_eq j i))))
+            (λ j. u.composed j ∙ put_packets i j mine r.dues refl)))
 
     by_kind : (k : Link) → CameTo unit.packet.message unit.truth l k → IsSet s left i k → Sound s (Keeps unit ∷ later)
     by_kind k (Still acts) set =

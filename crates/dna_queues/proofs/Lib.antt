@@ -1,3 +1,4 @@
+mod Facts
 mod Words
 mod Segments
 mod Goes
@@ -52,3 +53,13 @@ mod GivenTimed
 mod Arrives
 mod KeptTimed
 mod Sound
+mod Shapes
+mod Dues
+mod EndsActed
+mod Settling
+mod SettledTimed
+mod ClosedTimed
+mod DeliveredTimed
+mod AnsweredTimed
+mod KeptLists
+mod AllTimed

@@ -1,5 +1,5 @@
 -- What the machine sends of a link that link may send.
-use Rattle.std.proofs.Common.{◌≡◌, ℕ, Bool, true, false, ◌&&◌, not, Option, Some, None, List, Result, Ok, Err, refl, sym, ap, ◌∙◌, subst, position}
+use Rattle.std.proofs.Common.{◌≡◌, ℕ, Bool, true, ◌&&◌, not, Option, Some, None, List, Result, Ok, Err, refl, sym, ap, ◌∙◌, subst, position}
 use Rattle.std.specs.Prelude.{slice_get}
 use Rattle.std.proofs.lemmas.Bool.{and_parts}
 use Rattle.dna_packet.specs.declared.ack_word.AckWord.{AckWord}
@@ -18,7 +18,7 @@ use Rattle.dna_links.specs.declared.queue.Said.TheVariants.{OfRun, Disconnect}
 use Rattle.dna_links.specs.LookUps.{passes, is_live, is_at, has_both}
 use Rattle.dna_links.specs.SegmentBook.{Sending, Late}
 use Rattle.dna_links.specs.Links.{check, on_link, at_number, with_seen, changed}
-use Rattle.dna_links.specs.Queues.{in_use, with_in_use, may_send, shows, port_of_waiting}
+use Rattle.dna_links.specs.Queues.{in_use, with_in_use, may_send, shows}
 use Rattle.dna_links.specs.LinkBook.{on_ok}
 use Rattle.dna_links.specs.inner.Forms.{of_no_link, truth_of, unchanged}
 use Rattle.dna_links.specs.Sending.{Sent, message_sent}
@@ -27,10 +27,10 @@ use Rattle.dna_links.specs.TrueLinks.{Links}
 use Rattle.dna_links.proofs.Tables.Outcomes.{looked, checked, position_passes, position_within}
 use Rattle.dna_links.proofs.Runs.Owners.{there_is}
 use Rattle.dna_queues.specs.Hidden.{is_composed}
-use Rattle.dna_queues.proofs.Goes.{Link, phase_of, Goes, said_as, late_link, wide_link}
+use Rattle.dna_queues.proofs.Goes.{Link, Goes, said_as, late_link, wide_link}
 use Rattle.dna_queues.proofs.Sending.{shows_is}
-use Rattle.dna_queues.proofs.LinkLists.{IsSet, set_changed}
-use Rattle.dna_queues.proofs.Turns.{Sane}
+use Rattle.dna_queues.proofs.LinkLists.{still_set, IsSet, set_changed}
+use Rattle.dna_queues.proofs.Turns.{Sane, live_use}
 
 -- all but a DC and a no operation is of a link
 abbrev pub is_of_link : NspValue → Bool
@@ -58,16 +58,6 @@ module _ (t : Links) (sane : (i : ℕ) (l : Link) → slice_get t.links i ≡ So
     pub there : slice_get t.links i ≡ Some l
     pub passed : passes test (in_use With l) ≡ true
 
-  -- a live link is in use by its own port
-  pub live_use : (i : ℕ) (l : Link) → slice_get t.links i ≡ Some l → is_live l.port.phase ≡ true → in_use With l ≡ l.port
-  live_use i l there live = go l.queue.waits refl
-    where
-      go : (w : Option Phase) → l.queue.waits ≡ w → port_of_waiting w l.port ≡ l.port
-      go None e = refl
-      go (Some p) e =
-          let over = ((sane i l there).waits p e).0 in
-          let never : true ≡ false = sym live ∙ ap is_live over in absurd cc
-
   seen_used : {R P : Type 0} (test : LinkTest) (otherwise : R) (next : ℕ → Link → R) (r : R) → with_seen (in_use With) test t otherwise next ≡ r →
       (otherwise ≡ r → P) → ((i : ℕ) (l : Link) → IsUsed test i l → next i l ≡ r → P) → P
   seen_used {R} {P} test otherwise next r e none some = go (position (λ (k : Link). passes test (in_use With k)) t.links) refl e
@@ -90,7 +80,7 @@ module _ (t : Links) (sane : (i : ℕ) (l : Link) → slice_get t.links i ≡ So
       (λ missing e. seen_used test otherwise next r e none some)
       (λ i l found e. some i l (record {
         there = found.there;
-        passed = ap (passes test) (live_use i l found.there (live l.port found.passed)) ∙ found.passed;
+        passed = ap (passes test) (live_use l (sane i l found.there) (live l.port found.passed)) ∙ found.passed;
       }) e)
 
   -- the message is of this link
@@ -102,28 +92,46 @@ module _ (t : Links) (sane : (i : ℕ) (l : Link) → slice_get t.links i ≡ So
     pub goes : Goes link m further
     pub set : IsSet t left number further
 
-  still : (i : ℕ) (l : Link) → slice_get t.links i ≡ Some l → IsSet t t i l
-  still i l there = record { node = refl; peer = refl; size = refl; here = there; others = λ j differs. refl }
-
   same_links : (x y : Sent TrueSegments Numbers) → ◌≡◌ {A = Result (Sent TrueSegments Numbers) LinkRefusal} (Ok x) (Ok y) → x.links ≡ y.links
   same_links x y e = cc
 
   module _ (made : Sent TrueSegments Numbers) where
+    -- a link in whose turn the message is
+    of_turn : (m : NspValue) (test : LinkTest) (phase : Phase) (next : ℕ → Link → Result (Sent TrueSegments Numbers) LinkRefusal) → IsOfLive test →
+        with_in_use With test t (Err NoLink) (λ n k. check (may_send With phase k) LinkState (next n k)) ≡ Ok made →
+        ((i : ℕ) (l : Link) → IsUsed test i l → may_send With phase l ≡ true → next i l ≡ Ok made → SendsOf m made.links) → SendsOf m made.links
+    of_turn m test phase next live e sends =
+        used test live (Err NoLink) _ (Ok made) e (λ e. absurd cc)
+        (λ i l u e. let c = checked (may_send With phase l) LinkState _ made e in sends i l u c.0 c.1)
+
+    -- it becomes this one, which is also that
+    becomes : (m : NspValue) (i : ℕ) (l x y : Link) → slice_get t.links i ≡ Some l → Goes l m x → y ≡ x → changed i y t ≡ made.links →
+        SendsOf m made.links
+    becomes m i l x y there goes is same = record {
+      number = i;
+      link = l;
+      there = there;
+      further = x;
+      goes = goes;
+      set = subst (λ (s : Links). IsSet t s i x) same (subst (λ (z : Link). IsSet t (changed i y t) i z) is (set_changed t i l y there));
+    }
+
+    of_link : (m : NspValue) (i : ℕ) (l : Link) → slice_get t.links i ≡ Some l → Goes l m l → t ≡ made.links → SendsOf m made.links
+    of_link m i l there goes same = record {
+      number = i;
+      link = l;
+      there = there;
+      further = l;
+      goes = goes;
+      set = subst (λ (s : Links). IsSet t s i l) same (still_set t i l there);
+    }
+
     turned : (m : NspValue) (test : LinkTest) (phase : Phase) → IsOfLive test →
         ((i : ℕ) (l : Link) → IsUsed test i l → may_send With phase l ≡ true → Goes l m l) →
         with_in_use With test t (Err NoLink) (λ n k. check (may_send With phase k) LinkState (Ok (unchanged true_segments t n k))) ≡ Ok made →
         SendsOf m made.links
     turned m test phase live goes e =
-        used test live (Err NoLink) _ (Ok made) e (λ e. absurd cc)
-        (λ i l u e. let c = checked (may_send With phase l) LinkState _ made e in
-        record {
-          number = i;
-          link = l;
-          there = u.there;
-          further = l;
-          goes = goes i l u c.0;
-          set = subst (λ (x : Links). IsSet t x i l) (same_links _ made c.1) (still i l u.there);
-        })
+        of_turn m test phase _ live e (λ i l u may same. of_link m i l u.there (goes i l u may) (same_links _ made same))
 
     shown : (m : NspValue) (dst src : ℕ) (phase : Phase) (said : Said) →
         ((i : ℕ) (l : Link) → IsUsed (TheLink src dst) i l → may_send With phase l ≡ true → Goes l m (said_as said l)) →
@@ -132,24 +140,14 @@ module _ (t : Links) (sane : (i : ℕ) (l : Link) → slice_get t.links i ≡ So
           truth = truth_of true_segments n (shows true_segments said k) (sends_other k.segments);
         }))) ≡ Ok made → SendsOf m made.links
     shown m dst src phase said goes e =
-        used (TheLink src dst) (live_link src dst) (Err NoLink) _ (Ok made) e (λ e. absurd cc)
-        (λ i l u e. let c = checked (may_send With phase l) LinkState _ made e in
-        record {
-          number = i;
-          link = l;
-          there = u.there;
-          further = said_as said l;
-          goes = goes i l u c.0;
-          set = subst (λ (x : Links). IsSet t x i (said_as said l)) (same_links _ made c.1)
-              (subst (λ (y : Link). IsSet t (changed i (shows true_segments said l) t) i y) (shows_is said l)
-              (set_changed t i l (shows true_segments said l) u.there));
-        })
+        of_turn m (TheLink src dst) phase _ (live_link src dst) e (λ i l u may same.
+        becomes m i l (said_as said l) (shows true_segments said l) u.there (goes i l u may) (shows_is said l) (same_links _ made same))
 
-    segment_of : (segment : SegmentValue) → message_sent With true_segments t (DataSegment segment) ≡ Ok made → SendsOf (DataSegment segment) made.links
+    segment_of : (segment : SegmentValue) → message_sent With true_segments t (DataSegment segment) ≡ Ok made →
+        SendsOf (DataSegment segment) made.links
     segment_of segment e =
-        used (TheLink segment.srcaddr segment.dstaddr) (live_link segment.srcaddr segment.dstaddr) (Err NoLink) _ (Ok made) e (λ e. absurd cc)
-        (λ i l u e. let c = checked (may_send With Running l) LinkState _ made e in
-        go i l u c.0 (sends_late l.queue.gap l.segsize segment l.segments) refl c.1)
+        of_turn (DataSegment segment) (TheLink segment.srcaddr segment.dstaddr) Running _ (live_link segment.srcaddr segment.dstaddr) e
+        (λ i l u run same. go i l u run (sends_late l.queue.gap l.segsize segment l.segments) refl same)
       where
         go : (i : ℕ) (l : Link) → IsUsed (TheLink segment.srcaddr segment.dstaddr) i l → may_send With Running l ≡ true →
             (r : Result (Late TrueSegments Numbers) LinkRefusal) → sends_late l.queue.gap l.segsize segment l.segments ≡ r →
@@ -158,23 +156,16 @@ module _ (t : Links) (sane : (i : ℕ) (l : Link) → slice_get t.links i ≡ So
               truth = truth_of true_segments i (shows true_segments OfRun (late_link l late)) late.sent.known;
             }) in a) ≡ Ok made → SendsOf (DataSegment segment) made.links
         go i l u run (Err refusal) does e = absurd cc
-        go i l u run (Ok late) does e = record {
-          number = i;
-          link = l;
-          there = u.there;
-          further = said_as OfRun (late_link l late);
-          goes = record { passed = u.passed; moves = record { run = run; late = late; does = does; is = refl } };
-          set = subst (λ (x : Links). IsSet t x i (said_as OfRun (late_link l late))) (same_links _ made e)
-              (subst (λ (y : Link). IsSet t (changed i (shows true_segments OfRun (late_link l late)) t) i y) (shows_is OfRun (late_link l late))
-              (set_changed t i l (shows true_segments OfRun (late_link l late)) u.there));
-        }
+        go i l u run (Ok late) does e =
+            becomes (DataSegment segment) i l (said_as OfRun (late_link l late)) (shows true_segments OfRun (late_link l late)) u.there
+            (record { passed = u.passed; moves = record { run = run; late = late; does = does; is = refl } }) (shows_is OfRun (late_link l late))
+            (same_links _ made e)
 
     acks_of : (dst src : ℕ) (acks : List AckWord) → message_sent With true_segments t (DataAck dst src acks) ≡ Ok made →
         SendsOf (DataAck dst src acks) made.links
     acks_of dst src acks e =
-        used (TheLink src dst) (live_link src dst) (Err NoLink) _ (Ok made) e (λ e. absurd cc)
-        (λ i l u e. let c = checked (may_send With Running l) LinkState _ made e in
-        go i l u c.0 (sends_acks acks l.segments) refl c.1)
+        of_turn (DataAck dst src acks) (TheLink src dst) Running _ (live_link src dst) e
+        (λ i l u run same. go i l u run (sends_acks acks l.segments) refl same)
       where
         go : (i : ℕ) (l : Link) → IsUsed (TheLink src dst) i l → may_send With Running l ≡ true →
             (r : Result (Sending TrueSegments Numbers) LinkRefusal) → sends_acks acks l.segments ≡ r →
@@ -183,36 +174,21 @@ module _ (t : Links) (sane : (i : ℕ) (l : Link) → slice_get t.links i ≡ So
               truth = truth_of true_segments i (shows true_segments OfRun (wide_link l sent)) sent.known;
             }) in a) ≡ Ok made → SendsOf (DataAck dst src acks) made.links
         go i l u run (Err refusal) does e = absurd cc
-        go i l u run (Ok sent) does e = record {
-          number = i;
-          link = l;
-          there = u.there;
-          further = said_as OfRun (wide_link l sent);
-          goes = record { passed = u.passed; moves = record { run = run; sent = sent; does = does; is = refl } };
-          set = subst (λ (x : Links). IsSet t x i (said_as OfRun (wide_link l sent))) (same_links _ made e)
-              (subst (λ (y : Link). IsSet t (changed i (shows true_segments OfRun (wide_link l sent)) t) i y) (shows_is OfRun (wide_link l sent))
-              (set_changed t i l (shows true_segments OfRun (wide_link l sent)) u.there));
-        }
+        go i l u run (Ok sent) does e =
+            becomes (DataAck dst src acks) i l (said_as OfRun (wide_link l sent)) (shows true_segments OfRun (wide_link l sent)) u.there
+            (record { passed = u.passed; moves = record { run = run; sent = sent; does = does; is = refl } }) (shows_is OfRun (wide_link l sent))
+            (same_links _ made e)
 
     acknowledged_of : (dst : ℕ) → message_sent With true_segments t (ConnectAck dst) ≡ Ok made → SendsOf (ConnectAck dst) made.links
     acknowledged_of dst e =
         looked (BegunBy dst) t (with_seen (in_use With) (BegunBy dst) t (Err NoLink) (λ n l. Ok (of_no_link true_segments t)))
         (λ n l. Ok (unchanged true_segments t n l)) (Ok made) e
         (λ none e. seen_used (BegunBy dst) (Err NoLink) (λ n l. Ok (of_no_link true_segments t)) (Ok made) e (λ e. absurd cc)
-        (λ i l u e. of_link i l u.there u.passed (same_links _ made e)))
-        (λ i l found e. of_link i l found.there
-        (ap (passes (BegunBy dst)) (live_use i l found.there (live_begun dst l.port found.passed)) ∙ found.passed) (same_links _ made e))
-      where
-        of_link : (i : ℕ) (l : Link) → slice_get t.links i ≡ Some l → passes (BegunBy dst) (in_use With l) ≡ true → t ≡ made.links →
-            SendsOf (ConnectAck dst) made.links
-        of_link i l there passed same = record {
-          number = i;
-          link = l;
-          there = there;
-          further = l;
-          goes = record { passed = passed; moves = refl };
-          set = subst (λ (x : Links). IsSet t x i l) same (still i l there);
-        }
+        (λ i l u e. of_link (ConnectAck dst) i l u.there (record { passed = u.passed; moves = refl }) (same_links _ made e)))
+        (λ i l found e. of_link (ConnectAck dst) i l found.there (record {
+          passed = ap (passes (BegunBy dst)) (live_use l (sane i l found.there) (live_begun dst l.port found.passed)) ∙ found.passed;
+          moves = refl;
+        }) (same_links _ made e))
 
     pub sends_of : (m : NspValue) → is_of_link m ≡ true → message_sent With true_segments t m ≡ Ok made → SendsOf m made.links
     sends_of (ConnectInitiate retransmitted src services info segsize user_data) is e =

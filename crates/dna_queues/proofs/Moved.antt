@@ -1,5 +1,5 @@
 -- What a link of the machine can send once its phase is past it could send before, and what is left then differs by the same.
-use Rattle.std.proofs.Common.{◌≡◌, ℕ, Bool, true, false, ◌||◌, Option, Some, None, is_none, List, [], ◌∷◌, refl, sym, ap, ◌∙◌, subst}
+use Rattle.std.proofs.Common.{◌≡◌, ℕ, Bool, true, false, ◌||◌, Option, is_none, List, [], ◌∷◌, refl, sym, ap, ◌∙◌, subst}
 use Rattle.dna_packet.specs.Nsp.{NspValue, DataSegment, LinkService, DataAck, OtherDataAck, ConnectAck, NoOperation, ConnectInitiate}
 use Rattle.dna_packet.specs.Nsp.{ConnectConfirm, DisconnectInitiate, DisconnectConfirm}
 use Rattle.dna_links.specs.declared.port.Phase.{Phase}
@@ -8,14 +8,14 @@ use Rattle.dna_links.specs.declared.queue.Queues.TheVariants.{With}
 use Rattle.dna_links.specs.declared.queue.Said.TheVariants.{OfRun}
 use Rattle.dna_links.specs.LookUps.{passes}
 use Rattle.dna_links.specs.LookUps as look
-use Rattle.dna_links.specs.SegmentBook.{Sending, Late, wider}
 use Rattle.dna_links.specs.Links.{Carried}
 use Rattle.dna_links.specs.Queues.{in_use, port_of_waiting}
-use Rattle.dna_links.specs.TrueSegments.{TrueSegments, Numbers, went_on}
-use Rattle.dna_queues.proofs.Goes.{Link, phase_of, test_of, Goes, Moves, said_as, late_link, wide_link}
+use Rattle.dna_links.specs.TrueSegments.{TrueSegments}
+use Rattle.dna_queues.proofs.Goes.{Link, test_of, Goes, Moves, said_as, late_link, wide_link}
 use Rattle.dna_queues.proofs.Delivered.{Leaves, given_user, sending_of, late_of, late_still, acks_still}
-use Rattle.dna_queues.proofs.Turns.{asks, is_past, Shape, goes_shape}
-use Rattle.dna_queues.proofs.Early.{CanGo, AreEarly, may_be_early, is_early}
+use Rattle.dna_queues.proofs.Shapes.{goes_shape}
+use Rattle.dna_queues.proofs.Turns.{asks, is_past}
+use Rattle.dna_queues.proofs.Early.{CanGo, AreEarly}
 
 pub may_be : (now : Phase) (packet : Carried) (packets : List Carried) → AreEarly now (packet ∷ packets) →
     ((is_none (asks packet.message) || is_past (asks packet.message) now) ≡ true) × AreEarly now packets

@@ -1,23 +1,24 @@
 -- Right before a record of a link: what has to be composed in the phase that the record ends is composed.
-use Rattle.std.proofs.Common.{◌≡◌, ℕ, Bool, true, false, ◌&&◌, ◌==◌, cond, ◌⊎◌, inl, inr, Option, Some, None, List, [], ◌∷◌, ◌++◌, length}
-use Rattle.std.proofs.Common.{refl, sym, ap, ap₂, ◌∙◌, subst, append-nil, append_assoc}
+use Rattle.std.proofs.Common.{◌≡◌, ℕ, true, false, ◌⊎◌, inl, inr, Option, Some, None, List, [], ◌∷◌, ◌++◌, length}
+use Rattle.std.proofs.Common.{refl, sym, ap, ◌∙◌, subst, append-nil, append_assoc}
 use Rattle.std.specs.Prelude.{slice_get}
 use Rattle.std.proofs.lemmas.Bool.{cases_eq}
 use Rattle.std.proofs.lemmas.Option.{same_Some}
 use Rattle.dna_links.specs.LookUps.{is_at}
 use Rattle.dna_links.specs.Links.{Carried}
 use Rattle.dna_links.specs.TrueLinks as machine
-use Rattle.dna_links.specs.Runs.{SentMessage}
 use Rattle.dna_queues.specs.Records.{LinkRecord}
-use Rattle.dna_queues.specs.Hidden.{Links, Node, waiting, link_it_is_for, link_it_is_of}
+use Rattle.dna_queues.specs.Hidden.{Node, waiting, link_it_is_for, link_it_is_of}
 use Rattle.dna_queues.specs.Made.{MadeByHidden, Hides}
 use Rattle.dna_queues.proofs.Goes.{Link, phase_of}
 use Rattle.dna_queues.proofs.LinkLists.{IsSet, was_set}
 use Rattle.dna_queues.proofs.Turns.{Sane}
-use Rattle.dna_queues.proofs.Early.{CanGo, Ends, ends, AreNow, Parts, parts}
+use Rattle.dna_queues.proofs.Early.{CanGo, ends, AreNow, parts}
 use Rattle.dna_queues.proofs.Hide.{hide}
-use Rattle.dna_queues.proofs.Timed.{Due, put, put_here, put_other, put_twice, IsDue, AreDue, AreSane, Awaits, AreKept, kept_as, packets_of, Timed, timed_as}
-use Rattle.dna_queues.proofs.Timed.{composes_on, went_can}
+use Rattle.dna_queues.proofs.Dues.{Due, put, put_here, put_other, put_twice, IsDue, AreDue, AreSane}
+use Rattle.dna_queues.proofs.Timed.{Awaits, AreKept, kept_as, packets_of, Timed, timed_as}
+use Rattle.dna_queues.proofs.Dues.{went_can}
+use Rattle.dna_queues.proofs.Timed.{composes_on}
 
 module _ (s : machine.Links) (sane : AreSane s) (i : ℕ) (l : Link) (at : slice_get s.links i ≡ Some l) where
   -- all of these are composed
@@ -152,7 +153,8 @@ module _ (s : machine.Links) (sane : AreSane s) (i : ℕ) (l : Link) (at : slice
         mine_awaits others composed
 
   module _ (left : machine.Links) (k : Link) (set : IsSet s left i k) where
-    pub set_sane_free : ((j : ℕ) (x : Link) (n : ℕ) → (j ≡ i → ⊥) → slice_get s.links j ≡ Some x → is_at x.port.own n ≡ true → is_at k.port.own n ≡ true → ⊥) →
+    pub set_sane_free : ((j : ℕ) (x : Link) (n : ℕ) → (j ≡ i → ⊥) → slice_get s.links j ≡ Some x → is_at x.port.own n ≡ true →
+        is_at k.port.own n ≡ true → ⊥) →
         is_at k.port.own 0 ≡ false → Sane k → AreSane left
     set_sane_free free zero is = record {
       unique = λ a b x y at_x at_y n own_x own_y. one a b x y n own_x own_y (was_set s left i k set a x at_x) (was_set s left i k set b y at_y);

@@ -1,10 +1,10 @@
 -- A message that the machine sends was composed, or is now, and goes.
-use Rattle.std.proofs.Common.{◌≡◌, ℕ, Bool, true, false, ◌&&◌, ◌==◌, cond, ◌⊎◌, inl, inr, Option, Some, None, List, [], ◌∷◌, refl, sym, ap, ap₂, ◌∙◌, subst, eqb-true}
-use Rattle.std.specs.Prelude.{slice_get, Ok}
+use Rattle.std.proofs.Common.{◌≡◌, ℕ, Bool, true, false, ◌&&◌, ◌==◌, cond, ◌⊎◌, inl, inr}
+use Rattle.std.proofs.Common.{Option, Some, None, List, [], ◌∷◌, refl, sym, ap, ◌∙◌, subst, eqb-true}
+use Rattle.std.specs.Prelude.{Ok}
 use Rattle.std.proofs.lemmas.Bool.{cases_eq}
-use Rattle.dna_packet.specs.Nsp.{NspValue, IsInRange}
+use Rattle.dna_packet.specs.Nsp.{IsInRange}
 use Rattle.dna_links.specs.declared.queue.Queues.TheVariants.{With}
-use Rattle.dna_links.specs.LookUps.{is_at}
 use Rattle.dna_links.specs.Links.{Carried}
 use Rattle.dna_links.specs.LinkBook.{are_same}
 use Rattle.dna_links.specs.Sending.{Sent, message_sent}
@@ -14,16 +14,18 @@ use Rattle.dna_links.specs.Runs.{SentMessage}
 use Rattle.dna_queues.specs.Records.{LinkRecord, Sends}
 use Rattle.dna_queues.specs.Hidden.{Node, Takes, First, Behind, waiting, link_it_is_for, link_it_is_of}
 use Rattle.dna_queues.specs.Made.{MakesStep, SendsComposed, MadeByHidden, Makes}
-use Rattle.dna_queues.proofs.Goes.{Link, Goes}
+use Rattle.dna_queues.proofs.Goes.{Link}
 use Rattle.dna_queues.proofs.Lists.{takes_first, takes_other}
-use Rattle.dna_queues.proofs.LinkLists.{IsSet}
-use Rattle.dna_queues.proofs.Beside.{eqb-same, eqb-other}
-use Rattle.dna_queues.proofs.Turns.{Shape, goes_shape, sane_on}
-use Rattle.dna_queues.proofs.Early.{MayGo, CanGo}
+use Rattle.dna_queues.proofs.LinkLists.{still_set, IsSet}
+use Rattle.dna_queues.proofs.Beside.{eqb-other}
+use Rattle.dna_queues.proofs.Shapes.{Shape, goes_shape}
+use Rattle.dna_queues.proofs.Turns.{sane_on}
+use Rattle.dna_queues.proofs.Early.{CanGo}
 use Rattle.dna_queues.proofs.Hide.{hide}
 use Rattle.dna_queues.proofs.MachineSends.{is_of_link, SendsOf, sends_of}
-use Rattle.dna_queues.proofs.Timed.{Due, put, put_here, put_other, IsDue, AreDue, AreSane, Awaits, packets_of, Timed}
-use Rattle.dna_queues.proofs.Prepared.{Prepared, prepare_set, set_timed, set_sane}
+use Rattle.dna_queues.proofs.Dues.{Due, put, put_here, put_other, AreDue, AreSane}
+use Rattle.dna_queues.proofs.Timed.{Awaits, packets_of, Timed}
+use Rattle.dna_queues.proofs.Prepared.{prepare_set, set_timed, set_sane}
 
 -- What is composed of each link before these records so that hidden steps make them
 pub record Sound (s : machine.Links) (records : List LinkRecord) : Type 0 where
@@ -152,15 +154,11 @@ module _ (s : machine.Links) (sane : AreSane s) (later : List LinkRecord) where
               let here = put_here i i mine r.dues refl in
               let k = takes_packet next.composed packet (r.dues i).packets i (u.composed i ∙ ap (λ (a : Due). a.packets) here) in
               Makes next (record next { composed = k.left }) (Sends packet) later
-              (subst (λ (q : Carried). MakesStep next (Sends q) (record next { composed = k.left })) k.packet_is (SendsComposed k.unit k.left k.takes))
+              (subst (λ (q : Carried). MakesStep next (Sends q) (record next { composed = k.left })) k.packet_is
+              (SendsComposed k.unit k.left k.takes))
               (r.made (record next { composed = k.left })
-              (set_timed s sane i d.link d.there made.links d.further d.set r.dues r.due mine next (record next { composed = k.left }) u (record {
-                node = refl;
-                peer = refl;
-                size = refl;
-                here = u.all i d.link d.there ∙ ap (λ (a : Due). Some (hide a.link)) here ∙ ap (λ (y : Link). Some (hide y)) same;
-                others = λ j differs. refl;
-              }) u.kept
+              (set_timed s sane i d.link d.there made.links d.further d.set r.dues r.due mine next (record next { composed = k.left }) u
+              (still_set _ _ _ (u.all i d.link d.there ∙ ap (λ (a : Due). Some (hide a.link)) here ∙ ap (λ (y : Link). Some (hide y)) same)) u.kept
               (awaits_on d.link d.further _ shape (subst (λ (o : Option ℕ). Awaits d.link (waiting link_it_is_for o next.kept)) (sym own)
               (u.awaits i d.link d.there)))
               (λ j y differs at_y. u.awaits j y at_y)

@@ -1,6 +1,6 @@
 -- Whatever records the machine makes a node with queues makes too, by hidden steps.
-use Rattle.std.proofs.Common.{◌≡◌, ℕ, Bool, true, false, ◌&&◌, ◌==◌, Option, Some, None, List, [], ◌∷◌, ◌++◌, Result, Ok, Err}
-use Rattle.std.proofs.Common.{refl, sym, ap, ap₂, ◌∙◌, subst, append-nil}
+use Rattle.std.proofs.Common.{◌≡◌, ℕ, true, ◌&&◌, ◌==◌, Option, Some, None, List, [], ◌∷◌, ◌++◌, Result, Ok, Err}
+use Rattle.std.proofs.Common.{refl, sym, ap, ◌∙◌, subst, append-nil}
 use Rattle.std.specs.Prelude.{slice_get}
 use Rattle.dna_packet.specs.Nsp.{NspValue, DataSegment, LinkService, DataAck, OtherDataAck, ConnectAck, NoOperation, ConnectInitiate, ConnectConfirm}
 use Rattle.dna_packet.specs.Nsp.{DisconnectInitiate, DisconnectConfirm, IsInRange}
@@ -19,25 +19,26 @@ use Rattle.dna_links.specs.TrueSegments.{TrueSegments, Numbers, true_segments}
 use Rattle.dna_links.specs.TrueLinks as machine
 use Rattle.dna_links.specs.Runs.{SentMessage}
 use Rattle.dna_links.proofs.Tables.Outcomes.{looked, checked}
-use Rattle.dna_queues.specs.Records.{LinkRecord, OfUser, Sends, Keeps, OfNoLink, links_left, next_links, MadeByMachine, AreInRange, EventsAreInRange}
-use Rattle.dna_queues.specs.Hidden.{late_segments, Links, Node, dstaddr, waiting, link_it_is_for, link_it_is_of}
+use Rattle.dna_queues.proofs.Facts.{passed_check, same_Ok}
+use Rattle.dna_queues.specs.Records.{LinkRecord, OfUser, Sends, Keeps, OfNoLink, links_left, MadeByMachine, AreInRange, EventsAreInRange}
+use Rattle.dna_queues.specs.Hidden.{late_segments, Links, Node, dstaddr, link_it_is_for}
 use Rattle.dna_queues.specs.Made.{new_node, KeepsAtOnce, PassesBy, MadeByHidden, NoMore, Makes}
 use Rattle.dna_queues.proofs.Goes.{Link}
 use Rattle.dna_queues.proofs.Lists.{waiting_none}
 use Rattle.dna_queues.proofs.LinkLists.{at_none}
-use Rattle.dna_queues.proofs.SentOn.{passed_check}
 use Rattle.dna_queues.proofs.MachineSends.{is_of_link}
-use Rattle.dna_queues.proofs.Timed.{Due, AreDue, AreSane, Timed}
+use Rattle.dna_queues.proofs.Dues.{Due, AreSane}
+use Rattle.dna_queues.proofs.Timed.{Timed}
 use Rattle.dna_queues.proofs.SentTimed.{Sound, sent_sound}
-use Rattle.dna_queues.proofs.UserTimed.{in_sound, up_sound, close_sound}
+use Rattle.dna_queues.proofs.UserTimed.{in_sound}
+use Rattle.dna_queues.proofs.ClosedTimed.{close_sound}
+use Rattle.dna_queues.proofs.DeliveredTimed.{up_sound}
 use Rattle.dna_queues.proofs.Addressed.{awaits_nothing}
 use Rattle.dna_queues.proofs.ConfirmTimed.{confirm_sound, nothing_sound}
 use Rattle.dna_queues.proofs.BegunTimed.{begun_sane, begun_due, begun_timed}
-use Rattle.dna_queues.proofs.GivenTimed.{opens_sound, accepts_sound, rejects_sound}
-use Rattle.dna_queues.proofs.KeptTimed.{all_come, all_number, all_may, for_link_sound}
-
-same_Ok : (x y : machine.Links) → ◌≡◌ {A = Result machine.Links LinkRefusal} (Ok x) (Ok y) → x ≡ y
-same_Ok x y e = cc
+use Rattle.dna_queues.proofs.AnsweredTimed.{opens_sound, accepts_sound, rejects_sound}
+use Rattle.dna_queues.proofs.AllTimed.{all_come, all_number, all_may}
+use Rattle.dna_queues.proofs.KeptTimed.{for_link_sound}
 
 module _ (s : machine.Links) (sane : AreSane s) (later : List LinkRecord) where
   -- ---- what is kept for no link

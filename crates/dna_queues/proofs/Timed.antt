@@ -1,6 +1,6 @@
 -- The node with queues beside the machine: what it has composed of each link for later, and what waits for a link that has ended in the machine.
-use Rattle.std.proofs.Common.{◌≡◌, ℕ, Bool, true, false, ◌&&◌, ◌||◌, ◌==◌, cond, ◌⊎◌, inl, inr, Option, Some, None, List, [], ◌∷◌, ◌++◌, length, Ok}
-use Rattle.std.proofs.Common.{refl, sym, ap, ap₂, ◌∙◌, subst, append-nil, append_assoc}
+use Rattle.std.proofs.Common.{◌≡◌, ℕ, Bool, true, false, ◌&&◌, ◌||◌, ◌==◌, cond, ◌⊎◌, inl, inr, Option, Some, None, List, [], ◌∷◌, ◌++◌, length}
+use Rattle.std.proofs.Common.{refl, sym, ap, ap₂, ◌∙◌, subst, append-nil}
 use Rattle.std.specs.Prelude.{slice_get}
 use Rattle.std.proofs.lemmas.Bool.{cases_eq}
 use Rattle.std.proofs.lemmas.Option.{same_Some}
@@ -12,113 +12,23 @@ use Rattle.dna_links.specs.declared.port.Port.{Port}
 use Rattle.dna_links.specs.declared.port.LinkTest.TheVariants.{TheLink, CallingAt}
 use Rattle.dna_links.specs.declared.queue.Queues.TheVariants.{Without, With}
 use Rattle.dna_links.specs.LookUps.{passes, is_live, is_at}
-use Rattle.dna_links.specs.Links.{Carried, LinkTruth}
+use Rattle.dna_links.specs.Links.{Carried}
 use Rattle.dna_links.specs.Queues.{in_use}
 use Rattle.dna_links.specs.LinkBook.{are_same}
-use Rattle.dna_links.specs.Sending.{Sent, message_sent}
-use Rattle.dna_links.specs.TrueSegments.{Numbers}
+use Rattle.dna_links.specs.Sending.{message_sent}
 use Rattle.dna_links.specs.TrueLinks as machine
 use Rattle.dna_links.specs.Runs.{SentMessage}
-use Rattle.dna_queues.specs.Records.{LinkRecord}
-use Rattle.dna_queues.specs.Hidden.{LateSegments, late_segments, Links, Node, HiddenStep, Composes, Acknowledges, is_composed, waiting}
+use Rattle.dna_queues.proofs.Facts.{passed_check}
+use Rattle.dna_queues.specs.Hidden.{late_segments, Links, Node, HiddenStep, Composes, Acknowledges, is_composed, waiting}
 use Rattle.dna_queues.specs.Hidden.{link_it_is_for, link_it_is_of}
-use Rattle.dna_queues.specs.Made.{MadeByHidden, Hides}
 use Rattle.dna_queues.proofs.Goes.{Link, phase_of, Goes, use_own}
 use Rattle.dna_queues.proofs.Lists.{waiting_push}
-use Rattle.dna_queues.proofs.LinkLists.{IsUnique, IsSet}
+use Rattle.dna_queues.proofs.LinkLists.{still_set, IsUnique, IsSet}
 use Rattle.dna_queues.proofs.Beside.{eqb-same, eqb-other, there_too}
-use Rattle.dna_queues.proofs.SentOn.{passed_check}
-use Rattle.dna_queues.proofs.Delivered.{Leaves}
-use Rattle.dna_queues.proofs.Turns.{goes_shape, asks, is_now, Sane}
-use Rattle.dna_queues.proofs.Early.{AreEarly, MayGo, CanGo, Ends, ends, AreNow, Parts, parts}
-use Rattle.dna_queues.proofs.Hide.{LateLink, hide, ComposesNow, composes_now}
-
--- ---- what was composed of a link and is sent later, and the link with it
-
-pub record Due : Type 0 where
-  pub packets : List Carried
-  pub link : Link
-
-abbrev pub put : ℕ → Due → (ℕ → Due) → ℕ → Due
-put i due dues j = cond (j == i) due (dues j)
-
-pub put_here : (i j : ℕ) (due : Due) (dues : ℕ → Due) → j ≡ i → put i due dues j ≡ due
-put_here i j due dues same = ap (λ (b : Bool). cond b due (dues j)) (eqb-same j i same)
-
-pub put_other : (i j : ℕ) (due : Due) (dues : ℕ → Due) → (j ≡ i → ⊥) → put i due dues j ≡ dues j
-put_other i j due dues differs = ap (λ (b : Bool). cond b due (dues j)) (eqb-other j i differs)
-
-pub put_twice : (i j : ℕ) (first then_put : Due) (dues : ℕ → Due) → put i then_put (put i first dues) j ≡ put i then_put dues j
-put_twice i j first then_put dues = go (j == i)
-  where
-    go : (b : Bool) → cond b then_put (cond b first (dues j)) ≡ cond b then_put (dues j)
-    go true = refl
-    go false = refl
-
--- what sendings leave of a link as it is
-pub record Went (l x : Link) : Type 0 where
-  pub port : x.port ≡ l.port
-  pub waits : x.queue.waits ≡ l.queue.waits
-  pub partner : x.partner ≡ l.partner
-  pub segsize : x.segsize ≡ l.segsize
-  pub ran : x.queue.ran ≡ l.queue.ran
-  pub accepted : x.queue.accepted ≡ l.queue.accepted
-  pub leaves : Leaves l.segments x.segments
-
-went_itself : (l : Link) → Went l l
-went_itself l = record {
-  port = refl;
-  waits = refl;
-  partner = refl;
-  segsize = refl;
-  ran = refl;
-  accepted = refl;
-  leaves = record { received = refl; delivered = refl; passed = refl };
-}
-
-pub went_on : (l x y : Link) (m : NspValue) → Went l x → Goes x m y → Went l y
-went_on l x y m w g =
-    let s = goes_shape x y m g in
-    subst (Went l) (sym s.is) (record {
-      port = w.port;
-      waits = w.waits;
-      partner = w.partner;
-      segsize = w.segsize;
-      ran = w.ran;
-      accepted = w.accepted;
-      leaves = record {
-        received = s.leaves.received ∙ w.leaves.received;
-        delivered = s.leaves.delivered ∙ w.leaves.delivered;
-        passed = s.leaves.passed ∙ w.leaves.passed;
-      };
-    })
-
-went_all : (node peer : ℕ) (packets : List Carried) (l x y : Link) → Went l x → CanGo node peer packets x (λ z. z ≡ y) → Went l y
-went_all node peer [] l x y w can = subst (Went l) can w
-went_all node peer (packet ∷ packets) l x y w can =
-    went_all node peer packets l can.1 y (went_on l x can.1 packet.message w can.2) can.3
-
-pub went_can : (node peer : ℕ) (packets : List Carried) (l y : Link) → CanGo node peer packets l (λ z. z ≡ y) → Went l y
-went_can node peer packets l y can = went_all node peer packets l l y (went_itself l) can
-
-pub went_use : (l x : Link) → Went l x → in_use With x ≡ in_use With l
-went_use l x w = ap₂ (λ (waits : Option Phase) (port : Port). in_use With (record l { port = port; queue = record l.queue { waits = waits } }))
-    w.waits w.port
-
-pub record IsDue (node peer : ℕ) (l : Link) (due : Due) : Type 0 where
-  pub can : CanGo node peer due.packets l (λ x. x ≡ due.link)
-  pub early : AreEarly (phase_of l) due.packets
-
-pub record AreDue (s : machine.Links) (dues : ℕ → Due) : Type 0 where
-  pub each : (i : ℕ) (l : Link) → slice_get s.links i ≡ Some l → IsDue s.node s.peer l (dues i)
-  pub beyond : (i : ℕ) → slice_get s.links i ≡ None → (dues i).packets ≡ []
-
--- ---- the links of the machine
-
-pub record AreSane (s : machine.Links) : Type 0 where
-  pub unique : IsUnique s
-  pub each : (i : ℕ) (l : Link) → slice_get s.links i ≡ Some l → Sane l
-  pub not_zero : (i : ℕ) (l : Link) → slice_get s.links i ≡ Some l → is_at l.port.own 0 ≡ false
+use Rattle.dna_queues.proofs.Turns.{asks, is_now}
+use Rattle.dna_queues.proofs.Early.{MayGo}
+use Rattle.dna_queues.proofs.Hide.{LateLink, hide, composes_now}
+use Rattle.dna_queues.proofs.Dues.{AreSane, Due, Went, put, put_here, put_other, went_on, went_use}
 
 -- ---- what waits for a link
 
@@ -191,8 +101,8 @@ module _ (s : machine.Links) (sane : AreSane s) where
   unique_hidden dues n t i j h g at_h at_g own own_h own_g = go (there_too s.links n.links.links i h (sym t.size) at_h)
       (there_too s.links n.links.links j g (sym t.size) at_g)
     where
-      of_machine : (i : ℕ) (h : LateLink) (l : Link) → slice_get n.links.links i ≡ Some h → slice_get s.links i ≡ Some l → is_at h.port.own own ≡ true →
-          is_at l.port.own own ≡ true
+      of_machine : (i : ℕ) (h : LateLink) (l : Link) → slice_get n.links.links i ≡ Some h → slice_get s.links i ≡ Some l →
+          is_at h.port.own own ≡ true → is_at l.port.own own ≡ true
       of_machine i h l at_h at_l own_h =
           let same : h ≡ hide (dues i).link = same_Some h (hide (dues i).link) (sym at_h ∙ t.all i l at_l) in
           ap (λ (o : Option ℕ). is_at o own)
@@ -288,13 +198,7 @@ module _ (s : machine.Links) (sane : AreSane s) where
               next = record { links = n.links; kept = n.kept; composed = n.composed ++ unit ∷ [] };
               step = Acknowledges unit dst i (hide (dues i).link) is
                   (passed_check (packet.src == n.links.node && packet.dst == n.links.peer) WrongNode _ may_go) there g.passed refl;
-              timed = pushed dues n t unit x n.links (record {
-                node = refl;
-                peer = refl;
-                size = refl;
-                here = there ∙ ap (λ (y : Link). Some (hide y)) (sym g.moves);
-                others = λ j differs. refl;
-              }) refl goes;
+              timed = pushed dues n t unit x n.links (still_set _ _ _ (there ∙ ap (λ (y : Link). Some (hide y)) (sym g.moves))) refl goes;
             }
 
         by_phase : (a : Option Phase) → asks packet.message ≡ a → ComposesOn dues n packet x

@@ -1,89 +1,21 @@
--- What a sending changes of a link of the machine, and whose turn a message is: its phase stands, or is past.
-use Rattle.std.proofs.Common.{◌≡◌, ℕ, Bool, true, false, not, ◌&&◌, ◌||◌, Option, Some, None, List, refl, sym, ap, ◌∙◌, subst}
+-- Whose turn a message is: the phase that it asks for stands, or is past.
+use Rattle.std.proofs.Common.{◌≡◌, ℕ, Bool, true, false, not, ◌&&◌, ◌||◌, Option, Some, None, refl, sym, ap, ◌∙◌, subst}
 use Rattle.std.proofs.lemmas.Bool.{and_parts}
+use Rattle.std.proofs.lemmas.Option.{same_Some}
 use Rattle.dna_packet.specs.Nsp.{NspValue, DataSegment, LinkService, DataAck, OtherDataAck, ConnectAck, NoOperation, ConnectInitiate}
 use Rattle.dna_packet.specs.Nsp.{ConnectConfirm, DisconnectInitiate, DisconnectConfirm}
 use Rattle.dna_links.specs.declared.port.Phase.{Phase}
 use Rattle.dna_links.specs.declared.port.Phase.TheVariants.{Calling, Called, Confirming, Running, Disconnecting, Ended}
+use Rattle.dna_links.specs.declared.port.Port.{Port}
+use Rattle.dna_links.specs.declared.port.LinkTest.TheVariants.{CalledBy}
 use Rattle.dna_links.specs.declared.queue.Queues.TheVariants.{With}
 use Rattle.dna_links.specs.declared.queue.Said.{Said}
 use Rattle.dna_links.specs.declared.queue.Said.TheVariants.{Nothing, OfRun, Disconnect}
 use Rattle.dna_links.specs.LookUps.{passes, is_in, is_live, is_called, is_at, has_both}
-use Rattle.dna_links.specs.SegmentBook.{wider}
-use Rattle.dna_links.specs.Queues.{in_use, is_silent, is_over, further}
-use Rattle.dna_links.specs.TrueSegments.{TrueSegments, went_on}
-use Rattle.dna_queues.proofs.Goes.{Link, phase_of, test_of, Goes, said_as, late_link, wide_link, use_opened}
-use Rattle.dna_queues.proofs.Delivered.{Leaves, late_still, acks_still}
-
--- ---- what a sending changes
-
-pub record Shape (l x : Link) : Type 0 where
-  pub segments : TrueSegments
-  pub said : Said
-  pub gap : ℕ
-  pub is : x ≡ record l { segments = segments; queue = record l.queue { said = said; gap = gap } }
-  pub leaves : Leaves l.segments segments
-  pub loud : is_silent l.queue.said ≡ false → is_silent said ≡ false
-  pub over : is_over l.queue.said ≡ true → is_over said ≡ true
-
-louder : (a s : Said) → is_silent s ≡ false → is_silent (further a s) ≡ false
-louder Nothing s e = e
-louder OfRun Nothing e = refl
-louder OfRun OfRun e = refl
-louder OfRun Disconnect e = refl
-louder Disconnect s e = refl
-
-over_still : (a s : Said) → is_over s ≡ true → is_over (further a s) ≡ true
-over_still Nothing s e = e
-over_still OfRun Disconnect e = refl
-over_still OfRun Nothing e = absurd cc
-over_still OfRun OfRun e = absurd cc
-over_still Disconnect s e = refl
-
-still_shape : (l x : Link) → x ≡ l → Shape l x
-still_shape l x is = record {
-  segments = l.segments;
-  said = l.queue.said;
-  gap = l.queue.gap;
-  is = is;
-  leaves = record { received = refl; delivered = refl; passed = refl };
-  loud = λ e. e;
-  over = λ e. e;
-}
-
-said_shape : (l x : Link) (said : Said) (f : TrueSegments) (gap : ℕ) → Leaves l.segments f →
-    x ≡ said_as said (record l { segments = f; queue = record l.queue { gap = gap } }) → Shape l x
-said_shape l x said f gap leaves is = record {
-  segments = f;
-  said = further said l.queue.said;
-  gap = gap;
-  is = is;
-  leaves = leaves;
-  loud = louder said l.queue.said;
-  over = over_still said l.queue.said;
-}
-
-said_only : (l x : Link) (said : Said) → x ≡ said_as said l → Shape l x
-said_only l x said is = said_shape l x said l.segments l.queue.gap (record { received = refl; delivered = refl; passed = refl }) is
-
-pub goes_shape : (l x : Link) (m : NspValue) → Goes l m x → Shape l x
-goes_shape l x (ConnectInitiate retransmitted src services info segsize user_data) g = still_shape l x g.moves.1
-goes_shape l x (ConnectAck dst) g = still_shape l x g.moves
-goes_shape l x (ConnectConfirm dst src services info segsize user_data) g = still_shape l x g.moves.1
-goes_shape l x (DisconnectInitiate dst src reason user_data) g = said_only l x Disconnect g.moves.1
-goes_shape l x (DisconnectConfirm dst src reason) g = absurd g.moves
-goes_shape l x (DataSegment segment) g =
-    let m = g.moves in
-    said_shape l x OfRun m.late.sent.segments m.late.gap (late_still l.queue.gap l.segsize segment l.segments m.late m.does).leaves m.is
-goes_shape l x (DataAck dst src acks) g =
-    let m = g.moves in
-    said_shape l x OfRun m.sent.segments (wider l.queue.gap (went_on l.segments m.sent.segments))
-    (acks_still acks l.segments m.sent m.does).leaves m.is
-goes_shape l x (LinkService interrupt dst src rest) g = said_only l x OfRun g.moves.1
-goes_shape l x (OtherDataAck dst src rest) g = said_only l x OfRun g.moves.1
-goes_shape l x (NoOperation rest) g = absurd g.moves
-
--- ---- whose turn it is
+use Rattle.dna_links.specs.Queues.{in_use, port_of_waiting, is_silent, is_over, further}
+use Rattle.dna_queues.proofs.Facts.{not_both}
+use Rattle.dna_queues.proofs.Goes.{Link, phase_of, Goes, said_as, late_link, wide_link, use_opened}
+use Rattle.dna_queues.proofs.Shapes.{Shape}
 
 -- the phase that a message asks for; a connect ack asks for none
 abbrev pub asks : NspValue → Option Phase
@@ -143,9 +75,19 @@ pub record Sane (l : Link) : Type 0 where
   pub called : is_called l.port.phase ≡ true → l.port.own ≡ None
   pub waits : (p : Phase) → l.queue.waits ≡ Some p → (l.port.phase ≡ Ended) × (can_end p ≡ true)
 
-not_both : (c : Bool) → c ≡ true → c ≡ false → ⊥
-not_both true e f = absurd cc
-not_both false e f = absurd cc
+-- of a live link nothing waits, and it is in use by its own port
+pub live_waits : (l : Link) → Sane l → is_live l.port.phase ≡ true → l.queue.waits ≡ None
+live_waits l sane live = go l.queue.waits refl
+  where
+    go : (w : Option Phase) → l.queue.waits ≡ w → l.queue.waits ≡ None
+    go None e = e
+    go (Some p) e = absurd (not_both _ live (ap is_live (sane.waits p e).0))
+
+pub live_use : (l : Link) → Sane l → is_live l.port.phase ≡ true → in_use With l ≡ l.port
+live_use l sane live = ap (λ (w : Option Phase). port_of_waiting w l.port) (live_waits l sane live)
+
+pub called_phase : (far : ℕ) (p : Port) → passes (CalledBy far) p ≡ true → p.phase ≡ Called
+called_phase far p e = is_in_same Called p.phase (and_parts (is_in Called p.phase) (is_at p.far far) e).0
 
 module _ (l : Link) (sane : Sane l) where
   of_live : (rest : Bool) → (is_live (phase_of l) && rest) ≡ true → is_live (phase_of l) ≡ true
@@ -162,7 +104,8 @@ module _ (l : Link) (sane : Sane l) where
   call_turn Disconnecting live opened b = refl
   call_turn Ended live opened b = absurd cc
 
-  confirm_turn : (p : Phase) → is_live p ≡ true → l.queue.accepted ≡ true → Began p l.port.opened l.queue.accepted l.queue.ran → in_turn p (Some Confirming)
+  confirm_turn : (p : Phase) → is_live p ≡ true → l.queue.accepted ≡ true → Began p l.port.opened l.queue.accepted l.queue.ran →
+      in_turn p (Some Confirming)
   confirm_turn Calling live accepted b = absurd (not_both _ accepted (sane.opened b.0))
   confirm_turn Called live accepted b = absurd (not_both _ accepted b.1)
   confirm_turn Confirming live accepted b = refl
@@ -240,49 +183,34 @@ run_loud Nothing = refl
 run_loud OfRun = refl
 run_loud Disconnect = refl
 
+run_said : (y x : Link) → x ≡ said_as OfRun y → is_in Disconnecting (phase_of y) ≡ false → HasSaid x
+run_said y x is unclosed = subst HasSaid (sym is) (record { loud = λ e. run_loud y.queue.said; over = λ e. absurd (not_both _ e unclosed) })
+
+unsaid : (l x : Link) → x ≡ l → has_run (phase_of l) ≡ false → is_in Disconnecting (phase_of l) ≡ false → HasSaid x
+unsaid l x is before unclosed =
+    subst HasSaid (sym is) (record { loud = λ e. absurd (not_both _ e before); over = λ e. absurd (not_both _ e unclosed) })
+
 -- a message that goes now leaves all of its phase said, unless its phase has no past
 pub said_now : (l x : Link) (m : NspValue) (phase : Phase) → asks m ≡ Some phase → phase_of l ≡ phase → Goes l m x → HasSaid x
 said_now l x (ConnectInitiate retransmitted src services info segsize user_data) phase is now g =
-    let same : phase ≡ Calling = cc in
-    subst HasSaid (sym g.moves.1) (record {
-      loud = λ e. absurd (not_both _ e (ap has_run (now ∙ same)));
-      over = λ e. absurd (not_both _ e (ap (is_in Disconnecting) (now ∙ same)));
-    })
+    let same : phase_of l ≡ Calling = now ∙ sym (same_Some Calling phase is) in
+    unsaid l x g.moves.1 (ap has_run same) (ap (is_in Disconnecting) same)
 said_now l x (ConnectConfirm dst src services info segsize user_data) phase is now g =
-    let same : phase ≡ Confirming = cc in
-    subst HasSaid (sym g.moves.1) (record {
-      loud = λ e. absurd (not_both _ e (ap has_run (now ∙ same)));
-      over = λ e. absurd (not_both _ e (ap (is_in Disconnecting) (now ∙ same)));
-    })
+    let same : phase_of l ≡ Confirming = now ∙ sym (same_Some Confirming phase is) in
+    unsaid l x g.moves.1 (ap has_run same) (ap (is_in Disconnecting) same)
 said_now l x (DisconnectInitiate dst src reason user_data) phase is now g =
     subst HasSaid (sym g.moves.1) (record { loud = λ e. refl; over = λ e. refl })
 said_now l x (ConnectAck dst) phase is now g = absurd cc
 said_now l x (DisconnectConfirm dst src reason) phase is now g = absurd g.moves
 said_now l x (NoOperation rest) phase is now g = absurd g.moves
 said_now l x (DataSegment segment) phase is now g =
-    let same : phase ≡ Running = cc in
-    subst HasSaid (sym g.moves.is) (record {
-      loud = λ e. run_loud l.queue.said;
-      over = λ e. absurd (not_both _ e (ap (is_in Disconnecting) (now ∙ same)));
-    })
+    run_said (late_link l g.moves.late) x g.moves.is (ap (is_in Disconnecting) (now ∙ sym (same_Some Running phase is)))
 said_now l x (DataAck dst src acks) phase is now g =
-    let same : phase ≡ Running = cc in
-    subst HasSaid (sym g.moves.is) (record {
-      loud = λ e. run_loud l.queue.said;
-      over = λ e. absurd (not_both _ e (ap (is_in Disconnecting) (now ∙ same)));
-    })
+    run_said (wide_link l g.moves.sent) x g.moves.is (ap (is_in Disconnecting) (now ∙ sym (same_Some Running phase is)))
 said_now l x (LinkService interrupt dst src rest) phase is now g =
-    let same : phase ≡ Running = cc in
-    subst HasSaid (sym g.moves.1) (record {
-      loud = λ e. run_loud l.queue.said;
-      over = λ e. absurd (not_both _ e (ap (is_in Disconnecting) (now ∙ same)));
-    })
+    run_said l x g.moves.1 (ap (is_in Disconnecting) (now ∙ sym (same_Some Running phase is)))
 said_now l x (OtherDataAck dst src rest) phase is now g =
-    let same : phase ≡ Running = cc in
-    subst HasSaid (sym g.moves.1) (record {
-      loud = λ e. run_loud l.queue.said;
-      over = λ e. absurd (not_both _ e (ap (is_in Disconnecting) (now ∙ same)));
-    })
+    run_said l x g.moves.1 (ap (is_in Disconnecting) (now ∙ sym (same_Some Running phase is)))
 
 -- a call that nobody answered but by a refusal: nothing but that goes of it
 pub record IsMute (l : Link) : Type 0 where

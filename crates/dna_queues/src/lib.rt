@@ -1,5 +1,5 @@
 //! Nodes with queues between NSP and DDCMP: what they are, by steps that no record shows, and that the links with queues of `dna_links`, which
-//! judge in one pass, accept whatever such nodes make. It has no code that runs.
+//! judge in one pass, accept what such nodes make, and nothing else. It has no code that runs.
 #![tactic(auto)]
 
 pub mod laws;
