@@ -14,6 +14,7 @@ use Rattle.dna_links.specs.Links.{LinkTruth}
 use Rattle.dna_links.specs.TrueSegments.{Numbers}
 use Rattle.dna_links.specs.Runs.{SentMessage}
 use Rattle.dna_links.proofs.Tables.Words.{AreAtMost}
+use Rattle.dna_queues.proofs.Facts.{not_both}
 use Rattle.dna_queues.proofs.Pieces.{Below, below_on, below_hold}
 use Rattle.dna_queues.proofs.Goes.{Link, phase_of}
 
@@ -180,10 +181,6 @@ module _ (a : Seen) (l : Link) (fresh : IsFresh a) where
         segsize = λ none. absurd (not_both (is_calling a.port.phase) p.0 none);
         received = behind.received;
       }
-    where
-      not_both : (b : Bool) → b ≡ true → b ≡ false → ⊥
-      not_both true e f = absurd cc
-      not_both false e f = absurd cc
 
   ended_behind : (b : Bool) → Behind (ended_if b a) l → Behind a l
   ended_behind false behind = behind

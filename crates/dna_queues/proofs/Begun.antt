@@ -1,5 +1,5 @@
 -- A link begins in both, and what is kept for no link is acted on at once.
-use Rattle.std.proofs.Common.{◌≡◌, ℕ, Bool, true, false, ◌&&◌, ◌==◌, ◌⊎◌, inl, inr, Option, Some, None, List, [], ◌∷◌, ◌++◌, length}
+use Rattle.std.proofs.Common.{◌≡◌, ℕ, true, ◌&&◌, ◌==◌, ◌⊎◌, inl, inr, Option, Some, None, List, [], ◌∷◌, ◌++◌, length}
 use Rattle.std.proofs.Common.{Result, Ok, refl, sym, ap, ap₂, ◌∙◌, subst, arith, append-nil, length-append}
 use Rattle.std.specs.Prelude.{slice_get}
 use Rattle.std.proofs.lemmas.Option.{slice_get_within}
@@ -13,7 +13,7 @@ use Rattle.dna_links.specs.declared.port.Phase.TheVariants.{Calling, Called}
 use Rattle.dna_links.specs.declared.port.LinkTest.TheVariants.{LiveTo}
 use Rattle.dna_links.specs.declared.queue.Queues.TheVariants.{Without, With}
 use Rattle.dna_links.specs.LookUps.{is_at}
-use Rattle.dna_links.specs.Links.{check, begun, LinkTruth}
+use Rattle.dna_links.specs.Links.{begun, LinkTruth}
 use Rattle.dna_links.specs.LinkBook.{are_same}
 use Rattle.dna_links.specs.inner.Forms.{opened, called}
 use Rattle.dna_links.specs.Arriving.{of_partner, arrived_step, message_arrived}
@@ -21,6 +21,7 @@ use Rattle.dna_links.specs.TrueSegments.{Numbers, true_segments}
 use Rattle.dna_links.specs.TrueLinks as machine
 use Rattle.dna_links.specs.Runs.{SentMessage}
 use Rattle.dna_links.proofs.Tables.Outcomes.{IsFound, looked, checked}
+use Rattle.dna_queues.proofs.Facts.{passed_check}
 use Rattle.dna_queues.specs.Records.{AreAnswered, next_links}
 use Rattle.dna_queues.specs.Records as records
 use Rattle.dna_queues.specs.Hidden.{late_segments, Links, Node, dstaddr, link_it_is_for, link_it_is_of, waiting, ComesTo}
@@ -151,10 +152,6 @@ append_same {X} (x ∷ xs) ys zs e = append_same xs ys zs (tails (xs ++ ys) (xs 
   where
     tails : (us vs : List X) → (x ∷ us) ≡ (x ∷ vs) → us ≡ vs
     tails us vs e = cc
-
-passed_check : {R : Type 0} (b : Bool) (refusal : LinkRefusal) (next : Result R LinkRefusal) → b ≡ true → check b refusal next ≡ next
-passed_check true refusal next e = refl
-passed_check false refusal next e = absurd cc
 
 module _ (n : Node) (t : machine.Links) (b : Beside n t) (all left : Links) (alike : Alike all t) (truth : LinkTruth Numbers) (new : List LateLink)
     (grown : left.links ≡ all.links ++ new) where

@@ -14,7 +14,7 @@ use Rattle.dna_links.specs.declared.port.LinkTest.TheVariants.{LiveAt, CalledBy,
 use Rattle.dna_links.specs.declared.queue.LinkQueue.{LinkQueue}
 use Rattle.dna_links.specs.declared.queue.Queues.TheVariants.{Without, With}
 use Rattle.dna_links.specs.LookUps.{passes, is_in, is_live, is_at, is_called, is_calling}
-use Rattle.dna_links.specs.Links.{LinkTruth, check, number_of, with_link, changed}
+use Rattle.dna_links.specs.Links.{LinkTruth, number_of, with_link, changed}
 use Rattle.dna_links.specs.Queues.{port_of_waiting, freed, goes_on, reached, is_silent, is_over}
 use Rattle.dna_links.specs.inner.Forms.{answered}
 use Rattle.dna_links.specs.User.{LinkEventValue}
@@ -23,6 +23,7 @@ use Rattle.dna_links.specs.TrueSegments.{Numbers, true_segments}
 use Rattle.dna_links.specs.TrueLinks as machine
 use Rattle.dna_links.specs.Runs.{SentMessage}
 use Rattle.dna_links.proofs.Tables.Outcomes.{IsFound}
+use Rattle.dna_queues.proofs.Facts.{not_both}
 use Rattle.dna_queues.specs.Records.{AreAnswered, next_links}
 use Rattle.dna_queues.specs.Records as records
 use Rattle.dna_queues.specs.Hidden.{late_segments, Links, Node, link_it_is_for, link_it_is_of, waiting}
@@ -39,14 +40,6 @@ use Rattle.dna_queues.proofs.Waiting.{of_same}
 use Rattle.dna_queues.proofs.Beside.{Beside, follows_as, there_too}
 use Rattle.dna_queues.proofs.SentOn.{Follow, grows_on, phase_same}
 use Rattle.dna_queues.proofs.Given.{meets_now, live_same, free_beside, no_owner, left_h, left_l, free_node}
-
-pub not_both : (c : Bool) → c ≡ true → c ≡ false → ⊥
-not_both true e f = absurd cc
-not_both false e f = absurd cc
-
-pub passed_check : {R : Type 0} (b : Bool) (refusal : LinkRefusal) (next : Result R LinkRefusal) → b ≡ true → check b refusal next ≡ next
-passed_check true refusal next e = refl
-passed_check false refusal next e = absurd cc
 
 -- ---- one link becomes another in both
 

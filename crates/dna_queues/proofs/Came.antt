@@ -13,6 +13,7 @@ use Rattle.dna_links.specs.CutSegments.{IsAnswered, AcksAreNear}
 use Rattle.dna_links.specs.TrueSegments.{TrueSegments, Numbers, takes_segment, takes_acks, acknowledged_through, highest_given}
 use Rattle.dna_links.specs.Runs.{SentMessage}
 use Rattle.dna_links.proofs.Tables.Words.{AreAtMost}
+use Rattle.dna_queues.proofs.Facts.{not_both}
 use Rattle.dna_queues.proofs.Words.{Grown}
 use Rattle.dna_queues.proofs.Goes.{Link, phase_of, Grows}
 use Rattle.dna_queues.proofs.Ahead.{Seen, acted, takes_numbers, AreTaken, Meets}
@@ -151,7 +152,3 @@ comes_still unit l fits none still = record {
     subst (λ (b : Seen). Meets b l) (sym (still a meets.port)) meets,
   );
 }
-  where
-    not_both : (b : Bool) → b ≡ true → b ≡ false → ⊥
-    not_both true e f = absurd cc
-    not_both false e f = absurd cc

@@ -16,6 +16,7 @@ use Rattle.dna_links.specs.CutSegments.{IsAnswered}
 use Rattle.dna_links.specs.TrueSegments.{TrueSegments, Numbers, takes_segment, takes_acks, acknowledged_through}
 use Rattle.dna_links.specs.Runs.{SentMessage}
 use Rattle.dna_links.proofs.Tables.Words.{AreAtMost}
+use Rattle.dna_queues.proofs.Facts.{not_both}
 use Rattle.dna_queues.proofs.Pieces.{Below, below_itself, below_hold, below_order}
 use Rattle.dna_queues.proofs.Words.{Grown}
 use Rattle.dna_queues.proofs.Goes.{Link, phase_of}
@@ -64,10 +65,6 @@ module _ (l : Link) (fits : Fits l) where
       }),
     );
   }
-    where
-      not_both : (b : Bool) → b ≡ true → b ≡ false → ⊥
-      not_both true e f = absurd cc
-      not_both false e f = absurd cc
 
   calling_live : (p : Phase) → is_in Calling p ≡ true → (is_live p ≡ true) × (is_in Disconnecting p ≡ false) × (is_open p ≡ true)
   calling_live Calling e = (refl, refl, refl)
@@ -81,10 +78,6 @@ module _ (l : Link) (fits : Fits l) where
   none_at : (o : Option ℕ) (n : ℕ) → o ≡ None → is_at o n ≡ true → ⊥
   none_at None n e at = absurd cc
   none_at (Some k) n e at = absurd cc
-
-  both : (b : Bool) → b ≡ true → b ≡ false → ⊥
-  both true e f = absurd cc
-  both false e f = absurd cc
 
   -- it is confirmed
   comes_confirmed : (unit : SentMessage) (far size : ℕ) → takes_numbers unit.packet.message l.port ≡ false → is_in Calling l.port.phase ≡ true →
@@ -102,13 +95,13 @@ module _ (l : Link) (fits : Fits l) where
           far = λ n at. absurd (none_at l.port.far n (fits.calling calling).0 at);
           opened = refl;
           usable = λ e. ap is_live running;
-          closing = λ e. absurd (both _ (ap (is_in Disconnecting) (sym (live_phase l fits c.0)) ∙ e) c.1);
+          closing = λ e. absurd (not_both _ (ap (is_in Disconnecting) (sym (live_phase l fits c.0)) ∙ e) c.1);
           ran = λ e. refl;
           accepted = λ e. e;
           silent = λ e. e;
           over = λ e. e;
           gap = refl;
-          segsize = λ e. absurd (both _ e (fits.calling calling).1);
+          segsize = λ e. absurd (not_both _ e (fits.calling calling).1);
           segments = grown_still l.segments answered;
         };
         acknowledged = omega arith;
@@ -117,7 +110,7 @@ module _ (l : Link) (fits : Fits l) where
         own = refl;
         live = λ e. ap is_live running;
         meets = λ a meets. (
-          λ taken. absurd (both _ (ap (takes_numbers unit.packet.message) (sym meets.port) ∙ taken) none),
+          λ taken. absurd (not_both _ (ap (takes_numbers unit.packet.message) (sym meets.port) ∙ taken) none),
           subst (λ (b : Seen). Meets b k) (sym (confirms a meets.port)) (record {
             port = ap (λ (p : Port). record p { phase = Running; far = Some far }) meets.port;
             partner = refl;
@@ -147,7 +140,7 @@ module _ (l : Link) (fits : Fits l) where
           far = λ n at. at;
           opened = refl;
           usable = λ e. ap is_live running;
-          closing = λ e. absurd (both _ (ap (is_in Disconnecting) (sym (live_phase l fits c.0)) ∙ e) c.1);
+          closing = λ e. absurd (not_both _ (ap (is_in Disconnecting) (sym (live_phase l fits c.0)) ∙ e) c.1);
           ran = λ e. refl;
           accepted = λ e. e;
           silent = λ e. e;

@@ -5,10 +5,11 @@ use Rattle.dna_links.specs.declared.port.Phase.TheVariants.{Calling, Called, Con
 use Rattle.dna_links.specs.declared.port.Port.{Port}
 use Rattle.dna_links.specs.LookUps.{is_in, is_live, is_at, is_calling, is_connected}
 use Rattle.dna_links.specs.Links.{in_phase}
-use Rattle.dna_links.specs.Queues.{port_of_waiting, goes_on, keeps_numbers, lets_go, is_silent, is_over}
+use Rattle.dna_links.specs.Queues.{port_of_waiting, goes_on, keeps_numbers, is_silent, is_over}
 use Rattle.dna_links.specs.CutSegments.{IsAnswered}
 use Rattle.dna_links.specs.TrueSegments.{TrueSegments, true_segments}
 use Rattle.dna_links.specs.Runs.{SentMessage}
+use Rattle.dna_queues.proofs.Facts.{lets_still, not_both}
 use Rattle.dna_queues.proofs.Pieces.{Below, below_itself, below_on}
 use Rattle.dna_queues.proofs.Words.{Grown}
 use Rattle.dna_queues.proofs.Goes.{Link, phase_of, Grows}
@@ -25,11 +26,6 @@ use Rattle.dna_queues.proofs.Closing.{closing, over, closed, connected_is, ahead
 abbrev pub closed_link : Link → Link
 closed_link l = cond (is_live l.port.phase) (record l { port = record l.port { phase = Disconnecting } })
     (record l { queue = record l.queue { waits = Some Disconnecting } })
-
-lets_still : (before now : Bool) (f : TrueSegments) → lets_go true_segments before now f ≡ f
-lets_still true true f = refl
-lets_still true false f = refl
-lets_still false now f = refl
 
 pub closes_as : (l : Link) → goes_on true_segments (is_live l.port.phase) Disconnecting l ≡ closed_link l
 closes_as l = go (is_live l.port.phase)
@@ -60,10 +56,6 @@ pub record IsClosed (l k : Link) : Type 0 where
 pub is_closed : (l : Link) → Fits l → IsClosed l (closed_link l)
 is_closed l fits = go (is_live l.port.phase) refl
   where
-    not_both : (c : Bool) → c ≡ true → c ≡ false → ⊥
-    not_both true e f = absurd cc
-    not_both false e f = absurd cc
-
     calling_live : (p : Phase) → is_calling p ≡ true → is_live p ≡ true
     calling_live Calling e = refl
     calling_live p e = absurd cc

@@ -24,13 +24,14 @@ use Rattle.dna_links.specs.Sending.{Sent, message_sent}
 use Rattle.dna_links.specs.CutSegments.{IsAnswered}
 use Rattle.dna_links.specs.TrueSegments.{TrueSegments, Numbers, sends_late, sends_acks}
 use Rattle.dna_links.proofs.Tables.Outcomes.{IsFound, looked, checked}
+use Rattle.dna_queues.proofs.Facts.{same_Ok}
 use Rattle.dna_queues.specs.Hidden.{LateSegments, late_segments, late_sent, acks_sent, Links, is_composed}
 use Rattle.dna_queues.proofs.Words.{Carries}
 use Rattle.dna_queues.proofs.Segments.{late_grows, acks_grow}
 use Rattle.dna_queues.proofs.Goes.{Goes, said_as}
 use Rattle.dna_queues.proofs.WaitsToGo.{grown_itself}
 use Rattle.dna_queues.proofs.Acting.{LateLink, lift, level, seen_as}
-use Rattle.dna_queues.proofs.LinkLists.{IsSet, set_changed}
+use Rattle.dna_queues.proofs.LinkLists.{still_set, IsSet, set_changed}
 
 -- what of a link no message that it sends changes
 pub record Keeps (h k : LateLink) : Type 0 where
@@ -80,18 +81,15 @@ closing_said h e = ap (λ s. record (lift h) { queue = record (lift h).queue { s
 -- ---- by message
 
 module _ (s : Links) (made : Sent LateSegments Numbers) where
-  same_made : (x y : Sent LateSegments Numbers) → ◌≡◌ {A = Result (Sent LateSegments Numbers) LinkRefusal} (Ok x) (Ok y) → x ≡ y
-  same_made x y e = cc
-
   -- one that changes nothing
   stays : (m : NspValue) (n : ℕ) (h : LateLink) → slice_get s.links n ≡ Some h → Goes (lift h) m (lift h) →
       ◌≡◌ {A = Result (Sent LateSegments Numbers) LinkRefusal} (Ok (unchanged late_segments s n h)) (Ok made) → Composed s m made
-  stays m n h there goes e = subst (λ (x : Sent LateSegments Numbers). Composed s m x) (same_made _ made e) (record {
+  stays m n h there goes e = subst (λ (x : Sent LateSegments Numbers). Composed s m x) (same_Ok _ made e) (record {
     number = n;
     link = h;
     there = there;
     left = h;
-    set = record { node = refl; peer = refl; size = refl; here = there; others = λ i differs. refl };
+    set = still_set _ _ _ there;
     tag = refl;
     goes = λ small. goes;
     keeps = λ small answered. keeps_itself h;
@@ -112,7 +110,7 @@ module _ (s : Links) (made : Sent LateSegments Numbers) where
       ◌≡◌ {A = Result (Sent LateSegments Numbers) LinkRefusal}
       (Ok (record { links = changed n (with_segments sent.segments h) s; truth = truth_of late_segments n h sent.known })) (Ok made) →
       Composed s m made
-  carries m n h sent there goes kept e = subst (λ (x : Sent LateSegments Numbers). Composed s m x) (same_made _ made e) (record {
+  carries m n h sent there goes kept e = subst (λ (x : Sent LateSegments Numbers). Composed s m x) (same_Ok _ made e) (record {
     number = n;
     link = h;
     there = there;
@@ -215,7 +213,7 @@ acknowledges s m truth dst number link is there passed tag = record {
   link = link;
   there = there;
   left = link;
-  set = record { node = refl; peer = refl; size = refl; here = there; others = λ i differs. refl };
+  set = still_set _ _ _ there;
   tag = tag;
   goes = λ small. subst (λ (x : NspValue). Goes (lift link) x (lift link)) (sym is) (record { passed = passed; moves = refl });
   keeps = λ small answered. keeps_itself link;

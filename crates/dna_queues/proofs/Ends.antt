@@ -17,6 +17,7 @@ use Rattle.dna_links.specs.Sending.{Sent, sent_step, message_sent}
 use Rattle.dna_links.specs.TrueSegments.{TrueSegments, Numbers, sends_other, true_segments}
 use Rattle.dna_links.specs.TrueLinks as machine
 use Rattle.dna_links.proofs.Tables.Outcomes.{IsFound, looked, checked}
+use Rattle.dna_queues.proofs.Facts.{passed_check, same_Ok}
 use Rattle.dna_queues.specs.Records.{AreAnswered, links_left, next_links}
 use Rattle.dna_queues.specs.Records as records
 use Rattle.dna_queues.specs.Hidden.{LateSegments, late_segments, Links, Node, link_it_is_for, link_it_is_of, waiting}
@@ -28,7 +29,7 @@ use Rattle.dna_queues.proofs.LinkLists.{set_changed, unique_set, IsChanged, WasA
 use Rattle.dna_queues.proofs.Beside.{Beside, follows_as, unique_too, there_too}
 use Rattle.dna_queues.proofs.SentOn.{Follow}
 use Rattle.dna_queues.proofs.Given.{own_owns, meets_now, nothing_for, nothing_of, owner_same}
-use Rattle.dna_queues.proofs.Calls.{passed_check, set_beside, called_same, called_meets}
+use Rattle.dna_queues.proofs.Calls.{set_beside, called_same, called_meets}
 use Rattle.dna_queues.proofs.Settled.{dead_follows, settled_follows}
 
 -- ---- the record
@@ -91,9 +92,6 @@ module _ (n : Node) (t : machine.Links) (b : Beside n t) (near : AreAnswered t) 
     pub does : message_sent With true_segments t (DisconnectConfirm dst src reason) ≡ Ok made
     pub beside : Beside (record n { links = links }) made.links
 
-  same_made : (x y : Sent LateSegments Numbers) → ◌≡◌ {A = Result (Sent LateSegments Numbers) LinkRefusal} (Ok x) (Ok y) → x ≡ y
-  same_made x y e = cc
-
   confirms_too : (dst src reason : ℕ) (made : Sent LateSegments Numbers) →
       message_sent Without late_segments n.links (DisconnectConfirm dst src reason) ≡ Ok made →
       IsFree src n → EndsCall (src == 0) made n → ConfirmsToo dst src reason made.links
@@ -153,7 +151,7 @@ module _ (n : Node) (t : machine.Links) (b : Beside n t) (near : AreAnswered t) 
       go none false is e quiet = record {
         made = record (of_no_link true_segments t) { links = settled_of src };
         does = row none false is;
-        beside = subst (λ (x : Sent LateSegments Numbers). Beside (record n { links = x.links }) (settled_of src)) (same_made _ made e)
+        beside = subst (λ (x : Sent LateSegments Numbers). Beside (record n { links = x.links }) (settled_of src)) (same_Ok _ made e)
             (settled_beside src free);
       }
       go none true is e quiet =
@@ -161,10 +159,10 @@ module _ (n : Node) (t : machine.Links) (b : Beside n t) (near : AreAnswered t) 
           (λ missing e. record {
             made = of_no_link true_segments t;
             does = row none true is ∙ at_none (CalledBy dst) t _ _ (sym (called_same n t b dst) ∙ missing);
-            beside = subst (λ (x : Sent LateSegments Numbers). Beside (record n { links = x.links }) t) (same_made _ made e) b;
+            beside = subst (λ (x : Sent LateSegments Numbers). Beside (record n { links = x.links }) t) (same_Ok _ made e) b;
           })
-          (λ number h found e. ends number h found none is (same_made _ made e)
-          (quiet number (ap (λ (x : Sent LateSegments Numbers). x.truth.tag.link) (sym (same_made _ made e)))))
+          (λ number h found e. ends number h found none is (same_Ok _ made e)
+          (quiet number (ap (λ (x : Sent LateSegments Numbers). x.truth.tag.link) (sym (same_Ok _ made e)))))
 
   goes_too : (packet : Carried) (made : Sent LateSegments Numbers) → sent_step Without late_segments n.links packet ≡ Ok made →
       ((packet.src == t.node && packet.dst == t.peer) ≡ true) × (message_sent Without late_segments n.links packet.message ≡ Ok made)

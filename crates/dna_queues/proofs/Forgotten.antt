@@ -20,11 +20,11 @@ use Rattle.dna_links.specs.TrueLinks as plain
 use Rattle.dna_links.proofs.Tables.Outcomes.{IsFound, user_did}
 use Rattle.dna_links.proofs.Tables.Outcomes as outcomes
 use Rattle.dna_links.proofs.Cut.LookUps.{position-map}
+use Rattle.dna_queues.proofs.Facts.{passed_check}
 use Rattle.dna_queues.specs.Hidden.{late_segments, over, delivered_over, Links}
 use Rattle.dna_queues.proofs.Goes.{Link}
 use Rattle.dna_queues.proofs.Acting.{LateLink}
 use Rattle.dna_queues.proofs.LinkLists.{at_found, at_none}
-use Rattle.dna_queues.proofs.SentOn.{passed_check}
 
 abbrev pub forget : LateLink → Link
 forget h = record { port = h.port; partner = h.partner; segsize = h.segsize; segments = h.segments.segments; queue = h.queue }

@@ -3,7 +3,6 @@ use Rattle.std.proofs.Common.{◌≡◌, ℕ, Bool, true, false, ◌&&◌, cond,
 use Rattle.std.proofs.Common.{refl, sym, ap, ap₂, ◌∙◌, subst, eqb-true}
 use Rattle.std.specs.Prelude.{slice_get}
 use Rattle.std.proofs.lemmas.Bool.{and_parts}
-use Rattle.dna_links.specs.declared.port.Phase.{Phase}
 use Rattle.dna_links.specs.declared.port.Phase.TheVariants.{Running, Disconnecting, Ended}
 use Rattle.dna_links.specs.declared.port.Port.{Port}
 use Rattle.dna_links.specs.declared.port.LinkTest.{LinkTest}
@@ -20,6 +19,7 @@ use Rattle.dna_links.specs.TrueSegments.{true_segments}
 use Rattle.dna_links.specs.TrueLinks as machine
 use Rattle.dna_links.specs.Runs.{SentMessage}
 use Rattle.dna_links.proofs.Tables.Outcomes.{looked}
+use Rattle.dna_queues.proofs.Facts.{dead_phase, not_both}
 use Rattle.dna_queues.specs.Records.{AreAnswered, next_links}
 use Rattle.dna_queues.specs.Records as records
 use Rattle.dna_queues.specs.Hidden.{late_segments, Node, link_it_is_for, link_it_is_of, waiting}
@@ -49,14 +49,6 @@ freed_changed book queues own s unique =
     (changed_none s unique own (passes (HasAddress own)) (forgotten book queues) (own_owns own) (none_passes (HasAddress own) s none)))
     (λ n l found e. subst (λ x. IsChanged s x own (λ l. cond (passes (HasAddress own) l.port) (forgotten book queues l) l)) e
     (changed_one s unique own (passes (HasAddress own)) (forgotten book queues) (own_owns own) n l found.there found.passed))
-
-dead_phase : (p : Phase) → is_live p ≡ false → p ≡ Ended
-dead_phase Ended e = refl
-dead_phase p e = absurd cc
-
-pub not_both : (c : Bool) → c ≡ true → c ≡ false → ⊥
-not_both true e f = absurd cc
-not_both false e f = absurd cc
 
 pub meets_now : (h : LateLink) (l : Link) (kept composed : List SentMessage) (f : Follows h l kept composed) → kept ≡ [] → Meets (seen_as f.used h) l
 meets_now h l kept composed f none = subst (λ (us : List SentMessage). Ahead us (seen_as f.used h) l) none f.ahead

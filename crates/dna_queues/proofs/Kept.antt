@@ -21,6 +21,7 @@ use Rattle.dna_links.specs.TrueSegments.{Numbers, true_segments}
 use Rattle.dna_links.specs.TrueLinks as machine
 use Rattle.dna_links.specs.Runs.{SentMessage}
 use Rattle.dna_links.proofs.Tables.Outcomes.{looked, checked}
+use Rattle.dna_queues.proofs.Facts.{passed_check}
 use Rattle.dna_queues.specs.Records.{AreAnswered, links_left, next_links}
 use Rattle.dna_queues.specs.Records as records
 use Rattle.dna_queues.specs.Hidden.{late_segments, Links, Node, dstaddr, link_it_is_for, link_it_is_of, waiting, ComesTo, AllActed, Next}
@@ -36,7 +37,7 @@ use Rattle.dna_queues.proofs.LinkLists.{IsUnique, was_at, none_passes}
 use Rattle.dna_queues.proofs.MachineArrivals.{Alike, MachineActs, machine_acts}
 use Rattle.dna_queues.proofs.Waiting.{for_push}
 use Rattle.dna_queues.proofs.Beside.{Beside, unique_too, follows_as, acts_beside}
-use Rattle.dna_queues.proofs.SentOn.{grows_on, Follow, passed_check}
+use Rattle.dna_queues.proofs.SentOn.{grows_on, Follow}
 
 -- ---- what all would come to
 

@@ -142,6 +142,10 @@ module _ {D : Type 0} where
     others = λ i differs. set_other s.links number i k differs;
   }
 
+  -- nothing has changed
+  pub still_set : (s : LinksOf D) (number : ℕ) (k : LinkOf D) → slice_get s.links number ≡ Some k → IsSet s s number k
+  still_set s number k there = record { node = refl; peer = refl; size = refl; here = there; others = λ i differs. refl }
+
   pub was_set : (s left : LinksOf D) (number : ℕ) (k : LinkOf D) → IsSet s left number k → (i : ℕ) (x : LinkOf D) → slice_get left.links i ≡ Some x →
       ((i ≡ number) × (k ≡ x)) ⊎ ((i ≡ number → ⊥) × (slice_get s.links i ≡ Some x))
   was_set s left number k set i x at = go (cases_eq i number)

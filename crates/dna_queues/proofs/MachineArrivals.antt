@@ -8,20 +8,20 @@ use Rattle.dna_packet.specs.Nsp.{NspValue, DataSegment, LinkService, DataAck, Ot
 use Rattle.dna_packet.specs.Nsp.{ConnectConfirm, DisconnectInitiate, DisconnectConfirm}
 use Rattle.dna_station.specs.declared.link_refusal.LinkRefusal.{LinkRefusal}
 use Rattle.dna_station.specs.declared.link_refusal.LinkRefusal.TheVariants.{CrossedLink}
-use Rattle.dna_links.specs.declared.port.Phase.{Phase}
-use Rattle.dna_links.specs.declared.port.Phase.TheVariants.{Calling, Confirming, Running}
+use Rattle.dna_links.specs.declared.port.Phase.TheVariants.{Calling, Running}
 use Rattle.dna_links.specs.declared.port.Port.{Port}
 use Rattle.dna_links.specs.declared.port.LinkTest.{LinkTest}
 use Rattle.dna_links.specs.declared.port.LinkTest.TheVariants.{TheLink, CallingAt, ActedOn}
 use Rattle.dna_links.specs.declared.queue.Queues.TheVariants.{Without, With}
 use Rattle.dna_links.specs.LookUps.{passes, is_in, is_live, is_at, is_connected, has_both}
 use Rattle.dna_links.specs.Links.{LinkTruth, check, number_of, with_link, changed, with_segments}
-use Rattle.dna_links.specs.Queues.{goes_on, ends_by_message, keeps_numbers, lets_go}
+use Rattle.dna_links.specs.Queues.{goes_on, ends_by_message, keeps_numbers}
 use Rattle.dna_links.specs.Arriving.{of_partner, is_for, is_of_pair, message_arrived}
 use Rattle.dna_links.specs.TrueSegments.{TrueSegments, Numbers, takes_segment, takes_acks, true_segments}
 use Rattle.dna_links.specs.TrueLinks as machine
 use Rattle.dna_links.proofs.Tables.Outcomes.{IsFound, checked}
 use Rattle.dna_links.proofs.Cut.LookUps.{position-map}
+use Rattle.dna_queues.proofs.Facts.{calling_live, connected_live, lets_still}
 use Rattle.dna_queues.specs.Hidden.{late_segments, Links, dstaddr}
 use Rattle.dna_queues.proofs.Goes.{Link}
 use Rattle.dna_queues.proofs.Came.{confirmed_link, ended_link, run_link, came_as}
@@ -91,36 +91,22 @@ module _ (s : Links) (t : machine.Links) (alike : Alike s t) where
 
 -- ---- what the machine's rows make of a link
 
-lets_still : (before now : Bool) (f : TrueSegments) → lets_go true_segments before now f ≡ f
-lets_still true true f = refl
-lets_still true false f = refl
-lets_still false now f = refl
-
-ended_is : (l : Link) → ends_by_message true_segments With l ≡ ended_link l
+pub ended_is : (l : Link) → ends_by_message true_segments With l ≡ ended_link l
 ended_is l = ap (λ (f : TrueSegments). record (ended_link l) { segments = f })
     (lets_still (keeps_numbers l) (keeps_numbers (ended_link l)) l.segments)
 
-if_same : (b : Bool) (l x y : Link) → (b ≡ true → x ≡ y) → cond b x l ≡ cond b y l
+pub if_same : (b : Bool) (l x y : Link) → (b ≡ true → x ≡ y) → cond b x l ≡ cond b y l
 if_same true l x y same = same refl
 if_same false l x y same = refl
 
-connected_live : (p : Phase) → is_connected p ≡ true → is_live p ≡ true
-connected_live Confirming e = refl
-connected_live Running e = refl
-connected_live p e = absurd cc
-
-calling_live : (p : Phase) → is_in Calling p ≡ true → is_live p ≡ true
-calling_live Calling e = refl
-calling_live p e = absurd cc
-
-run_is : (own far : ℕ) (takes : TrueSegments → TrueSegments) (l : Link) → passes (ActedOn own far) l.port ≡ true →
+pub run_is : (own far : ℕ) (takes : TrueSegments → TrueSegments) (l : Link) → passes (ActedOn own far) l.port ≡ true →
     with_segments (takes (goes_on true_segments (is_live l.port.phase) Running l).segments) (goes_on true_segments (is_live l.port.phase) Running l)
     ≡ run_link (takes l.segments) l
 run_is own far takes l e =
     ap (λ (b : Bool). with_segments (takes (goes_on true_segments b Running l).segments) (goes_on true_segments b Running l))
     (connected_live l.port.phase (and_parts (is_connected l.port.phase) (has_both l.port own far) e).0)
 
-confirmed_is : (own far size : ℕ) (partner : Option ℕ) (l : Link) → passes (CallingAt own) l.port ≡ true →
+pub confirmed_is : (own far size : ℕ) (partner : Option ℕ) (l : Link) → passes (CallingAt own) l.port ≡ true →
     goes_on true_segments (is_live l.port.phase) Running (record l { port = record l.port { far = Some far }; partner = partner; segsize = size })
     ≡ confirmed_link far size partner l
 confirmed_is own far size partner l e =

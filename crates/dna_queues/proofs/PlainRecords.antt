@@ -18,13 +18,13 @@ use Rattle.dna_links.specs.TrueSegments.{TrueSegments, Numbers, true_segments}
 use Rattle.dna_links.specs.TrueLinks as plain
 use Rattle.dna_links.specs.Runs.{SentMessage}
 use Rattle.dna_links.proofs.Tables.Outcomes.{looked, checked}
+use Rattle.dna_queues.proofs.Facts.{passed_check, same_Ok}
 use Rattle.dna_queues.specs.Records.{LinkRecord, OfUser, Sends, Keeps, OfNoLink, links_left, made_without, AreInRange}
 use Rattle.dna_queues.specs.Hidden.{LateSegments, late_segments, Links, Node, dstaddr, is_composed, First, Acts, Composes, Acknowledges, AllActed}
 use Rattle.dna_queues.specs.Made.{new_node, IsFree, MayBe, EndsCall, UserDoes}
 use Rattle.dna_queues.specs.Made.{SendsComposed, SendsConfirm, SendsNothing, KeepsForLink, KeepsAtOnce, PassesBy}
 use Rattle.dna_queues.specs.Made.{MadeByHidden, NoMore, Hides, Makes}
 use Rattle.dna_queues.proofs.LinkLists.{at_found, at_none}
-use Rattle.dna_queues.proofs.SentOn.{passed_check}
 use Rattle.dna_queues.proofs.Forgotten.{forget_links, begun_forget, there, missing, user_too}
 use Rattle.dna_queues.proofs.PlainSteps.{message_too, came_too}
 
@@ -148,9 +148,6 @@ module _ (later : List LinkRecord) (left : plain.Links)
         arrived_step Without late_segments of_partner s unit.packet unit.truth ≡ Ok links
     arrived_is links does = passed_check (unit.packet.src == s.peer && unit.packet.dst == s.node) WrongNode _ may ∙ does
 
-    same_left : (x y : plain.Links) → ◌≡◌ {A = Result plain.Links LinkRefusal} (Ok x) (Ok y) → x ≡ y
-    same_left x y e = cc
-
     for_link : (address : ℕ) → dstaddr unit.packet.message ≡ Some address →
         message_arrived Without true_segments of_partner (forget_links s) unit.packet.message unit.truth ≡ Ok t →
         MadeByHidden (quiet s) (Keeps unit ∷ later)
@@ -179,15 +176,15 @@ module _ (later : List LinkRecord) (left : plain.Links)
         (KeepsAtOnce unit s (begun k s) (k ∷ []) (ap dstaddr is) (AllActed (quiet s) refl)
         (arrived_is (begun k s) (ap (λ (x : NspValue). message_arrived Without late_segments of_partner s x unit.truth) is
         ∙ at_none (LiveTo src) s _ _ (missing s (LiveTo src) free))) refl)
-        (on (begun k s) t (begun_forget k s ∙ same_left _ t same) e))
+        (on (begun k s) t (begun_forget k s ∙ same_Ok _ t same) e))
         (λ n l found same. let h = there s (LiveTo src) n l found in
         still (ap dstaddr is)
         (ap (λ (x : NspValue). message_arrived Without late_segments of_partner s x unit.truth) is ∙ at_found (LiveTo src) s n h.h _ _ h.found)
-        (same_left _ t same))
+        (same_Ok _ t same))
     for_none (ConnectAck dst) is none does =
-        still (ap dstaddr is) (ap (λ (x : NspValue). message_arrived Without late_segments of_partner s x unit.truth) is) (same_left _ t does)
+        still (ap dstaddr is) (ap (λ (x : NspValue). message_arrived Without late_segments of_partner s x unit.truth) is) (same_Ok _ t does)
     for_none (NoOperation octets) is none does =
-        still (ap dstaddr is) (ap (λ (x : NspValue). message_arrived Without late_segments of_partner s x unit.truth) is) (same_left _ t does)
+        still (ap dstaddr is) (ap (λ (x : NspValue). message_arrived Without late_segments of_partner s x unit.truth) is) (same_Ok _ t does)
     for_none (ConnectConfirm dst src services info segsize user_data) is none does = absurd cc
     for_none (DisconnectInitiate dst src reason user_data) is none does = absurd cc
     for_none (DisconnectConfirm dst src reason) is none does = absurd cc

@@ -21,11 +21,11 @@ use Rattle.dna_links.specs.Arriving.{of_partner, is_for, is_of_pair, message_arr
 use Rattle.dna_links.specs.TrueSegments.{TrueSegments, Numbers, sends_segment, sends_acks, takes_segment, takes_acks, true_segments}
 use Rattle.dna_links.specs.TrueLinks as plain
 use Rattle.dna_links.proofs.Tables.Outcomes.{IsFound, looked, checked}
+use Rattle.dna_queues.proofs.Facts.{passed_check, same_Ok}
 use Rattle.dna_queues.specs.Hidden.{LateSegments, late_segments, late_sent, acks_sent, over, Links}
 use Rattle.dna_queues.proofs.Goes.{Link}
 use Rattle.dna_queues.proofs.Acting.{LateLink}
 use Rattle.dna_queues.proofs.LinkLists.{at_found, at_none}
-use Rattle.dna_queues.proofs.SentOn.{passed_check}
 use Rattle.dna_queues.proofs.Forgotten.{forget, forget_links, changed_forget, begun_forget, there, missing}
 use Rattle.dna_queues.proofs.PlainWords.{sends_too}
 
@@ -184,12 +184,9 @@ module _ (s : Links) where
       pub does : message_arrived Without late_segments of_partner s m truth ≡ Ok links
       pub same : forget_links links ≡ left
 
-    same_left : (x y : plain.Links) → ◌≡◌ {A = Result plain.Links LinkRefusal} (Ok x) (Ok y) → x ≡ y
-    same_left x y e = cc
-
     stays_too : (m : NspValue) (left : plain.Links) → message_arrived Without late_segments of_partner s m truth ≡ Ok s →
         ◌≡◌ {A = Result plain.Links LinkRefusal} (Ok (forget_links s)) (Ok left) → CameToo m left
-    stays_too m left does e = record { links = s; does = does; same = same_left (forget_links s) left e }
+    stays_too m left does e = record { links = s; does = does; same = same_Ok (forget_links s) left e }
 
     row_too : (m : NspValue) (test : LinkTest) (may : ℕ → Option ℕ → Bool) (f : LateLink → LateLink) (g : Link → Link) (left : plain.Links) →
         ((h : LateLink) → forget (f h) ≡ g (forget h)) →
@@ -206,7 +203,7 @@ module _ (s : Links) where
           links = changed n (f t.h) s;
           does = row ∙ at_found test s n t.h _ _ t.found
               ∙ passed_check (may n t.h.partner) CrossedLink _ (ap (λ (x : Link). may n x.partner) t.is ∙ c.0);
-          same = changed_forget n (f t.h) s ∙ ap (λ (x : Link). changed n x (forget_links s)) (same t.h ∙ ap g t.is) ∙ same_left _ left c.1;
+          same = changed_forget n (f t.h) s ∙ ap (λ (x : Link). changed n x (forget_links s)) (same t.h ∙ ap g t.is) ∙ same_Ok _ left c.1;
         })
 
     ends_too : (m : NspValue) (own far : ℕ) (left : plain.Links) →
@@ -226,13 +223,13 @@ module _ (s : Links) where
           links = changed n (ended late_segments t.h) s;
           does = row ∙ at_none (TheLink own far) s _ _ (missing s (TheLink own far) none) ∙ at_found (CallingAt own) s n t.h _ _ t.found;
           same = changed_forget n (ended late_segments t.h) s
-              ∙ ap (λ (x : Link). changed n (ended true_segments x) (forget_links s)) t.is ∙ same_left _ left e;
+              ∙ ap (λ (x : Link). changed n (ended true_segments x) (forget_links s)) t.is ∙ same_Ok _ left e;
         }))
         (λ n l found e. let t = there s (TheLink own far) n l found in record {
           links = changed n (ended late_segments t.h) s;
           does = row ∙ at_found (TheLink own far) s n t.h _ _ t.found;
           same = changed_forget n (ended late_segments t.h) s
-              ∙ ap (λ (x : Link). changed n (ended true_segments x) (forget_links s)) t.is ∙ same_left _ left e;
+              ∙ ap (λ (x : Link). changed n (ended true_segments x) (forget_links s)) t.is ∙ same_Ok _ left e;
         })
 
     pub came_too : (m : NspValue) (left : plain.Links) → message_arrived Without true_segments of_partner (forget_links s) m truth ≡ Ok left →
@@ -243,7 +240,7 @@ module _ (s : Links) where
         (λ none e. record {
           links = begun (called late_segments of_partner src segsize truth.tag) s;
           does = at_none (LiveTo src) s _ _ (missing s (LiveTo src) none);
-          same = begun_forget (called late_segments of_partner src segsize truth.tag) s ∙ same_left _ left e;
+          same = begun_forget (called late_segments of_partner src segsize truth.tag) s ∙ same_Ok _ left e;
         })
         (λ n l found e. let t = there s (LiveTo src) n l found in stays_too _ left (at_found (LiveTo src) s n t.h _ _ t.found) e)
     came_too (ConnectAck dst) left e = stays_too _ left refl e

@@ -11,11 +11,11 @@ use Rattle.dna_station.specs.declared.link_refusal.LinkRefusal.{LinkRefusal}
 use Rattle.dna_station.specs.declared.link_refusal.LinkRefusal.TheVariants.{WrongSegment, WrongAck, SegmentTooLong, LinkWindowFull}
 use Rattle.dna_links.specs.Segmentation.{Piece, piece_of, Unsent, with_message, is_next_piece, without_piece, left_of}
 use Rattle.dna_links.specs.SegmentBook.{Sending, Late, with_gap, wider, REACH, wire, distance}
-use Rattle.dna_links.specs.Links.{check}
 use Rattle.dna_links.specs.TrueSegments.{TrueSegments, Numbers, Named, NamedLate, highest_received, highest_given, all_named, all_named_late}
 use Rattle.dna_links.specs.TrueSegments.{is_new, sends_new, sends_again, segment_named, is_repeat}
 use Rattle.dna_links.specs.TrueSegments.{sends_segment, sends_late, sends_acks, acks_named, new_late, went_on, is_given, sending}
 use Rattle.dna_links.proofs.Tables.Outcomes.{checked}
+use Rattle.dna_queues.proofs.Facts.{passed_check}
 use Rattle.dna_queues.proofs.Words.{added, Grown, Carries, names_grow, late_grow}
 
 -- ---- pieces
@@ -43,10 +43,6 @@ left_grows (Some message) p u e = go u.messages e
             ≡ with_message message (left_of (record p { ends = b }) (rest ∷ later))
         by true = refl
         by false = refl
-
-passed_check : {R : Type 0} (b : Bool) (refusal : LinkRefusal) (next : Result R LinkRefusal) → b ≡ true → check b refusal next ≡ next
-passed_check true refusal next e = refl
-passed_check false refusal next e = absurd cc
 
 -- ---- what is sent
 

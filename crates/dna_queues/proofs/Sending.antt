@@ -19,7 +19,7 @@ use Rattle.dna_links.specs.declared.queue.Said.TheVariants.{OfRun, Disconnect}
 use Rattle.dna_links.specs.LookUps.{passes, is_live, is_at, has_both}
 use Rattle.dna_links.specs.SegmentBook.{Sending, Late}
 use Rattle.dna_links.specs.Links.{check, on_link, at_number, with_seen, changed}
-use Rattle.dna_links.specs.Queues.{in_use, with_in_use, may_send, shows, keeps_numbers, lets_go}
+use Rattle.dna_links.specs.Queues.{in_use, with_in_use, may_send, shows, keeps_numbers}
 use Rattle.dna_links.specs.LinkBook.{on_ok}
 use Rattle.dna_links.specs.inner.Forms.{of_no_link, truth_of, unchanged}
 use Rattle.dna_links.specs.Sending.{Sent, message_sent}
@@ -27,21 +27,13 @@ use Rattle.dna_links.specs.TrueSegments.{TrueSegments, Numbers, sends_other, tru
 use Rattle.dna_links.specs.TrueLinks.{Links}
 use Rattle.dna_links.proofs.Tables.Outcomes.{looked, position_passes, position_within, position_none}
 use Rattle.dna_links.proofs.Runs.Owners.{there_is}
+use Rattle.dna_queues.proofs.Facts.{lets_still, passed_check}
 use Rattle.dna_queues.proofs.Goes.{Link, Goes, said_as, late_link, wide_link, use_own}
 use Rattle.dna_queues.proofs.LinkLists.{IsSet, set_changed, IsUnique}
-
-lets_still : (before now : Bool) (f : TrueSegments) → lets_go true_segments before now f ≡ f
-lets_still true true f = refl
-lets_still true false f = refl
-lets_still false now f = refl
 
 pub shows_is : (said : Said) (l : Link) → shows true_segments said l ≡ said_as said l
 shows_is said l = ap (λ (f : TrueSegments). record (said_as said l) { segments = f })
     (lets_still (keeps_numbers l) (keeps_numbers (said_as said l)) l.segments)
-
-passed_check : {R : Type 0} (b : Bool) (refusal : LinkRefusal) (next : Result R LinkRefusal) → b ≡ true → check b refusal next ≡ next
-passed_check true refusal next e = refl
-passed_check false refusal next e = absurd cc
 
 -- ---- the link with this address, as what is sent finds it
 

@@ -1,10 +1,9 @@
 -- What is composed is sent: the machine sends it too, and follows the node as before.
-use Rattle.std.proofs.Common.{◌≡◌, ℕ, ◌<◌, Bool, true, false, ◌&&◌, ◌==◌, ◌⊎◌, inl, inr, Option, Some, None, List, ◌∷◌, length}
-use Rattle.std.proofs.Common.{Result, Ok, refl, sym, ap, ap₂, ◌∙◌, subst, arith}
+use Rattle.std.proofs.Common.{◌≡◌, ℕ, ◌<◌, true, ◌&&◌, ◌==◌, ◌⊎◌, inl, inr, Option, Some, None, List, ◌∷◌, length}
+use Rattle.std.proofs.Common.{Ok, refl, sym, ap, ap₂, ◌∙◌, subst, arith}
 use Rattle.std.specs.Prelude.{slice_get}
 use Rattle.std.proofs.lemmas.Option.{same_Some}
 use Rattle.dna_packet.specs.Nsp.{NspValue}
-use Rattle.dna_station.specs.declared.link_refusal.LinkRefusal.{LinkRefusal}
 use Rattle.dna_station.specs.declared.link_refusal.LinkRefusal.TheVariants.{WrongNode}
 use Rattle.dna_links.specs.declared.port.Phase.{Phase}
 use Rattle.dna_links.specs.declared.port.Phase.TheVariants.{Running}
@@ -12,7 +11,6 @@ use Rattle.dna_links.specs.declared.port.Port.{Port}
 use Rattle.dna_links.specs.declared.queue.Queues.TheVariants.{With}
 use Rattle.dna_links.specs.LookUps.{is_in, is_live, is_calling}
 use Rattle.dna_links.specs.Segmentation.{Piece}
-use Rattle.dna_links.specs.Links.{check}
 use Rattle.dna_links.specs.LinkBook.{are_same}
 use Rattle.dna_links.specs.Queues.{port_of_waiting}
 use Rattle.dna_links.specs.Sending.{message_sent}
@@ -21,6 +19,7 @@ use Rattle.dna_links.specs.TrueSegments.{true_segments}
 use Rattle.dna_links.specs.TrueLinks as machine
 use Rattle.dna_links.specs.Runs.{SentMessage}
 use Rattle.dna_links.proofs.Runs.Owners.{there_is}
+use Rattle.dna_queues.proofs.Facts.{passed_check}
 use Rattle.dna_queues.specs.Records.{AreAnswered, links_left, next_links}
 use Rattle.dna_queues.specs.Records as records
 use Rattle.dna_queues.specs.Hidden.{Node, link_it_is_for, link_it_is_of, waiting, Takes}
@@ -122,10 +121,6 @@ pub record Follow (n : Node) (t : machine.Links) (one : records.LinkRecord) : Ty
   pub left : machine.Links
   pub is : next_links t one ≡ Ok left
   pub beside : AreAnswered left → Beside n left
-
-pub passed_check : {R : Type 0} (b : Bool) (refusal : LinkRefusal) (next : Result R LinkRefusal) → b ≡ true → check b refusal next ≡ next
-passed_check true refusal next e = refl
-passed_check false refusal next e = absurd cc
 
 module _ (n : Node) (t : machine.Links) (b : Beside n t) (answered : AreAnswered t) where
   pub sends_beside : (unit : SentMessage) (left : List SentMessage) → Takes link_it_is_of n.composed unit left →

@@ -1,5 +1,5 @@
 -- One link of which nothing waits any more: it is settled by a DC.
-use Rattle.std.proofs.Common.{◌≡◌, Bool, true, false, Option, Some, None, []}
+use Rattle.std.proofs.Common.{◌≡◌, true, false, Option, Some, None, []}
 use Rattle.std.proofs.Common.{refl, sym, ap, ◌∙◌, subst}
 use Rattle.dna_links.specs.declared.port.Phase.{Phase}
 use Rattle.dna_links.specs.declared.port.Phase.TheVariants.{Calling, Called, Confirming, Running, Disconnecting, Ended}
@@ -7,21 +7,17 @@ use Rattle.dna_links.specs.declared.port.Port.{Port}
 use Rattle.dna_links.specs.declared.queue.Said.{Said}
 use Rattle.dna_links.specs.declared.queue.Said.TheVariants.{Nothing, OfRun, Disconnect}
 use Rattle.dna_links.specs.LookUps.{is_live}
-use Rattle.dna_links.specs.Queues.{settled, shows_by, further, is_silent, is_over, keeps_numbers, lets_go}
+use Rattle.dna_links.specs.Queues.{settled, shows_by, further, is_silent, is_over, keeps_numbers}
 use Rattle.dna_links.specs.TrueSegments.{TrueSegments, true_segments}
+use Rattle.dna_queues.proofs.Facts.{lets_still, not_both}
 use Rattle.dna_queues.proofs.Goes.{Link, said_as}
 use Rattle.dna_queues.proofs.Ahead.{Meets}
 use Rattle.dna_queues.proofs.Acting.{LateLink, level, seen_as}
 use Rattle.dna_queues.proofs.Follows.{Follows}
 use Rattle.dna_queues.proofs.Sending.{shows_is}
-use Rattle.dna_queues.proofs.Given.{not_both, meets_now}
+use Rattle.dna_queues.proofs.Given.{meets_now}
 
 -- ---- one link that is settled
-
-lets_still : (before now : Bool) (f : TrueSegments) → lets_go true_segments before now f ≡ f
-lets_still true true f = refl
-lets_still true false f = refl
-lets_still false now f = refl
 
 -- a link of which no more is known than its own phase
 said_follows : (h : LateLink) (l : Link) (said : Said) → (is_silent (level h.port.phase) ≡ true → is_silent (further said l.queue.said) ≡ true) →

@@ -22,6 +22,7 @@ use Rattle.dna_links.specs.TrueSegments.{TrueSegments, hands_in, delivers, deliv
 use Rattle.dna_links.specs.TrueLinks as machine
 use Rattle.dna_links.proofs.Tables.Outcomes.{IsFound, user_did}
 use Rattle.dna_links.proofs.Tables.Outcomes as outcomes
+use Rattle.dna_queues.proofs.Facts.{passed_check}
 use Rattle.dna_queues.specs.Records.{AreAnswered, next_links}
 use Rattle.dna_queues.specs.Records as records
 use Rattle.dna_queues.specs.Hidden.{LateSegments, late_segments, over, delivered_over, Links, Node, link_it_is_for, link_it_is_of, waiting}
@@ -37,7 +38,7 @@ use Rattle.dna_queues.proofs.Beside.{Beside, follows_as, unique_too, there_too}
 use Rattle.dna_queues.proofs.SentOn.{Follow}
 use Rattle.dna_queues.proofs.Given.{opens_beside}
 use Rattle.dna_queues.proofs.Closed.{closed_link, closes_as, close_follows}
-use Rattle.dna_queues.proofs.Calls.{passed_check, set_beside, answers_beside}
+use Rattle.dna_queues.proofs.Calls.{set_beside, answers_beside}
 use Rattle.dna_queues.proofs.Messages.{OfMessages, messages_follow}
 
 -- ---- phases in use

@@ -5,6 +5,7 @@ use Rattle.dna_station.specs.declared.link_refusal.LinkRefusal.{LinkRefusal}
 use Rattle.dna_links.specs.declared.queue.Queues.TheVariants.{Without, With}
 use Rattle.dna_links.specs.Links.{LinkOf, Carried}
 use Rattle.dna_links.specs.User.{LinkEventValue}
+use Rattle.dna_links.specs.User as user
 use Rattle.dna_links.specs.LinkBook.{on_ok}
 use Rattle.dna_links.specs.Sending.{Sent}
 use Rattle.dna_links.specs.Arriving.{of_partner}
@@ -54,6 +55,12 @@ abbrev pub AreInRange : List LinkRecord → Type 0
 AreInRange [] = Unit {0}
 AreInRange (Sends packet ∷ later) = IsInRange packet.message × AreInRange later
 AreInRange (other ∷ later) = AreInRange later
+
+-- and so has what the user does: addresses are from 1, which a DC with SRCADDR 0 relies on
+abbrev pub EventsAreInRange : List LinkRecord → Type 0
+EventsAreInRange [] = Unit {0}
+EventsAreInRange (OfUser event ∷ later) = user.IsInRange event × EventsAreInRange later
+EventsAreInRange (other ∷ later) = EventsAreInRange later
 
 -- ---- what holds of these numbers beside a right other end
 

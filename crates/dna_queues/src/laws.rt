@@ -3,7 +3,7 @@
 ghost use Rattle.std.specs.Prelude.{◌≡◌, ℕ, List, Ok, Err};
 ghost use Rattle.dna_station.specs.declared.link_refusal.LinkRefusal.TheVariants.{NoLink};
 ghost use Rattle.dna_links.specs.TrueLinks.{Links, new_links};
-ghost use Rattle.dna_queues.specs.Records.{LinkRecord, AreNear, MadeByMachine, made_without, AreInRange};
+ghost use Rattle.dna_queues.specs.Records.{LinkRecord, AreNear, MadeByMachine, made_without, AreInRange, EventsAreInRange};
 ghost use Rattle.dna_queues.specs.Made.{new_node, MadeByHidden};
 ghost use Rattle.dna_queues.specs.Worked.{worked};
 
@@ -12,6 +12,12 @@ ghost use Rattle.dna_queues.specs.Worked.{worked};
 pub fn machine_accepts_nodes_with_queues()
     ensures { (node peer : ℕ) (made : List LinkRecord) → AreNear (new_links node peer) made → MadeByHidden (new_node node peer) made
         → MadeByMachine (new_links node peer) made }
+{}
+
+/// Sound: where the machine makes all records of one end, some hidden steps make them too: what it accepts a node with queues can do.
+pub fn nodes_with_queues_make_what_the_machine_accepts()
+    ensures { (node peer : ℕ) (made : List LinkRecord) → AreInRange made → EventsAreInRange made → MadeByMachine (new_links node peer) made
+        → MadeByHidden (new_node node peer) made }
 {}
 
 /// A node without queues is one with queues: where links without queues make all records, so do hidden steps that stand at the records.

@@ -1,0 +1,207 @@
+-- A DC with SRCADDR 0 refuses a call, which then is over; and any DC, by what it settles.
+use Rattle.std.proofs.Common.{◌≡◌, ℕ, Bool, true, false, ◌&&◌, ◌==◌, cond, Option, Some, None, List, [], ◌∷◌, Result, Ok, Err}
+use Rattle.std.proofs.Common.{refl, sym, ap, ap₂, ◌∙◌, subst, eqb-true}
+use Rattle.std.proofs.lemmas.Option.{same_Some}
+use Rattle.dna_packet.specs.Nsp.{NoOperation, DisconnectConfirm}
+use Rattle.dna_station.specs.declared.link_refusal.LinkRefusal.{LinkRefusal}
+use Rattle.dna_station.specs.declared.link_refusal.LinkRefusal.TheVariants.{WrongNode, LinkState}
+use Rattle.dna_links.specs.declared.port.Phase.TheVariants.{Ended}
+use Rattle.dna_links.specs.declared.port.Port.{Port}
+use Rattle.dna_links.specs.declared.port.LinkTest.TheVariants.{HasAddress, TheLink, CalledBy}
+use Rattle.dna_links.specs.declared.queue.Queues.TheVariants.{Without, With}
+use Rattle.dna_links.specs.LookUps.{is_live, is_at}
+use Rattle.dna_links.specs.Links.{Carried, number_of, with_link, changed}
+use Rattle.dna_links.specs.Queues.{in_use, settled, drops, ended}
+use Rattle.dna_links.specs.inner.Forms.{of_no_link, truth_of, ending}
+use Rattle.dna_links.specs.Sending.{Sent, message_sent}
+use Rattle.dna_links.specs.TrueSegments.{TrueSegments, Numbers, sends_other, true_segments}
+use Rattle.dna_links.specs.TrueLinks as machine
+use Rattle.dna_links.specs.Runs.{SentMessage}
+use Rattle.dna_links.proofs.Tables.Outcomes.{IsFound, looked}
+use Rattle.dna_queues.proofs.Facts.{not_both, passed_check}
+use Rattle.dna_queues.specs.Records.{LinkRecord, Sends}
+use Rattle.dna_queues.specs.Hidden.{late_segments, Node, waiting, link_it_is_for, link_it_is_of}
+use Rattle.dna_queues.specs.Made.{IsFree, EndsCall, SendsConfirm, SendsNothing, MadeByHidden, Makes}
+use Rattle.dna_queues.proofs.Goes.{Link}
+use Rattle.dna_queues.proofs.LinkLists.{IsSet, set_changed, at_none, at_found}
+use Rattle.dna_queues.proofs.Turns.{live_use, called_phase}
+use Rattle.dna_queues.proofs.Early.{none_before}
+use Rattle.dna_queues.proofs.Hide.{LateLink, hide}
+use Rattle.dna_queues.proofs.Dues.{put_packets, none_link, Due, put, put_here, AreSane}
+use Rattle.dna_queues.proofs.Timed.{Awaits, packets_of, Timed}
+use Rattle.dna_queues.proofs.Prepared.{due_none, set_timed, set_sane}
+use Rattle.dna_queues.proofs.SentTimed.{Sound}
+use Rattle.dna_queues.proofs.Addressed.{no_packets, called_use, flushed, flushed_number, flushed_none, says_no_more}
+use Rattle.dna_queues.proofs.SettledTimed.{sends_so, settle_sound}
+
+module _ (s : machine.Links) (sane : AreSane s) (later : List LinkRecord) (packet : Carried) (dst src reason : ℕ)
+    (is : packet.message ≡ DisconnectConfirm dst src reason) (may : (packet.src == s.node && packet.dst == s.peer) ≡ true)
+    (missing : number_of (TheLink src dst) s ≡ None) where
+  -- with SRCADDR 0
+  none_zero : (src == 0) ≡ true → number_of (HasAddress src) s ≡ None
+  none_zero zero = go (number_of (HasAddress src) s) refl
+    where
+      go : (o : Option ℕ) → number_of (HasAddress src) s ≡ o → number_of (HasAddress src) s ≡ None
+      go None e = e
+      go (Some i) e =
+          looked {R = ℕ} (HasAddress src) s 0 (λ j l. 0) _ refl
+          (λ none f. none)
+          (λ j l found f. absurd (not_both _ found.passed (ap (is_at l.port.own) (eqb-true src 0 zero) ∙ sane.not_zero j l found.there)))
+
+  pub call_sound : (made : Sent TrueSegments Numbers) → (src == 0) ≡ true →
+      with_link {R = Result (Sent TrueSegments Numbers) LinkRefusal} (CalledBy dst) s (Ok (of_no_link true_segments s)) (λ i l. Ok (record {
+        links = changed i (drops true_segments With l) s;
+        truth = truth_of true_segments i (drops true_segments With l) (sends_other l.segments);
+      })) ≡ Ok made → (AreSane made.links → Sound made.links later) → Sound s (Sends packet ∷ later)
+  call_sound made zero e rest =
+      looked (CalledBy dst) s (Ok (of_no_link true_segments s)) _ (Ok made) e
+      (λ none f. nothing none (same_links _ f))
+      (λ i l found f. ends i l found (same_links _ f))
+    where
+      same_links : (x : Sent TrueSegments Numbers) → ◌≡◌ {A = Result (Sent TrueSegments Numbers) LinkRefusal} (Ok x) (Ok made) → x.links ≡ made.links
+      same_links x f = cc
+
+      called_same : (dues : ℕ → Due) (n : Node) (t : Timed s dues n) →
+          number_of (CalledBy dst) (flushed s sane dues n t src).next.links ≡ number_of (CalledBy dst) s
+      called_same dues n t = flushed_number s sane dues n t src (CalledBy dst) (λ j l at own. called_use dst l (sane.each j l at))
+
+      free_too : (dues : ℕ → Due) (n : Node) (t : Timed s dues n) → IsFree src (flushed s sane dues n t src).next
+      free_too dues n t = says_no_more s sane src dues n t
+          (λ i l found. let never : None ≡ Some i = sym (none_zero zero) ∙ found.found in absurd cc)
+
+      nothing : number_of (CalledBy dst) s ≡ None → s ≡ made.links → Sound s (Sends packet ∷ later)
+      nothing none same = go (subst (λ (x : machine.Links). AreSane x → Sound x later) (sym same) rest sane)
+        where
+          go : Sound s later → Sound s (Sends packet ∷ later)
+          go r = record {
+            dues = r.dues;
+            due = r.due;
+            made = λ n t. let f = flushed s sane r.dues n t src in
+                f.on (Sends packet ∷ later)
+                (Makes f.next f.next (Sends packet) later
+                (SendsConfirm packet dst src reason (of_no_link late_segments f.next.links) is
+                (sends_so s sane later packet dst src reason is may missing r.dues n t true zero
+                ∙ at_none (CalledBy dst) f.next.links _ _ (called_same r.dues n t ∙ none)) (free_too r.dues n t)
+                (subst (λ (z : Bool). EndsCall z (of_no_link late_segments f.next.links) f.next) (sym zero) (λ number e. absurd cc)))
+                (r.made f.next (flushed_none s sane r.dues n t src (none_zero zero))));
+          }
+
+      ends : (i : ℕ) (l : Link) → IsFound (CalledBy dst) s i l → changed i (drops true_segments With l) s ≡ made.links →
+          Sound s (Sends packet ∷ later)
+      ends i l found same = go (rest left_sane)
+        where
+          set : IsSet s made.links i (drops true_segments With l)
+          set = subst (λ (x : machine.Links). IsSet s x i (drops true_segments With l)) same
+              (set_changed s i l (drops true_segments With l) found.there)
+
+          left_sane : AreSane made.links
+          left_sane = set_sane s sane i l found.there made.links (drops true_segments With l) set refl (record {
+            began = tt;
+            opened = (sane.each i l found.there).opened;
+            called = λ e. absurd cc;
+            waits = λ p e. absurd cc;
+          })
+
+          live : in_use With l ≡ l.port
+          live = live_use l (sane.each i l found.there) (ap is_live (called_phase dst l.port found.passed))
+
+          go : Sound made.links later → Sound s (Sends packet ∷ later)
+          go r = record {
+            dues = put i mine r.dues;
+            due = due_none s sane i l found.there made.links (drops true_segments With l) set r.dues r.due;
+            made = λ n t. by_node n t;
+          }
+            where
+              mine : Due
+              mine = record { packets = []; link = l }
+
+              nothing_due : (r.dues i).packets ≡ []
+              nothing_due = let d = r.due.each i (drops true_segments With l) set.here in
+                  none_before made.links.node made.links.peer (r.dues i).packets (drops true_segments With l) (λ x. x ≡ (r.dues i).link) refl
+                  d.early d.can
+
+              link_is : drops true_segments With l ≡ (r.dues i).link
+              link_is = none_link made.links.node made.links.peer (drops true_segments With l) (r.dues i)
+                  (r.due.each i (drops true_segments With l) set.here) nothing_due
+
+              by_node : (n : Node) → Timed s (put i mine r.dues) n → MadeByHidden n (Sends packet ∷ later)
+              by_node n t =
+                  let f = flushed s sane (put i mine r.dues) n t src in
+                  let u = flushed_none s sane (put i mine r.dues) n t src (none_zero zero) in
+                  let here = put_here i i mine r.dues refl in
+                  let there = u.all i l found.there ∙ ap (λ (d : Due). Some (hide d.link)) here in
+                  let links = changed i (ended late_segments (hide l)) f.next.links in
+                  f.on (Sends packet ∷ later)
+                  (Makes f.next (record f.next { links = links }) (Sends packet) later
+                  (SendsConfirm packet dst src reason (ending late_segments f.next.links i (hide l)) is
+                  (sends_so s sane later packet dst src reason is may missing (put i mine r.dues) n t true zero
+                  ∙ at_found (CalledBy dst) f.next.links i (hide l) _ _ (record {
+                    found = called_same (put i mine r.dues) n t ∙ found.found;
+                    there = there;
+                    passed = called_use dst l (sane.each i l found.there) ∙ found.passed;
+                  })) (free_too (put i mine r.dues) n t)
+                  (subst (λ (z : Bool). EndsCall z (ending late_segments f.next.links i (hide l)) f.next) (sym zero)
+                  (λ number e. says i number (same_Some i number e) f.next (u.composed i ∙ ap (λ (d : Due). d.packets) here))))
+                  (r.made (record f.next { links = links })
+                  (set_timed s sane i l found.there made.links (drops true_segments With l) set r.dues r.due mine f.next
+                  (record f.next { links = links }) u
+                  (subst (λ (x : LateLink). IsSet f.next.links links i x)
+                  (ap (λ (p : Port). record (hide l) { port = record p { phase = Ended } }) live ∙ ap hide link_is)
+                  (set_changed f.next.links i (hide l) (ended late_segments (hide l)) there))
+                  u.kept (awaits_on l (waiting link_it_is_for l.port.own f.next.kept) (u.awaits i l found.there))
+                  (λ j x differs at. u.awaits j x at)
+                  (λ j. u.composed j ∙ put_packets i j mine r.dues (sym nothing_due)))))
+                where
+                  says : (i number : ℕ) → i ≡ number → (n : Node) → packets_of (waiting link_it_is_of (Some i) n.composed) ≡ [] →
+                      waiting link_it_is_of (Some number) n.composed ≡ []
+                  says i number same n none =
+                      subst (λ (m : ℕ). waiting link_it_is_of (Some m) n.composed ≡ []) same (no_packets _ none)
+
+                  awaits_on : (l : Link) (kept : List SentMessage) → Awaits l kept → Awaits (drops true_segments With l) kept
+                  awaits_on l kept a = record { live = λ e. absurd cc; over = λ p e. absurd cc }
+
+-- ---- by message
+
+module _ (s : machine.Links) (sane : AreSane s) (later : List LinkRecord) (packet : Carried)
+    (may : (packet.src == s.node && packet.dst == s.peer) ≡ true) (made : Sent TrueSegments Numbers)
+    (rest : AreSane made.links → Sound made.links later) where
+  pub confirm_sound : (dst src reason : ℕ) → packet.message ≡ DisconnectConfirm dst src reason →
+      message_sent With true_segments s (DisconnectConfirm dst src reason) ≡ Ok made → Sound s (Sends packet ∷ later)
+  confirm_sound dst src reason is e =
+      looked (TheLink src dst) s _ (λ i l. Err LinkState) (Ok made) e
+      (λ none e. by_zero none (src == 0) refl e)
+      (λ i l found e. absurd cc)
+    where
+      same_links : (x : Sent TrueSegments Numbers) → ◌≡◌ {A = Result (Sent TrueSegments Numbers) LinkRefusal} (Ok x) (Ok made) → x.links ≡ made.links
+      same_links x f = cc
+
+      by_zero : number_of (TheLink src dst) s ≡ None → (z : Bool) → (src == 0) ≡ z →
+          cond z (with_link {R = Result (Sent TrueSegments Numbers) LinkRefusal} (CalledBy dst) s (Ok (of_no_link true_segments s))
+          (λ i l. Ok (record {
+            links = changed i (drops true_segments With l) s;
+            truth = truth_of true_segments i (drops true_segments With l) (sends_other l.segments);
+          })))
+          (Ok (record (of_no_link true_segments s) {
+            links = with_link (HasAddress src) s s (λ i l. changed i (settled true_segments l.queue.waits l) s);
+          })) ≡ Ok made → Sound s (Sends packet ∷ later)
+      by_zero none false zero e = settle_sound s sane later packet dst src reason is may none made.links zero (same_links _ e) rest
+      by_zero none true zero e = call_sound s sane later packet dst src reason is may none made zero e rest
+
+  pub nothing_sound : (octets : List ℕ) → packet.message ≡ NoOperation octets →
+      message_sent With true_segments s (NoOperation octets) ≡ Ok made → Sound s (Sends packet ∷ later)
+  nothing_sound octets is e = go (subst (λ (x : machine.Links). AreSane x → Sound x later) (sym (same_links _ e)) rest sane)
+    where
+      same_links : (x : Sent TrueSegments Numbers) → ◌≡◌ {A = Result (Sent TrueSegments Numbers) LinkRefusal} (Ok x) (Ok made) → x.links ≡ made.links
+      same_links x f = cc
+
+      go : Sound s later → Sound s (Sends packet ∷ later)
+      go r = record {
+        dues = r.dues;
+        due = r.due;
+        made = λ n t. Makes n n (Sends packet) later
+            (SendsNothing packet octets (of_no_link late_segments n.links) is
+            (passed_check (packet.src == n.links.node && packet.dst == n.links.peer) WrongNode
+            (message_sent Without late_segments n.links packet.message)
+            (ap₂ (λ (a b : ℕ). packet.src == a && packet.dst == b) t.node t.peer ∙ may)
+            ∙ ap (message_sent Without late_segments n.links) is)) (r.made n t);
+      }

@@ -1,0 +1,131 @@
+-- A packet that ends its link, or finds no live one, is acted on.
+use Rattle.std.proofs.Common.{◌≡◌, ℕ, Bool, true, false, ◌||◌, cond, Some}
+use Rattle.std.proofs.Common.{Ok, refl, sym, ap, ◌∙◌, subst}
+use Rattle.std.specs.Prelude.{slice_get}
+use Rattle.std.proofs.lemmas.Bool.{and_parts}
+use Rattle.std.proofs.lemmas.Option.{same_Some}
+use Rattle.dna_packet.specs.Nsp.{NspValue, DataSegment, LinkService, DataAck, OtherDataAck, ConnectAck, NoOperation, ConnectInitiate}
+use Rattle.dna_packet.specs.Nsp.{ConnectConfirm, DisconnectInitiate, DisconnectConfirm}
+use Rattle.dna_station.specs.declared.link_refusal.LinkRefusal.TheVariants.{CrossedLink}
+use Rattle.dna_links.specs.declared.port.Phase.{Phase}
+use Rattle.dna_links.specs.declared.port.Phase.TheVariants.{Calling}
+use Rattle.dna_links.specs.declared.port.Port.{Port}
+use Rattle.dna_links.specs.declared.port.LinkTest.{LinkTest}
+use Rattle.dna_links.specs.declared.port.LinkTest.TheVariants.{TheLink, CallingAt, ActedOn}
+use Rattle.dna_links.specs.declared.queue.Queues.TheVariants.{Without}
+use Rattle.dna_links.specs.LookUps.{passes, is_in, is_live, is_at, is_connected, has_both}
+use Rattle.dna_links.specs.Links.{LinkTruth, check, with_link, changed}
+use Rattle.dna_links.specs.Arriving.{of_partner, is_for, is_of_pair, message_arrived}
+use Rattle.dna_links.specs.TrueSegments.{Numbers, takes_segment, takes_acks}
+use Rattle.dna_queues.proofs.Facts.{calling_live, connected_live, dead_phase, not_both}
+use Rattle.dna_queues.specs.Hidden.{late_segments, Links, dstaddr}
+use Rattle.dna_queues.proofs.Acting.{ended_late, confirmed_late, run_late}
+use Rattle.dna_queues.proofs.Arrivals.{calling_owns, acted_owns, row_made, either, either_made}
+use Rattle.dna_queues.proofs.LinkLists.{IsUnique, IsChanged}
+use Rattle.dna_queues.proofs.Hide.{LateLink}
+use Rattle.dna_queues.proofs.Timed.{is_end}
+
+-- it ends the link with this address, if that is live
+abbrev pub EndsAt : Links → ℕ → NspValue → Type 0
+EndsAt s address m = (i : ℕ) (h : LateLink) → slice_get s.links i ≡ Some h → is_at h.port.own address ≡ true → is_live h.port.phase ≡ true →
+    is_end m h.port ≡ true
+
+pub dead_late : (h : LateLink) → is_live h.port.phase ≡ false → h ≡ ended_late h
+dead_late h e = ap (λ (p : Phase). record h { port = record h.port { phase = p } }) (dead_phase h.port.phase e)
+
+module _ (s : Links) (unique : IsUnique s) (address : ℕ) (truth : LinkTruth Numbers) where
+  pub record ActsSo (m : NspValue) : Type 0 where
+    pub links : Links
+    pub does : message_arrived Without late_segments of_partner s m truth ≡ Ok links
+    pub changed : IsChanged s links address ended_late
+
+  -- one that ends no link, and so finds no live one
+  module _ (m : NspValue) (ends : EndsAt s address m) (never : (p : Port) → is_end m p ≡ false) where
+    dead : (i : ℕ) (h : LateLink) → slice_get s.links i ≡ Some h → is_at h.port.own address ≡ true → is_live h.port.phase ≡ false
+    dead i h at own = go (is_live h.port.phase) refl
+      where
+        go : (b : Bool) → is_live h.port.phase ≡ b → is_live h.port.phase ≡ false
+        go false e = e
+        go true e = absurd (not_both _ (ends i h at own e) (never h.port))
+
+    acts_not : (test : LinkTest) → ((p : Port) → passes test p ≡ true → is_at p.own address ≡ true) →
+        ((p : Port) → passes test p ≡ true → is_live p.phase ≡ true) → (may : ℕ → LateLink → Bool) (f : LateLink → LateLink) →
+        message_arrived Without late_segments of_partner s m truth
+        ≡ with_link test s (Ok s) (λ n l. check (may n l) CrossedLink (Ok (changed n (f l) s))) → ActsSo m
+    acts_not test owns live may f row_is =
+        let r = row_made s unique address test owns CrossedLink may f
+        (λ n l found. absurd (not_both _ (live l.port found.passed) (dead n l found.there (owns l.port found.passed)))) in
+        record {
+          links = r.left;
+          does = row_is ∙ r.is;
+          changed = record {
+            node = r.changed.node;
+            peer = r.changed.peer;
+            size = r.changed.size;
+            here = λ i h at own. r.changed.here i h at own ∙ ap Some (ap (λ (b : Bool). cond b (f h) h) (fails i h at own) ∙ dead_late h (dead i h
+                at own));
+            other = r.changed.other;
+          };
+        }
+      where
+        fails : (i : ℕ) (h : LateLink) → slice_get s.links i ≡ Some h → is_at h.port.own address ≡ true → passes test h.port ≡ false
+        fails i h at own = go (passes test h.port) refl
+          where
+            go : (b : Bool) → passes test h.port ≡ b → passes test h.port ≡ false
+            go false e = e
+            go true e = absurd (not_both _ (live h.port e) (dead i h at own))
+
+    acts_run : (own far : ℕ) → own ≡ address → (f : LateLink → LateLink) →
+        message_arrived Without late_segments of_partner s m truth ≡ with_link (ActedOn own far) s (Ok s)
+        (λ n l. check (is_of_pair n l.partner truth.tag) CrossedLink (Ok (changed n (f l) s))) → ActsSo m
+    acts_run own far same f row_is =
+        acts_not (ActedOn own far) (λ p e. subst (λ (n : ℕ). is_at p.own n ≡ true) same (acted_owns own far p e))
+        (λ p e. connected_live p.phase (and_parts (is_connected p.phase) (has_both p own far) e).0) (λ n l. is_of_pair n l.partner truth.tag) f row_is
+
+  -- one that ends it
+  acts_end : (m : NspValue) (dst src : ℕ) (same : dst ≡ address) → EndsAt s address m →
+      ((p : Port) → is_end m p ≡ (passes (TheLink dst src) p || passes (CallingAt dst) p)) →
+      message_arrived Without late_segments of_partner s m truth ≡ either s unique address dst src same ended_late → ActsSo m
+  acts_end m dst src same ends is row_is =
+      let r = either_made s unique address dst src same ended_late in
+      record {
+        links = r.left;
+        does = row_is ∙ r.is;
+        changed = record {
+          node = r.changed.node;
+          peer = r.changed.peer;
+          size = r.changed.size;
+          here = λ i h at own. r.changed.here i h at own
+              ∙ ap Some (ended h (passes (TheLink dst src) h.port || passes (CallingAt dst) h.port)
+              (λ live. sym (is h.port) ∙ ends i h at own live) (is_live h.port.phase) refl);
+          other = r.changed.other;
+        };
+      }
+    where
+      ended : (h : LateLink) (b : Bool) → (is_live h.port.phase ≡ true → b ≡ true) → (c : Bool) → is_live h.port.phase ≡ c →
+          cond b (ended_late h) h ≡ ended_late h
+      ended h b passed true live = ap (λ (d : Bool). cond d (ended_late h) h) (passed live)
+      ended h true passed false over = refl
+      ended h false passed false over = dead_late h over
+
+  pub acts_one : (m : NspValue) → dstaddr m ≡ Some address → EndsAt s address m → ActsSo m
+  acts_one (ConnectConfirm dst src services info segsize user_data) is ends =
+      let same = same_Some dst address is in
+      acts_not _ ends (λ p. refl) (CallingAt dst) (λ p e. subst (λ (n : ℕ). is_at p.own n ≡ true) same (calling_owns dst p e))
+      (λ p e. calling_live p.phase (and_parts (is_in Calling p.phase) (is_at p.own dst) e).0) (λ n l. is_for n truth.tag)
+      (confirmed_late src segsize truth.tag.link) refl
+  acts_one (DisconnectInitiate dst src reason user_data) is ends =
+      acts_end _ dst src (same_Some dst address is) ends (λ p. refl) refl
+  acts_one (DisconnectConfirm dst src reason) is ends = acts_end _ dst src (same_Some dst address is) ends (λ p. refl) refl
+  acts_one (DataSegment g) is ends =
+      acts_run _ ends (λ p. refl) g.dstaddr g.srcaddr (same_Some g.dstaddr address is)
+      (λ l. run_late (takes_segment g truth.known l.segments.segments) l) refl
+  acts_one (DataAck dst src acks) is ends =
+      acts_run _ ends (λ p. refl) dst src (same_Some dst address is) (λ l. run_late (takes_acks acks truth.known l.segments.segments) l) refl
+  acts_one (LinkService interrupt dst src rest) is ends =
+      acts_run _ ends (λ p. refl) dst src (same_Some dst address is) (λ l. run_late l.segments.segments l) refl
+  acts_one (OtherDataAck dst src rest) is ends =
+      acts_run _ ends (λ p. refl) dst src (same_Some dst address is) (λ l. run_late l.segments.segments l) refl
+  acts_one (ConnectInitiate retransmitted src services info segsize user_data) is ends = absurd cc
+  acts_one (ConnectAck dst) is ends = absurd cc
+  acts_one (NoOperation rest) is ends = absurd cc

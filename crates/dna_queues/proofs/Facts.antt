@@ -1,0 +1,39 @@
+-- Facts of tests, phases and refusals that many proofs name.
+use Rattle.std.proofs.Common.{◌≡◌, Bool, true, false, Result, Ok, refl}
+use Rattle.dna_station.specs.declared.link_refusal.LinkRefusal.{LinkRefusal}
+use Rattle.dna_links.specs.declared.port.Phase.{Phase}
+use Rattle.dna_links.specs.declared.port.Phase.TheVariants.{Calling, Confirming, Running, Ended}
+use Rattle.dna_links.specs.LookUps.{is_in, is_live, is_connected}
+use Rattle.dna_links.specs.Links.{check}
+use Rattle.dna_links.specs.Queues.{lets_go}
+use Rattle.dna_links.specs.TrueSegments.{TrueSegments, true_segments}
+
+pub not_both : (c : Bool) → c ≡ true → c ≡ false → ⊥
+not_both true e f = absurd cc
+not_both false e f = absurd cc
+
+pub passed_check : {R : Type 0} (b : Bool) (refusal : LinkRefusal) (next : Result R LinkRefusal) → b ≡ true → check b refusal next ≡ next
+passed_check true refusal next e = refl
+passed_check false refusal next e = absurd cc
+
+pub same_Ok : {R : Type 0} (x y : R) → ◌≡◌ {A = Result R LinkRefusal} (Ok x) (Ok y) → x ≡ y
+same_Ok x y e = cc
+
+pub dead_phase : (p : Phase) → is_live p ≡ false → p ≡ Ended
+dead_phase Ended e = refl
+dead_phase p e = absurd cc
+
+pub connected_live : (p : Phase) → is_connected p ≡ true → is_live p ≡ true
+connected_live Confirming e = refl
+connected_live Running e = refl
+connected_live p e = absurd cc
+
+pub calling_live : (p : Phase) → is_in Calling p ≡ true → is_live p ≡ true
+calling_live Calling e = refl
+calling_live p e = absurd cc
+
+-- on true numbers nothing is let go
+pub lets_still : (before now : Bool) (f : TrueSegments) → lets_go true_segments before now f ≡ f
+lets_still true true f = refl
+lets_still true false f = refl
+lets_still false now f = refl

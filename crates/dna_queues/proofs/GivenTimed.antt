@@ -1,0 +1,164 @@
+-- An address is given: what waits for it is acted on before, and the link that had it is forgotten. So where a link is opened.
+use Rattle.std.proofs.Common.{◌≡◌, ℕ, ◌≤◌, Bool, true, false, ◌&&◌, cond, ◌⊎◌, inl, inr, Option, Some, None, List, ◌∷◌}
+use Rattle.std.proofs.Common.{refl, sym, ap, ap₂, ◌∙◌, subst, eqb-true, arith}
+use Rattle.std.specs.Prelude.{slice_get}
+use Rattle.dna_links.specs.declared.port.Phase.{Phase}
+use Rattle.dna_links.specs.declared.port.Phase.TheVariants.{Ended}
+use Rattle.dna_links.specs.declared.port.Port.{Port}
+use Rattle.dna_links.specs.declared.port.LinkTest.TheVariants.{HasAddress, LiveAt}
+use Rattle.dna_links.specs.declared.queue.Queues.TheVariants.{Without, With}
+use Rattle.dna_links.specs.LookUps.{passes, is_live, is_at}
+use Rattle.dna_links.specs.Links.{number_of, begun, changed}
+use Rattle.dna_links.specs.Queues.{in_use, freed, forgotten}
+use Rattle.dna_links.specs.inner.Forms.{opened}
+use Rattle.dna_links.specs.User.{Open}
+use Rattle.dna_links.specs.TrueSegments.{true_segments}
+use Rattle.dna_links.specs.TrueLinks as machine
+use Rattle.dna_links.proofs.Tables.Outcomes.{IsFound, looked}
+use Rattle.dna_queues.proofs.Facts.{dead_phase, not_both}
+use Rattle.dna_queues.specs.Records.{LinkRecord, OfUser}
+use Rattle.dna_queues.specs.Hidden.{late_segments, Links, Node, link_it_is_for}
+use Rattle.dna_queues.specs.Made.{IsFree, UserDoes, Makes}
+use Rattle.dna_queues.proofs.Goes.{Link, use_own}
+use Rattle.dna_queues.proofs.Given.{freed_changed}
+use Rattle.dna_queues.proofs.Lists.{waiting_none}
+use Rattle.dna_queues.proofs.LinkLists.{IsSet, IsChanged, WasAt, was_at, set_changed, at_none, at_found, none_passes}
+use Rattle.dna_queues.proofs.Turns.{Began, has_run}
+use Rattle.dna_queues.proofs.Early.{none_before}
+use Rattle.dna_queues.proofs.Hide.{hide}
+use Rattle.dna_queues.proofs.Dues.{Due, AreDue, AreSane}
+use Rattle.dna_queues.proofs.Timed.{Timed}
+use Rattle.dna_queues.proofs.Prepared.{set_sane_free}
+use Rattle.dna_queues.proofs.SentTimed.{Sound}
+use Rattle.dna_queues.proofs.Addressed.{stripped, awaits_nothing, flushed, flushed_number, flushed_owner, Addressed, addressed}
+use Rattle.dna_queues.proofs.BegunTimed.{begun_sane, begun_due, begun_timed}
+
+module _ (s : machine.Links) (sane : AreSane s) (own : ℕ) (one : 1 ≤ own) (none_live : number_of (LiveAt own) s ≡ None) where
+  abbrev pub left : machine.Links
+  left = freed true_segments With own s
+
+  -- the link that had the address is over
+  pub over : (i : ℕ) (l : Link) → slice_get s.links i ≡ Some l → is_at l.port.own own ≡ true → l.port.phase ≡ Ended
+  over i l at has = dead_phase l.port.phase (go (is_live l.port.phase) refl)
+    where
+      go : (b : Bool) → is_live l.port.phase ≡ b → is_live l.port.phase ≡ false
+      go false e = e
+      go true e = absurd (not_both _ (ap₂ (λ (a b : Bool). a && b) e has) (none_passes (LiveAt own) s none_live i l at))
+
+  pub left_is : IsChanged s (freed true_segments With own s) own (λ l. cond (passes (HasAddress own) l.port) (forgotten true_segments With l) l)
+  left_is = freed_changed true_segments With own s sane.unique
+
+  -- no link has it any more
+  pub no_owner : (i : ℕ) (x : Link) → slice_get (freed true_segments With own s).links i ≡ Some x → is_at x.port.own own ≡ true → ⊥
+  no_owner i x at has = go (was_at s _ own _ left_is i x at)
+    where
+      go : WasAt s own (λ l. cond (passes (HasAddress own) l.port) (forgotten true_segments With l) l) i x → ⊥
+      go w = by w.is
+        where
+          by : ((is_at w.link.port.own own ≡ true) × (cond (is_at w.link.port.own own) (forgotten true_segments With w.link) w.link ≡ x)) ⊎
+              ((is_at w.link.port.own own ≡ false) × (w.link ≡ x)) → ⊥
+          by (inl a) =
+              let same : forgotten true_segments With w.link ≡ x =
+              sym (ap (λ (c : Bool). cond c (forgotten true_segments With w.link) w.link) a.0) ∙ a.1 in
+              not_both _ has (ap (λ (y : Link). is_at y.port.own own) (sym same))
+          by (inr a) = not_both _ has (ap (λ (y : Link). is_at y.port.own own) (sym a.1) ∙ a.0)
+
+  pub left_sane : AreSane (freed true_segments With own s)
+  left_sane =
+      looked (HasAddress own) s s (λ i l. changed i (forgotten true_segments With l) s) (freed true_segments With own s) refl
+      (λ none e. subst AreSane e sane)
+      (λ i l found e. set_sane_free s sane i l found.there (freed true_segments With own s) (forgotten true_segments With l)
+      (subst (λ (x : machine.Links). IsSet s x i (forgotten true_segments With l)) e
+      (set_changed s i l (forgotten true_segments With l) found.there))
+      (λ j x n differs at own_x own_k. absurd cc) refl (record {
+        began = subst (λ (p : Phase). Began p l.port.opened l.queue.accepted l.queue.ran) (sym (over i l found.there found.passed)) tt;
+        opened = (sane.each i l found.there).opened;
+        called = λ e. refl;
+        waits = λ p e. absurd cc;
+      }))
+
+  -- what is due then was due before, and the node goes along
+  pub record Gives (dues : ℕ → Due) : Type 0 where
+    pub before : ℕ → Due
+    pub due : AreDue s before
+    pub free : (n : Node) (t : Timed s before n) → IsFree own (flushed s sane before n t own).next
+    pub timed : (n : Node) (t : Timed s before n) → Timed (freed true_segments With own s) dues (record (flushed s sane before n t own).next {
+      links = freed late_segments Without own (flushed s sane before n t own).next.links;
+    })
+
+  pub gives : (dues : ℕ → Due) → AreDue (freed true_segments With own s) dues → Gives dues
+  gives dues due =
+      let a = addressed s sane own (forgotten true_segments With) (freed true_segments With own s) dues due refl
+      (λ i l found packets P early can. none_before left.node left.peer packets (forgotten true_segments With l) P
+      (ap has_run (over i l found.there found.passed)) early can)
+      (λ i l found kept none. awaits_nothing (forgotten true_segments With l) _ refl (waiting_none link_it_is_for kept)) in
+      record {
+        before = a.before;
+        due = a.due_before;
+        free = a.free;
+        timed = λ n t. a.timed n t (freed late_segments Without own (flushed s sane a.before n t own).next.links)
+            (λ none. at_none (HasAddress own) (flushed s sane a.before n t own).next.links _ _ (flushed_owner s sane a.before n t own ∙ none))
+            (λ i l found. forgets a n t i l found);
+      }
+    where
+      forgets : (a : Addressed s sane own (forgotten true_segments With) (freed true_segments With own s) dues due) (n : Node)
+          (t : Timed s a.before n) (i : ℕ) (l : Link) → IsFound (HasAddress own) s i l →
+          IsSet (flushed s sane a.before n t own).next.links (freed late_segments Without own (flushed s sane a.before n t own).next.links) i
+          (hide (forgotten true_segments With l))
+      forgets a n t i l found =
+          let f = flushed s sane a.before n t own in
+          let here = a.here n t i l found in
+          subst (λ (x : Links). IsSet f.next.links x i (hide (forgotten true_segments With l)))
+          (sym (at_found (HasAddress own) f.next.links i (stripped l l) _ _ (record {
+            found = flushed_owner s sane a.before n t own ∙ found.found;
+            there = here;
+            passed = found.passed;
+          })))
+          (set_changed f.next.links i (stripped l l) (hide (forgotten true_segments With l)) here)
+
+  pub none_then : (dues : ℕ → Due) (n : Node) (t : Timed s dues n) → number_of (LiveAt own) (flushed s sane dues n t own).next.links ≡ None
+  none_then dues n t =
+      flushed_number s sane dues n t own (LiveAt own) (λ j l at has. fails (in_use With l) (ap (λ (o : Option ℕ). is_at o own) (use_own l) ∙ has)
+      ∙ sym (fails l.port has)) ∙ none_live
+    where
+      and_false : (b c : Bool) → c ≡ false → (b && c) ≡ false
+      and_false true c e = e
+      and_false false c e = refl
+
+      fails : (p : Port) → is_at p.own own ≡ false → passes (LiveAt own) p ≡ false
+      fails p has = and_false (is_live p.phase) (is_at p.own own) has
+
+  pub own_not_zero : is_at (Some own) 0 ≡ false
+  own_not_zero = grind (arith, one)
+
+  module _ (later : List LinkRecord) where
+    -- ---- a link is opened
+
+    pub open_sound : (AreSane (begun (opened true_segments own) left) → Sound (begun (opened true_segments own) left) later) →
+        Sound s (OfUser (Open own) ∷ later)
+    open_sound rest = go (rest (begun_sane left k left_sane (record {
+      began = (refl, refl);
+      opened = λ e. refl;
+      called = λ e. absurd cc;
+      waits = λ p e. absurd cc;
+    }) own_not_zero (λ i x n at own_x own_k. no_owner i x at (ap (is_at x.port.own) (eqb-true own n own_k) ∙ own_x))))
+      where
+        k : Link
+        k = opened true_segments own
+
+        go : Sound (begun (opened true_segments own) left) later → Sound s (OfUser (Open own) ∷ later)
+        go r =
+            let g = gives r.dues (begun_due left (opened true_segments own) refl r.dues r.due) in
+            record {
+              dues = g.before;
+              due = g.due;
+              made = λ n t. let f = flushed s sane g.before n t own in
+                  let fl = freed late_segments Without own f.next.links in
+                  f.on (OfUser (Open own) ∷ later)
+                  (Makes f.next (record f.next { links = begun (opened late_segments own) fl }) (OfUser (Open own)) later
+                  (UserDoes (Open own) (begun (opened late_segments own) fl) (g.free n t)
+                  (at_none (LiveAt own) f.next.links _ _ (none_then g.before n t)))
+                  (r.made (record f.next { links = begun (opened late_segments own) fl })
+                  (begun_timed left (opened true_segments own) refl r.dues r.due (record f.next { links = fl }) (g.timed n t)
+                  (awaits_nothing (opened true_segments own) _ refl f.none))));
+            }

@@ -1,0 +1,123 @@
+-- A link of the machine as the node with queues has it, and the messages that it composes then.
+use Rattle.std.proofs.Common.{◌≡◌, ℕ, true, Some, Result, Ok, Err, refl, sym, ap, ◌∙◌, subst}
+use Rattle.std.specs.Prelude.{slice_get}
+use Rattle.dna_packet.specs.Nsp.{NspValue, DataSegment, LinkService, DataAck, OtherDataAck, ConnectAck, NoOperation, ConnectInitiate}
+use Rattle.dna_packet.specs.Nsp.{ConnectConfirm, DisconnectInitiate, DisconnectConfirm}
+use Rattle.dna_station.specs.declared.link_refusal.LinkRefusal.{LinkRefusal}
+use Rattle.dna_station.specs.declared.link_refusal.LinkRefusal.TheVariants.{NoLink, LinkState}
+use Rattle.dna_links.specs.declared.port.Phase.{Phase}
+use Rattle.dna_links.specs.declared.port.Phase.TheVariants.{Calling, Confirming, Running, Disconnecting}
+use Rattle.dna_links.specs.declared.port.LinkTest.{LinkTest}
+use Rattle.dna_links.specs.declared.port.LinkTest.TheVariants.{TheLink, OpenedAt}
+use Rattle.dna_links.specs.declared.queue.Queues.TheVariants.{Without, With}
+use Rattle.dna_links.specs.LookUps.{passes, is_in}
+use Rattle.dna_links.specs.SegmentBook.{Sending, Late}
+use Rattle.dna_links.specs.Links.{LinkOf, check, with_link, changed, with_segments}
+use Rattle.dna_links.specs.Queues.{in_use, fresh}
+use Rattle.dna_links.specs.LinkBook.{on_ok}
+use Rattle.dna_links.specs.inner.Forms.{truth_of, unchanged}
+use Rattle.dna_links.specs.Sending.{Sent, message_sent}
+use Rattle.dna_links.specs.TrueSegments.{TrueSegments, Numbers}
+use Rattle.dna_links.proofs.Tables.Outcomes.{IsFound}
+use Rattle.dna_queues.proofs.Facts.{passed_check}
+use Rattle.dna_queues.specs.Hidden.{LateSegments, late_segments, late_sent, acks_sent, Links}
+use Rattle.dna_queues.proofs.Goes.{Link, phase_of, Goes}
+use Rattle.dna_queues.proofs.LinkLists.{still_set, IsUnique, IsSet, set_changed, found_one, at_found}
+use Rattle.dna_queues.proofs.Sending.{Owns, link_owns, opened_owns}
+use Rattle.dna_queues.proofs.Turns.{asks, is_now}
+
+abbrev pub LateLink : Type 0
+LateLink = LinkOf LateSegments
+
+abbrev pub hide : Link → LateLink
+hide l = record {
+  port = in_use With l;
+  partner = l.partner;
+  segsize = l.segsize;
+  segments = record { segments = l.segments; gap = l.queue.gap };
+  queue = fresh;
+}
+
+module _ (s : Links) (unique : IsUnique s) (i : ℕ) (l : Link) (there : slice_get s.links i ≡ Some (hide l)) where
+  pub record ComposesNow (m : NspValue) (x : Link) : Type 0 where
+    pub made : Sent LateSegments Numbers
+    pub does : message_sent Without late_segments s m ≡ Ok made
+    pub set : IsSet s made.links i (hide x)
+    pub tag : made.truth.tag.link ≡ Some i
+
+  pub found : (test : LinkTest) (own : ℕ) → Owns test own → passes test (in_use With l) ≡ true → IsFound test s i (hide l)
+  found test own owns passed = record {
+    found = found_one s unique test own i (hide l) owns there passed;
+    there = there;
+    passed = passed;
+  }
+
+  -- one that changes nothing
+  stays : (m : NspValue) (x : Link) (test : LinkTest) (own : ℕ) (phase : Phase) → Owns test own →
+      message_sent Without late_segments s m ≡ with_link test s (Err NoLink)
+      (λ n h. check (is_in phase h.port.phase) LinkState (Ok (unchanged late_segments s n h))) →
+      passes test (in_use With l) ≡ true → is_in phase (phase_of l) ≡ true → hide x ≡ hide l → ComposesNow m x
+  stays m x test own phase owns row passed stands same = record {
+    made = unchanged late_segments s i (hide l);
+    does = row ∙ at_found test s i (hide l) _ _ (found test own owns passed) ∙ passed_check (is_in phase (phase_of l)) LinkState _ stands;
+    set = subst (λ (y : LateLink). IsSet s s i y) (sym same)
+        (still_set _ _ _ there);
+    tag = refl;
+  }
+
+  -- one with numbers
+  carries : (m : NspValue) (x : Link) (src dst : ℕ) (does : LateLink → Result (Sending LateSegments Numbers) LinkRefusal)
+      (sent : Sending LateSegments Numbers) →
+      message_sent Without late_segments s m ≡ with_link (TheLink src dst) s (Err NoLink) (λ n h. check (is_in Running h.port.phase) LinkState
+      (on_ok (does h) (λ sent. let a : Result (Sent LateSegments Numbers) LinkRefusal = Ok (record {
+        links = changed n (with_segments sent.segments h) s;
+        truth = truth_of late_segments n h sent.known;
+      }) in a))) →
+      passes (TheLink src dst) (in_use With l) ≡ true → is_in Running (phase_of l) ≡ true → does (hide l) ≡ Ok sent →
+      hide x ≡ with_segments sent.segments (hide l) → ComposesNow m x
+  carries m x src dst does sent row passed stands so same = record {
+    made = record {
+      links = changed i (with_segments sent.segments (hide l)) s;
+      truth = truth_of late_segments i (hide l) sent.known;
+    };
+    does = row ∙ at_found (TheLink src dst) s i (hide l) _ _ (found (TheLink src dst) src (link_owns src dst) passed)
+        ∙ passed_check (is_in Running (phase_of l)) LinkState _ stands
+        ∙ ap (λ (r : Result (Sending LateSegments Numbers) LinkRefusal). on_ok r (λ sent. let a : Result (Sent LateSegments Numbers) LinkRefusal =
+        Ok (record {
+          links = changed i (with_segments sent.segments (hide l)) s;
+          truth = truth_of late_segments i (hide l) sent.known;
+        }) in a)) so;
+    set = subst (λ (y : LateLink). IsSet s (changed i (with_segments sent.segments (hide l)) s) i y) (sym same)
+        (set_changed s i (hide l) (with_segments sent.segments (hide l)) there);
+    tag = refl;
+  }
+
+  pub composes_now : (m : NspValue) (x : Link) (phase : Phase) → asks m ≡ Some phase → Goes l m x → is_now (asks m) (phase_of l) ≡ true →
+      ComposesNow m x
+  composes_now (ConnectInitiate retransmitted src services info segsize user_data) x phase is g stands =
+      stays _ x (OpenedAt src) src Calling (opened_owns src) refl g.passed stands (ap hide g.moves.1)
+  composes_now (ConnectAck dst) x phase is g stands = absurd cc
+  composes_now (ConnectConfirm dst src services info segsize user_data) x phase is g stands =
+      stays _ x (TheLink src dst) src Confirming (link_owns src dst) refl g.passed stands (ap hide g.moves.1)
+  composes_now (DisconnectInitiate dst src reason user_data) x phase is g stands =
+      stays _ x (TheLink src dst) src Disconnecting (link_owns src dst) refl g.passed stands (ap hide g.moves.1)
+  composes_now (DisconnectConfirm dst src reason) x phase is g stands = absurd g.moves
+  composes_now (DataSegment segment) x phase is g stands =
+      let m = g.moves in
+      carries (DataSegment segment) x segment.srcaddr segment.dstaddr (λ h. late_segments.sends_segment h.segsize segment h.segments)
+      (late_sent m.late) refl g.passed stands
+      (ap (λ (r : Result (Late TrueSegments Numbers) LinkRefusal). on_ok r (λ late. let a : Result (Sending LateSegments Numbers) LinkRefusal =
+      Ok (late_sent late) in a)) m.does)
+      (ap hide m.is)
+  composes_now (DataAck dst src acks) x phase is g stands =
+      let m = g.moves in
+      carries (DataAck dst src acks) x src dst (λ h. late_segments.sends_acks acks h.segments) (acks_sent (hide l).segments m.sent) refl g.passed
+      stands
+      (ap (λ (r : Result (Sending TrueSegments Numbers) LinkRefusal). on_ok r (λ sent. let a : Result (Sending LateSegments Numbers) LinkRefusal =
+      Ok (acks_sent (hide l).segments sent) in a)) m.does)
+      (ap hide m.is)
+  composes_now (LinkService interrupt dst src rest) x phase is g stands =
+      stays _ x (TheLink src dst) src Running (link_owns src dst) refl g.passed stands (ap hide g.moves.1)
+  composes_now (OtherDataAck dst src rest) x phase is g stands =
+      stays _ x (TheLink src dst) src Running (link_owns src dst) refl g.passed stands (ap hide g.moves.1)
+  composes_now (NoOperation rest) x phase is g stands = absurd g.moves

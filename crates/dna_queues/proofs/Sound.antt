@@ -1,0 +1,218 @@
+-- Whatever records the machine makes a node with queues makes too, by hidden steps.
+use Rattle.std.proofs.Common.{◌≡◌, ℕ, true, ◌&&◌, ◌==◌, Option, Some, None, List, [], ◌∷◌, ◌++◌, Result, Ok, Err}
+use Rattle.std.proofs.Common.{refl, sym, ap, ◌∙◌, subst, append-nil}
+use Rattle.std.specs.Prelude.{slice_get}
+use Rattle.dna_packet.specs.Nsp.{NspValue, DataSegment, LinkService, DataAck, OtherDataAck, ConnectAck, NoOperation, ConnectInitiate, ConnectConfirm}
+use Rattle.dna_packet.specs.Nsp.{DisconnectInitiate, DisconnectConfirm, IsInRange}
+use Rattle.dna_station.specs.declared.link_refusal.LinkRefusal.{LinkRefusal}
+use Rattle.dna_station.specs.declared.link_refusal.LinkRefusal.TheVariants.{WrongNode}
+use Rattle.dna_links.specs.declared.port.LinkTest.TheVariants.{LiveTo}
+use Rattle.dna_links.specs.declared.queue.Queues.TheVariants.{Without, With}
+use Rattle.dna_links.specs.Links.{Carried, number_of, begun}
+use Rattle.dna_links.specs.LinkBook.{blank}
+use Rattle.dna_links.specs.inner.Forms.{called}
+use Rattle.dna_links.specs.User.{LinkEventValue, Open, Accept, Reject, In, Up, Close}
+use Rattle.dna_links.specs.User as user
+use Rattle.dna_links.specs.Sending.{Sent, message_sent}
+use Rattle.dna_links.specs.Arriving.{of_partner, arrived_step, message_arrived}
+use Rattle.dna_links.specs.TrueSegments.{TrueSegments, Numbers, true_segments}
+use Rattle.dna_links.specs.TrueLinks as machine
+use Rattle.dna_links.specs.Runs.{SentMessage}
+use Rattle.dna_links.proofs.Tables.Outcomes.{looked, checked}
+use Rattle.dna_queues.proofs.Facts.{passed_check, same_Ok}
+use Rattle.dna_queues.specs.Records.{LinkRecord, OfUser, Sends, Keeps, OfNoLink, links_left, MadeByMachine, AreInRange, EventsAreInRange}
+use Rattle.dna_queues.specs.Hidden.{late_segments, Links, Node, dstaddr, link_it_is_for}
+use Rattle.dna_queues.specs.Made.{new_node, KeepsAtOnce, PassesBy, MadeByHidden, NoMore, Makes}
+use Rattle.dna_queues.proofs.Goes.{Link}
+use Rattle.dna_queues.proofs.Lists.{waiting_none}
+use Rattle.dna_queues.proofs.LinkLists.{at_none}
+use Rattle.dna_queues.proofs.MachineSends.{is_of_link}
+use Rattle.dna_queues.proofs.Dues.{Due, AreSane}
+use Rattle.dna_queues.proofs.Timed.{Timed}
+use Rattle.dna_queues.proofs.SentTimed.{Sound, sent_sound}
+use Rattle.dna_queues.proofs.UserTimed.{in_sound}
+use Rattle.dna_queues.proofs.ClosedTimed.{close_sound}
+use Rattle.dna_queues.proofs.DeliveredTimed.{up_sound}
+use Rattle.dna_queues.proofs.Addressed.{awaits_nothing}
+use Rattle.dna_queues.proofs.ConfirmTimed.{confirm_sound, nothing_sound}
+use Rattle.dna_queues.proofs.BegunTimed.{begun_sane, begun_due, begun_timed}
+use Rattle.dna_queues.proofs.AnsweredTimed.{opens_sound, accepts_sound, rejects_sound}
+use Rattle.dna_queues.proofs.AllTimed.{all_come, all_number, all_may}
+use Rattle.dna_queues.proofs.KeptTimed.{for_link_sound}
+
+module _ (s : machine.Links) (sane : AreSane s) (later : List LinkRecord) where
+  -- ---- what is kept for no link
+
+  module _ (unit : SentMessage) (none : dstaddr unit.packet.message ≡ None)
+      (may : (unit.packet.src == s.peer && unit.packet.dst == s.node) ≡ true) where
+    arrives : (dues : ℕ → Due) (n : Node) (t : Timed s dues n) (links : Links) →
+        message_arrived Without late_segments of_partner (all_come s sane dues n t).links unit.packet.message unit.truth ≡ Ok links →
+        arrived_step Without late_segments of_partner (all_come s sane dues n t).links unit.packet unit.truth ≡ Ok links
+    arrives dues n t links does =
+        let all = all_come s sane dues n t in
+        passed_check (unit.packet.src == all.links.peer && unit.packet.dst == all.links.node) WrongNode
+        (message_arrived Without late_segments of_partner all.links unit.packet.message unit.truth) (all_may s sane dues n t unit may) ∙ does
+
+    still_sound : Sound s later → ((dues : ℕ → Due) (n : Node) (t : Timed s dues n) →
+        message_arrived Without late_segments of_partner (all_come s sane dues n t).links unit.packet.message unit.truth
+        ≡ Ok (all_come s sane dues n t).links) → Sound s (Keeps unit ∷ later)
+    still_sound r does = record {
+      dues = r.dues;
+      due = r.due;
+      made = λ n t. let all = all_come s sane r.dues n t in
+          Makes n (record n { links = record n.links { links = n.links.links ++ [] } }) (Keeps unit) later
+          (KeepsAtOnce unit all.links all.links [] none all.comes (arrives r.dues n t all.links (does r.dues n t)) (sym (append-nil all.links.links)))
+          (subst (λ xs. MadeByHidden (record n { links = record n.links { links = xs } }) later) (sym (append-nil n.links.links)) (r.made n t));
+    }
+
+    for_none : (m : NspValue) → unit.packet.message ≡ m → dstaddr m ≡ None → (left : machine.Links) →
+        message_arrived With true_segments of_partner s m unit.truth ≡ Ok left → (AreSane left → Sound left later) → Sound s (Keeps unit ∷ later)
+    for_none (ConnectInitiate retransmitted src services info segsize user_data) is for_it left e rest =
+        looked (LiveTo src) s (Ok (begun (called true_segments of_partner src segsize unit.truth.tag) s)) (λ n l. Ok s) (Ok left) e
+        (λ free e. begins free (subst (λ (x : machine.Links). AreSane x → Sound x later) (sym (same_Ok _ left e)) rest
+        (begun_sane s (called true_segments of_partner src segsize unit.truth.tag) sane (record {
+          began = (refl, refl, refl);
+          opened = λ e. absurd cc;
+          called = λ e. refl;
+          waits = λ p e. absurd cc;
+        }) refl (λ i x n at own_x own_k. absurd cc))))
+        (λ i l found e. still_sound (subst (λ (x : machine.Links). AreSane x → Sound x later) (sym (same_Ok _ left e)) rest sane)
+        (λ dues n t. ap (λ (x : NspValue). message_arrived Without late_segments of_partner (all_come s sane dues n t).links x unit.truth) is
+        ∙ looked (LiveTo src) (all_come s sane dues n t).links
+        (Ok (begun (called late_segments of_partner src segsize unit.truth.tag) (all_come s sane dues n t).links))
+        (λ j h. Ok (all_come s sane dues n t).links) _ refl
+        (λ missing f. let never : None ≡ Some i = sym missing ∙ all_number s sane dues n t (LiveTo src) ∙ found.found in absurd cc)
+        (λ j h other f. sym f)))
+      where
+        begins : number_of (LiveTo src) s ≡ None →
+            Sound (begun (called true_segments of_partner src segsize unit.truth.tag) s) later → Sound s (Keeps unit ∷ later)
+        begins free r =
+            let k = called true_segments of_partner src segsize unit.truth.tag in
+            let h = called late_segments of_partner src segsize unit.truth.tag in
+            record {
+              dues = r.dues;
+              due = begun_due s k refl r.dues r.due;
+              made = λ n t. let all = all_come s sane r.dues n t in
+                  Makes n (record n { links = begun h n.links }) (Keeps unit) later
+                  (KeepsAtOnce unit all.links (begun h all.links) (h ∷ []) none all.comes
+                  (arrives r.dues n t (begun h all.links)
+                  (ap (λ (x : NspValue). message_arrived Without late_segments of_partner all.links x unit.truth) is
+                  ∙ at_none (LiveTo src) all.links _ _ (all_number s sane r.dues n t (LiveTo src) ∙ free))) refl)
+                  (r.made (record n { links = begun h n.links })
+                  (begun_timed s k refl r.dues r.due n t (awaits_nothing k _ refl (waiting_none link_it_is_for n.kept))));
+            }
+    for_none (ConnectAck dst) is for_it left e rest =
+        still_sound (subst (λ (x : machine.Links). AreSane x → Sound x later) (sym (same_Ok _ left e)) rest sane)
+        (λ dues n t. ap (λ (x : NspValue). message_arrived Without late_segments of_partner (all_come s sane dues n t).links x unit.truth) is)
+    for_none (NoOperation octets) is for_it left e rest =
+        still_sound (subst (λ (x : machine.Links). AreSane x → Sound x later) (sym (same_Ok _ left e)) rest sane)
+        (λ dues n t. ap (λ (x : NspValue). message_arrived Without late_segments of_partner (all_come s sane dues n t).links x unit.truth) is)
+    for_none (ConnectConfirm dst src services info segsize user_data) is for_it left e rest = absurd cc
+    for_none (DisconnectInitiate dst src reason user_data) is for_it left e rest = absurd cc
+    for_none (DisconnectConfirm dst src reason) is for_it left e rest = absurd cc
+    for_none (DataSegment segment) is for_it left e rest = absurd cc
+    for_none (DataAck dst src acks) is for_it left e rest = absurd cc
+    for_none (LinkService interrupt dst src octets) is for_it left e rest = absurd cc
+    for_none (OtherDataAck dst src octets) is for_it left e rest = absurd cc
+
+  -- ---- each record
+
+  module _ (left : machine.Links) (rest : AreSane left → Sound left later) where
+    by_user : (event : LinkEventValue) → user.IsInRange event → machine.links_user With s event ≡ Ok left → Sound s (OfUser event ∷ later)
+    by_user (Open own) small e = opens_sound s sane later left rest own small e
+    by_user (Accept far own) small e = accepts_sound s sane later left rest far own small.1 e
+    by_user (Reject far own) small e = rejects_sound s sane later left rest far own small.1 e
+    by_user (In own message) small e = in_sound s sane later left rest own message e
+    by_user (Up own message) small e = up_sound s sane later left rest own message e
+    by_user (Close own) small e = close_sound s sane later left rest own e
+
+    by_sending : (packet : Carried) → IsInRange packet.message → links_left (machine.links_sent With s packet) ≡ Ok left →
+        Sound s (Sends packet ∷ later)
+    by_sending packet small e = go (machine.links_sent With s packet) refl e
+      where
+        by_message : (made : Sent TrueSegments Numbers) → (packet.src == s.node && packet.dst == s.peer) ≡ true → (m : NspValue) →
+            packet.message ≡ m → message_sent With true_segments s packet.message ≡ Ok made → (AreSane made.links → Sound made.links later) →
+            Sound s (Sends packet ∷ later)
+        by_message made may (DisconnectConfirm dst src reason) is e rest =
+            confirm_sound s sane later packet may made rest dst src reason is (sym (ap (message_sent With true_segments s) is) ∙ e)
+        by_message made may (NoOperation octets) is e rest =
+            nothing_sound s sane later packet may made rest octets is (sym (ap (message_sent With true_segments s) is) ∙ e)
+        by_message made may (ConnectInitiate retransmitted src services info segsize user_data) is e rest =
+            sent_sound s sane later packet made (ap is_of_link is) small may e rest
+        by_message made may (ConnectAck dst) is e rest = sent_sound s sane later packet made (ap is_of_link is) small may e rest
+        by_message made may (ConnectConfirm dst src services info segsize user_data) is e rest =
+            sent_sound s sane later packet made (ap is_of_link is) small may e rest
+        by_message made may (DisconnectInitiate dst src reason user_data) is e rest =
+            sent_sound s sane later packet made (ap is_of_link is) small may e rest
+        by_message made may (DataSegment segment) is e rest = sent_sound s sane later packet made (ap is_of_link is) small may e rest
+        by_message made may (DataAck dst src acks) is e rest = sent_sound s sane later packet made (ap is_of_link is) small may e rest
+        by_message made may (LinkService interrupt dst src octets) is e rest =
+            sent_sound s sane later packet made (ap is_of_link is) small may e rest
+        by_message made may (OtherDataAck dst src octets) is e rest = sent_sound s sane later packet made (ap is_of_link is) small may e rest
+
+        go : (r : Result (Sent TrueSegments Numbers) LinkRefusal) → machine.links_sent With s packet ≡ r → links_left r ≡ Ok left →
+            Sound s (Sends packet ∷ later)
+        go (Err refusal) is e = absurd cc
+        go (Ok made) is e =
+            let c = checked (packet.src == s.node && packet.dst == s.peer) WrongNode _ made is in
+            by_message made c.0 packet.message refl c.1
+            (subst (λ (x : machine.Links). AreSane x → Sound x later) (sym (same_Ok made.links left e)) rest)
+
+    by_keeping : (unit : SentMessage) → machine.links_arrived With of_partner s unit.packet unit.truth ≡ Ok left → Sound s (Keeps unit ∷ later)
+    by_keeping unit e = go (dstaddr unit.packet.message) refl
+      where
+        c : ((unit.packet.src == s.peer && unit.packet.dst == s.node) ≡ true) ×
+            (message_arrived With true_segments of_partner s unit.packet.message unit.truth ≡ Ok left)
+        c = checked (unit.packet.src == s.peer && unit.packet.dst == s.node) WrongNode _ left e
+
+        go : (o : Option ℕ) → dstaddr unit.packet.message ≡ o → Sound s (Keeps unit ∷ later)
+        go None none = for_none unit none c.0 unit.packet.message refl none left c.1 rest
+        go (Some address) is = for_link_sound s sane unit address is c.0 left c.1 later rest
+
+-- ---- all of them
+
+abbrev link_or : Option Link → Link
+link_or None = blank With true_segments
+link_or (Some l) = l
+
+sound_from : (made : List LinkRecord) (s : machine.Links) → AreSane s → AreInRange made → EventsAreInRange made → MadeByMachine s made → Sound s made
+sound_from [] s sane small events by_machine = record {
+  dues = λ i. record { packets = []; link = link_or (slice_get s.links i) };
+  due = record {
+    each = λ i l at. record { can = sym (ap link_or at); early = tt };
+    beyond = λ i none. refl;
+  };
+  made = λ n t. NoMore n;
+}
+sound_from (OfUser event ∷ later) s sane small events m =
+    by_user s sane later m.0 (λ x. sound_from later m.0 x small events.1 m.2) event events.0 m.1
+sound_from (Sends packet ∷ later) s sane small events m =
+    by_sending s sane later m.0 (λ x. sound_from later m.0 x small.1 events m.2) packet small.0 m.1
+sound_from (Keeps unit ∷ later) s sane small events m =
+    by_keeping s sane later m.0 (λ x. sound_from later m.0 x small events m.2) unit m.1
+sound_from (OfNoLink ∷ later) s sane small events m =
+    go m.0 (same_Ok s m.0 m.1) (λ x. sound_from later m.0 x small events m.2)
+  where
+    go : (left : machine.Links) → s ≡ left → (AreSane left → Sound left later) → Sound s (OfNoLink ∷ later)
+    go left same rest =
+        let r = subst (λ (x : machine.Links). AreSane x → Sound x later) (sym same) rest sane in
+        record { dues = r.dues; due = r.due; made = λ n t. Makes n n OfNoLink later PassesBy (r.made n t) }
+
+pub sound : (node peer : ℕ) (made : List LinkRecord) → AreInRange made → EventsAreInRange made →
+    MadeByMachine (machine.new_links node peer) made → MadeByHidden (new_node node peer) made
+sound node peer made small events by_machine =
+    let r = sound_from made (machine.new_links node peer) (record {
+      unique = λ i j l k at_i at_j n own_l own_k. absurd cc;
+      each = λ i l at. absurd cc;
+      not_zero = λ i l at. absurd cc;
+    }) small events by_machine in
+    r.made (new_node node peer) (record {
+      node = refl;
+      peer = refl;
+      size = refl;
+      all = λ i l at. absurd cc;
+      went = λ i l at. absurd cc;
+      kept = tt;
+      awaits = λ i l at. absurd cc;
+      composed = λ i. sym (r.due.beyond i refl);
+    })
