@@ -219,8 +219,9 @@ def allowed_there(number, side, head, named):
         return '%s to %s: from the peer in the head to the node in the head' % tuple(head[::-1])
     if number == 21:
         flow = next(link.flow for link in side.links.links if link.phase != 'Ended' and link.own == named[0])
-        numbers = span(flow.acknowledged % 4096, flow.given % 4096)
-        return 'acks or naks %s: the highest acknowledged on this link, and the highest sent; or an older one again' % numbers
+        first, last = flow.acknowledged % 4096, flow.given % 4096
+        older = '; or an older one again' if first else ''
+        return 'acks or naks %s: the highest acknowledged on this link, and the highest sent%s' % (span(first, last), older)
     return None
 
 
