@@ -2,10 +2,11 @@
 - DDCAP_PROGRAM: the program. Without it, the one that ./ddcap makes and runs.
 - DDCAP_EMULATED: what runs it for another machine: `qemu`, whose libraries are made by the compiler CC, and which preloads them; or `wine`, which
   preloads none, and has no devices.
-- DDCAP_QUICK: nothing that takes the toolchain; and by an emulator a share of each list alone."""
+- DDCAP_QUICK: nothing that takes the toolchain, and of cases that are alike a sample; by an emulator a share of each list alone."""
 import os
 import shutil
 import subprocess
+from functools import cached_property
 
 TOP = os.path.dirname(os.path.dirname(os.path.realpath(__file__)))
 CRATES = os.path.join(TOP, 'crates')
@@ -15,6 +16,7 @@ IS_WINDOWS = EMULATED == 'wine'
 SHARE = 20 if EMULATED and 'DDCAP_QUICK' in os.environ else 1  # of all lists one in so many is tried
 MOST_SECONDS = 1800 if EMULATED else 600  # a run that takes longer hangs
 ONE_IN = 10 * SHARE if EMULATED else 1  # and of the longest lists, since an emulator takes long to start
+IS_QUICK = 'DDCAP_QUICK' in os.environ and not EMULATED  # where it is EMULATED the share is sample enough
 HAS_TOOLCHAIN = 'DDCAP_QUICK' not in os.environ and shutil.which('rt') is not None
 
 
@@ -64,6 +66,11 @@ def share(cases):
     return list(cases)[::SHARE]
 
 
+def sample(cases, one_in):
+    """Those of many cases that are alike which are tried: all, or one in so many where only little time is to be spent."""
+    return list(cases)[::one_in] if IS_QUICK else list(cases)
+
+
 def by(*counts):
     """By how many bytes a call something is tried, where None is all: these counts, or all alone where calls can't be cut short."""
     return (None,) if IS_WINDOWS else counts
@@ -84,7 +91,11 @@ class Program:
 
     def __init__(self, folder):
         self.folder = folder
-        self.calls = None if IS_WINDOWS else library(folder, 'calls')
+
+    @cached_property
+    def calls(self):
+        """The library that settings are read by; made when it is first asked for."""
+        return None if IS_WINDOWS else library(self.folder, 'calls')
 
     def run(self, *words, few=None, **calls):
         """What it prints to both streams, and its status."""

@@ -1,7 +1,8 @@
 """What `ddcap why` says of a refused pair, by the reading of tools/reading.py, apart from the program. `said(a, b)` gives it, or None where nothing
 is refused: the JSON `lines` `refused`, `record` without the fields of its bytes, `state`, `link` and `queued`; the `rows` of both sides; how many
 records stand `behind` it; and the `check` where bytes are compared (tools/reading_bytes.py), else None. `said_alone(a, line)` gives the lines and
-rows of one end without the other (tools/reading_alone.py), with `line` of its station alone."""
+rows of one end without the other (tools/reading_alone.py), with `line` of its station alone; as `check`, what the other end could have sent, where
+that is told by numbers."""
 from collections import namedtuple
 
 from reading import NAMES, RULES, Side, judged, passes_over
@@ -206,4 +207,23 @@ def said_alone(text, line):
         'what': 'refused', 'side': 'a', 'record': place, 'line': place + 2, 'number': number, 'name': NAMES[number - 1], 'accuses': accuses,
     }, record_of(words), state_of(0, side)]
     lines += [link_of(0, link) for link in side.links.links if link.phase != 'Ended']
-    return Said(lines, list(side_rows(0, side, named_by(words))), None, None)
+    allowed = allowed_there(number, side, text.split()[2:4], named_by(words)) if accuses == 'other end' else None
+    return Said(lines, list(side_rows(0, side, named_by(words))), None, allowed)
+
+
+def allowed_there(number, side, head, named):
+    """What the other end could have sent in the place of what came, where that is told by numbers."""
+    if number == 8:
+        return 'RESP ' + span(side.station.acknowledged % 256, side.station.given % 256)
+    if number == 16:
+        return '%s to %s: from the peer in the head to the node in the head' % tuple(head[::-1])
+    if number == 21:
+        flow = next(link.flow for link in side.links.links if link.phase != 'Ended' and link.own == named[0])
+        first, last = flow.acknowledged % 4096, flow.given % 4096
+        older = '; or an older one again' if first else ''
+        return 'acks or naks %s: the highest acknowledged on this link, and the highest sent%s' % (span(first, last), older)
+    return None
+
+
+def span(first, last):
+    return '%d to %d' % (first, last) if first != last else str(first)

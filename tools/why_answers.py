@@ -6,6 +6,7 @@ import subprocess
 import sys
 import tempfile
 from collections import namedtuple
+from functools import cache
 
 sys.dont_write_bytecode = True  # leaves no file beside the modules
 from pair_lists import lines_below
@@ -34,6 +35,7 @@ def stored():
         yield Stored(' | '.join(captures), order.split(' '), rows)
 
 
+@cache
 def pairs_by_name():
     """Each pair of the lists by its list, the heading that it stands below and its turns; and those of tools/why by their names."""
     pairs = {}

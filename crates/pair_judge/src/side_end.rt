@@ -15,7 +15,7 @@ use crate::line::Line;
 use crate::lone_end::LoneEnd;
 use capture::{CaptureReader, Entry};
 use ddcmp_station::StationView;
-use nsp_link::LinkView;
+use nsp_link::{LinkView, Nodes};
 use std::marker::Model;
 
 /// One end as its judge leaves it. A contract sees what is shown of it.
@@ -98,6 +98,14 @@ impl SideEnd {
         ensures { result ≡ option_map link.view_of (slice_get self.now.links.links number) }
     {
         self.layers.link_view(number)
+    }
+
+    /// Between which nodes a message comes here: from the peer to the own node of its head.
+    pub fn coming(&self) -> Nodes {
+        Nodes {
+            source: self.capture.peer(),
+            destination: self.capture.own(),
+        }
     }
 
     /// How many units it sent: its next one has this number.

@@ -8,22 +8,27 @@ ghost use Rattle.why.specs.inner.OtherEnd as spec;
 use crate::checks::seen_and_allowed;
 use crate::layers::{message_in_unit, packet_in};
 use crate::nsp_words::MessageWords;
-use crate::packet_words::RoutingWords;
+use crate::packet_words::{NodesWords, RoutingWords};
 use crate::rules::RuleKeys;
-use crate::words::{Range, short_number_or};
+use crate::words::{Range, short_number_or, words_if};
 use ddcmp_msg::{Message, Reading, read_unit};
 use ddcmp_station::StationView;
+use nsp_link::{LinkView, Nodes};
 use pair_judge::Reason;
 use std::alloc::{AllocError, Global};
 use std::fmt::{self, Formatter, Write};
 
 /// A record of one end that is refused by the other end's fault: what came in these bytes, and what could have come to a station with these
-/// variables.
+/// variables, between these nodes, for this link.
 #[derive(Clone, Copy)]
 pub struct OtherEnd<'a> {
     pub reason: Reason,
     pub bytes: &'a [u8],
     pub station: StationView,
+    /// From which node to which a message comes here, as the head says.
+    pub nodes: Nodes,
+    /// The live link that the message names, if there is one.
+    pub link: Option<LinkView>,
 }
 
 /// The same as one JSON object with its LF, with the rule.
@@ -34,13 +39,9 @@ pub struct OtherEndObject<'a> {
 
 impl fmt::Display for OtherEndObject<'_> {
     fn fmt<W: Write>(&self, f: &mut Formatter<W>) -> fmt::Result {
-        let OtherEnd {
-            reason,
-            bytes,
-            station,
-        } = self.told;
+        let OtherEnd { reason, bytes, .. } = self.told;
         let seen = SeenThere { reason, bytes };
-        let allowed = AllowedThere { reason, station };
+        let allowed = AllowedThere { told: self.told };
         let rule = RuleKeys { reason };
         write!(
             f,
@@ -51,13 +52,9 @@ impl fmt::Display for OtherEndObject<'_> {
 
 /// The same in rows. Fails for want of memory alone.
 pub fn other_end_rows(alloc: Global, told: OtherEnd<'_>) -> Result<String, AllocError> {
-    let OtherEnd {
-        reason,
-        bytes,
-        station,
-    } = told;
+    let OtherEnd { reason, bytes, .. } = told;
     let seen = format!(in alloc; "{}", SeenThere { reason, bytes })?;
-    let allowed = format!(in alloc; "{}", AllowedThere { reason, station })?;
+    let allowed = format!(in alloc; "{}", AllowedThere { told })?;
     seen_and_allowed(alloc, seen.as_str(), allowed.as_str(), reason)
 }
 
@@ -122,25 +119,51 @@ fn write_message<W: Write>(f: &mut Formatter<W>, message: Option<&[u8]>) -> fmt:
 
 // What could have come.
 #[derive(Clone, Copy)]
-struct AllowedThere {
-    reason: Reason,
-    station: StationView,
+struct AllowedThere<'a> {
+    told: OtherEnd<'a>,
 }
 
-impl fmt::Display for AllowedThere {
+impl fmt::Display for AllowedThere<'_> {
     fn fmt<W: Write>(&self, f: &mut Formatter<W>) -> fmt::Result {
-        match self.reason {
+        let OtherEnd {
+            reason,
+            station,
+            nodes,
+            link,
+            ..
+        } = self.told;
+        match reason {
             Reason::WrongResponse => {
                 let range = Range {
-                    first: u16::from(self.station.acknowledged),
-                    last: u16::from(self.station.given),
+                    first: u16::from(station.acknowledged),
+                    last: u16::from(station.given),
                 };
                 write!(f, "RESP {range}")
             }
             Reason::WrongNode => {
-                f.write_str("a packet from the peer in the head to the node in the head")
+                let nodes = NodesWords { nodes };
+                write!(
+                    f,
+                    "{nodes}: from the peer in the head to the node in the head"
+                )
             }
-            _ => f.write_str("an acknowledgement of segments that this end has sent on the link"),
+            _ => write_given(f, link),
         }
     }
+}
+
+// Writes which segments a message for this link can acknowledge.
+fn write_given<W: Write>(f: &mut Formatter<W>, link: Option<LinkView>) -> fmt::Result {
+    let Some(link) = link else {
+        return f.write_str("an acknowledgement of segments that this end has sent on the link");
+    };
+    let range = Range {
+        first: link.numbers.acknowledged,
+        last: link.numbers.given,
+    };
+    let older = words_if(link.numbers.acknowledged != 0, "; or an older one again");
+    write!(
+        f,
+        "acks or naks {range}: the highest acknowledged on this link, and the highest sent{older}"
+    )
 }

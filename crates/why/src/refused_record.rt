@@ -13,7 +13,7 @@ use crate::record::{record_json, record_text};
 use crate::refused_line::RefusedLine;
 use crate::sides::{side_json, side_text};
 use crate::state_line::StateLine;
-use crate::subject::Addresses;
+use crate::subject::{Addresses, addresses_of, subjects};
 use capture::Entry;
 use ddcmp_msg::read_unit;
 use pair_judge::{FailedCheck, SideEnd};
@@ -83,15 +83,7 @@ fn check_told(
     end: &SideEnd,
 ) -> Result<String, AllocError> {
     let Some(failed) = refused.failed else {
-        let told = OtherEnd {
-            reason: refused.line.reason,
-            bytes: refused.bytes,
-            station: end.station(),
-        };
-        return match form {
-            Form::Object => format!(in alloc; "{}", OtherEndObject { told }),
-            Form::Rows => other_end_rows(alloc, told),
-        };
+        return other_end_told(alloc, form, refused, end);
     };
     let fronts = FrontTexts::of(alloc, end, refused.says, refused.bytes, refused.unit)?;
     let check = Check {
@@ -106,6 +98,33 @@ fn check_told(
     match form {
         Form::Object => format!(in alloc; "{}", CheckObject { check }),
         Form::Rows => check_rows(alloc, check),
+    }
+}
+
+// What came to this end, and what a right other end could have sent.
+fn other_end_told(
+    alloc: Global,
+    form: Form,
+    refused: RefusedRecord<'_>,
+    end: &SideEnd,
+) -> Result<String, AllocError> {
+    let live = live_links(alloc, end)?;
+    let named = addresses_of(refused.says, refused.bytes);
+    let found = subjects(alloc, named, live.as_slice())?;
+    let link = match found.as_slice() {
+        [link, ..] => Some(*link),
+        [] => None,
+    };
+    let told = OtherEnd {
+        reason: refused.line.reason,
+        bytes: refused.bytes,
+        station: end.station(),
+        nodes: end.coming(),
+        link,
+    };
+    match form {
+        Form::Object => format!(in alloc; "{}", OtherEndObject { told }),
+        Form::Rows => other_end_rows(alloc, told),
     }
 }
 

@@ -1,0 +1,52 @@
+/* recorder_calls FILE: calls examples/recorder.h as a node would that made a capture in format 1, which is read from standard input; tells each call
+   that was not taken, as `line 3`. */
+#include "recorder.h"
+#include <stdlib.h>
+#include <string.h>
+
+static unsigned char bytes[1 << 17];
+static char line[1 << 19];
+
+/* The bytes that these digits spell, `-` for none: how many they are. */
+static size_t spelled(const char *digits)
+{
+    size_t count = 0;
+    for (; digits[0] != '-' && digits[0] && digits[1]; digits += 2) {
+        char two[3] = {digits[0], digits[1], 0};
+        bytes[count++] = (unsigned char)strtoul(two, NULL, 16);
+    }
+    return count;
+}
+
+/* Makes the call of this line; where its number is that of the next unit, by that name. */
+static int called(struct recorder *log)
+{
+    char *last = strrchr(line, ' ');
+    char *hint = strchr(line, ' ') + 1;
+    if (line[0] == 'u') {
+        if (strncmp(line, "u in ", 5) && strncmp(line, "u up ", 5)) return recorder_user(log, line + 2);
+        *last = 0;
+        return recorder_message(log, line + 2, bytes, spelled(last + 1));
+    }
+    size_t length = spelled(last + 1);
+    long long number = strtoll(hint, NULL, 10);
+    if (number == log->next) number = RECORDER_NEXT;
+    switch (line[0]) {
+    case 's': return recorder_sent(log, bytes, length);
+    case 'n': return recorder_noise(log, bytes, length);
+    case 'k': return recorder_kept(log, bytes, length, number);
+    default: return recorder_received(log, bytes, length, number);
+    }
+}
+
+int main(int count, char **words)
+{
+    struct recorder log;
+    char own[16], peer[16];
+    if (count != 2 || scanf("ddcap 1 %15s %15s\n", own, peer) != 2 || !recorder_open(&log, words[1], own, peer)) return 1;
+    for (int number = 2; fgets(line, sizeof line, stdin); number++) {
+        line[strcspn(line, "\n")] = 0;
+        if (!called(&log)) printf("line %d\n", number);
+    }
+    return fclose(log.file) != 0;
+}
