@@ -175,8 +175,9 @@ export function whyView({refusal, text, meaning}) {
   return parts;
 }
 
-// A text whose parts between backquotes are code.
-const codes = text => text.split('`').map((part, i) => i % 2 ? make('code', {}, part) : part);
+// A text whose parts between backquotes, and options of the program, are code.
+const codes = text => text.split(/`([^`]*)`|(--[a-z]+)/).filter(part => part !== undefined)
+  .map((part, i) => i % 2 ? make('code', {className: part.startsWith('--') ? 'option' : ''}, part) : part);
 
 export function coverView(text) {
   const cover = coverOf(text);
