@@ -186,7 +186,8 @@ def causes(use):
         use.expect('the other end did it', use.text('#verdict .cause').startswith('The other end acknowledged'))
         use.expect('its file', 'line 6 of one_end.a' in use.text('#verdict .column'))
         use.expect('in its place', 'one_end.a' in use.text(box) and 'bad' in use.browser.value('document.querySelector(%r).className' % box))
-        use.expect('likewise of DDCMP alone', use.judge('#line') == 'Refused' and use.text('#verdict .cause').startswith('The other end acknowledged'))
+        use.expect('it is refused as DDCMP alone', use.judge('#line') == 'Refused')
+        use.expect('likewise', use.text('#verdict .cause').startswith('The other end acknowledged'))
         use.click('#plain')
 
 
@@ -206,11 +207,11 @@ def listed(use, name):
 
 def queues(use):
     """Where a queue between NSP and DDCMP explains a refusal, that is said, and judging so is offered; and where it doesn't, that is said too."""
-    pair, columns = [example('message_after_close.' + side) for side in 'ab'], '[...document.querySelectorAll("#verdict .column")].map(it => it.textContent)'
+    pair, columns = [example('message_after_close.' + side) for side in 'ab'], '[...document.querySelectorAll("#verdict .column p")]'
     use.clear()
     use.expect('a message after the close is refused', use.drop(*pair) == 'Refused')
     use.expect('a queue explains it', 'Judged as such, the pair is accepted.' in use.text('#verdict .queue'))
-    use.expect('the close is shown', 'line 11 of message_after_close.a' in use.browser.value(columns)[1])
+    use.expect('the close is shown', 'line 11 of message_after_close.a' in use.browser.value(columns + '[1].textContent'))
     use.expect('nobody is accused', 'nobody: a node with a queue' in use.text('#verdict dl'))
     use.expect('judged with a queue', use.judge('#verdict .queue button') == 'Accepted')
     use.expect('that is chosen', use.browser.value('document.querySelector("#queued").checked'))
