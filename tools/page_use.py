@@ -109,6 +109,8 @@ def several_drops(use):
     use.browser.until('document.querySelector("#panel").textContent.includes("Look for")')
     use.expect('and with links again', use.judge('#plain') == 'Refused')
     use.expect('a wire text takes the place of both', use.choose('b', example('two_way_links.wire')) == 'Accepted')
+    chosen = '[document.querySelector("#plain").disabled, document.querySelector("[name=choice]:checked").id]'
+    use.expect('queues are always allowed for on the wire', use.browser.value(chosen) == [True, 'queued'])
     saved = use.browser.value('[...document.querySelectorAll("#saved a")].map(it => it.download).join()')
     use.expect('its captures can be saved', saved == 'line.a,line.b')
     use.expect('a wire text without an explanation', use.choose('a', os.path.join(TOP, 'tools', 'tap', 'skipped_number.wire')) == 'Unexplained')
@@ -116,6 +118,7 @@ def several_drops(use):
     use.expect('on what it rests', 'every unit sent passed this point' in use.text('#verdict .meaning'))
     use.expect('a script too', use.choose('a', example('lost_and_damaged.script')) == 'Accepted')
     use.expect('a pair in place of a script', use.choose('a', example('two_links.a'), example('two_links.b')) == 'Accepted')
+    use.expect('as it was chosen before', use.browser.value(chosen) == [False, 'plain'])
     use.click('#swap')
     use.expect('swapped sides', 'two_links.b' in use.text('#end-a') and use.said() == 'Accepted')
     use.clear()

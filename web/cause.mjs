@@ -41,6 +41,15 @@ export function sentence({side, number, accuses}, isOneEnd) {
   return said.replace(/(.)(End|This|The) /g, (_, before, word) => before + word.toLowerCase() + ' ');
 }
 
+// What the phases of a link mean, by their names.
+const PHASES = {Calling: 'opened here, not answered yet', Called: 'called by the other end, its user has not answered',
+  Confirming: 'its user accepted the call',
+  RUN: 'both ends know it, and data may go', DI: 'its user closed or rejected it'};
+
+// The phases that a text names, with what they mean.
+export const phasesIn = text => Object.entries(PHASES).filter(([name]) => new RegExp(`\\b${name}\\b`).test(text))
+  .map(([name, meaning]) => `${name}: ${meaning}.`).join(' ');
+
 const START = /^u start$/, KEPT = /^k -?\d+ 81/, SENT = /^s 81/;
 
 // What a user does with the link that a record is about, as far as the record tells its address at this end.

@@ -6,7 +6,7 @@ import {Session} from './session.mjs';
 import {ALLOWED_FOR, conditionsOf, faultOf, printed, rowsOf} from './telling.mjs';
 import {brokenView, causeView, countsView, coverView, faultView, keyView, link, make, pictureView, textView, whyView} from './views.mjs';
 
-let judge = null, round = 0, current = null;
+let judge = null, round = 0, current = null, isLeft = false;
 
 // ---- the judge
 
@@ -86,11 +86,20 @@ function strange(side, file, found) {
   $('#end-' + side).classList.add('bad');
 }
 
+// Over a wire text queues are always allowed for, so nothing else is offered; what was chosen before comes back for the next capture.
+function offer(isWire) {
+  const [plain, queued] = [$('#plain'), $('#queued')];
+  plain.disabled = isWire;
+  if (isWire && plain.checked) queued.checked = isLeft = true;
+  else if (!isWire && isLeft) plain.checked = true, isLeft = false;
+}
+
 async function judgeGiven(notes = []) {
   const leaving = leaveWhole(), mine = ++round;
   const given = ['a', 'b'].filter(side => ends[side]).map(side => ({side, ...ends[side], seems: seeming(ends[side].bytes)}));
   note(...notes, ...leaving, ...(given.length === 2 ? unpaired(given) : []));
   between('');
+  offer(given.some(({seems}) => seems.kind === 'wire'));
   if (!given.length) {
     $('#result').hidden = true;
     return;
@@ -255,7 +264,12 @@ document.ondrop = event => {
   if (box) box.classList.remove('over');
   take(event.dataTransfer.files, box ? box.id.slice(-1) : null);
 };
-for (const choice of document.querySelectorAll('[name=choice]')) choice.onchange = () => judgeGiven();
+for (const choice of document.querySelectorAll('[name=choice]')) {
+  choice.onchange = () => {
+    isLeft = false;
+    judgeGiven();
+  };
+}
 $('#swap').onclick = () => {
   const {a, b} = ends;
   put('a', b), put('b', a);

@@ -1,14 +1,14 @@
 // What is asked of the program over one drop, each question once: two captures, one, a wire text, or a script.
 import {answerOf, printed, refusalOf, refusedIn, verdictOf} from './telling.mjs';
 
-// By what is judged, the program's word for it: nodes that act at once, nodes with queues, DDCMP alone.
+// By what is judged, the program's word for it: nodes that act at once, nodes with queues, DDCMP alone. `tap` always allows for queues.
 const OPTIONS = {plain: [], queued: ['--queued'], line: ['--line']};
 
 // Reasons that a queue may explain, as `why` has them. It says so of a pair, and not of one end.
 const MAY_BE_QUEUED = [18, 19, 20, 21];
 
 export class Session {
-  // `given` are {side, name, bytes, kind}, as `seeming` tells the kind; `choice` is one of OPTIONS.
+  // `given` are {side, name, bytes, kind}, as `seeming` tells the kind; `choice` is one of OPTIONS, and of a wire text not `plain`.
   constructor(judge, given, choice) {
     this.judge = judge;
     this.given = given;
@@ -17,7 +17,7 @@ export class Session {
     this.names = given.length === 1 ? ['a'] : given.map(({side}) => side);  // the program calls one end a, wherever it was dropped
     this.texts = Object.fromEntries(given.map(({bytes}, i) => [this.names[i], bytes]));
     this.source = given.find(({kind}) => kind !== 'capture');
-    this.choice = this.isWire && choice === 'plain' ? 'queued' : choice;  // `tap` allows for queues
+    this.choice = choice;
     this.options = OPTIONS[this.choice];
   }
 

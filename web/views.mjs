@@ -1,6 +1,6 @@
 // The parts of the page that show an answer. Each makes an element, or several, of what the program said.
 import {countsOf, coverOf, explanationOf, rowsOf} from './telling.mjs';
-import {sentence, sideBySide} from './cause.mjs';
+import {phasesIn, sentence, sideBySide} from './cause.mjs';
 import {linesOf, wrongWith} from './seeming.mjs';
 
 const MOST_SHOWN = 400_000;
@@ -75,7 +75,8 @@ export function causeView({refusal, text, meaning}, session, first, judgeQueued)
   const {refused, check, edit} = refusal, told = rowsOf(text, 'accused', 'unit'), {texts, source, isWire} = session;
   const meant = explanationOf(meaning).find(part => part.text).text;
   const said = sentence(refused, session.names.length === 1) || meant;
-  const boxed = (name, title, words) => make('div', {className: name}, make('small', {}, title), make('b', {}, words));
+  const phases = words => check.check === 'phase' ? make('span', {className: 'phases'}, phasesIn(words)) : '';
+  const boxed = (name, title, words) => make('div', {className: name}, make('small', {}, title), make('b', {}, words), phases(words));
   const parts = [make('p', {className: 'cause'}, isWire ? `As far as it could be placed, ${lowered(said)}` : said)];
   if (refusal.queued) parts.push(queueView(refusal, session, judgeQueued));
   if (check) parts.push(make('div', {className: 'pair'}, boxed('seen', 'Seen', check.seen), boxed('allowed', 'Allowed there', check.allowed)));
