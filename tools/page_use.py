@@ -321,6 +321,7 @@ def by_keys_alone(use):
 # What a browser may lack, as a script that takes it away, and what is said then.
 LACKING = [
     ('delete globalThis.WebAssembly', 'This browser has no WebAssembly'),
+    ('delete globalThis.Worker', 'This browser has no workers'),
     ('delete globalThis.DecompressionStream', 'This browser has no DecompressionStream'),
     ('WebAssembly.compile = async () => { throw new Error("no SIMD"); }', 'could not be started: no SIMD'),
 ]
@@ -336,6 +337,12 @@ def lacking(use):
         use.expect('%s: when a pair is dropped' % script, words in use.drop(example('wrong_response.a'), example('wrong_response.b')))
         use.expect('%s: what to do' % script, 'A browser of 2023 or later' in use.text('#note'))
         use.browser.send('Page.removeScriptToEvaluateOnNewDocument', identifier=added)
+    with open(use.page, 'rb') as page:
+        unread = use.file('unread.html', page.read().replace(b'<script type="module">', b'<script type="module">not to be read'))
+    use.browser.open('file://' + unread)
+    note = use.browser.until('!document.querySelector("#note").hidden && document.querySelector("#note").textContent')
+    use.expect('a browser that can not read the script: ' + note, 'too old' in note and 'A browser of 2023 or later' in note)
+    use.browser.errors.clear()  # which that was
 
 
 def opened(use):
