@@ -228,6 +228,7 @@ def queues(use):
     use.expect('the next end with a queue', use.drop(pair[0], on='#end-a') == 'Passed')
     use.expect('and without', use.judge('#plain') == 'Refused')
     use.expect('of one end too', 'Judged as such, this end passes.' in use.text('#verdict .queue'))
+    use.expect('and it is not accused then', 'nobody, if this node has a queue' in use.text('#verdict dl'))
     for name, words in REFUSED_QUEUED:
         use.clear()
         use.drop(*listed(use, name))

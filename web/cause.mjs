@@ -42,9 +42,10 @@ export function sentence({side, number, accuses}, isOneEnd) {
 }
 
 // What the phases of a link mean, by their names.
-const PHASES = {Calling: 'opened here, not answered yet', Called: 'called by the other end, its user has not answered',
-  Confirming: 'its user accepted the call',
-  RUN: 'both ends know it, and data may go', DI: 'its user closed or rejected it'};
+const PHASES = {
+  Calling: 'opened here, not answered yet', Called: 'called by the other end, its user has not answered', Confirming: 'its user accepted the call',
+  RUN: 'both ends know it, and data may go', DI: 'its user closed or rejected it',
+};
 
 // The phases that a text names, with what they mean.
 export const phasesIn = text => Object.entries(PHASES).filter(([name]) => new RegExp(`\\b${name}\\b`).test(text))

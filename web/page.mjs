@@ -3,10 +3,10 @@ import {$, ends, leaveWhole, place, put} from './boxes.mjs';
 import {Judge} from './judge.mjs';
 import {MOST_BYTES, cured, seeming, unpaired} from './seeming.mjs';
 import {Session} from './session.mjs';
-import {ALLOWED_FOR, conditionsOf, faultOf, printed, rowsOf} from './telling.mjs';
+import {ALLOWED_FOR, accusedOf, conditionsOf, faultOf, printed} from './telling.mjs';
 import {brokenView, causeView, countsView, coverView, faultView, keyView, link, make, pictureView, textView, whyView} from './views.mjs';
 
-let judge = null, round = 0, current = null, isLeft = false;
+let judge = null, round = 0, current = null, isPlainLeft = false;
 
 // ---- the judge
 
@@ -90,8 +90,8 @@ function strange(side, file, found) {
 function offer(isWire) {
   const [plain, queued] = [$('#plain'), $('#queued')];
   plain.disabled = isWire;
-  if (isWire && plain.checked) queued.checked = isLeft = true;
-  else if (!isWire && isLeft) plain.checked = true, isLeft = false;
+  if (isWire && plain.checked) queued.checked = isPlainLeft = true;
+  if (!isWire && isPlainLeft) plain.checked = true, isPlainLeft = false;
 }
 
 async function judgeGiven(notes = []) {
@@ -141,7 +141,7 @@ function between(kind) {
 function show(session, verdict, why, took) {
   current = session;
   const refused = why && why.refusal && why.refusal.refused;
-  const accused = why && !session.isWire ? rowsOf(why.text, 'accused').accused[0] : null;
+  const accused = why && !session.isWire ? accusedOf(why) : null;
   const fault = faultOf(session.answer), at = session.source ? null : refused || fault;
   const box = $('#verdict');
   box.className = 'verdict ' + verdict.kind;
@@ -266,7 +266,7 @@ document.ondrop = event => {
 };
 for (const choice of document.querySelectorAll('[name=choice]')) {
   choice.onchange = () => {
-    isLeft = false;
+    isPlainLeft = false;
     judgeGiven();
   };
 }

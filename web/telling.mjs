@@ -66,6 +66,12 @@ export function rowsOf(text, ...names) {
   return found;
 }
 
+// Who is accused of a refusal, in the program's words; of one end the program doesn't say there that a queue would excuse it.
+export function accusedOf({refusal, text}) {
+  const [accused] = rowsOf(text, 'accused').accused, isExcused = refusal && refusal.queued && refusal.queued.answer === 'passed';
+  return accused && isExcused ? `nobody, if this node has a queue between NSP and DDCMP; else ${accused}` : accused;
+}
+
 // The counts of an accepted answer: {names, a: [..], b: [..]}, or null. `a records 25 sent 11 ..`
 export function countsOf(text) {
   const sides = Object.fromEntries([...text.matchAll(/^([ab]) (records (?:\d+ \w+ )*\d+)$/gm)].map(([, side, words]) => [side, words.split(' ')]));

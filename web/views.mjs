@@ -1,5 +1,5 @@
 // The parts of the page that show an answer. Each makes an element, or several, of what the program said.
-import {countsOf, coverOf, explanationOf, rowsOf} from './telling.mjs';
+import {accusedOf, countsOf, coverOf, explanationOf, rowsOf} from './telling.mjs';
 import {phasesIn, sentence, sideBySide} from './cause.mjs';
 import {linesOf, wrongWith} from './seeming.mjs';
 
@@ -72,7 +72,7 @@ export function faultView(fault, session) {
 // contradicts; the rule, who is accused, and the change of a recording that would mend it. `first` is the program's first line; `judgeQueued`
 // judges anew, as nodes with a queue.
 export function causeView({refusal, text, meaning}, session, first, judgeQueued) {
-  const {refused, check, edit} = refusal, told = rowsOf(text, 'accused', 'unit'), {texts, source, isWire} = session;
+  const {refused, check, edit} = refusal, told = rowsOf(text, 'unit'), {texts, source, isWire} = session;
   const meant = explanationOf(meaning).find(part => part.text).text;
   const said = sentence(refused, session.names.length === 1) || meant;
   const phases = words => check.check === 'phase' ? make('span', {className: 'phases'}, phasesIn(words)) : '';
@@ -86,7 +86,7 @@ export function causeView({refusal, text, meaning}, session, first, judgeQueued)
   const likely = edit.map(({words}) => words).join('; or ');
   const place = first.match(/^unexplained ([ab]) unit (\d+) line (\d+)/);
   const where = place && `unit ${place[2]} of ${place[1]} (counted from 0), whose first byte is on line ${place[3]} of ${source.name}`;
-  const known = [['On the wire', where], ['The rule', rule], ['Accused', isWire ? '' : told.accused[0]],
+  const known = [['On the wire', where], ['The rule', rule], ['Accused', isWire ? '' : accusedOf({refusal, text})],
     ['The recording', likely && `likely at fault: ${likely}`]];
   parts.push(make('dl', {}, ...rows(known.filter(([, value]) => value).map(([name, value]) => [name, codes(value)]))));
   return parts;
