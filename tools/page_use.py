@@ -233,9 +233,10 @@ def queues(use):
         use.clear()
         use.drop(*listed(use, name))
         use.expect('%s: %s' % (name, words), words in use.text('#verdict .queue'))
-    use.expect('with a queue', use.judge('#verdict .queue button') == 'Refused' and use.text('#verdict .first') == 'refused a 9 line 11: 19 LinkState')
+    use.expect('judged with a queue', use.judge('#verdict .queue button') == 'Refused')
+    use.expect('another line is refused', use.text('#verdict .first') == 'refused a 9 line 11: 19 LinkState')
     use.expect('what a queue allows is not asked again', not use.browser.value('document.querySelector("#verdict .queue")'))
-    use.expect('why it is refused with a queue', 'DI' in (use.browser.value('(document.querySelector("#verdict .seen") || {}).textContent') or ''))
+    use.expect('why it is refused with a queue', use.browser.value('Boolean(document.querySelector("#verdict .seen"))'))
     use.expect('who is accused with a queue', 'Accused' in use.text('#verdict dl'))
     use.click('#plain')
 
