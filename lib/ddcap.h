@@ -21,7 +21,7 @@ enum {
   DDCAP_NO_MEMORY = 3
 };
 
-/* Choices, which may be added up; the first and the last do not go together. */
+/* Choices, which may be added up; DDCAP_LINE and DDCAP_QUEUED do not go together. */
 enum {
   DDCAP_LINE = 1,  /* DDCMP alone is judged, without links */
   DDCAP_JSON = 2,  /* the answer is a JSON object, of `ddcap_why` one on a line for each part; docs/KEYS.md has their keys */

@@ -79,7 +79,7 @@ def _choices(line, json, queued):
 
 def check(a, b, line=False, json=False, queued=False):
     """Judges the captures of both ends of a line, as `ddcap check A B`. With `queued` the nodes may have a queue between NSP and DDCMP, as most real
-    nodes have: what waits there may be out of date when it is sent. With `line` DDCMP is judged alone, without links; not both. With `json` the
+    nodes have: what waits there may be out of date when it is sent. With `line` DDCMP is judged alone, without links: never both. With `json` the
     answer is one object.
 
     >>> check('ddcap 1 1.1 1.2\\nu start\\n', 'ddcap 1 1.2 1.1\\n', json=True).parts()[0]['what']
