@@ -217,7 +217,7 @@ def queues(use):
     use.expect('the close is shown', 'line 11 of message_after_close.a' in use.browser.value(columns + '[1].textContent'))
     use.expect('nobody is accused', 'nobody: a node with a queue' in use.text('#verdict dl'))
     use.expect('judged with a queue', use.judge('#verdict .queue button') == 'Accepted')
-    use.expect('that is chosen', use.browser.value('document.querySelector("#queued").checked'))
+    use.expect('that is chosen', use.browser.value('document.querySelector("#queued").checked && document.activeElement.id === "queued"'))
     use.expect('and said', 'A queue between NSP and DDCMP was allowed for.' in use.text('#verdict .meaning'))
     for number, words in (1, 'DC 2>1'), (2, 'DC 2>1'), (3, 'went through 15 of 80 rows'):  # what comes after the message
         use.click('#tab-%d' % number)
@@ -288,7 +288,7 @@ def tabs_and_keys(use):
         if name == 'Rules met':
             heads = use.browser.value('[...document.querySelectorAll("#panel thead th")].map(it => it.textContent)')
             use.expect('its columns', heads == ['rule', 'a', 'b'])
-    named = ('button', 'tab', 'checkbox', 'link', 'tabpanel', 'img')
+    named = ('button', 'tab', 'radio', 'link', 'tabpanel', 'img')
     nodes = use.browser.send('Accessibility.getFullAXTree')['nodes']
     found = [node for node in nodes if node.get('role', {}).get('value') in named]
     use.expect('controls', len(found) > 10)

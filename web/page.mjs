@@ -228,8 +228,10 @@ function showTabs(session, verdict, why) {
 
 // ---- the controls
 
+// What a button in the verdict offers. The button goes, so the choice that it made has the focus.
 function judgeQueued() {
   $('#queued').checked = true;
+  $('#queued').focus({preventScroll: true});
   judgeGiven();
 }
 
