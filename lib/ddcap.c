@@ -8,7 +8,7 @@
 
 #define EXPORTED __attribute__((visibility("default")))
 
-enum { MOST_WORDS = 5 };
+enum { MOST_WORDS = 6 };
 
 static char no_memory[] = "out of memory\n"; /* what the program prints; never written */
 
@@ -34,6 +34,7 @@ static int answered(const char *word, const char *a, size_t a_length, const char
   const char *words[MOST_WORDS] = {word};
   size_t count = 1;
   if (choices & DDCAP_LINE) words[count++] = "--line";
+  if (choices & DDCAP_QUEUED) words[count++] = "--queued";
   if (choices & DDCAP_JSON) words[count++] = "--json";
   words[count++] = "a";
   if (b) words[count++] = "b";

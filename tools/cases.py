@@ -1,5 +1,6 @@
 """Cases for what answers as the program does, the page and the library: words over texts, with what the program prints to both streams, its status,
-and the texts that it writes. They are made of the lists in tools/pairs, of tools/rows.txt, of tools/texts.txt's kinds and of examples/."""
+and the texts that it writes. They are made of the lists in tools/pairs, of tools/alone.txt and tools/rows.txt, of the captures in tools/why, of the
+wire texts in tools/tap, of examples/, and of what is asked in vain."""
 import glob
 import os
 import random
@@ -14,7 +15,22 @@ from program import PROGRAM, TOP
 from rows import HEAD, rows_of
 
 Case = namedtuple('Case', 'name words texts status out err made')
-LISTS = ('station.txt', []), ('links.txt', []), ('worked.txt', []), ('line.txt', ['--line'])
+# The lists, with what `check` is asked besides.
+LISTS = (('station.txt', []), ('links.txt', []), ('worked.txt', []), ('line.txt', ['--line']),
+         ('queues.txt', ['--queued']), ('worked_queues.txt', ['--queued']))
+# What else is asked of some of the pairs, and of their sides a.
+OF_PAIRS = [words.split() for words in (
+    'check --json a b', 'why a b', 'why --json a b', 'cover a b', 'draw a b', 'draw a b --svg svg',
+    'check --line a b', 'why --line a b', 'cover --line --json a b',
+    'check --queued a b', 'why --queued a b', 'why --queued --json a b', 'cover --queued a b', 'draw --queued a b',
+    'check --line --queued a b', 'convert 2 a made')]
+OF_ONE_END = [words.split() for words in (
+    'alone a', 'alone --line --json a', 'alone --queued a', 'alone --json --queued a', 'why a', 'why --line a', 'why --queued a', 'show a')]
+
+
+def bytes_of(path):
+    with open(path, 'rb') as file:
+        return file.read()
 
 
 def pairs_of(name, most):
@@ -31,32 +47,36 @@ def asked_of_pairs(most):
         for number, (place, (a, b)) in enumerate(pairs_of(name, most)):
             yield place, ['check', *more, 'a', 'b'], {'a': a, 'b': b}
             if number % 10 == 0:
-                for words in (['why', 'a', 'b'], ['why', '--json', 'a', 'b'], ['cover', 'a', 'b'], ['draw', 'a', 'b'],
-                              ['draw', 'a', 'b', '--svg', 'svg'], ['check', '--line', 'a', 'b'], ['convert', '2', 'a', 'made'],
-                              ['check', '--json', 'a', 'b'], ['why', '--line', 'a', 'b'], ['cover', '--line', '--json', 'a', 'b']):
-                    yield place, words, {'a': a, 'b': b}
-                for words in ['alone', 'a'], ['alone', '--line', '--json', 'a'], ['show', 'a'], ['why', 'a'], ['why', '--line', 'a']:
-                    yield place, words, {'a': a}
+                yield from ((place, words, {'a': a, 'b': b}) for words in OF_PAIRS)
+                yield from ((place, words, {'a': a}) for words in OF_ONE_END)
+    for path in sorted(glob.glob(os.path.join(TOP, 'tools', 'why', '*.a')))[:most]:
+        yield from ((path, words, {'a': bytes_of(path), 'b': bytes_of(path[:-1] + 'b')}) for words in OF_PAIRS[:3])
+
+
+def asked_of_ends(most):
+    """What is asked of the captures of one end."""
+    with open(os.path.join(TOP, 'tools', 'alone.txt')) as lines:
+        rows = [line.rstrip('\n').split(' | ') for line in lines if not line.startswith('#')]
+    for name, records, _ in [row for row in rows if len(row) == 3][:most]:
+        yield name, ['alone', 'a'], {'a': capture_of('a', records).encode()}
 
 
 def asked_of_scripts(most):
-    """What is asked of the player's rows and of examples/."""
+    """What is asked of the player's rows, of examples/ and of the wire texts."""
     set_ups, rows = rows_of()
     rows = list(set_ups.values()) + rows
     random.Random('rows').shuffle(rows)
     for row in rows[:most]:
         yield row.name, ['play', 'script', 'a', 'b'], {'script': (HEAD + ''.join(step + '\n' for step in row.steps())).encode()}
-    for path in sorted(glob.glob(os.path.join(TOP, 'examples', '*'))):
-        with open(path, 'rb') as file:
-            text = file.read()
+    for path in sorted(glob.glob(os.path.join(TOP, 'examples', '*')) + glob.glob(os.path.join(TOP, 'tools', 'tap', '*.wire'))[:most]):
         ending = os.path.splitext(path)[1]
         if ending == '.script':
-            yield path, ['play', 'script', 'a', 'b'], {'script': text}
+            yield path, ['play', 'script', 'a', 'b'], {'script': bytes_of(path)}
         elif ending == '.wire':
-            yield path, ['tap', 'wire', 'a', 'b'], {'wire': text}
-            yield path, ['tap', '--line', 'wire', 'a', 'b'], {'wire': text}
-        else:
-            yield path, ['alone', 'a'], {'a': text}
+            yield path, ['tap', 'wire', 'a', 'b'], {'wire': bytes_of(path)}
+            yield path, ['tap', '--line', 'wire', 'a', 'b'], {'wire': bytes_of(path)}
+        elif ending in ('.a', '.b'):
+            yield path, ['alone', 'a'], {'a': bytes_of(path)}
 
 
 def asked_of_bad_input():
@@ -95,6 +115,6 @@ def answered(asked):
 
 def all_cases(most):
     """The cases of at most so many pairs of each list, and rows."""
-    asked = [*asked_of_pairs(most), *asked_of_scripts(most), *asked_of_bad_input()]
+    asked = [*asked_of_pairs(most), *asked_of_ends(most), *asked_of_scripts(most), *asked_of_bad_input()]
     with ThreadPoolExecutor() as pool:
         return list(pool.map(answered, asked))

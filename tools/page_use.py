@@ -4,6 +4,8 @@ import os
 import re
 import time
 
+from pair_lists import lines_below
+from pairs import capture_of
 from program import TOP
 
 GOOD = b'ddcap 1 1.1 1.2\nu start\ns 0506c00000017595\n'
@@ -83,6 +85,11 @@ class Use:
     def click(self, selector):
         self.browser.value('document.querySelector(%r).click()' % selector)
 
+    def judge(self, selector):
+        """Clicks what judges anew, and waits for what is said."""
+        self.browser.value('globalThis.shown = null; document.querySelector(%r).click()' % selector)
+        return self.said()
+
     def clear(self):
         self.click('#clear')
 
@@ -98,12 +105,12 @@ def several_drops(use):
     use.expect('and with the other it is accepted', use.choose('b', use.file('one.b', OTHER)) == 'Accepted')
     use.expect('a pair at once', use.choose('a', example('wrong_response.a'), example('wrong_response.b')) == 'Refused')
     use.expect('the place', 'line 5 of wrong_response.a' in use.text('#verdict'))
-    use.browser.value('globalThis.shown = null; document.querySelector("#line").click()')
-    use.expect('DDCMP alone', use.said() == 'Refused' and 'line 5 of wrong_response.a' in use.text('#verdict'))
+    use.expect('DDCMP alone', use.judge('#line') == 'Refused' and 'line 5 of wrong_response.a' in use.text('#verdict'))
     use.browser.until('document.querySelector("#panel").textContent.includes("Look for")')
-    use.browser.value('globalThis.shown = null; document.querySelector("#line").click()')
-    use.expect('and with links again', use.said() == 'Refused')
+    use.expect('and with links again', use.judge('#plain') == 'Refused')
     use.expect('a wire text takes the place of both', use.choose('b', example('two_way_links.wire')) == 'Accepted')
+    chosen = '[document.querySelector("#plain").disabled, document.querySelector("[name=choice]:checked").id]'
+    use.expect('queues are always allowed for on the wire', use.browser.value(chosen) == [True, 'queued'])
     saved = use.browser.value('[...document.querySelectorAll("#saved a")].map(it => it.download).join()')
     use.expect('its captures can be saved', saved == 'line.a,line.b')
     use.expect('a wire text without an explanation', use.choose('a', os.path.join(TOP, 'tools', 'tap', 'skipped_number.wire')) == 'Unexplained')
@@ -111,6 +118,7 @@ def several_drops(use):
     use.expect('on what it rests', 'every unit sent passed this point' in use.text('#verdict .meaning'))
     use.expect('a script too', use.choose('a', example('lost_and_damaged.script')) == 'Accepted')
     use.expect('a pair in place of a script', use.choose('a', example('two_links.a'), example('two_links.b')) == 'Accepted')
+    use.expect('as it was chosen before', use.browser.value(chosen) == [False, 'plain'])
     use.click('#swap')
     use.expect('swapped sides', 'two_links.b' in use.text('#end-a') and use.said() == 'Accepted')
     use.clear()
@@ -181,9 +189,56 @@ def causes(use):
         use.expect('the other end did it', use.text('#verdict .cause').startswith('The other end acknowledged'))
         use.expect('its file', 'line 6 of one_end.a' in use.text('#verdict .column'))
         use.expect('in its place', 'one_end.a' in use.text(box) and 'bad' in use.browser.value('document.querySelector(%r).className' % box))
-        use.browser.value('globalThis.shown = null; document.querySelector("#line").click()')
-        use.expect('likewise of DDCMP alone', use.said() == 'Refused' and use.text('#verdict .cause').startswith('The other end acknowledged'))
-        use.click('#line')
+        use.expect('it is refused as DDCMP alone', use.judge('#line') == 'Refused')
+        use.expect('likewise', use.text('#verdict .cause').startswith('The other end acknowledged'))
+        use.click('#plain')
+
+
+# Refused pairs of tools/pairs/worked_queues.txt, which nodes with queues do not make either, and what is said of that.
+REFUSED_QUEUED = [
+    ('a new segment after the DI came; it is still the next piece, refused', 'is no excuse: with one this line is refused too, for reason 20'),
+    ('a data ack after the DI came; not after the own DC, refused', 'this line is refused too, for the same reason'),
+    ('close: once, refused', 'would excuse this line. With one, line 11 of listed.a is refused, for reason 19'),
+]
+
+
+def listed(use, name):
+    """The captures of a pair of that list, as files."""
+    line = next(line for lines in lines_below('worked_queues.txt').values() for line in lines if ', '.join(line.turns) == name)
+    return [use.file('listed.' + side, capture_of(side, records).encode()) for side, records in zip('ab', line.pair)]
+
+
+def queues(use):
+    """Where a queue between NSP and DDCMP explains a refusal, that is said, and judging so is offered; and where it doesn't, that is said too."""
+    pair, columns = [example('message_after_close.' + side) for side in 'ab'], '[...document.querySelectorAll("#verdict .column p")]'
+    use.clear()
+    use.expect('a message after the close is refused', use.drop(*pair) == 'Refused')
+    use.expect('a queue explains it', 'Judged as such, the pair is accepted.' in use.text('#verdict .queue'))
+    use.expect('the close is shown', 'line 11 of message_after_close.a' in use.browser.value(columns + '[1].textContent'))
+    use.expect('nobody is accused', 'nobody: a node with a queue' in use.text('#verdict dl'))
+    use.expect('judged with a queue', use.judge('#verdict .queue button') == 'Accepted')
+    use.expect('that is chosen', use.browser.value('document.querySelector("#queued").checked && document.activeElement.id === "queued"'))
+    use.expect('and said', 'A queue between NSP and DDCMP was allowed for.' in use.text('#verdict .meaning'))
+    for number, words in (1, 'DC 2>1'), (2, 'DC 2>1'), (3, 'went through 15 of 80 rows'):  # what comes after the message
+        use.click('#tab-%d' % number)
+        use.browser.value('new Promise(later => setTimeout(later, 150))')
+        shown = use.browser.value('(it => it.textContent + (it.firstChild.shadowRoot || it).textContent)(document.querySelector("#panel"))')
+        use.expect('tab %d of nodes with queues: %s' % (number, shown), words in shown)
+    use.clear()
+    use.expect('the next end with a queue', use.drop(pair[0], on='#end-a') == 'Passed')
+    use.expect('and without', use.judge('#plain') == 'Refused')
+    use.expect('of one end too', 'Judged as such, this end passes.' in use.text('#verdict .queue'))
+    use.expect('and it is not accused then', 'nobody, if this node has a queue' in use.text('#verdict dl'))
+    for name, words in REFUSED_QUEUED:
+        use.clear()
+        use.drop(*listed(use, name))
+        use.expect('%s: %s' % (name, words), words in use.text('#verdict .queue'))
+    use.expect('judged with a queue', use.judge('#verdict .queue button') == 'Refused')
+    use.expect('another line is refused', use.text('#verdict .first') == 'refused a 9 line 11: 19 LinkState')
+    use.expect('what a queue allows is not asked again', not use.browser.value('document.querySelector("#verdict .queue")'))
+    use.expect('why it is refused with a queue', use.browser.value('Boolean(document.querySelector("#verdict .seen"))'))
+    use.expect('who is accused with a queue', 'Accused' in use.text('#verdict dl'))
+    use.click('#plain')
 
 
 def strange_files(use):
@@ -233,7 +288,7 @@ def tabs_and_keys(use):
         if name == 'Rules met':
             heads = use.browser.value('[...document.querySelectorAll("#panel thead th")].map(it => it.textContent)')
             use.expect('its columns', heads == ['rule', 'a', 'b'])
-    named = ('button', 'tab', 'checkbox', 'link', 'tabpanel', 'img')
+    named = ('button', 'tab', 'radio', 'link', 'tabpanel', 'img')
     nodes = use.browser.send('Accessibility.getFullAXTree')['nodes']
     found = [node for node in nodes if node.get('role', {}).get('value') in named]
     use.expect('controls', len(found) > 10)
@@ -251,11 +306,13 @@ def by_keys_alone(use):
     while len(met) < 20 and (not met or met[-1] != 'examples BUTTON'):
         use.browser.key('Tab', 9)
         met.append(use.browser.value(name))
-    use.expect('the controls in their order: %s' % met, met == ['end-a INPUT', 'end-b INPUT', 'line', 'examples BUTTON'])
+    use.expect('the controls in their order: %s' % met, met == ['end-a INPUT', 'end-b INPUT', 'plain', 'examples BUTTON'])
     use.browser.value('globalThis.shown = null')
     use.browser.key('Enter', 13, text='\r')
     use.expect('an example by Enter', use.said() == 'Refused')
-    use.browser.value('document.querySelector("#line").focus()')
+    use.browser.value('globalThis.shown = null; document.querySelector("#plain").focus()')
+    use.browser.key('ArrowDown', 40)
+    use.expect('another way to judge by an arrow', use.said() == 'Refused' and use.browser.value('document.activeElement.id') == 'queued')
     met = []
     while len(met) < 9 and (not met or met[-1] != 'panel'):
         use.browser.key('Tab', 9)
@@ -266,6 +323,7 @@ def by_keys_alone(use):
 # What a browser may lack, as a script that takes it away, and what is said then.
 LACKING = [
     ('delete globalThis.WebAssembly', 'This browser has no WebAssembly'),
+    ('delete globalThis.Worker', 'This browser has no workers'),
     ('delete globalThis.DecompressionStream', 'This browser has no DecompressionStream'),
     ('WebAssembly.compile = async () => { throw new Error("no SIMD"); }', 'could not be started: no SIMD'),
 ]
@@ -281,6 +339,12 @@ def lacking(use):
         use.expect('%s: when a pair is dropped' % script, words in use.drop(example('wrong_response.a'), example('wrong_response.b')))
         use.expect('%s: what to do' % script, 'A browser of 2023 or later' in use.text('#note'))
         use.browser.send('Page.removeScriptToEvaluateOnNewDocument', identifier=added)
+    with open(use.page, 'rb') as page:
+        unread = use.file('unread.html', page.read().replace(b'<script type="module">', b'<script type="module">not to be read'))
+    use.browser.open('file://' + unread)
+    note = use.browser.until('!document.querySelector("#note").hidden && document.querySelector("#note").textContent')
+    use.expect('a browser that can not read the script: ' + note, 'too old' in note and 'A browser of 2023 or later' in note)
+    use.browser.errors.clear()  # which that was
 
 
 def opened(use):
@@ -309,7 +373,7 @@ def expectations(browser, page, folder):
     """How many things were expected of the page, and those that did not hold."""
     use = Use(browser, page, folder)
     opened(use)
-    for part in several_drops, texts_that_do_not_pair, causes, strange_files, tabs_and_keys, by_keys_alone, lacking:
+    for part in several_drops, texts_that_do_not_pair, causes, queues, strange_files, tabs_and_keys, by_keys_alone, lacking:
         part(use)
     for error in browser.errors:
         use.expect('an error of the page: ' + error, False)

@@ -41,7 +41,23 @@ export function sentence({side, number, accuses}, isOneEnd) {
   return said.replace(/(.)(End|This|The) /g, (_, before, word) => before + word.toLowerCase() + ' ');
 }
 
+// What the phases of a link mean, by their names.
+const PHASES = {
+  Calling: 'opened here, not answered yet', Called: 'called by the other end, its user has not answered', Confirming: 'its user accepted the call',
+  RUN: 'both ends know it, and data may go', DI: 'its user closed or rejected it',
+};
+
+// The phases that a text names, with what they mean.
+export const phasesIn = text => Object.entries(PHASES).filter(([name]) => new RegExp(`\\b${name}\\b`).test(text))
+  .map(([name, meaning]) => `${name}: ${meaning}.`).join(' ');
+
 const START = /^u start$/, KEPT = /^k -?\d+ 81/, SENT = /^s 81/;
+
+// What a user does with the link that a record is about, as far as the record tells its address at this end.
+function doneWithLink({words, nsp}) {
+  const [, own] = (words || '').match(/^(?:in|close) (\d+)/) || (nsp || '').match(/ of link (\d+)/) || [];
+  return own ? [[new RegExp(`^u ((open|close) ${own}|(accept|reject) \\d+ ${own})$`), 'What its user did last with that link']] : [];
+}
 
 // Of a reason the line before it, on the same side, that says otherwise, and what that line is; since the last start, or from the first line on.
 const EARLIER = {
@@ -52,6 +68,7 @@ const EARLIER = {
   12: () => [[KEPT, 'The last packet that it kept'], [START, 'It had kept no packet since this start']],
   14: () => [[START, 'Its last start']],
   16: () => [[/^ddcap /, 'The first line, which names both nodes']],
+  19: doneWithLink,
   20: () => [[/^u in /, 'What its user handed in last']],
   26: ({words = ''}) => [[new RegExp(`^u (open|accept|reject) ${words.split(' ')[1]}( |$)`), 'Where that address was given before']],
 };
@@ -66,6 +83,8 @@ export function contradicted({refused, record, check, state}, texts, unit) {
   const {side, number, line} = refused, other = opposite(side), ofOther = state.find(it => it.side === other);
   const sent = unit && unit.match(/^(\d+) of ([ab]), [ab]:(\d+): (.*)/);
   if (sent && number !== 12) return {side: sent[2], line: Number(sent[3]), title: `What ${sent[2]} sent as unit ${sent[1]}`, words: sent[4]};
+  const ended = number === 18 && check && check.seen.match(/ended in line (\d+)/);
+  if (ended) return {side, line: Number(ended[1]), title: 'Where that link ended'};
   const earlier = (refused.accuses === 'other end' ? OF_OTHER : EARLIER)[number], rows = earlier ? earlier(record || {}) : [];
   const begin = lastLine(texts[side], START, line - 1);
   for (const [pattern, title] of rows) {

@@ -3,10 +3,10 @@ import {$, ends, leaveWhole, place, put} from './boxes.mjs';
 import {Judge} from './judge.mjs';
 import {MOST_BYTES, cured, seeming, unpaired} from './seeming.mjs';
 import {Session} from './session.mjs';
-import {conditionsOf, faultOf, printed, rowsOf} from './telling.mjs';
+import {ALLOWED_FOR, accusedOf, conditionsOf, faultOf, printed} from './telling.mjs';
 import {brokenView, causeView, countsView, coverView, faultView, keyView, link, make, pictureView, textView, whyView} from './views.mjs';
 
-let judge = null, round = 0, current = null;
+let judge = null, round = 0, current = null, isPlainLeft = false;
 
 // ---- the judge
 
@@ -86,11 +86,20 @@ function strange(side, file, found) {
   $('#end-' + side).classList.add('bad');
 }
 
+// Over a wire text queues are always allowed for, so nothing else is offered; what was chosen before comes back for the next capture.
+function offer(isWire) {
+  const [plain, queued] = [$('#plain'), $('#queued')];
+  plain.disabled = isWire;
+  if (isWire && plain.checked) queued.checked = isPlainLeft = true;
+  if (!isWire && isPlainLeft) plain.checked = true, isPlainLeft = false;
+}
+
 async function judgeGiven(notes = []) {
   const leaving = leaveWhole(), mine = ++round;
   const given = ['a', 'b'].filter(side => ends[side]).map(side => ({side, ...ends[side], seems: seeming(ends[side].bytes)}));
   note(...notes, ...leaving, ...(given.length === 2 ? unpaired(given) : []));
   between('');
+  offer(given.some(({seems}) => seems.kind === 'wire'));
   if (!given.length) {
     $('#result').hidden = true;
     return;
@@ -107,7 +116,7 @@ async function judgeGiven(notes = []) {
     return;
   }
   if (judge.isBusy) judge.stop();
-  const session = new Session(judge, given.map(it => ({...it, kind: it.seems.kind})), $('#line').checked), begun = performance.now();
+  const session = new Session(judge, given.map(it => ({...it, kind: it.seems.kind})), $('[name=choice]:checked').value), begun = performance.now();
   between('busy');
   $('#status').textContent = 'judging';
   try {
@@ -131,16 +140,17 @@ function between(kind) {
 
 function show(session, verdict, why, took) {
   current = session;
-  const refused = why && why.refusal && why.refusal.refused, isWire = session.source && session.source.kind === 'wire';
-  const accused = why && !isWire ? rowsOf(why.text, 'accused').accused[0] : null;
+  const refused = why && why.refusal && why.refusal.refused;
+  const accused = why && !session.isWire ? accusedOf(why) : null;
   const fault = faultOf(session.answer), at = session.source ? null : refused || fault;
   const box = $('#verdict');
   box.className = 'verdict ' + verdict.kind;
   box.querySelector('h2').textContent = verdict.title;
   box.querySelector('.first').textContent = verdict.first === verdict.title.toLowerCase() ? '' : verdict.first;
-  box.querySelector('.meaning').textContent = [verdict.meaning, ...conditionsOf(printed(session.answer))].join(' ');
+  const meaning = [verdict.meaning, verdict.kind !== 'fault' && ALLOWED_FOR[session.choice], ...conditionsOf(printed(session.answer))];
+  box.querySelector('.meaning').textContent = meaning.filter(Boolean).join(' ');
   const broken = fault ? [brokenView(fault, session)] : [];
-  box.querySelector('.parts').replaceChildren(...(refused ? causeView(why, session, verdict.first) : broken));
+  box.querySelector('.parts').replaceChildren(...(refused ? causeView(why, session, verdict.first, judgeQueued) : broken));
   between(verdict.kind);
   for (const {side} of session.given) {
     $('#end-' + side).classList.toggle('good', verdict.kind === 'good');
@@ -159,7 +169,7 @@ function show(session, verdict, why, took) {
 }
 
 function tabsOf(session, verdict, why) {
-  const {names, line} = session, isPair = names.length === 2, tabs = [], fault = faultOf(session.answer);
+  const {names, options} = session, isPair = names.length === 2, tabs = [], fault = faultOf(session.answer);
   const text = async (isHere, ...words) => [textView(printed(await session.ask(...words)), isHere)];
   if (why) tabs.push(['Why', async () => whyView(why)]);
   else if (verdict.kind === 'good') tabs.push(['Counts', async () => countsView(printed(session.answer))]);
@@ -170,12 +180,12 @@ function tabsOf(session, verdict, why) {
     const isRefused = row => row.includes('<== refused'), at = why && why.refusal ? why.refusal.refused : {};
     if (isPair) {
       tabs.push(['Picture', async () => {
-        const {made} = await session.ask('draw', ...names, ...line, '--svg', 'svg');
+        const {made} = await session.ask('draw', ...names, ...options, '--svg', 'svg');
         const saving = make('p', {}, link('Save the picture', 'ddcap.svg', made.svg, 'image/svg+xml'));
         return [pictureView(made.svg), saving, keyView()];
       }]);
-      tabs.push(['Ladder', async () => [...await text(isRefused, 'draw', ...names, ...line), keyView()]]);
-      tabs.push(['Rules met', async () => coverView(printed(await session.ask('cover', ...names, ...line)))]);
+      tabs.push(['Ladder', async () => [...await text(isRefused, 'draw', ...names, ...options), keyView()]]);
+      tabs.push(['Rules met', async () => coverView(printed(await session.ask('cover', ...names, ...options)))]);
     }
     for (const side of names) {
       const isIt = row => side === at.side && row.startsWith(at.record + ' ');
@@ -218,6 +228,13 @@ function showTabs(session, verdict, why) {
 
 // ---- the controls
 
+// What a button in the verdict offers. The button goes, so the choice that it made has the focus.
+function judgeQueued() {
+  $('#queued').checked = true;
+  $('#queued').focus({preventScroll: true});
+  judgeGiven();
+}
+
 function pressed(name) {
   for (const button of $('#examples').children) button.setAttribute('aria-pressed', button.dataset.name === name);
 }
@@ -249,7 +266,12 @@ document.ondrop = event => {
   if (box) box.classList.remove('over');
   take(event.dataTransfer.files, box ? box.id.slice(-1) : null);
 };
-$('#line').onchange = () => judgeGiven();
+for (const choice of document.querySelectorAll('[name=choice]')) {
+  choice.onchange = () => {
+    isPlainLeft = false;
+    judgeGiven();
+  };
+}
 $('#swap').onclick = () => {
   const {a, b} = ends;
   put('a', b), put('b', a);

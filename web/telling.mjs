@@ -21,10 +21,19 @@ export function verdictOf(answer, isOneEnd, isWire) {
   return {kind, title, meaning, first};
 }
 
+// What was allowed for, by what was chosen, in a sentence that follows what the verdict means.
+export const ALLOWED_FOR = {plain: '', queued: 'A queue between NSP and DDCMP was allowed for.', line: 'Only DDCMP was judged, and no links.'};
+
 // The fault of a text: {side, line, fault}, or null. `a: line 3: syntax`
 export function faultOf(answer) {
   const found = printed(answer).match(/^(\S+): line (\d+): (.*)$/m);
   return found && {side: found[1], line: Number(found[2]), fault: found[3]};
+}
+
+// The one object of `check --json` or `alone --json`, whose `what` is called `answer` as in a row `queued` of `why --json`.
+export function answerOf(answer) {
+  const {what, ...more} = JSON.parse(decode(answer.out));
+  return {answer: what, ...more};
 }
 
 // The refusal of `why --json`: its objects by what they are; of states, links and edits a list.
@@ -55,6 +64,12 @@ export function rowsOf(text, ...names) {
     if (row && found[row[1]]) found[row[1]].push(row[2]);
   }
   return found;
+}
+
+// Who is accused of a refusal, in the program's words; of one end the program doesn't say there that a queue would excuse it.
+export function accusedOf({refusal, text}) {
+  const [accused] = rowsOf(text, 'accused').accused, isExcused = refusal && refusal.queued && refusal.queued.answer === 'passed';
+  return accused && isExcused ? `nobody, if this node has a queue between NSP and DDCMP; else ${accused}` : accused;
 }
 
 // The counts of an accepted answer: {names, a: [..], b: [..]}, or null. `a records 25 sent 11 ..`

@@ -1,6 +1,6 @@
 // The parts of the page that show an answer. Each makes an element, or several, of what the program said.
-import {countsOf, coverOf, explanationOf, rowsOf} from './telling.mjs';
-import {sentence, sideBySide} from './cause.mjs';
+import {accusedOf, countsOf, coverOf, explanationOf, rowsOf} from './telling.mjs';
+import {phasesIn, sentence, sideBySide} from './cause.mjs';
 import {linesOf, wrongWith} from './seeming.mjs';
 
 const MOST_SHOWN = 400_000;
@@ -69,13 +69,16 @@ export function faultView(fault, session) {
 }
 
 // The cause of a refusal, at once: what happened, in a sentence; what was seen and is allowed; the refused line beside the one that it
-// contradicts; the rule, who is accused, and the change of a recording that would mend it. `first` is the program's first line.
-export function causeView({refusal, text, meaning}, session, first) {
-  const {refused, check, edit} = refusal, told = rowsOf(text, 'accused', 'unit'), {texts, source} = session;
-  const isWire = source && source.kind === 'wire', meant = explanationOf(meaning).find(part => part.text).text;
+// contradicts; the rule, who is accused, and the change of a recording that would mend it. `first` is the program's first line; `judgeQueued`
+// judges anew, as nodes with a queue.
+export function causeView({refusal, text, meaning}, session, first, judgeQueued) {
+  const {refused, check, edit} = refusal, told = rowsOf(text, 'unit'), {texts, source, isWire} = session;
+  const meant = explanationOf(meaning).find(part => part.text).text;
   const said = sentence(refused, session.names.length === 1) || meant;
-  const boxed = (name, title, words) => make('div', {className: name}, make('small', {}, title), make('b', {}, words));
+  const phases = words => check.check === 'phase' ? make('span', {className: 'phases'}, phasesIn(words)) : '';
+  const boxed = (name, title, words) => make('div', {className: name}, make('small', {}, title), make('b', {}, words), phases(words));
   const parts = [make('p', {className: 'cause'}, isWire ? `As far as it could be placed, ${lowered(said)}` : said)];
+  if (refusal.queued) parts.push(queueView(refusal, session, judgeQueued));
   if (check) parts.push(make('div', {className: 'pair'}, boxed('seen', 'Seen', check.seen), boxed('allowed', 'Allowed there', check.allowed)));
   const columns = sideBySide(refusal, texts, told.unit[0]).map(column => columnView(column, session.nameOf(column.side)));
   parts.push(make('div', {className: 'pair lines'}, ...columns));
@@ -83,10 +86,28 @@ export function causeView({refusal, text, meaning}, session, first) {
   const likely = edit.map(({words}) => words).join('; or ');
   const place = first.match(/^unexplained ([ab]) unit (\d+) line (\d+)/);
   const where = place && `unit ${place[2]} of ${place[1]} (counted from 0), whose first byte is on line ${place[3]} of ${source.name}`;
-  const known = [['On the wire', where], ['The rule', rule], ['Accused', isWire ? '' : told.accused[0]],
+  const known = [['On the wire', where], ['The rule', rule], ['Accused', isWire ? '' : accusedOf({refusal, text})],
     ['The recording', likely && `likely at fault: ${likely}`]];
   parts.push(make('dl', {}, ...rows(known.filter(([, value]) => value).map(([name, value]) => [name, codes(value)]))));
   return parts;
+}
+
+// Whether a queue explains a refusal, in a sentence.
+function queueSentence({refused, queued: {answer, side, line, number, name}}, session) {
+  if (answer !== 'refused') {
+    const judged = answer === 'passed' ? 'this end passes' : 'the pair is accepted';
+    return `A node with a queue between NSP and DDCMP may do this, and most real nodes have one. Judged as such, ${judged}.`;
+  }
+  const because = number === refused.number ? 'for the same reason' : `for reason ${number}, ${name}`;
+  return side === refused.side && line === refused.line ? `A queue between NSP and DDCMP is no excuse: with one this line is refused too, ${because}.`
+    : `A queue between NSP and DDCMP would excuse this line. With one, line ${line} of ${session.nameOf(side)} is refused, ${because}.`;
+}
+
+// The same with a button that judges so, where that says something else.
+function queueView(refusal, session, judgeQueued) {
+  const {queued, refused} = refusal, isSame = queued.side === refused.side && queued.line === refused.line;
+  const button = make('button', {type: 'button', onclick: judgeQueued}, 'Judge as nodes with a queue');
+  return make('div', {className: 'queue'}, make('p', {}, queueSentence(refusal, session)), ...(isSame ? [] : [button]));
 }
 
 const lowered = text => text[0].toLowerCase() + text.slice(1);
@@ -155,8 +176,9 @@ export function whyView({refusal, text, meaning}) {
   return parts;
 }
 
-// A text whose parts between backquotes are code.
-const codes = text => text.split('`').map((part, i) => i % 2 ? make('code', {}, part) : part);
+// A text whose parts between backquotes, and options of the program, are code.
+const codes = text => text.split(/`([^`]*)`|(--[a-z]+)/).filter(part => part !== undefined)
+  .map((part, i) => i % 2 ? make('code', {className: part.startsWith('--') ? 'option' : ''}, part) : part);
 
 export function coverView(text) {
   const cover = coverOf(text);
