@@ -101,11 +101,10 @@ impl SideEnd {
     }
 
     /// Between which nodes a message comes here: from the peer to the own node of its head.
-    pub fn coming(&self) -> Nodes {
-        Nodes {
-            source: self.capture.peer(),
-            destination: self.capture.own(),
-        }
+    pub fn incoming(&self) -> Nodes
+        ensures { result ≡ record { source = self.now.links.peer; destination = self.now.links.node } }
+    {
+        self.layers.incoming()
     }
 
     /// How many units it sent: its next one has this number.

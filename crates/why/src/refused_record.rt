@@ -119,7 +119,7 @@ fn other_end_told(
         reason: refused.line.reason,
         bytes: refused.bytes,
         station: end.station(),
-        nodes: end.coming(),
+        nodes: end.incoming(),
         link,
     };
     match form {

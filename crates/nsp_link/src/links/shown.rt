@@ -5,6 +5,7 @@ ghost use Rattle.nsp_link.specs.View.{rest_of, view_of};
 
 use super::Links;
 use crate::Piece;
+use crate::failed::Nodes;
 use crate::view::LinkView;
 use wire_base::Window;
 
@@ -19,6 +20,17 @@ impl<W: Window<Piece, 4096> + Drop> Links<W> {
             None => None,
         }
     }
+
+    /// Between which nodes a message comes: from the other node to this one (Routing Layer 2.0, addresses).
+    pub fn incoming(&self) -> Nodes
+        ensures { result ≡ record { source = self.now.peer; destination = self.now.node } }
+    {
+        Nodes {
+            source: self.peer,
+            destination: self.node,
+        }
+    }
+
     /// What is left of the message that the link with this number sends: bytes with which its next new segment has to begin; `None` where there
     /// is no such link, or all that was handed in is given. Takes no memory.
     pub fn rest(&self, number: usize) -> Option<&[u8]>

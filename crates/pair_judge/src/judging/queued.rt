@@ -24,8 +24,8 @@ use std::io::Read;
 use wire_base::Tally;
 
 /// Decides the same of two nodes with queues between NSP and DDCMP, by the links' rules for those (`dna_links`, `Queues`): such a node may send what it
-/// composed before it looked at a DI, or before its user closed. Whatever a node does that acts on what was kept for a link, and composes what the
-/// link sends, at any time between, each in order, is accepted (`dna_queues`, *complete*).
+/// composed before it looked at a DI, or before its user closed. These rules allow just what a link can do that acts on what was kept for it, and
+/// composes what it sends, at any time between, each in order (`dna_queues`).
 ///
 /// All that is said of `judge` holds, with "nodes with queues" for "nodes": the same texts are read in the same order, and accepted, refused, faulty
 /// and want of memory mean the same.

@@ -9,7 +9,7 @@ ghost use Rattle.nsp_link.specs.View as link;
 use super::Layers;
 use ddcmp_station::StationView;
 use dna_packet::Segment;
-use nsp_link::LinkView;
+use nsp_link::{LinkView, Nodes};
 
 impl Layers {
     /// The variables of the station as they are now.
@@ -25,6 +25,14 @@ impl Layers {
     {
         self.links.view(number)
     }
+
+    /// Between which nodes a message comes: from the other node to this one.
+    pub fn incoming(&self) -> Nodes
+        ensures { result ≡ record { source = self.now.links.peer; destination = self.now.links.node } }
+    {
+        self.links.incoming()
+    }
+
     /// What is left of the message that the link with this number sends, if there is one.
     pub fn rest(&self, number: usize) -> Option<&[u8]>
         ensures { option_copied result ≡ option_and_then link.rest_of (slice_get self.now.links.links number) }
