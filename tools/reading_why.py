@@ -2,7 +2,7 @@
 is refused: the JSON `lines` `refused`, `record` without the fields of its bytes, `state`, `link` and `queued`; the `rows` of both sides; how many
 records stand `behind` it; and the `check` where bytes are compared (tools/reading_bytes.py), else None. `said_alone(a, line)` gives the lines and
 rows of one end without the other (tools/reading_alone.py), with `line` of its station alone; as `check`, what the other end could have sent, where
-that is told by numbers."""
+that is told by numbers. `lines_with_queues(a, b)` gives the lines of `why --queued`, of the pair as one of nodes with queues."""
 from collections import namedtuple
 
 from reading import NAMES, RULES, Side, judged, passes_over
@@ -29,10 +29,10 @@ def accused(number, kind):
     return 'sender' if number in SENDER else ACCUSED[number]
 
 
-def run_to(a, b, most):
+def run_to(a, b, most, queued=False):
     """Both sides after at most so many records, and how it ended: the side and the reason of a refusal, or None. The refused record itself may have
     changed its side."""
-    sides = Side(RULES, a), Side(RULES, b)
+    sides = Side(RULES, a, queued), Side(RULES, b, queued)
     made = 0
     while made < most and not all(side.has_ended() for side in sides):
         able = [letter for letter in (0, 1) if not sides[letter].has_ended() and not sides[letter].waits(sides[1 - letter])]
@@ -66,6 +66,16 @@ def link_of(letter, link):
         'segsize': link.segsize if link.phase != 'Calling' else None,
         'given': flow.given % 4096, 'acknowledged': flow.acknowledged % 4096, 'received': flow.received % 4096, 'last_ack': flow.last % 4096,
     }
+
+
+def queued_link_of(letter, link):
+    """The same with queues: how far the link has come, where it has; and of one that is ending no numbers, which a node may have given up."""
+    come = {'accepted': link.accepted, 'ran': link.ran, 'said': [None, 'RUN', 'DI'][link.said], 'ending': None}
+    line = link_of(letter, link)
+    if not link.is_live():
+        line = {key: line[key] for key in ('what', 'side', 'own', 'far')}
+        line['phase'], come['ending'] = 'ended', link.phase
+    return {**line, **(come if any(come.values()) else {})}
 
 
 # ---- the same in rows
@@ -178,6 +188,25 @@ def said(a, b):
             lines[0]['accuses'] = 'nobody'
     behind = sum(len(each.records) - each.next for each in sides) - 1
     return Said(lines, rows, behind, check_of(number, side, sides[1 - letter], 'ba'[letter], words))
+
+
+def lines_with_queues(a, b):
+    """The lines of the refusal and of both sides with their links, of nodes with queues; or None."""
+    _, made, refusal = run_to(a, b, len(a) + len(b), queued=True)
+    if refusal is None:
+        return None
+    sides, _, _ = run_to(a, b, made, queued=True)
+    letter, number = refusal
+    place = sides[letter].next
+    words = sides[letter].records[place]
+    lines = [{
+        'what': 'refused', 'side': 'ab'[letter], 'record': place, 'line': place + 2, 'number': number, 'name': NAMES[number - 1],
+        'accuses': accused(number, words[0]),
+    }, record_of(words)]
+    for other in (letter, 1 - letter):
+        lines.append(state_of(other, sides[other]))
+        lines += [queued_link_of(other, link) for link in sides[other].links.links if not link.is_dead()]
+    return lines
 
 
 # ---- one end alone
