@@ -70,7 +70,8 @@ const EARLIER = {
   14: () => [[START, 'Its last start']],
   16: () => [[/^ddcap /, 'The first line, which names both nodes']],
   19: record => [[doneWithLink(addressIn(record)), 'What its user did last with that link']],
-  20: record => [[new RegExp(`^u in ${addressIn(record)} `), 'What its user handed in last for that link'], [/^u in /, 'What its user handed in last']],
+  20: record => [[new RegExp(`^u in ${addressIn(record)} `), 'What its user handed in last for that link'],
+    [/^u in /, 'What its user handed in last']],
   26: ({words = ''}) => [[new RegExp(`^u (open|accept|reject) ${words.split(' ')[1]}( |$)`), 'Where that address was given before']],
 };
 
