@@ -53,11 +53,12 @@ export const phasesIn = text => Object.entries(PHASES).filter(([name]) => new Re
 
 const START = /^u start$/, KEPT = /^k -?\d+ 81/, SENT = /^s 81/;
 
-// What a user does with the link that a record is about, as far as the record tells its address at this end.
-function doneWithLink({words, nsp}) {
+// The address of the link that a record is about, at its own end; or any, where the record doesn't tell it.
+function addressIn({words, nsp}) {
   const [, own] = (words || '').match(/^(?:in|close) (\d+)/) || (nsp || '').match(/ of link (\d+)/) || [];
-  return own ? [[new RegExp(`^u ((open|close) ${own}|(accept|reject) \\d+ ${own})$`), 'What its user did last with that link']] : [];
+  return own || '\\d+';
 }
+const doneWithLink = own => new RegExp(`^u ((open|close) ${own}|(accept|reject) \\d+ ${own})$`);
 
 // Of a reason the line before it, on the same side, that says otherwise, and what that line is; since the last start, or from the first line on.
 const EARLIER = {
@@ -68,8 +69,9 @@ const EARLIER = {
   12: () => [[KEPT, 'The last packet that it kept'], [START, 'It had kept no packet since this start']],
   14: () => [[START, 'Its last start']],
   16: () => [[/^ddcap /, 'The first line, which names both nodes']],
-  19: doneWithLink,
-  20: () => [[/^u in /, 'What its user handed in last']],
+  19: record => [[doneWithLink(addressIn(record)), 'What its user did last with that link']],
+  20: record => [[new RegExp(`^u in ${addressIn(record)} `), 'What its user handed in last for that link'],
+    [/^u in /, 'What its user handed in last']],
   26: ({words = ''}) => [[new RegExp(`^u (open|accept|reject) ${words.split(' ')[1]}( |$)`), 'Where that address was given before']],
 };
 
