@@ -14,10 +14,10 @@ mod placing;
 mod said;
 mod search;
 mod station;
-mod tried;
 mod user_links;
 mod waiting;
 
 pub use laws::put_units_were_sent;
-pub use limit::{MOST_STATES, RECALLED};
-pub use placing::{Outcome, Placing};
+pub use limit::MOST_STATES;
+pub use placing::Placing;
+pub use search::{Reached, Search};

@@ -116,14 +116,23 @@ impl Waiting {
             let Some(unit) = self.own.get(at) else {
                 return Ok(message);
             };
-            if let Some(Nsp::DataSegment(segment)) = message_of(unit.as_slice()) {
-                if segment.srcaddr == link && segment.dstaddr == far && segment.number == wanted {
-                    message.extend_from_slice(segment.body)?;
-                    if segment.ends || message.len() > MAX_MESSAGE {
-                        return Ok(message);
+            match message_of(unit.as_slice()) {
+                Some(Nsp::DataSegment(segment)) => {
+                    if segment.srcaddr == link
+                        && segment.dstaddr == far
+                        && segment.number == wanted
+                    {
+                        message.extend_from_slice(segment.body)?;
+                        if segment.ends || message.len() > MAX_MESSAGE {
+                            return Ok(message);
+                        }
+                        wanted = next_number(wanted);
                     }
-                    wanted = next_number(wanted);
                 }
+                Some(Nsp::DisconnectInitiate(end)) if end.srcaddr == link => break,
+                Some(Nsp::ConnectInitiate(call)) if call.srcaddr == link => break,
+                Some(Nsp::ConnectConfirm(answer)) if answer.srcaddr == link => break,
+                _ => {}
             }
         }
         message.push(0)?;
