@@ -35,6 +35,12 @@ ANSWERS = (
     ('dc_to_0', 'accepted\n'),
     # a NAK that names all packets was lost, since a REP follows
     ('lost_nak', 'accepted\n'),
+    # a start is begun again while all was lost
+    ('start_again_lost', 'accepted\n'),
+    # two starts of a side, between which it sent nothing else
+    ('two_starts', 'accepted\n'),
+    # a CC is lost as its receiver starts anew, and the CI goes again
+    ('cc_lost_at_restart', 'accepted\n'),
     # the units before the named one have a placing
     ('other_unit_named', 'unexplained b unit 3 line 9: '),
 )
@@ -92,6 +98,20 @@ def many_reps(count):
     return UP + sent + [('a', nak_of(3, 0)), ('b', data_of(1, 0)), ('b', data_of(2, 0))] + [('a', nak_of(3, 2))] * (count - 1)
 
 
+def behind_a_nak(count):
+    """A NAK comes, then data, then so many ACKs are sent, and then the packet again."""
+    return UP + [('a', data_of(1, 0)), ('b', nak_of(9, 0)), ('b', data_of(1, 0))] + [('a', ack_of(1))] * count + [('a', data_of(1, 1))]
+
+
+def segment_behind_an_end():
+    """A link is ended by a DI, whose packet was kept; then a segment goes that waited in a queue, and the link's DC."""
+    call, confirm = packet_of('a', '18000001000102f401'), packet_of('b', '28010002000102f40100')
+    first, last = packet_of('a', '2002000100010061'), packet_of('a', '4002000100020062')
+    end, answer = packet_of('b', '3801000200000000'), packet_of('a', '48020001002a00')
+    return UP + [('a', data_of(1, 0, call)), ('b', data_of(1, 1, confirm)), ('a', data_of(2, 1, first)), ('b', data_of(2, 2, end)),
+                 ('a', data_of(3, 2, last)), ('a', data_of(4, 2, answer))]
+
+
 def many_rounds(count):
     """An ACK is lost, and so is each packet of b; that is seen long after."""
     rounds = [('b', data_of(1, 1)), ('b', rep_of(1)), ('a', nak_of(3, 0))] * count
@@ -124,6 +144,8 @@ MADE = (
     ('a NAK of data that are wrong', nak_of_wrong_data(), 'unexplained a unit 4 line 8: 10 '),
     ('300 REPs', many_reps(300), 'accepted\n'),
     ('60 rounds after a lost ACK', many_rounds(60), 'accepted\n'),
+    ('1,100 ACKs behind a NAK', behind_a_nak(1100), 'accepted\n'),
+    ('a segment behind the end of its link', segment_behind_an_end(), 'accepted\n'),
     ('a message of 65,535 bytes in 4,096 pieces', long_message(65_535, 16), 'accepted\n'),
     ('an STRT in which a line begins', [('a', STRT), ('b', STACK), ('a', ack_of(0)), ('a', data_of(2, 0)[:10]), ('a', data_of(2, 0)[10:])],
      'unexplained a unit 2 line 5: 7 WrongNumber\n'),

@@ -8,6 +8,7 @@
 mod laws;
 mod limit;
 mod movement;
+mod numbering;
 mod open_messages;
 mod passed_unit;
 mod placing;

@@ -1,5 +1,7 @@
 //! The users' messages that are under way: which units of a side begin one whose last segment has not passed yet.
 
+use crate::numbering::Numbering;
+use crate::said::Said;
 use crate::user_links::{message_of, next_number};
 use capture::MAX_MESSAGE;
 use dna_packet::{Nsp, Segment};
@@ -22,6 +24,7 @@ pub(crate) struct OpenMessages {
     given: BTreeMap<u16, Given>,
     begun: BTreeSet<u64>,
     units: u64,
+    numbering: Numbering,
 }
 
 impl OpenMessages {
@@ -31,6 +34,7 @@ impl OpenMessages {
             given: BTreeMap::new(alloc),
             begun: BTreeSet::new(alloc),
             units: 0,
+            numbering: Numbering::new(),
         }
     }
 
@@ -46,6 +50,9 @@ impl OpenMessages {
     pub(crate) fn sent(&mut self, unit: &[u8]) -> Result<(), AllocError> {
         let place = self.units;
         self.units = place.saturating_add(1);
+        if !self.numbering.is_new(Said::of(unit)) {
+            return Ok(());
+        }
         match message_of(unit) {
             Some(Nsp::DataSegment(segment)) => self.gives(&segment, place),
             Some(Nsp::ConnectInitiate(message)) => {

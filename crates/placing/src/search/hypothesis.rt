@@ -147,13 +147,13 @@ impl Front {
 
 /// The place of the epoch that this unit is in, or of the first one.
 pub(crate) fn epoch_of(epochs: &VecDeque<Epoch>, number: u64) -> usize {
-    let mut low = 0;
+    let mut low: usize = 0;
     let mut high = epochs.len();
     for _ in 0..64 {
-        if high <= low + 1 {
+        if high <= low.saturating_add(1) {
             return low;
         }
-        let middle = low + (high - low) / 2;
+        let middle = low.saturating_add(high.saturating_sub(low) / 2);
         match epochs.get(middle) {
             Some(epoch) if epoch.from <= number => low = middle,
             _ => high = middle,

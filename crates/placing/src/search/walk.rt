@@ -306,13 +306,13 @@ fn add(states: &mut Vec<Standing>, state: Standing) -> Result<(), AllocError> {
             return Ok(());
         }
     }
-    let mut at = 0;
+    let mut at: usize = 0;
     for _ in 0..states.len() {
         match states.get(at) {
             Some(other) if state.covers(other) => {
                 let _ = states.swap_remove(at);
             }
-            _ => at += 1,
+            _ => at = at.saturating_add(1),
         }
     }
     states.push(state)?;

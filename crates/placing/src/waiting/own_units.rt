@@ -4,6 +4,7 @@ ghost use Rattle.std.specs.Prelude.{◌≡◌, ◌≤◌, ◌-◌, length, IfOk,
 ghost use Rattle.placing.specs.Placed.{Puts};
 
 use super::Waiting;
+use crate::numbering::Numbering;
 use crate::said::Said;
 use crate::user_links::{UserAct, message_of, next_number};
 use capture::{Entry, MAX_MESSAGE};
@@ -112,10 +113,14 @@ impl Waiting {
     fn message(&self, link: u16, far: u16, number: u16) -> Result<Vec<u8>, AllocError> {
         let mut message = Vec::new(self.alloc);
         let mut wanted = number;
+        let mut numbering = self.numbering();
         for at in 0..self.own.len() {
             let Some(unit) = self.own.get(at) else {
-                return Ok(message);
+                break;
             };
+            if !numbering.is_new(Said::of(unit.as_slice())) {
+                continue;
+            }
             match message_of(unit.as_slice()) {
                 Some(Nsp::DataSegment(segment)) => {
                     if segment.srcaddr == link
@@ -137,6 +142,17 @@ impl Waiting {
         }
         message.push(0)?;
         Ok(message)
+    }
+
+    // The numbers of the side's packets before its next unit, which gives one its number.
+    fn numbering(&self) -> Numbering {
+        match self.own.front() {
+            Some(unit) => match Said::of(unit.as_slice()) {
+                Said::Data { resp: _, num } => Numbering::before(num),
+                _ => Numbering::new(),
+            },
+            None => Numbering::new(),
+        }
     }
 }
 
