@@ -176,12 +176,40 @@ def faults_of_silence(tap):
         yield None if right else '%d stray bytes: printed %r' % (strays, printed)
 
 
-def fault_of_too_many(tap, count):
-    """How more units of one side than a search looks at are not told to be too wide a choice, or None."""
+def fault_of_many(tap, count):
+    """How so many units of one side before one of the other are not accepted, or None."""
     wire = 'ddwire 1 1.1 1.2\na %s\nb %s\na %s\n' % (STRT, STACK, ack_of(0)) + ('b %s\n' % ack_of(0)) * count
     printed = tap.tap(wire + 'b %s\na %s\n' % (data_of(1, 0), ack_of(1)))
-    right = ('', 'a unit 2 line %d: too wide a choice\n' % (count + 6), 2)
-    return None if printed == right else 'many units of one side: printed %r' % (printed,)
+    return None if printed[0].startswith('accepted\n') else 'many units of one side: printed %r' % (printed,)
+
+
+# Where units of one side pile up, by how often: what was once looked over again for each unit.
+PILES = (
+    ('ACKs and STACKs of two sides that never meet', lambda count: UP[:2] + [('a', ack_of(0)), ('b', STACK)] * count),
+    ('NAKs, then data, then data', lambda count: UP + [('b', nak_of(9, 0))] * count + [('b', data_of(1, 0)), ('a', data_of(1, 1))]),
+    ('ACKs, then data, then data', lambda count: UP + [('b', ack_of(0))] * count + [('b', data_of(1, 0)), ('a', data_of(1, 1))]),
+    ('NAKs, then data, then an ACK', lambda count: UP + [('b', nak_of(9, 0))] * count + [('b', data_of(1, 0)), ('a', ack_of(1))]),
+    ('REPs that are answered', lambda count: UP + [('b', data_of(1, 0))] + [('b', rep_of(1)), ('a', nak_of(3, 0))] * count),
+)
+
+
+def seconds_of(tap, units):
+    """The processor time in which these units are accepted, or None: the least of three times."""
+    text, times = text_of(units), []
+    for _ in range(3):
+        before = os.times().children_user
+        if not tap.tap(text)[0].startswith('accepted\n'):
+            return None
+        times.append(os.times().children_user - before)
+    return min(times)
+
+
+def faults_of_piles(tap, count):
+    """For each pile how it is not accepted, or takes more than three times as long where it is twice as high, or None: four times are a square."""
+    for name, pile in PILES:
+        low, high = (seconds_of(tap, pile(times)) for times in (count, 2 * count))
+        fine = None not in (low, high) and high <= 3 * max(low, 0.02)
+        yield None if fine else '%s: %r s, and %r s for twice as many' % (name, low, high)
 
 
 # ---- pairs that are played

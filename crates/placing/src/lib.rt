@@ -5,6 +5,7 @@
 //! finds accuses nobody, and is to be judged: where it finds nothing, something may be there. It touches no file, and no packet.
 #![tactic(auto)]
 
+mod carried;
 mod laws;
 mod limit;
 mod movement;

@@ -1,8 +1,8 @@
 //! The users' messages that are under way: which units of a side begin one whose last segment has not passed yet.
 
+use crate::carried::{message_of, next_number};
 use crate::numbering::Numbering;
 use crate::said::Said;
-use crate::user_links::{message_of, next_number};
 use capture::MAX_MESSAGE;
 use dna_packet::{Nsp, Segment};
 use std::alloc::{AllocError, Global};

@@ -2,6 +2,7 @@
 
 mod advance;
 mod hypothesis;
+mod restarting;
 mod walk;
 mod way;
 

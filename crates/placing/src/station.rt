@@ -3,9 +3,8 @@
 mod arriving;
 mod sending;
 
-pub(crate) use sending::But;
-
 use dna_station::{State, Tag};
+pub(crate) use sending::But;
 
 /// What a station keeps but for its packets (DDCMP 4.1, station variables). All numbers of messages are those of the line, modulo 256.
 #[derive(Clone, Copy, Debug, PartialEq, Eq)]

@@ -1,15 +1,9 @@
 //! What the user of a side did with its links, read off its packets.
 
-use dna_packet::{Nsp, Packet, read_nsp, read_packet};
+use crate::carried::{message_of, next_number};
+use dna_packet::Nsp;
 use std::alloc::{AllocError, Global};
 use std::collections::{BTreeMap, BTreeSet};
-
-// The first byte of a data message; and how many bytes its header has, with the check, and the check behind its body (DDCMP 4.1, message formats).
-const DATA: u8 = 0x81;
-
-const HEADER_LEN: usize = 8;
-
-const CHECK_LEN: usize = 2;
 
 /// What a user does with a link (NSP 4.0, session control interface), before a packet that tells of it is sent.
 #[derive(Clone, Copy, Debug, PartialEq, Eq)]
@@ -144,8 +138,8 @@ impl UserLinks {
 
     // ---- what is sent
 
-    // A call goes again where the link has sent nothing else; where what came ended it meanwhile, its own mark tells. No link has the own address 0, so
-    // what names one is nobody's act.
+    // A call goes again where the link has sent nothing else; where what came ended it meanwhile, its own mark tells. No link has the own address 0,
+    // so what names one is nobody's act.
     fn calls(&mut self, own: u16, again: bool) -> Result<Option<UserAct>, AllocError> {
         if own == 0 {
             return Ok(None);
@@ -202,7 +196,8 @@ impl UserLinks {
         }))
     }
 
-    // A DC is sent: what came for the link with its address was acted on, so nothing of one that is over is sent any more. One of no link answers a call.
+    // A DC is sent: what came for the link with its address was acted on, so nothing of one that is over is sent any more. One of no link answers a
+    // call.
     fn answers_end(&mut self, own: u16, far: u16) {
         if own == 0 {
             self.called.remove(&far);
@@ -325,32 +320,5 @@ impl UserLinks {
             Ok(_) => Ok(()),
             Err(_) => Err(AllocError),
         }
-    }
-}
-
-/// The number of the segment behind the one with this number.
-pub(crate) fn next_number(number: u16) -> u16 {
-    number.wrapping_add(1) % 4096
-}
-
-/// The message of the links in a unit, if it has one. Its checks are not asked: what has no message that says so is no packet.
-pub(crate) fn message_of(unit: &[u8]) -> Option<Nsp<'_>> {
-    if *unit.first()? != DATA {
-        return None;
-    }
-    let end = unit.len().checked_sub(CHECK_LEN)?;
-    let body = unit.get(HEADER_LEN..end)?;
-    let Ok(packet) = read_packet(body) else {
-        return None;
-    };
-    if packet.returned() {
-        return None;
-    }
-    match packet {
-        Packet::Data { nsp, .. } => match read_nsp(nsp) {
-            Ok(message) => Some(message),
-            Err(_) => None,
-        },
-        Packet::Control(_) => None,
     }
 }

@@ -41,7 +41,12 @@ impl Search {
             return Ok(());
         };
         let tag = first.station.tag();
-        if self.room.found.iter().all(|state| state.station.tag() == tag) {
+        if self
+            .room
+            .found
+            .iter()
+            .all(|state| state.station.tag() == tag)
+        {
             return self.go_on_alone(hypothesis, side, number);
         }
         for at in 0..self.room.found.len() {

@@ -49,12 +49,12 @@ impl Room {
     }
 }
 
-// A unit of the other side.
+/// A unit of the other side.
 #[derive(Clone, Copy)]
-struct Passing {
-    number: u64,
-    said: Said,
-    tag: Tag,
+pub(crate) struct Passing {
+    pub(crate) number: u64,
+    pub(crate) said: Said,
+    pub(crate) tag: Tag,
 }
 
 impl View<'_> {
@@ -115,8 +115,8 @@ impl View<'_> {
         Ok(())
     }
 
-    // The other side's unit with this number, where the epoch is that of the one before.
-    fn passing(&self, number: u64, epoch: &mut usize) -> Option<Passing> {
+    /// The other side's unit with this number, where the epoch is that of the one before.
+    pub(super) fn passing(&self, number: u64, epoch: &mut usize) -> Option<Passing> {
         let said = *self.units.get(number.saturating_sub(self.gone) as usize)?;
         if let Some(next) = self.epochs.get(epoch.saturating_add(1)) {
             if next.from <= number {
@@ -146,7 +146,10 @@ impl View<'_> {
             return add(&mut room.next, state);
         }
         self.take(way, room, state, passing, false)?;
-        if station.arrived(passing.said, passing.tag, false).covers(&station) {
+        if station
+            .arrived(passing.said, passing.tag, false)
+            .covers(&station)
+        {
             return Ok(());
         }
         add(&mut room.next, state)
@@ -172,7 +175,10 @@ impl View<'_> {
             }
         }
         self.take(way, room, state, passing, false)?;
-        if station.arrived(passing.said, passing.tag, false).covers(&station) {
+        if station
+            .arrived(passing.said, passing.tag, false)
+            .covers(&station)
+        {
             return Ok(());
         }
         add(&mut room.next, state)
@@ -212,78 +218,10 @@ impl View<'_> {
         }
         add(&mut room.next, taken)
     }
-
-    // ---- restarts
-
-    /// Adds to what is begun where the side may stand when its user starts it anew before the unit: with all packets kept that may have come, and
-    /// with those alone that came before a STRT of the other side, which may still come.
-    pub(crate) fn restart(
-        &self,
-        way: &mut Way,
-        room: &mut Room,
-        standing: Standing,
-    ) -> Result<(), AllocError> {
-        let period = standing.station.tag().period;
-        let from = self.first_answering(standing.come, period);
-        let mut stands = standing;
-        let mut on = standing;
-        let mut is_strt_past = from > standing.come;
-        let mut epoch = epoch_of(self.epochs, from);
-        for number in from..self.limit {
-            let Some(passing) = self.passing(number, &mut epoch) else {
-                break;
-            };
-            if passing.said.is_strt() {
-                is_strt_past = true;
-                continue;
-            }
-            if !on.station.meets(passing.said, passing.tag) {
-                continue;
-            }
-            let kept = on.station.can_take(passing.said);
-            if kept && is_strt_past {
-                self.begin(way, room, stands)?;
-                is_strt_past = false;
-            }
-            on = taken(way, on, passing, kept)?;
-            if kept {
-                stands = on;
-            }
-        }
-        self.begin(way, room, stands)
-    }
-
-    // The first unit from this one on that answers this period.
-    fn first_answering(&self, from: u64, period: u64) -> u64 {
-        for at in epoch_of(self.epochs, from)..self.epochs.len() {
-            if let Some(epoch) = self.epochs.get(at) {
-                if epoch.tag.partner == Some(period) {
-                    return from.max(epoch.from);
-                }
-            }
-        }
-        self.limit
-    }
-
-    // The user starts the station anew.
-    pub(super) fn begin(&self, way: &mut Way, room: &mut Room, standing: Standing) -> Result<(), AllocError> {
-        let halted = if standing.station.state == State::Halted {
-            standing.last
-        } else {
-            way.step(standing.last, Made::Halt)?
-        };
-        let last = way.step(halted, Made::Start)?;
-        let begun = Standing {
-            station: standing.station.started(self.own.saturating_add(1)),
-            last,
-            ..standing
-        };
-        add(&mut room.begun, begun)
-    }
 }
 
-// Where a side stands when the unit came, and its packet was kept or not.
-fn taken(
+/// Where a side stands when the unit came, and its packet was kept or not.
+pub(super) fn taken(
     way: &mut Way,
     state: Standing,
     passing: Passing,
@@ -299,8 +237,8 @@ fn taken(
     })
 }
 
-// Adds a state, unless one of these covers it; those that it covers are dropped.
-fn add(states: &mut Vec<Standing>, state: Standing) -> Result<(), AllocError> {
+/// Adds a state, unless one of these covers it; those that it covers are dropped.
+pub(super) fn add(states: &mut Vec<Standing>, state: Standing) -> Result<(), AllocError> {
     for other in states.iter() {
         if other.covers(&state) {
             return Ok(());

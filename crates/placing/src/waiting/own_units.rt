@@ -4,9 +4,10 @@ ghost use Rattle.std.specs.Prelude.{◌≡◌, ◌≤◌, ◌-◌, length, IfOk,
 ghost use Rattle.placing.specs.Placed.{Puts};
 
 use super::Waiting;
+use crate::carried::{message_of, next_number};
 use crate::numbering::Numbering;
 use crate::said::Said;
-use crate::user_links::{UserAct, message_of, next_number};
+use crate::user_links::UserAct;
 use capture::{Entry, MAX_MESSAGE};
 use ddcmp_msg::{Flags, Message, NakReason, write_unit};
 use dna_packet::Nsp;
