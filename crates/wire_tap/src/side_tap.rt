@@ -123,8 +123,10 @@ impl SideTap {
                     line: self.begun,
                     ..at
                 };
-                let unit = self.framer.completed();
-                match self.units.pass(kind, unit, begun, other, search)? {
+                match self
+                    .units
+                    .pass(kind, self.framer.completed(), begun, other, search)?
+                {
                     Some(ending) => Ok(Next::Ends(ending)),
                     None => Ok(Next::Rest(rest)),
                 }

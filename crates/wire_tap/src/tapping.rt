@@ -134,8 +134,12 @@ impl Sides {
             (side_state self.new.a, side_state self.new.b)) }
     {
         match at.side {
-            Side::A => self.a.pass_bytes(piece, at, &mut self.b.units.placing, &mut self.search),
-            Side::B => self.b.pass_bytes(piece, at, &mut self.a.units.placing, &mut self.search),
+            Side::A => self
+                .a
+                .pass_bytes(piece, at, &mut self.b.units.placing, &mut self.search),
+            Side::B => self
+                .b
+                .pass_bytes(piece, at, &mut self.a.units.placing, &mut self.search),
         }
     }
 }
