@@ -213,7 +213,8 @@ impl View<'_> {
         kept: bool,
     ) -> Result<(), AllocError> {
         let taken = taken(way, state, passing, kept)?;
-        if self.is_ready(&taken) {
+        // A state that was ready before goes on, for another STRT to answer.
+        if taken.station != state.station && self.is_ready(&taken) {
             return self.reach(way, room, taken);
         }
         add(&mut room.next, taken)
