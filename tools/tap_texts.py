@@ -35,6 +35,12 @@ ANSWERS = (
     ('dc_to_0', 'accepted\n'),
     # a NAK that names all packets was lost, since a REP follows
     ('lost_nak', 'accepted\n'),
+    # a start is begun again while all was lost
+    ('start_again_lost', 'accepted\n'),
+    # two starts of a side, between which it sent nothing else
+    ('two_starts', 'accepted\n'),
+    # a CC is lost as its receiver starts anew, and the CI goes again
+    ('cc_lost_at_restart', 'accepted\n'),
     # the units before the named one have a placing
     ('other_unit_named', 'unexplained b unit 3 line 9: '),
 )
@@ -92,6 +98,20 @@ def many_reps(count):
     return UP + sent + [('a', nak_of(3, 0)), ('b', data_of(1, 0)), ('b', data_of(2, 0))] + [('a', nak_of(3, 2))] * (count - 1)
 
 
+def behind_a_nak(count):
+    """A NAK comes, then data, then so many ACKs are sent, and then the packet again."""
+    return UP + [('a', data_of(1, 0)), ('b', nak_of(9, 0)), ('b', data_of(1, 0))] + [('a', ack_of(1))] * count + [('a', data_of(1, 1))]
+
+
+def segment_behind_an_end():
+    """A link is ended by a DI, whose packet was kept; then a segment goes that waited in a queue, and the link's DC."""
+    call, confirm = packet_of('a', '18000001000102f401'), packet_of('b', '28010002000102f40100')
+    first, last = packet_of('a', '2002000100010061'), packet_of('a', '4002000100020062')
+    end, answer = packet_of('b', '3801000200000000'), packet_of('a', '48020001002a00')
+    return UP + [('a', data_of(1, 0, call)), ('b', data_of(1, 1, confirm)), ('a', data_of(2, 1, first)), ('b', data_of(2, 2, end)),
+                 ('a', data_of(3, 2, last)), ('a', data_of(4, 2, answer))]
+
+
 def many_rounds(count):
     """An ACK is lost, and so is each packet of b; that is seen long after."""
     rounds = [('b', data_of(1, 1)), ('b', rep_of(1)), ('a', nak_of(3, 0))] * count
@@ -124,6 +144,8 @@ MADE = (
     ('a NAK of data that are wrong', nak_of_wrong_data(), 'unexplained a unit 4 line 8: 10 '),
     ('300 REPs', many_reps(300), 'accepted\n'),
     ('60 rounds after a lost ACK', many_rounds(60), 'accepted\n'),
+    ('1,100 ACKs behind a NAK', behind_a_nak(1100), 'accepted\n'),
+    ('a segment behind the end of its link', segment_behind_an_end(), 'accepted\n'),
     ('a message of 65,535 bytes in 4,096 pieces', long_message(65_535, 16), 'accepted\n'),
     ('an STRT in which a line begins', [('a', STRT), ('b', STACK), ('a', ack_of(0)), ('a', data_of(2, 0)[:10]), ('a', data_of(2, 0)[10:])],
      'unexplained a unit 2 line 5: 7 WrongNumber\n'),
@@ -154,12 +176,40 @@ def faults_of_silence(tap):
         yield None if right else '%d stray bytes: printed %r' % (strays, printed)
 
 
-def fault_of_too_many(tap, count):
-    """How more units of one side than a search looks at are not told to be too wide a choice, or None."""
+def fault_of_many(tap, count):
+    """How so many units of one side before one of the other are not accepted, or None."""
     wire = 'ddwire 1 1.1 1.2\na %s\nb %s\na %s\n' % (STRT, STACK, ack_of(0)) + ('b %s\n' % ack_of(0)) * count
     printed = tap.tap(wire + 'b %s\na %s\n' % (data_of(1, 0), ack_of(1)))
-    right = ('', 'a unit 2 line %d: too wide a choice\n' % (count + 6), 2)
-    return None if printed == right else 'many units of one side: printed %r' % (printed,)
+    return None if printed[0].startswith('accepted\n') else 'many units of one side: printed %r' % (printed,)
+
+
+# Where units of one side pile up, by how often: what was once looked over again for each unit.
+PILES = (
+    ('ACKs and STACKs of two sides that never meet', lambda count: UP[:2] + [('a', ack_of(0)), ('b', STACK)] * count),
+    ('NAKs, then data, then data', lambda count: UP + [('b', nak_of(9, 0))] * count + [('b', data_of(1, 0)), ('a', data_of(1, 1))]),
+    ('ACKs, then data, then data', lambda count: UP + [('b', ack_of(0))] * count + [('b', data_of(1, 0)), ('a', data_of(1, 1))]),
+    ('NAKs, then data, then an ACK', lambda count: UP + [('b', nak_of(9, 0))] * count + [('b', data_of(1, 0)), ('a', ack_of(1))]),
+    ('REPs that are answered', lambda count: UP + [('b', data_of(1, 0))] + [('b', rep_of(1)), ('a', nak_of(3, 0))] * count),
+)
+
+
+def seconds_of(tap, units):
+    """The processor time in which these units are accepted, or None: the least of three times."""
+    text, times = text_of(units), []
+    for _ in range(3):
+        before = os.times().children_user
+        if not tap.tap(text)[0].startswith('accepted\n'):
+            return None
+        times.append(os.times().children_user - before)
+    return min(times)
+
+
+def faults_of_piles(tap, count):
+    """For each pile how it is not accepted, or takes more than three times as long where it is twice as high, or None: four times are a square."""
+    for name, pile in PILES:
+        low, high = (seconds_of(tap, pile(times)) for times in (count, 2 * count))
+        fine = None not in (low, high) and high <= 3 * max(low, 0.02)
+        yield None if fine else '%s: %r s, and %r s for twice as many' % (name, low, high)
 
 
 # ---- pairs that are played

@@ -5,19 +5,21 @@
 //! finds accuses nobody, and is to be judged: where it finds nothing, something may be there. It touches no file, and no packet.
 #![tactic(auto)]
 
+mod carried;
 mod laws;
 mod limit;
 mod movement;
+mod numbering;
 mod open_messages;
 mod passed_unit;
 mod placing;
 mod said;
 mod search;
 mod station;
-mod tried;
 mod user_links;
 mod waiting;
 
 pub use laws::put_units_were_sent;
-pub use limit::{MOST_STATES, RECALLED};
-pub use placing::{Outcome, Placing};
+pub use limit::MOST_STATES;
+pub use placing::Placing;
+pub use search::{Reached, Search};

@@ -1,26 +1,30 @@
 //! The users' messages that are under way: which units of a side begin one whose last segment has not passed yet.
 
-use crate::user_links::{message_of, next_number};
-use dna_packet::Nsp;
+use crate::carried::{message_of, next_number};
+use crate::numbering::Numbering;
+use crate::said::Said;
+use capture::MAX_MESSAGE;
+use dna_packet::{Nsp, Segment};
 use std::alloc::{AllocError, Global};
 use std::collections::{BTreeMap, BTreeSet};
 
-// The addresses of a link, the side's own one first.
-type Addresses = (u16, u16);
-
-// The last segment of a link that passed, and the side's unit that began the message it is of, unless it ended one.
+// The last segment that passed of the link which has an own address: its far address, its number, and the side's unit that began the message it is
+// of with how many bytes of that passed, unless it ended one.
 #[derive(Clone, Copy, Debug, PartialEq, Eq)]
 struct Given {
+    far: u16,
     number: u16,
-    begun: Option<u64>,
+    begun: Option<(u64, usize)>,
 }
 
-/// The messages of a side that are not whole, by the units that began them. What is said of a link ends where a message that ends it passes.
+/// The messages of a side that are not whole, by the units that began them. What is said of a link ends where its own end is sent, since behind what
+/// came for that its node may still send what waits in a queue; or where its address is given again.
 #[derive(Drop)]
 pub(crate) struct OpenMessages {
-    given: BTreeMap<Addresses, Given>,
+    given: BTreeMap<u16, Given>,
     begun: BTreeSet<u64>,
     units: u64,
+    numbering: Numbering,
 }
 
 impl OpenMessages {
@@ -30,6 +34,7 @@ impl OpenMessages {
             given: BTreeMap::new(alloc),
             begun: BTreeSet::new(alloc),
             units: 0,
+            numbering: Numbering::new(),
         }
     }
 
@@ -45,88 +50,91 @@ impl OpenMessages {
     pub(crate) fn sent(&mut self, unit: &[u8]) -> Result<(), AllocError> {
         let place = self.units;
         self.units = place.saturating_add(1);
+        if !self.numbering.is_new(Said::of(unit)) {
+            return Ok(());
+        }
         match message_of(unit) {
-            Some(Nsp::DataSegment(segment)) => {
-                let addresses = (segment.srcaddr, segment.dstaddr);
-                self.gives(addresses, segment.number, segment.ends, place)
+            Some(Nsp::DataSegment(segment)) => self.gives(&segment, place),
+            Some(Nsp::ConnectInitiate(message)) => {
+                self.forget(message.srcaddr);
+                Ok(())
+            }
+            Some(Nsp::ConnectConfirm(message)) => {
+                self.forget(message.srcaddr);
+                Ok(())
             }
             Some(Nsp::DisconnectInitiate(message)) => {
-                self.forget((message.srcaddr, message.dstaddr));
+                self.forget(message.srcaddr);
                 Ok(())
             }
             Some(Nsp::DisconnectConfirm(message)) => {
-                self.forget((message.srcaddr, message.dstaddr));
+                self.end(message.srcaddr, message.dstaddr);
                 Ok(())
             }
             _ => Ok(()),
         }
     }
 
-    /// The other side sent this unit.
-    pub(crate) fn passed(&mut self, unit: &[u8]) {
-        match message_of(unit) {
-            Some(Nsp::DisconnectInitiate(message)) => {
-                self.forget((message.dstaddr, message.srcaddr));
-            }
-            Some(Nsp::DisconnectConfirm(message)) => {
-                self.forget((message.dstaddr, message.srcaddr));
-            }
-            _ => {}
-        }
-    }
-
     // A segment passed in this unit; one that is not the next of its link goes again.
-    fn gives(
-        &mut self,
-        addresses: Addresses,
-        number: u16,
-        ends: bool,
-        place: u64,
-    ) -> Result<(), AllocError> {
-        let last = self.given.get(&addresses).copied();
-        let (before, begun) = match last {
-            Some(given) => (given.number, given.begun),
-            None => (0, None),
+    fn gives(&mut self, segment: &Segment<'_>, place: u64) -> Result<(), AllocError> {
+        let far = segment.dstaddr;
+        let (before, begun) = match self.given.get(&segment.srcaddr).copied() {
+            Some(given) if given.far == far => (given.number, given.begun),
+            _ => (0, None),
         };
+        let number = segment.number;
         if number != next_number(before) {
             return Ok(());
         }
-        let begun = self.under_way(begun, ends, place)?;
-        match self.given.insert(addresses, Given { number, begun }) {
+        let begun = self.under_way(begun, segment, place)?;
+        let given = Given { far, number, begun };
+        match self.given.insert(segment.srcaddr, given) {
             Ok(_) => Ok(()),
             Err(_) => Err(AllocError),
         }
     }
 
-    // The unit that began the message of this segment, if that is under way behind it.
+    // The unit that began the message of this segment, if that is under way behind it. One that is too long is not waited for.
     fn under_way(
         &mut self,
-        begun: Option<u64>,
-        ends: bool,
+        begun: Option<(u64, usize)>,
+        segment: &Segment<'_>,
         place: u64,
-    ) -> Result<Option<u64>, AllocError> {
-        if ends {
-            if let Some(unit) = begun {
-                self.begun.remove(&unit);
-            }
+    ) -> Result<Option<(u64, usize)>, AllocError> {
+        let (unit, len) = match begun {
+            Some(begun) => begun,
+            None => (place, 0),
+        };
+        let len = len.saturating_add(segment.body.len());
+        if segment.ends || len > MAX_MESSAGE {
+            self.begun.remove(&unit);
+        } else if begun.is_none() {
+            let Ok(_) = self.begun.insert(unit) else {
+                return Err(AllocError);
+            };
+        }
+        if segment.ends {
             return Ok(None);
         }
-        if let Some(unit) = begun {
-            return Ok(Some(unit));
-        }
-        match self.begun.insert(place) {
-            Ok(_) => Ok(Some(place)),
-            Err(_) => Err(AllocError),
+        Ok(Some((unit, len)))
+    }
+
+    // A DC is sent from this address: its link is over, if the DC is to the far address of that, as no link that lives may be named.
+    fn end(&mut self, own: u16, far: u16) {
+        if let Some(given) = self.given.get(&own).copied() {
+            if given.far == far {
+                self.forget(own);
+            }
         }
     }
 
-    // The link with these addresses is over.
-    fn forget(&mut self, addresses: Addresses) {
-        if let Some(given) = self.given.get(&addresses).copied() {
-            if let Some(unit) = given.begun {
+    // Nothing is said any more of the link with this address.
+    fn forget(&mut self, own: u16) {
+        if let Some(given) = self.given.get(&own).copied() {
+            if let Some((unit, _)) = given.begun {
                 self.begun.remove(&unit);
             }
-            self.given.remove(&addresses);
+            self.given.remove(&own);
         }
     }
 }

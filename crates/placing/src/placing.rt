@@ -4,34 +4,22 @@ ghost use Rattle.std.specs.Prelude.{◌≡◌, ◌≤◌, [], length, IfOk, OnOk
 ghost use Rattle.capture.specs.declared.limit.TheConstants.{MAX_UNIT};
 ghost use Rattle.placing.specs.Placed.{Puts, nothing, with_other, with_own};
 
-use crate::search::{Found, Search};
+use crate::search::Search;
 use crate::waiting::Waiting;
-use dna_station::Tag;
 use std::alloc::{AllocError, Global};
 use std::marker::Model;
+use wire_base::Side;
 
-/// What became of a unit that the side sent.
-#[derive(Clone, Copy, Debug, PartialEq, Eq)]
-pub enum Outcome {
-    /// It may have been sent: with this tag.
-    Placed(Tag),
-    /// No placing was found that lets the side send it.
-    Unplaced,
-    /// There were more than 10,000 states to try.
-    TooWide,
-}
-
-/// One side of a line as a tap sees it: the units that it sent, and those of the other side, in the order in which they passed. It finds what came to
-/// the side and what its user did between its units, and puts the lines of its capture, in format 1 and without the head.
+/// One side of a line as a tap sees it: the units that it sent, and those of the other side, in the order in which they passed. It puts the lines of
+/// the side's capture, in format 1 and without the head: its units, and between them what a search found of what came and what its user did.
 ///
 /// ```text
 /// the other side's STRT passes       sent_by_other
-/// the side's STACK passes            sent: Placed
+/// the side's STACK passes            sent
 /// finish, and the lines              u start / r 0 0506.. / s 0507..
 /// ```
 #[derive(Drop)]
 pub struct Placing {
-    search: Search,
     waiting: Waiting,
 }
 
@@ -44,52 +32,46 @@ impl Model for Placing {
 }
 
 impl Placing {
-    /// Nothing passed yet. With `line_alone` no packet is read, and no event of a link is put. `AllocError` where there is no memory for it.
-    pub fn new(alloc: Global, line_alone: bool) -> Result<Placing, AllocError>
-        ensures { IfOk result (λ placing. placing ≡ nothing) }
+    /// Nothing passed yet. With `line_alone` no packet is read, and no event of a link is put. Takes no memory.
+    pub fn new(alloc: Global, line_alone: bool) -> Placing
+        ensures { result ≡ nothing }
     {
-        Ok(Placing {
-            search: Search::new(alloc)?,
+        Placing {
             waiting: Waiting::new(alloc, line_alone),
-        })
-    }
-
-    /// A unit of the other side passed, which was sent with this tag. `AllocError` where there is no memory for it; then no other call is right.
-    pub fn sent_by_other(&mut self, unit: &[u8], tag: Tag) -> Result<(), AllocError>
-        requires { length unit.now ≤ MAX_UNIT }
-        ensures { OnOk result (self.new ≡ with_other unit.now self.old) }
-    {
-        self.waiting.push_other(unit)?;
-        self.search.pass(unit, tag)
-    }
-
-    /// A unit of the side passed. `Unplaced` and `TooWide`: it is the last one. `AllocError` where there is no memory; then no other call is right.
-    pub fn sent(&mut self, unit: &[u8]) -> Result<Outcome, AllocError>
-        requires { length unit.now ≤ MAX_UNIT }
-        ensures { OnOk result (self.new ≡ with_own unit.now self.old) }
-    {
-        self.waiting.push_own(unit)?;
-        match self.search.send(unit)? {
-            Found::Way => Ok(Outcome::Placed(self.search.tag())),
-            Found::NoWay => Ok(Outcome::Unplaced),
-            Found::TooMany => Ok(Outcome::TooWide),
         }
     }
 
-    /// Puts the lines of what is taken back no more. `AllocError` where there is no memory for them.
-    pub fn settle(&mut self) -> Result<(), AllocError>
+    /// A unit of the other side passed. `AllocError` where there is no memory for it; then no other call is right.
+    pub fn sent_by_other(&mut self, unit: &[u8]) -> Result<(), AllocError>
+        requires { length unit.now ≤ MAX_UNIT }
+        ensures { OnOk result (self.new ≡ with_other unit.now self.old) }
+    {
+        self.waiting.push_other(unit)
+    }
+
+    /// A unit of the side passed. `AllocError` as there.
+    pub fn sent(&mut self, unit: &[u8]) -> Result<(), AllocError>
+        requires { length unit.now ≤ MAX_UNIT }
+        ensures { OnOk result (self.new ≡ with_own unit.now self.old) }
+    {
+        self.waiting.push_own(unit)
+    }
+
+    /// Puts the lines of what the search of both sides takes back no more of this one. `AllocError` where there is no memory for them.
+    pub fn settle(&mut self, search: &mut Search, side: Side) -> Result<(), AllocError>
         ensures { OnOk result (Puts self.old self.new) }
     {
-        put_settled(&mut self.search, &mut self.waiting, false)
+        put_settled(search, side, &mut self.waiting, false)
     }
 
     /// Puts the lines of all that is left, those of the side's units that have no placing too. `AllocError` as for `settle`.
     #[tactic(auto, using(crate::proofs::Puts::puts_then))]
-    pub fn finish(&mut self) -> Result<(), AllocError>
+    pub fn finish(&mut self, search: &mut Search, side: Side) -> Result<(), AllocError>
         ensures puts { OnOk result (Puts self.old self.new) }
         ensures all { OnOk result (self.new.units.own ≡ []) }
     {
-        put_settled(&mut self.search, &mut self.waiting, true)?;
+        search.end(side)?;
+        put_settled(search, side, &mut self.waiting, true)?;
         self.waiting.put_rest()
     }
 
@@ -108,16 +90,21 @@ impl Placing {
     }
 }
 
-// Puts the lines of what is taken back no more, or, at the end, of all.
+// Puts the lines of what is taken back no more. A message that its user hands in waits until it is whole, but at the end.
 #[tactic(auto, using(crate::proofs::Puts::puts_then, crate::proofs::Puts::puts_nothing))]
-fn put_settled(search: &mut Search, waiting: &mut Waiting, at_end: bool) -> Result<(), AllocError>
+fn put_settled(
+    search: &mut Search,
+    side: Side,
+    waiting: &mut Waiting,
+    at_end: bool,
+) -> Result<(), AllocError>
     ensures { OnOk result (Puts waiting.old waiting.new) }
 {
-    for _ in 0..search.steps_made() {
-        if !at_end && !search.may_settle(waiting.is_held()) {
+    for _ in 0..search.settled(side) {
+        if !at_end && waiting.is_held() {
             return Ok(());
         }
-        let Some(made) = search.settle() else {
+        let Some(made) = search.next(side) else {
             return Ok(());
         };
         waiting.put(made)?;

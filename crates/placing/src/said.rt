@@ -73,10 +73,20 @@ impl Said {
         }
     }
 
-    /// Whether it is of the start of a line.
-    pub(crate) fn is_of_start(self) -> bool {
+    /// The same with this response in the place of its own, if it carries one.
+    pub(crate) fn with_resp(self, resp: u8) -> Said {
         match self {
-            Said::Strt | Said::Stack => true,
+            Said::Ack { resp: _ } => Said::Ack { resp },
+            Said::Nak { reason, resp: _ } => Said::Nak { reason, resp },
+            Said::Data { resp: _, num } => Said::Data { resp, num },
+            Said::Strt | Said::Stack | Said::Rep { num: _ } | Said::Nothing => self,
+        }
+    }
+
+    /// Whether it tells that no buffer was left.
+    pub(crate) fn is_of_no_buffer(self) -> bool {
+        match self {
+            Said::Nak { reason, resp: _ } => reason == NakReason::NoBuffer,
             _ => false,
         }
     }

@@ -4,12 +4,13 @@ mod arriving;
 mod sending;
 
 use dna_station::{State, Tag};
+pub(crate) use sending::But;
 
 /// What a station keeps but for its packets (DDCMP 4.1, station variables). All numbers of messages are those of the line, modulo 256.
 #[derive(Clone, Copy, Debug, PartialEq, Eq)]
 pub(crate) struct Station {
     pub(crate) state: State,
-    // how many starts there were
+    // its period: how many units it had sent when it began, and one more
     period: u64,
     // the other side's period that this one goes with
     partner: Option<u64>,
@@ -59,12 +60,12 @@ impl Station {
         self.outstanding > 0
     }
 
-    /// The user starts it.
-    pub(crate) fn started(self) -> Station {
+    /// The user starts it, and so this period begins.
+    pub(crate) fn started(self, period: u64) -> Station {
         let new = Station::new();
         Station {
             state: State::Istrt,
-            period: self.period.saturating_add(1),
+            period,
             ..new
         }
     }
@@ -77,35 +78,28 @@ impl Station {
         }
     }
 
-    /// All of it in one number, for a table of states.
-    pub(crate) fn mixed(self) -> u64 {
-        let state = match self.state {
-            State::Halted => 0u64,
-            State::Istrt => 1,
-            State::Astrt => 2,
-            State::Running => 3,
-        };
-        let partner = match self.partner {
-            Some(partner) => partner.wrapping_add(1),
-            None => 0,
-        };
-        let bytes = u64::from_le_bytes([
-            self.received,
-            self.acknowledged,
-            self.outstanding,
-            self.ahead,
-            0,
-            0,
-            0,
-            0,
-        ]);
-        let numbers = mix(mix(mix(mix(0, state), self.period), partner), bytes);
-        mix(mix(numbers, self.answers as u64), self.refused as u64)
+    /// Whether it can do all that the other can, but for the other side's units that may still come. A higher number acknowledged covers a lower one,
+    /// but where none is left to ask for.
+    pub(crate) fn covers(&self, other: &Station) -> bool {
+        if self.state != other.state || self.tag() != other.tag() {
+            return false;
+        }
+        if self.received != other.received || self.next_to_send() != other.next_to_send() {
+            return false;
+        }
+        if self.answers < other.answers || self.refused < other.refused {
+            return false;
+        }
+        if self.acknowledged == other.acknowledged {
+            return self.outstanding == other.outstanding;
+        }
+        self.last_given() == other.last_given()
+            && self.outstanding > 0
+            && self.outstanding < other.outstanding
     }
-}
 
-/// A number with one more in it.
-pub(crate) fn mix(seed: u64, number: u64) -> u64 {
-    let mixed = (seed ^ number).wrapping_mul(0x9e37_79b9_7f4a_7c15);
-    mixed ^ (mixed >> 29)
+    // The last number that it gave a packet.
+    fn last_given(&self) -> u8 {
+        self.acknowledged.wrapping_add(self.outstanding)
+    }
 }

@@ -1,7 +1,7 @@
 //! What the user of a side did with its links, read off its packets.
 
-use ddcmp_msg::{Message, Reading, read_unit};
-use dna_packet::{Nsp, Packet, read_nsp, read_packet};
+use crate::carried::{message_of, next_number};
+use dna_packet::Nsp;
 use std::alloc::{AllocError, Global};
 use std::collections::{BTreeMap, BTreeSet};
 
@@ -25,18 +25,29 @@ enum Phase {
     Disconnecting,
 }
 
-// A link that lives, and has an own address: its far address, 0 while it calls; of the segments the last number that was given, and whether a
-// message is handed in whose last segment is not sent yet.
+// What was sent of a link.
+#[derive(Clone, Copy, Debug, PartialEq, Eq, PartialOrd, Ord)]
+enum Sent {
+    Nothing,
+    OfRun,
+    Disconnect,
+}
+
+// The link that got an own address last, while something of it may still be sent: its far address, 0 while it calls; whether what came ended it,
+// behind which what waits in the queues of its node is still sent; of the segments the last number that was given, and whether a message is handed
+// in whose last segment is not sent yet.
 #[derive(Clone, Copy, Debug, PartialEq, Eq)]
 struct UserLink {
     far: u16,
     phase: Phase,
+    is_over: bool,
+    sent: Sent,
     given: u16,
     in_message: bool,
 }
 
-/// The links of a side that live: by their own addresses; by the far address, where they are called and not answered yet; and the own address
-/// by the far one, where both are known.
+/// The links of a side, as those of a node with queues: by their own addresses; by the far address, where they are called and not answered yet; and
+/// the own address by the far one, of those that live and know both.
 #[derive(Drop)]
 pub(crate) struct UserLinks {
     links: BTreeMap<u16, UserLink>,
@@ -57,17 +68,15 @@ impl UserLinks {
     /// What the user did before this unit was first sent, if its packet tells it. `AllocError` where there is no memory for another link.
     pub(crate) fn before(&mut self, unit: &[u8]) -> Result<Option<UserAct>, AllocError> {
         match message_of(unit) {
-            Some(Nsp::ConnectInitiate(message)) => self.calls(message.srcaddr),
-            Some(Nsp::ConnectConfirm(message)) => {
-                self.answers(message.srcaddr, message.dstaddr, Phase::Confirming)
+            Some(Nsp::ConnectInitiate(message)) => {
+                self.calls(message.srcaddr, message.retransmitted)
             }
+            Some(Nsp::ConnectConfirm(message)) => self.confirms(message.srcaddr, message.dstaddr),
             Some(Nsp::DisconnectInitiate(message)) => {
                 self.disconnects(message.srcaddr, message.dstaddr)
             }
             Some(Nsp::DisconnectConfirm(message)) => {
-                if message.srcaddr == 0 {
-                    self.called.remove(&message.dstaddr);
-                }
+                self.answers_end(message.srcaddr, message.dstaddr);
                 Ok(None)
             }
             Some(Nsp::DataSegment(segment)) => Ok(self.gives(
@@ -76,6 +85,18 @@ impl UserLinks {
                 segment.number,
                 segment.ends,
             )),
+            Some(Nsp::DataAck(message)) => {
+                self.says(message.srcaddr, message.dstaddr, Sent::OfRun);
+                Ok(None)
+            }
+            Some(Nsp::LinkService(message)) => {
+                self.says(message.srcaddr, message.dstaddr, Sent::OfRun);
+                Ok(None)
+            }
+            Some(Nsp::OtherDataAck(message)) => {
+                self.says(message.srcaddr, message.dstaddr, Sent::OfRun);
+                Ok(None)
+            }
             _ => Ok(None),
         }
     }
@@ -84,7 +105,9 @@ impl UserLinks {
     pub(crate) fn keep(&mut self, unit: &[u8]) -> Result<(), AllocError> {
         match message_of(unit) {
             Some(Nsp::ConnectInitiate(message)) => self.is_called(message.srcaddr),
-            Some(Nsp::ConnectConfirm(message)) => self.confirm(message.dstaddr, message.srcaddr),
+            Some(Nsp::ConnectConfirm(message)) => {
+                self.is_confirmed(message.dstaddr, message.srcaddr)
+            }
             Some(Nsp::DisconnectInitiate(message)) => {
                 self.end(message.dstaddr, message.srcaddr);
                 Ok(())
@@ -115,80 +138,117 @@ impl UserLinks {
 
     // ---- what is sent
 
-    // No link has the own address 0, so what names one is nobody's act.
-    fn calls(&mut self, own: u16) -> Result<Option<UserAct>, AllocError> {
+    // A call goes again where the link has sent nothing else; where what came ended it meanwhile, its own mark tells. No link has the own address 0,
+    // so what names one is nobody's act.
+    fn calls(&mut self, own: u16, again: bool) -> Result<Option<UserAct>, AllocError> {
         if own == 0 {
             return Ok(None);
         }
-        if self.link(own).is_some() {
-            return Ok(None);
+        if let Some(link) = self.link(own) {
+            if !link.is_over || (again && link.sent == Sent::Nothing) {
+                return Ok(None);
+            }
         }
         self.put(own, 0, Phase::Calling)?;
         Ok(Some(UserAct::Open { link: own }))
     }
 
-    // The link that a CI from this far address began is answered.
-    fn answers(&mut self, own: u16, far: u16, phase: Phase) -> Result<Option<UserAct>, AllocError> {
-        if own == 0 {
+    fn confirms(&mut self, own: u16, far: u16) -> Result<Option<UserAct>, AllocError> {
+        if !self.answers(own, far, Phase::Confirming)? {
             return Ok(None);
         }
-        if !self.called.remove(&far) {
-            return Ok(None);
+        Ok(Some(UserAct::Accept {
+            partner: far,
+            link: own,
+        }))
+    }
+
+    // The link that a CI from this far address began is answered, if there is one.
+    fn answers(&mut self, own: u16, far: u16, phase: Phase) -> Result<bool, AllocError> {
+        if own == 0 || !self.called.remove(&far) {
+            return Ok(false);
         }
         self.put(own, far, phase)?;
         self.reach(far, own)?;
-        match phase {
-            Phase::Confirming => Ok(Some(UserAct::Accept {
-                partner: far,
-                link: own,
-            })),
-            _ => Ok(Some(UserAct::Reject {
-                partner: far,
-                link: own,
-            })),
-        }
+        Ok(true)
     }
 
     fn disconnects(&mut self, own: u16, far: u16) -> Result<Option<UserAct>, AllocError> {
         if let Some(link) = self.links.get_mut(&own) {
             if link.far == far {
+                link.sent = Sent::Disconnect;
                 match link.phase {
                     Phase::Confirming | Phase::Running => {
                         link.phase = Phase::Disconnecting;
                         return Ok(Some(UserAct::Close { link: own }));
                     }
-                    _ => return Ok(None),
+                    Phase::Calling | Phase::Disconnecting => return Ok(None),
                 }
             }
         }
-        self.answers(own, far, Phase::Disconnecting)
+        if !self.answers(own, far, Phase::Disconnecting)? {
+            return Ok(None);
+        }
+        self.says(own, far, Sent::Disconnect);
+        Ok(Some(UserAct::Reject {
+            partner: far,
+            link: own,
+        }))
+    }
+
+    // A DC is sent: what came for the link with its address was acted on, so nothing of one that is over is sent any more. One of no link answers a
+    // call.
+    fn answers_end(&mut self, own: u16, far: u16) {
+        if own == 0 {
+            self.called.remove(&far);
+            return;
+        }
+        let Some(link) = self.link(own) else {
+            return;
+        };
+        if link.is_over {
+            self.links.remove(&own);
+            return;
+        }
+        match link.phase {
+            Phase::Running => self.says(own, link.far, Sent::OfRun),
+            Phase::Disconnecting => self.says(own, link.far, Sent::Disconnect),
+            Phase::Calling | Phase::Confirming => {}
+        }
     }
 
     fn gives(&mut self, own: u16, far: u16, number: u16, ends: bool) -> Option<UserAct> {
+        self.says(own, far, Sent::OfRun);
+        let link = self.links.get_mut(&own)?;
+        if link.far != far || number != next_number(link.given) {
+            return None;
+        }
+        let begins = !link.in_message;
+        link.given = number;
+        link.in_message = !ends;
+        if !begins {
+            return None;
+        }
+        Some(UserAct::HandIn {
+            link: own,
+            far,
+            number,
+        })
+    }
+
+    // A message of this kind was sent on the link with these addresses.
+    fn says(&mut self, own: u16, far: u16, sent: Sent) {
         if let Some(link) = self.links.get_mut(&own) {
-            if link.far == far && number == next_number(link.given) {
-                let begins = !link.in_message;
-                link.given = number;
-                link.in_message = !ends;
-                if begins {
-                    return Some(UserAct::HandIn {
-                        link: own,
-                        far,
-                        number,
-                    });
-                }
+            if link.far == far {
+                link.sent = link.sent.max(sent);
             }
         }
-        None
     }
 
     // ---- what came
 
     fn is_called(&mut self, far: u16) -> Result<(), AllocError> {
-        if far == 0 {
-            return Ok(());
-        }
-        if self.reached.get(&far).is_some() {
+        if far == 0 || self.reached.get(&far).is_some() {
             return Ok(());
         }
         match self.called.insert(far) {
@@ -197,19 +257,20 @@ impl UserLinks {
         }
     }
 
-    fn confirm(&mut self, own: u16, far: u16) -> Result<(), AllocError> {
-        match self.link(own) {
-            Some(link) if link.phase == Phase::Calling => {
-                self.put(own, far, Phase::Running)?;
-                self.reach(far, own)
+    fn is_confirmed(&mut self, own: u16, far: u16) -> Result<(), AllocError> {
+        match self.links.get_mut(&own) {
+            Some(link) if link.phase == Phase::Calling && !link.is_over => {
+                link.far = far;
+                link.phase = Phase::Running;
             }
-            _ => Ok(()),
+            _ => return Ok(()),
         }
+        self.reach(far, own)
     }
 
     fn run(&mut self, own: u16, far: u16) {
         if let Some(link) = self.links.get_mut(&own) {
-            if link.far == far {
+            if link.far == far && !link.is_over {
                 if let Phase::Confirming = link.phase {
                     link.phase = Phase::Running;
                 }
@@ -220,15 +281,15 @@ impl UserLinks {
     // The link with both addresses is over, or the one with the own address that calls. One that is called and not answered has no own address, so
     // what came names none (NSP 4.0, disconnection).
     fn end(&mut self, own: u16, far: u16) {
-        let Some(link) = self.link(own) else {
-            return;
+        let far_of_it = match self.links.get_mut(&own) {
+            Some(link) if !link.is_over && (link.phase == Phase::Calling || link.far == far) => {
+                link.is_over = true;
+                link.far
+            }
+            _ => return,
         };
-        if link.phase != Phase::Calling && link.far != far {
-            return;
-        }
-        self.links.remove(&own);
-        if self.reached.get(&link.far).copied() == Some(own) {
-            self.reached.remove(&link.far);
+        if self.reached.get(&far_of_it).copied() == Some(own) {
+            self.reached.remove(&far_of_it);
         }
     }
 
@@ -238,11 +299,13 @@ impl UserLinks {
         self.links.get(&own).copied()
     }
 
-    // A link of which no segment was given has this own address.
+    // A link of which nothing was sent has this own address.
     fn put(&mut self, own: u16, far: u16, phase: Phase) -> Result<(), AllocError> {
         let link = UserLink {
             far,
             phase,
+            is_over: false,
+            sent: Sent::Nothing,
             given: 0,
             in_message: false,
         };
@@ -257,38 +320,5 @@ impl UserLinks {
             Ok(_) => Ok(()),
             Err(_) => Err(AllocError),
         }
-    }
-}
-
-/// The number of the segment behind the one with this number.
-pub(crate) fn next_number(number: u16) -> u16 {
-    number.wrapping_add(1) % 4096
-}
-
-/// The message of the links in a unit, if it has one.
-pub(crate) fn message_of(unit: &[u8]) -> Option<Nsp<'_>> {
-    let Reading::Sound(
-        Message::Data {
-            flags: _,
-            resp: _,
-            num: _,
-            body,
-        },
-    ) = read_unit(unit)
-    else {
-        return None;
-    };
-    let Ok(packet) = read_packet(body) else {
-        return None;
-    };
-    if packet.returned() {
-        return None;
-    }
-    match packet {
-        Packet::Data { nsp, .. } => match read_nsp(nsp) {
-            Ok(message) => Some(message),
-            Err(_) => None,
-        },
-        Packet::Control(_) => None,
     }
 }

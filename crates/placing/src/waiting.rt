@@ -119,9 +119,6 @@ impl Waiting {
         let copy = PassedUnit::of(self.alloc, unit)?;
         self.other.reserve(1)?;
         self.other.push_back_reserved(copy);
-        if let Some(messages) = &mut self.messages {
-            messages.passed(unit);
-        }
         Ok(())
     }
 
@@ -130,13 +127,10 @@ impl Waiting {
         ensures { OnOk result (Puts self.old self.new) }
     {
         match made {
-            Move::Send {
-                is_new,
-                set_back: _,
-            } => self.put_own(is_new),
+            Move::Send { is_new } => self.put_own(is_new),
             Move::Keep => self.put_other(true),
             Move::Receive => self.put_other(false),
-            Move::Leave | Move::Lose => {
+            Move::Lose => {
                 self.lose();
                 Ok(())
             }

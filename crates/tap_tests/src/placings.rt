@@ -1,9 +1,9 @@
 //! One side of a line, as a tap places its units.
 
 use ddcmp_msg::{Reading, read_unit};
-use dna_station::Tag;
-use placing::{Outcome, Placing};
+use placing::{Placing, Reached, Search};
 use std::alloc::{AllocError, Global};
+use wire_base::Side;
 
 const STRT: [u8; 8] = [0x05, 0x06, 0xc0, 0x00, 0x00, 0x01, 0x75, 0x95];
 
@@ -11,30 +11,52 @@ const STACK: [u8; 8] = [0x05, 0x07, 0xc0, 0x00, 0x00, 0x01, 0x48, 0x55];
 
 const LINES: &str = "u start\nr 0 0506c00000017595\ns 0507c00000014855\n";
 
-// The lines of a side that answers a STRT with a STACK.
-fn answered(alloc: Global) -> Result<(Outcome, Vec<u8>), AllocError> {
-    let mut placing = Placing::new(alloc, false)?;
-    let tag = Tag {
-        period: 1,
-        partner: None,
-    };
-    placing.sent_by_other(&STRT, tag)?;
-    let outcome = placing.sent(&STACK)?;
-    placing.settle()?;
-    placing.finish()?;
-    let lines = Vec::from_slice(alloc, placing.text())?;
-    Ok((outcome, lines))
+// Side b, and the search of both sides.
+#[derive(Drop)]
+struct Line {
+    b: Placing,
+    search: Search,
+}
+
+impl Line {
+    fn new(alloc: Global) -> Result<Line, AllocError> {
+        Ok(Line {
+            b: Placing::new(alloc, false),
+            search: Search::new(alloc)?,
+        })
+    }
+
+    fn from_a(&mut self, unit: &[u8]) -> Result<Reached, AllocError> {
+        self.b.sent_by_other(unit)?;
+        self.search.sent(Side::A, unit)
+    }
+
+    fn from_b(&mut self, unit: &[u8]) -> Result<Reached, AllocError> {
+        self.b.sent(unit)?;
+        self.search.sent(Side::B, unit)
+    }
+
+    // The lines of side b.
+    fn lines(&mut self, alloc: Global) -> Result<Vec<u8>, AllocError> {
+        self.b.settle(&mut self.search, Side::B)?;
+        self.b.finish(&mut self.search, Side::B)?;
+        Vec::from_slice(alloc, self.b.text())
+    }
 }
 
 #[test]
 fn what_lets_a_side_send_is_put_between_its_units(rt: HostRuntime) -> Result<(), AllocError> {
-    let (outcome, lines) = answered(rt.alloc())?;
-    let tag = Tag {
-        period: 1,
-        partner: Some(1),
-    };
-    assert_eq!(rt; outcome, Outcome::Placed(tag));
-    assert_eq!(rt; lines.as_slice(), LINES.as_bytes());
+    let mut line = Line::new(rt.alloc())?;
+    assert_eq!(rt; line.from_a(&STRT)?, Reached::Way);
+    assert_eq!(rt; line.from_b(&STACK)?, Reached::Way);
+    assert_eq!(rt; line.lines(rt.alloc())?.as_slice(), LINES.as_bytes());
+    Ok(())
+}
+
+#[test]
+fn a_unit_without_a_way_is_told(rt: HostRuntime) -> Result<(), AllocError> {
+    let mut line = Line::new(rt.alloc())?;
+    assert_eq!(rt; line.from_b(&STACK)?, Reached::NoWay);
     Ok(())
 }
 
@@ -59,21 +81,13 @@ fn before_a_nak_of_data_comes_noise_that_reads_as_damaged_data(
     rt: HostRuntime,
 ) -> Result<(), AllocError> {
     let alloc = rt.alloc();
-    let mut placing = Placing::new(alloc, false)?;
-    let tag = Tag {
-        period: 1,
-        partner: None,
-    };
-    placing.sent_by_other(&STRT, tag)?;
-    placing.sent(&STACK)?;
-    let tag = Tag {
-        period: 1,
-        partner: Some(1),
-    };
-    placing.sent_by_other(&ACK, tag)?;
-    placing.sent(&NAK)?;
-    placing.finish()?;
-    let digits = noise_of(alloc, placing.text())?;
+    let mut line = Line::new(alloc)?;
+    line.from_a(&STRT)?;
+    line.from_b(&STACK)?;
+    line.from_a(&ACK)?;
+    line.from_b(&NAK)?;
+    let lines = line.lines(alloc)?;
+    let digits = noise_of(alloc, lines.as_slice())?;
     let Ok(noise) = hex::decode(alloc, digits.as_slice()) else {
         return Err(AllocError);
     };

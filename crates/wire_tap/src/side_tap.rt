@@ -7,7 +7,7 @@ ghost use Rattle.wire_tap.specs.inner.Side.{IsNew, MayEndAt, MovesOn, PassUnits,
 use crate::tapped::{Ending, Passed, Skipped, Units};
 use capture::MAX_UNIT;
 use framer::{Found, Framer, Kind};
-use placing::{Outcome, Placing};
+use placing::{Placing, Reached, Search};
 use std::alloc::{AllocError, Global};
 use wire_base::Side;
 
@@ -56,7 +56,7 @@ impl SideTap {
         Ok(SideTap {
             framer: Framer::new(alloc)?,
             units: SideUnits {
-                placing: Placing::new(alloc, line_alone)?,
+                placing: Placing::new(alloc, line_alone),
                 count: 0,
                 bytes: 0,
                 skipped: Skipped {
@@ -74,6 +74,7 @@ impl SideTap {
         piece: &[u8],
         at: At,
         other: &mut Placing,
+        search: &mut Search,
     ) -> Result<Option<Ending>, AllocError>
         ensures own { IfOk result (PassesBytes (aim at.last at.side) (self.old.framer.held ++ piece.now)
             (side_state self.old) (side_state self.new)) }
@@ -82,7 +83,7 @@ impl SideTap {
         let mut rest = piece;
         let most = self.framer.held().len() + piece.len() + 1;
         for _ in 0..most {
-            match self.pass_next(rest, at, other)? {
+            match self.pass_next(rest, at, other, search)? {
                 Next::Rest(behind) => rest = behind,
                 Next::UsedUp => return Ok(None),
                 Next::Ends(ending) => return Ok(Some(ending)),
@@ -97,6 +98,7 @@ impl SideTap {
         piece: &'a [u8],
         at: At,
         other: &mut Placing,
+        search: &mut Search,
     ) -> Result<Next<'a>, AllocError>
         ensures own { IfOk result (TakesTurn (aim at.last at.side) (self.old.framer.held ++ piece.entry.now)
             (side_state self.old) (side_state self.new)) }
@@ -110,7 +112,7 @@ impl SideTap {
                 rest,
             } => {
                 self.units.skip(strays);
-                match self.units.pass(kind, unit, at, other)? {
+                match self.units.pass(kind, unit, at, other, search)? {
                     Some(ending) => Ok(Next::Ends(ending)),
                     None => Ok(Next::Rest(rest)),
                 }
@@ -123,7 +125,7 @@ impl SideTap {
                 };
                 match self
                     .units
-                    .pass(kind, self.framer.completed(), begun, other)?
+                    .pass(kind, self.framer.completed(), begun, other, search)?
                 {
                     Some(ending) => Ok(Next::Ends(ending)),
                     None => Ok(Next::Rest(rest)),
@@ -166,6 +168,7 @@ impl SideUnits {
         unit: &[u8],
         at: At,
         other: &mut Placing,
+        search: &mut Search,
     ) -> Result<Option<Ending>, AllocError>
         ensures own { IfOk result (λ _. PassUnits (message_of (Some kind) unit.now) (units_state self.old) (units_state self.new)) }
         ensures ends { IfOk result (MayEndAt (aim at.last at.side) (self.old.count + length (message_of (Some kind) unit.now))) }
@@ -176,7 +179,7 @@ impl SideUnits {
                 self.skipped.maintenance = self.skipped.maintenance.saturating_add(1);
                 Ok(None)
             }
-            Kind::Control | Kind::Data => self.pass_message(unit, at, other),
+            Kind::Control | Kind::Data => self.pass_message(unit, at, other, search),
         }
     }
 
@@ -186,6 +189,7 @@ impl SideUnits {
         unit: &[u8],
         at: At,
         other: &mut Placing,
+        search: &mut Search,
     ) -> Result<Option<Ending>, AllocError>
         ensures own { IfOk result (λ _. PassUnits (unit.now ∷ []) (units_state self.old) (units_state self.new)) }
         ensures ends { IfOk result (MayEndAt (aim at.last at.side) (self.old.count + 1)) }
@@ -202,12 +206,13 @@ impl SideUnits {
         };
         self.count = self.count.saturating_add(1);
         self.bytes = self.bytes.saturating_add(unit.len() as u64);
-        match self.placing.sent(unit)? {
-            Outcome::Placed(tag) => other.sent_by_other(unit, tag)?,
-            Outcome::Unplaced => return Ok(Some(Ending::Unplaced(passed))),
-            Outcome::TooWide => return Ok(Some(Ending::TooWide(passed))),
+        self.placing.sent(unit)?;
+        match search.sent(at.side, unit)? {
+            Reached::Way => other.sent_by_other(unit)?,
+            Reached::NoWay => return Ok(Some(Ending::Unplaced(passed))),
+            Reached::TooMany => return Ok(Some(Ending::TooWide(passed))),
         }
-        self.placing.settle()?;
+        self.placing.settle(search, at.side)?;
         if at.is_last(passed) {
             return Ok(Some(Ending::Asked(passed)));
         }

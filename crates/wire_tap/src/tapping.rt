@@ -22,16 +22,18 @@ use crate::side_tap::{At, SideTap};
 use crate::stop::Stop;
 use crate::tapped::{Ending, Tapped};
 use capture::{Format, put_head_line};
+use placing::Search;
 use std::alloc::{AllocError, Global};
 use std::io::{Read, Write};
 use wire_base::{Side, Tally};
 use wire_text::{MAX_PIECES, WireReader};
 
-// Both sides.
+// Both sides, and what may have happened between their units.
 #[derive(Drop)]
 struct Sides {
     a: SideTap,
     b: SideTap,
+    search: Search,
 }
 
 /// Reads the text of what passed to its end, places the units of both sides, and writes both captures, in format 1. With `last` they end with that
@@ -92,7 +94,8 @@ impl Sides {
     {
         let a = SideTap::new(alloc, line_alone)?;
         let b = SideTap::new(alloc, line_alone)?;
-        Ok(Sides { a, b })
+        let search = Search::new(alloc)?;
+        Ok(Sides { a, b, search })
     }
 
     // Puts all lines that are left.
@@ -102,8 +105,8 @@ impl Sides {
         ensures count_a { self.new.a.units.count ≡ self.old.a.units.count }
         ensures count_b { self.new.b.units.count ≡ self.old.b.units.count }
     {
-        self.a.units.placing.finish()?;
-        self.b.units.placing.finish()
+        self.a.units.placing.finish(&mut self.search, Side::A)?;
+        self.b.units.placing.finish(&mut self.search, Side::B)
     }
 
     // What was found, where what the framers hold at last is no unit.
@@ -131,8 +134,12 @@ impl Sides {
             (side_state self.new.a, side_state self.new.b)) }
     {
         match at.side {
-            Side::A => self.a.pass_bytes(piece, at, &mut self.b.units.placing),
-            Side::B => self.b.pass_bytes(piece, at, &mut self.a.units.placing),
+            Side::A => self
+                .a
+                .pass_bytes(piece, at, &mut self.b.units.placing, &mut self.search),
+            Side::B => self
+                .b
+                .pass_bytes(piece, at, &mut self.a.units.placing, &mut self.search),
         }
     }
 }

@@ -89,8 +89,8 @@ impl Station {
         }
     }
 
-    /// A NAK with this response came.
-    pub(crate) fn set_back(self, resp: u8) -> Station {
+    // A NAK with this response came.
+    fn set_back(self, resp: u8) -> Station {
         let responded = self.responded(resp);
         Station {
             ahead: 0,

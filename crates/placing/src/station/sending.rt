@@ -5,6 +5,17 @@ use crate::said::Said;
 use ddcmp_msg::NakReason;
 use dna_station::State;
 
+/// What is not asked of a unit that can't be sent.
+#[derive(Clone, Copy, Debug, PartialEq, Eq)]
+pub(crate) enum But {
+    /// Its response.
+    Response,
+    /// Its number, or a cause.
+    Number,
+    /// All but that the station runs.
+    All,
+}
+
 impl Station {
     /// Whether it may send this, where data are not judged by their packet.
     pub(crate) fn may_send(self, said: Said) -> bool {
@@ -59,29 +70,28 @@ impl Station {
         true
     }
 
-    fn next_to_send(self) -> u8 {
+    pub(super) fn next_to_send(self) -> u8 {
         self.acknowledged.wrapping_add(self.ahead).wrapping_add(1)
     }
 
-    /// Whether this is data with the number that is next to send.
-    pub(crate) fn is_next(self, said: Said) -> bool {
-        match said {
-            Said::Data { resp: _, num } => num == self.next_to_send(),
-            _ => false,
+    /// Whether it may send this but for one thing.
+    pub(crate) fn may_send_but(self, said: Said, but: But) -> bool {
+        if self.state != State::Running {
+            return false;
+        }
+        match but {
+            But::Response => self.may_send_running(said.with_resp(self.received)),
+            But::Number => match said.resp() {
+                Some(resp) => resp == self.received,
+                None => true,
+            },
+            But::All => true,
         }
     }
 
     /// Whether the data that it sends next are of a new packet.
     pub(crate) fn is_new(self, said: Said) -> bool {
         said.is_data() && self.ahead == self.outstanding
-    }
-
-    /// Whether it may send these data, had it got a NAK with this response before.
-    pub(crate) fn may_send_set_back(self, said: Said, nak_resp: u8) -> bool {
-        match self.state {
-            State::Running => self.set_back(nak_resp).may_send_running(said),
-            _ => false,
-        }
     }
 
     /// It sent this, which it might send.

@@ -4,8 +4,10 @@ ghost use Rattle.std.specs.Prelude.{◌≡◌, ◌≤◌, ◌-◌, length, IfOk,
 ghost use Rattle.placing.specs.Placed.{Puts};
 
 use super::Waiting;
+use crate::carried::{message_of, next_number};
+use crate::numbering::Numbering;
 use crate::said::Said;
-use crate::user_links::{UserAct, message_of, next_number};
+use crate::user_links::UserAct;
 use capture::{Entry, MAX_MESSAGE};
 use ddcmp_msg::{Flags, Message, NakReason, write_unit};
 use dna_packet::Nsp;
@@ -112,22 +114,46 @@ impl Waiting {
     fn message(&self, link: u16, far: u16, number: u16) -> Result<Vec<u8>, AllocError> {
         let mut message = Vec::new(self.alloc);
         let mut wanted = number;
+        let mut numbering = self.numbering();
         for at in 0..self.own.len() {
             let Some(unit) = self.own.get(at) else {
-                return Ok(message);
+                break;
             };
-            if let Some(Nsp::DataSegment(segment)) = message_of(unit.as_slice()) {
-                if segment.srcaddr == link && segment.dstaddr == far && segment.number == wanted {
-                    message.extend_from_slice(segment.body)?;
-                    if segment.ends || message.len() > MAX_MESSAGE {
-                        return Ok(message);
+            if !numbering.is_new(Said::of(unit.as_slice())) {
+                continue;
+            }
+            match message_of(unit.as_slice()) {
+                Some(Nsp::DataSegment(segment)) => {
+                    if segment.srcaddr == link
+                        && segment.dstaddr == far
+                        && segment.number == wanted
+                    {
+                        message.extend_from_slice(segment.body)?;
+                        if segment.ends || message.len() > MAX_MESSAGE {
+                            return Ok(message);
+                        }
+                        wanted = next_number(wanted);
                     }
-                    wanted = next_number(wanted);
                 }
+                Some(Nsp::DisconnectInitiate(end)) if end.srcaddr == link => break,
+                Some(Nsp::ConnectInitiate(call)) if call.srcaddr == link => break,
+                Some(Nsp::ConnectConfirm(answer)) if answer.srcaddr == link => break,
+                _ => {}
             }
         }
         message.push(0)?;
         Ok(message)
+    }
+
+    // The numbers of the side's packets before its next unit, which gives one its number.
+    fn numbering(&self) -> Numbering {
+        match self.own.front() {
+            Some(unit) => match Said::of(unit.as_slice()) {
+                Said::Data { resp: _, num } => Numbering::before(num),
+                _ => Numbering::new(),
+            },
+            None => Numbering::new(),
+        }
     }
 }
 
