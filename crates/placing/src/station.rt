@@ -98,11 +98,6 @@ impl Station {
             && self.outstanding < other.outstanding
     }
 
-    /// Whether it may tell that no buffer was left.
-    pub(crate) fn has_refused(&self) -> bool {
-        self.refused > 0
-    }
-
     // The last number that it gave a packet.
     fn last_given(&self) -> u8 {
         self.acknowledged.wrapping_add(self.outstanding)

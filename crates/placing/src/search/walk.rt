@@ -167,9 +167,7 @@ impl View<'_> {
         let may_keep = self.may_keep(station.received());
         if may_keep {
             self.take(way, room, state, passing, true)?;
-            // One cause that is open is enough: more of them would be kept apart without end.
-            let is_enough = station.has_refused() || !self.comes_again(passing);
-            if is_enough && !self.said.is_of_no_buffer() {
+            if !self.said.is_of_no_buffer() && !self.comes_again(passing) {
                 if station.state == State::Running {
                     return Ok(());
                 }
