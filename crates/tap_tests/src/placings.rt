@@ -26,12 +26,12 @@ impl Line {
         })
     }
 
-    fn from_a(&mut self, unit: &[u8]) -> Result<Reached, AllocError> {
+    fn from_a(&mut self, unit: &[u8; 8]) -> Result<Reached, AllocError> {
         self.b.sent_by_other(unit)?;
         self.search.sent(Side::A, unit)
     }
 
-    fn from_b(&mut self, unit: &[u8]) -> Result<Reached, AllocError> {
+    fn from_b(&mut self, unit: &[u8; 8]) -> Result<Reached, AllocError> {
         self.b.sent(unit)?;
         self.search.sent(Side::B, unit)
     }
