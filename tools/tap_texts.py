@@ -205,11 +205,11 @@ def seconds_of(tap, units):
 
 
 def faults_of_piles(tap, count):
-    """For each pile how it is not accepted, or takes more than three times as long where it is twice as high, or None: four times are a square."""
+    """For each pile how it is not accepted, or takes more than 24 times as long where it is eight times as high, or None: 64 times are a square."""
     for name, pile in PILES:
-        low, high = (seconds_of(tap, pile(times)) for times in (count, 2 * count))
-        fine = None not in (low, high) and high <= 3 * max(low, 0.02)
-        yield None if fine else '%s: %r s, and %r s for twice as many' % (name, low, high)
+        low, high = (seconds_of(tap, pile(times)) for times in (count, 8 * count))
+        fine = None not in (low, high) and high <= 24 * max(low, 0.03)
+        yield None if fine else '%s: %r s, and %r s for eight times as many' % (name, low, high)
 
 
 # ---- pairs that are played
