@@ -17,7 +17,7 @@ static int without_memory(struct ddcap_answer *answer) {
   return answer->status;
 }
 
-/* Both streams of a run as one text with a NUL behind it; NULL where there is no memory. */
+/* Both streams of a run as one text with a NUL after it; NULL where there is no memory. */
 static char *printed(const struct run *run, size_t *length) {
   const struct text *out = &run->texts[OUTPUT], *errors = &run->texts[ERRORS];
   *length = out->length + errors->length;

@@ -36,7 +36,7 @@ struct run {
 /* Gives a text under a name. Its bytes stay the caller's, who keeps them as long as the run; false where there is no memory, or no place. */
 bool give_text(struct run *run, const char *name, const unsigned char *bytes, size_t length);
 
-/* Runs the program, and answers its status. What it wrote stands in `texts`. */
+/* Runs the program, and answers its status. What it wrote is in `texts`. */
 int32_t run_program(struct run *run);
 
 /* Gives back all memory that the run took. */

@@ -99,7 +99,7 @@ class Bodies:
         return self.texts[place % len(self.texts)]
 
     def behind(self, front, place):
-        """The packet of these bytes with a body behind them."""
+        """The packet of these bytes with a body after them."""
         place %= len(self.texts)
         register = register_over(front)
         check = self.over_low[register & 255] ^ self.over_high[register >> 8] ^ self.registers[place]
@@ -253,7 +253,7 @@ def short_segments(a, b, records):
 
 def faulty_segments(a, b, records):
     """Either side sends ten messages in turn, two acknowledgements and eight segments of 64 bytes of two links. The third is lost, the sixth
-    comes with bad data and the eighth with a bad header; a NAK asks for the third and all behind it, they are sent again and kept."""
+    comes with bad data and the eighth with a bad header; a NAK asks for the third and all after it, they are sent again and kept."""
     session, bodies = Session(a, b), Bodies(64)
     links = [Link(session, 1, 1), Link(session, 2, 2)]
     for turn in range(records // 25):
@@ -304,7 +304,7 @@ def calls_left_open(a, b, count):
 
 def links_by_turns(a, b, count):
     """So many messages of one segment of one byte, over 1,000 links that stay open, each link in its turn, 100 of either side at once; each
-    stands behind an acknowledgement."""
+    comes after an acknowledgement."""
     session, bodies = Session(a, b), Bodies(1)
     links = opened(session, 1000)
     for place, link in enumerate(links):

@@ -14,7 +14,7 @@ Closure = namedtuple('Closure', 'definitions lines files whole used used_lines')
 
 
 class Sources:
-    """What stands in crates/, and which names lead where."""
+    """What is in crates/, and which names lead where."""
 
     def __init__(self):
         self.files = all_definitions()

@@ -11,7 +11,7 @@ STEPS = (('send', 40), ('deliver', 22), ('lose', 3), ('refuse', 2), ('damage', 4
 
 
 def step_of(chance, word):
-    """What stands behind this word of a step."""
+    """What comes after this word of a step."""
     if word == 'damage':
         return 'damage %d %d' % (chance.choice((0, 1, 3, 9, 20)), chance.randrange(1, 256))
     if word == 'in':

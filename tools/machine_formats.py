@@ -107,7 +107,7 @@ def changed(data, places):
 
 
 def variants(data, places):
-    """The bytes, cut at each place, with more behind them, and with each other value of some bytes."""
+    """The bytes, cut at each place, with more after them, and with each other value of some bytes."""
     yield from (data[:length] for length in range(len(data) + 1))
     yield from (data + more for more in (b'\0', b'\0\x80', b'\xff'))
     yield from changed(data, places)

@@ -72,7 +72,7 @@ class TwoNodes:
         return self.user(node, verb, [int(word, 16) for word in words[:count]] + data)
 
     def user(self, node, verb, words):
-        """The user of the node does this: numbers, and behind them the data of `in` and `up`."""
+        """The user of the node does this: numbers, and after them the data of `in` and `up`."""
         spelled = [digits(word) if isinstance(word, bytes) else str(word) for word in words]
         return self.made(' '.join([node, verb] + spelled), lambda: self.readings[node].user([verb] + spelled))
 

@@ -219,7 +219,7 @@ def queues(use):
     use.expect('judged with a queue', use.judge('#verdict .queue button') == 'Accepted')
     use.expect('that is chosen', use.browser.value('document.querySelector("#queued").checked && document.activeElement.id === "queued"'))
     use.expect('and said', 'A queue between NSP and DDCMP was allowed for.' in use.text('#verdict .meaning'))
-    for number, words in (1, 'DC 2>1'), (2, 'DC 2>1'), (3, 'went through 15 of 80 rows'):  # what comes after the message
+    for number, words in (1, 'DC 2>1'), (2, 'DC 2>1'), (3, 'went through 15 of 88 rows'):  # what comes after the message
         use.click('#tab-%d' % number)
         use.browser.value('new Promise(later => setTimeout(later, 150))')
         shown = use.browser.value('(it => it.textContent + (it.firstChild.shadowRoot || it).textContent)(document.querySelector("#panel"))')

@@ -14,7 +14,7 @@ LINE_ACCEPTANCE = re.compile('accepted\n(a%s)\n(b%s)\n' % (COUNTS, COUNTS))
 
 
 class Line:
-    """A line of a list: where it stands, its turns (of a worked pair its name), and the records of both sides with the answer, or None. `queued` is
+    """A line of a list: where it is, its turns (of a worked pair its name), and the records of both sides with the answer, or None. `queued` is
     the answer where both are nodes with queues, in the lists of those."""
 
     def __init__(self, place, fields):
@@ -25,7 +25,7 @@ class Line:
 
 
 def lines_below(name):
-    """The lines of the list with this name, by the headings that they stand below."""
+    """The lines of the list with this name, by the headings that they are below."""
     path = os.path.join(TOP, 'tools', 'pairs', name)
     below, lines = {}, None
     for number, text in enumerate(open(path), 1):

@@ -1,5 +1,5 @@
 """Which turns the rules of the station have, row by row, for tools/test_pairs: `station_rows` gives the headings of their list, each with its
-turns. Those of the links stand in tools/pair_rules_links.py. tools/test_turns sees that the pairs tell them from the rules."""
+turns. Those of the links are in tools/pair_rules_links.py. tools/test_turns sees that the pairs tell them from the rules."""
 
 
 def words_of(text):

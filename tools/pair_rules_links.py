@@ -1,5 +1,5 @@
 """Which turns the rules of the links have, row by row, for tools/test_pairs: `link_rows` gives the headings of their list, each with its turns.
-Those of the station stand in tools/pair_rules.py. tools/test_turns sees that the pairs tell them from the rules."""
+Those of the station are in tools/pair_rules.py. tools/test_turns sees that the pairs tell them from the rules."""
 from pair_rules import words_of
 
 # A row is what the user does, a look-up, what is sent, or what comes, as the pages on the links and `Table` and `LookUps` of

@@ -1,4 +1,4 @@
-"""The units of the lists in tools/pairs by their names, which the lists say how to read. A name that stands nowhere here is a ValueError."""
+"""The units of the lists in tools/pairs by their names, which the lists say how to read. A name that is nowhere here is a ValueError."""
 import re
 
 from captures import with_check
@@ -10,6 +10,7 @@ UNITS = {
     'STACK': '0507c00000014855',
     'ACK0': '050100000001fc55',
     'ACK1': '050100010001ad95',
+    'ACK2': '0501000200015d95',
     'ACK44': '0501002c00013d9c',
     'ACK250': '050100fa0001dc64',
     'NAK1': '050201000001b9a9',
@@ -47,7 +48,7 @@ UNITS = {
 # the routing header of what side a sends, and of what side b sends
 FROM_A, FROM_B = '020204010400', '020104020400'
 
-# The routing header of a packet from the one node to the other; with `!` it is returned. Behind a comma stands another first byte, or with `f`
+# The routing header of a packet from the one node to the other; with `!` it is returned. After a comma comes another first byte, or with `f`
 # what the count of nodes passed is.
 HEADERS = {
     '1>1': '020104010400',
@@ -66,7 +67,7 @@ HEADERS = {
 # packets without a message: a routing control packet, and one that can't be read
 PACKETS = {'CONTROL': '05', 'PADDED': '80'}
 
-# a message: flag byte, DSTADDR, SRCADDR, and what stands behind them; `UNREAD` has a flag byte of no message
+# a message: flag byte, DSTADDR, SRCADDR, and what comes after them; `UNREAD` has a flag byte of no message
 MESSAGES = {
     'UNREAD': 'ff',
     'NOP': '08',
@@ -85,6 +86,7 @@ MESSAGES = {
     'CA3': '240300',
     'CA7': '240700',
     'CC1>2': '280200010001020002',
+    'CC1>3': '280300010001020002',
     'CC1>4': '280400010001020002',
     'CC2>1': '280100020001020002',
     'CC2>1/0': '280100020001020000',
@@ -199,7 +201,7 @@ MESSAGES = {
 
 DIGITS = re.compile('-|([0-9a-f]{2})+')
 FLAGGED = re.compile('(.+):(00|40|80|c0)')
-DATA = re.compile(r'D(\d+)(?:R(\d+))?\.([^@]+)(?:@(.+))?')
+DATA = re.compile(r'D(\d+)(?:R(\d+))?\.(.+)')
 
 
 def known(names, name):
@@ -232,9 +234,17 @@ def unit_of(name, header):
     data = DATA.fullmatch(name)
     if data is None:
         raise ValueError('what unit is %r?' % name)
-    num, resp, message, nodes = data.groups()
-    if nodes is not None:
+    num, resp, packet = data.groups()
+    return data_of(int(num), int(resp or 0), packet_of(packet, header))
+
+
+def packet_of(name, header):
+    """The packet with this name, likewise; of digits these bytes."""
+    message, _, nodes = name.partition('@')
+    if nodes:
         header = known(HEADERS, nodes)
     elif message in PACKETS:
-        return data_of(int(num), int(resp or 0), PACKETS[message])
-    return data_of(int(num), int(resp or 0), header + known(MESSAGES, message))
+        return PACKETS[message]
+    elif DIGITS.fullmatch(message):
+        return message
+    return header + known(MESSAGES, message)

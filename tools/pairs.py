@@ -1,19 +1,19 @@
 """The captures of the lists in tools/pairs, which say how they are written: records by name, runs of segments, and the text of a side. A name that
-stands nowhere here is a ValueError."""
+is nowhere here is a ValueError."""
 import re
 from collections import namedtuple
 
 from captures import ack_of
-from pair_units import FROM_A, FROM_B, data_of, known, unit_of
+from pair_units import FROM_A, FROM_B, data_of, known, packet_of, unit_of
 
 # ---- runs of segments of one byte, more than a reader wants to see in a list
 
 # Segments that side a gives on its link 1, and side b keeps, by the number of the first and of the last. NUM of the first is `num`, and that
-# of each later one is one more; RESP of all is `resp`. Behind each number that 200 divides b sends an ACK of all packets so far, which comes
+# of each later one is one more; RESP of all is `resp`. After each number that 200 divides b sends an ACK of all packets so far, which comes
 # to a. The first segment is a's unit number `unit`, and the first ACK is b's number `ack`.
 Segments = namedtuple('Segments', 'first last num resp unit ack')
 
-# `anew` is behind a restart
+# `anew` is after a restart
 RUNS = {
     '1 to 2047': Segments(1, 2047, num=2, resp=1, unit=2, ack=2),
     '2 to 2047': Segments(2, 2047, num=3, resp=2, unit=3, ack=3),
@@ -86,8 +86,10 @@ WORDS = {
         'k 4096 D0R4.MID1>2#4095=05; k 4097 D1R4.MID1>2#0=05; k 4098 D2R4.MID1>2#1=05; s D5R2.DACK2>1,a1',
 }
 
-EVENT = re.compile(r'u (start|halt|(open|close) \d+|(accept|reject) \d+ \d+|(in|up) \d+ (-|([0-9a-f]{2})+))')
-BEARER = re.compile(r'(s|n|[rk] \d+) (\S+)')
+EVENT = re.compile(r'u (start|halt|boot|(open|close|abort) \d+|(accept|reject) \d+ \d+|(in|up|interrupt|interrupted) \d+ (-|([0-9a-f]{2})+))')
+BEARER = re.compile(r'(s|n|[rkd] \d+) (\S+)')
+COMPOSED = re.compile(r'x (\S+)|x (\d+) bytes')
+NEAR = re.compile('[dx] |u (?:boot|abort|interrupt)')  # how the lines begin that format 3 alone has
 DATA_RUN = re.compile(r'(?:([rk]) )?packets (\d+) to (\d+)(?: from unit (\d+))?')
 ADDRESSES = re.compile(r'head (\d+\.\d+ \d+\.\d+)')
 
@@ -119,6 +121,10 @@ def lines_of(side, record):
         return ['u in 1 ' + 5000 * '05']
     if EVENT.fullmatch(record):
         return [record]
+    composed = COMPOSED.fullmatch(record)
+    if composed:
+        name, count = composed.groups()
+        return ['x ' + (packet_of(name, side.sent) if name else '05' * int(count))]
     bearer = BEARER.fullmatch(record)
     if bearer is None:
         raise ValueError('what record is %r?' % record)
@@ -127,12 +133,12 @@ def lines_of(side, record):
 
 
 def capture_of(letter, records):
-    """The text of side a or b. Its head has other addresses where the records begin with `head`."""
+    """The text of side a or b, in format 1 where that has all its lines, else in format 3. Its head has other addresses where the records begin with
+    `head`."""
     side = SIDES[letter]
     words = records.split('; ') if records else []
     head = ADDRESSES.fullmatch(words[0]) if words else None
-    lines = ['ddcap 1 ' + (head[1] if head else side.addresses)]
-    for word in words[1:] if head else words:
-        for record in WORDS.get(word, word).split('; '):
-            lines += lines_of(side, record)
-    return '\n'.join(lines) + '\n'
+    named = words[1:] if head else words
+    lines = [line for word in named for record in WORDS.get(word, word).split('; ') for line in lines_of(side, record)]
+    form = 3 if any(NEAR.match(line) for line in lines) else 1
+    return '\n'.join(['ddcap %d %s' % (form, head[1] if head else side.addresses), *lines]) + '\n'

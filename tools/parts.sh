@@ -24,7 +24,7 @@ told() {
   return "$3"
 }
 
-# Notes what a part took, which `time` wrote behind what the part itself said there: NAME FILE
+# Notes what a part took, which `time` wrote after what the part itself said there: NAME FILE
 took() { clock+=$(tail -n 1 "$2" | awk -v name="$1" '{ printf "%-60s %7.0f %7.0f", name, $1 + $2, $3 }')$'\n'; }
 
 # Runs a command, and gives what it said as `said` and its status as `status`: NAME COMMAND..

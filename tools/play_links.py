@@ -5,7 +5,7 @@ from play_units import CONNECT, PIECE, addressed, word
 # segments that may be outstanding
 WINDOW = 2047
 
-# what a link owes, in the order in which it goes, and segments behind that
+# what a link owes, in the order in which it goes, and segments after that
 ORDER = ['connect ack', 'CI', 'CC', 'DI', 'data ack', 'segment']
 
 
@@ -122,6 +122,22 @@ class Links:
             link.owed.add('DI')
         if turned('a close ends the link'):
             link.phase = 'Ended'
+        return True
+
+    def abort(self, own):
+        """A call is given up."""
+        turned, link = self.turned, self.at(own)
+        phases = ['Calling'] + [phase for phase in ('Confirming', 'RUN', 'DI') if turned('a call is given up in %s' % phase)]
+        if link is None or link.phase not in phases:
+            return False
+        if turned('a call is given up once it is sent') and not link.has_sent_ci:
+            return False
+        self.enter(link, 'DI' if turned('a call that is given up goes to DI') else 'Ended')
+        if turned('a call that is given up brings a DI'):
+            link.phase = 'DI'
+            link.owed.add('DI')
+        if turned('a call that is given up frees its address') and link.own == self.last_address:
+            self.last_address -= 1
         return True
 
     def retry(self, own):

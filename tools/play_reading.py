@@ -2,6 +2,7 @@
 Each rule can be turned by its name in tools/play_rules.py, which makes another player of it. tools/test_play_turns runs the rows of
 tools/rows.txt by it."""
 import re
+from copy import deepcopy
 
 from play_arrivals import arrived as arrived_at_station
 from play_comes import arrived as arrived_at_links
@@ -12,8 +13,10 @@ from play_units import checks, link_message, reading
 NODE = r'([1-9]\d?)\.([1-9]\d{0,3})'
 HEAD = re.compile('ddplay 1 %s %s' % (NODE, NODE))
 NUMBER, BYTES = r'(0|[1-9]\d{0,17})', '(-|(?:[0-9a-f]{2})+)'
-STEP = re.compile('([ab]) (?:(start|halt|timer|send|deliver|refuse|lose|open)|(damage) %s %s|(noise) %s|(accept|reject|close|retry) %s|(in) %s %s)'
-                  % (NUMBER, NUMBER, BYTES, NUMBER, NUMBER, BYTES))
+STEP = re.compile('([ab]) (?:(start|halt|boot|timer|send|deliver|refuse|drop|lose|open)|(damage) %s %s|(noise) %s|(accept|reject|close|abort|retry) %s|'
+                  '(in) %s %s)' % (NUMBER, NUMBER, BYTES, NUMBER, NUMBER, BYTES))
+# the steps for whose records format 1 has no line
+OF_THREE = ['boot', 'abort', 'drop']
 
 
 class Turns:
@@ -57,12 +60,14 @@ class Play:
         self.turned = turned
         self.ends = {'a': End(turned, a, b), 'b': End(turned, b, a)}
         nodes = head.split(' ')[2:]
-        self.ends['a'].head, self.ends['b'].head = 'ddcap 1 %s %s' % (nodes[0], nodes[1]), 'ddcap 1 %s %s' % (nodes[1], nodes[0])
+        self.ends['a'].nodes, self.ends['b'].nodes = '%s %s' % (nodes[0], nodes[1]), '%s %s' % (nodes[1], nodes[0])
+        self.format = 3 if turned('format 3 always') else 1
 
     def capture(self, side):
         """The lines of the capture of a side, its head the first."""
         end = self.ends[side]
-        return [] if not end.lines and self.turned('no head without a record') else [end.head] + end.lines
+        head = 'ddcap %d %s' % (self.format, end.nodes)
+        return [] if not end.lines and self.turned('no head without a record') else [head] + end.lines
 
     def make(self, step):
         """Makes this step."""
@@ -71,12 +76,14 @@ class Play:
             return 'syntax'
         side, word, *others = (part for part in parts.groups() if part is not None)
         end, other = self.ends[side], self.ends['b' if side == 'a' else 'a']
-        if word in ('deliver', 'refuse', 'lose', 'damage', 'noise'):
+        if word in ('deliver', 'refuse', 'drop', 'lose', 'damage', 'noise'):
             made = getattr(self, word)(end, *others)
         elif word == 'send':
             made = self.send(end, other)
         else:
             made = self.of_user(end, word, others)
+        if made is True and word in OF_THREE and not self.turned('%s leaves format 1' % word):
+            self.format = 3
         return made if isinstance(made, str) else None if made else 'bad step'
 
     # ---- what the user and the timers do
@@ -88,11 +95,13 @@ class Play:
             return 'syntax'
         if word in ('start', 'halt', 'timer'):
             return self.of_station(end, word)
+        if word == 'boot':
+            return self.boot(end)
         if word in ('accept', 'reject', 'open'):
             return self.of_address(end, word, numbers)
         if word == 'retry':
             return end.links.retry(*numbers)
-        is_made = end.links.close(*numbers) if word == 'close' else end.links.hand_in(*numbers, bytes_of(others[1]))
+        is_made = end.links.hand_in(*numbers, bytes_of(others[1])) if word == 'in' else getattr(end.links, word)(*numbers)
         if is_made:
             end.lines.append(' '.join(['u', word] + others))
         return is_made
@@ -111,6 +120,29 @@ class Play:
         if is_made and word == 'start' and self.turned('a start drops what is on the line to it'):
             end.coming = []
         return is_made
+
+    def boot(self, end):
+        """The node starts anew."""
+        turned, links, state = self.turned, Links(self.turned), end.station.state
+        if turned('never boots in %s' % state):
+            return False
+        if not turned('a boot does not halt') and not end.station.halt():
+            return False
+        if turned('a boot keeps the DCs'):
+            links.confirms = end.links.confirms
+        if turned('a boot gives no address again'):
+            links.last_address = end.links.last_address
+        if turned('a boot keeps the calls that came'):
+            links.links = [link for link in end.links.links if link.phase == 'Called']
+        if not turned('a boot keeps the links'):
+            end.links = links
+        if turned('a boot drops what is on the line to it'):
+            end.coming = []
+        if turned('a boot counts units from 0'):
+            end.count -= end.coming[0][0] if end.coming else end.count
+            end.coming = [(place, unit) for place, (_, unit) in enumerate(end.coming)]
+        end.lines.append('u halt' if turned('a boot has the line of a halt') else 'u boot')
+        return True
 
     def of_address(self, end, word, numbers):
         """A step that gives a link its address."""
@@ -157,6 +189,23 @@ class Play:
         if unit is None:
             return self.nothing_comes('refuse')
         return self.comes(end, *unit, unit[1], self.turned('what is refused is kept'))
+
+    def drop(self, end):
+        """The next unit comes and its packet is kept, and lost before the links."""
+        turned = self.turned
+        if not end.coming:
+            return self.nothing_comes('drop')
+        if not arrived_at_station(deepcopy(end.station), reading(end.coming[0][1]), True) and not turned('a drop of what is not kept'):
+            return False
+        number, unit = self.next_unit(end)
+        if turned('what is dropped never came'):
+            return True
+        message = reading(unit)
+        is_kept = arrived_at_station(end.station, message, not turned('what is dropped is not kept'))
+        end.lines.append('%s %d %s' % ('k' if turned('what is dropped has a k line') else 'd', number, unit.hex()))
+        if is_kept and turned('links see what is dropped'):
+            arrived_at_links(end.links, link_message(message.packet[6:]))
+        return True
 
     def lose(self, end):
         """The next unit is lost."""

@@ -145,4 +145,22 @@ OF_LINE = {
          'noise brings nothing'],
 }
 
-RULES = {**OF_STATES, **OF_NUMBERS, **OF_SENDING, **OF_USERS, **OF_LINKS, **OF_LINE}
+# ---- what only format 3 has lines for
+
+OF_THREE = {
+    'a node that starts anew':
+        each('never boots in %s', 'HALTED, ISTRT, ASTRT, RUNNING') +
+        ['a boot does not halt', 'a boot keeps the links', 'a boot keeps the calls that came', 'a boot keeps the DCs',
+         'a boot gives no address again', 'a boot drops what is on the line to it', 'a boot counts units from 0', 'a boot has the line of a halt'],
+    'a call that is given up':
+        each('a call is given up in %s', 'Confirming, RUN, DI') +
+        ['a call is given up once it is sent', 'a call that is given up goes to DI', 'a call that is given up brings a DI',
+         'a call that is given up frees its address'],
+    'a packet that is lost before the links':
+        ['drop where nothing is on the line', 'a drop of what is not kept', 'what is dropped never came', 'what is dropped is not kept',
+         'what is dropped has a k line', 'links see what is dropped'],
+    'the format':
+        each('%s leaves format 1', 'boot, abort, drop') + ['format 3 always'],
+}
+
+RULES = {**OF_STATES, **OF_NUMBERS, **OF_SENDING, **OF_USERS, **OF_LINKS, **OF_LINE, **OF_THREE}

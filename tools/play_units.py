@@ -64,7 +64,7 @@ def data_unit(resp, num, packet):
     return with_check(bytes([0x81, len(packet) & 255, len(packet) >> 8, resp, num, 1])) + with_check(packet)
 
 
-# What a link gets. `words` are the acknowledgement words; `rest` are the fields behind the addresses that stand here.
+# What a link gets. `words` are the acknowledgement words; `rest` are the fields after the addresses that are here.
 ToLink = namedtuple('ToLink', 'flag far own number words rest', defaults=(0, (), b''))
 
 

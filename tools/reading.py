@@ -8,6 +8,7 @@ from reading_carried import flags_sent, is_passed, is_read, packet_sent, returne
 from reading_line import WithoutLinks
 from reading_links import NO_TAG, Links, link_rules
 from reading_messages import gets, sends
+from reading_near import composed, event_carried, hint_passes, lost_at_links, lost_at_station, near_rules
 from reading_packets import DATA_BAD, HEADER_BAD, MALFORMED, read_nsp, read_packet, read_unit
 from reading_queues import QueuedLinks, queue_rules
 from reading_rows import Departs, Refused, Row
@@ -20,7 +21,8 @@ NAMES = [
     'NoCause', 'WrongKeep', 'CrossedPeriod', 'WrongUserEvent', 'BadPacket', 'WrongNode', 'BadNsp', 'NoLink', 'LinkState', 'WrongSegment',
     'WrongAck', 'SegmentTooLong', 'LinkWindowFull', 'WrongDelivery', 'CrossedLink', 'AddressInUse', 'NotNoise',
 ]
-RULES = {**station_rules(), **link_rules(), **queue_rules(), 'the line': Row('the line'), 'the layers': Row('the layers')}
+RULES = {**station_rules(), **link_rules(), **queue_rules(), **near_rules(), 'the line': Row('the line'), 'the layers': Row('the layers')}
+RECEIPTS = 'r', 'k', 'd'
 
 
 def node_of(text):
@@ -52,7 +54,7 @@ class Side:
         """In format 2 a hint is a distance from the front."""
         front = 0
         for record in self.records:
-            if record[0] in 'rk':
+            if record[0] in RECEIPTS:
                 front += int(record[1])
                 record[1] = str(front)
                 front += 1
@@ -63,25 +65,33 @@ class Side:
     def waits(self, other):
         """Whether the next record is the receipt of a unit that is not sent yet."""
         record = self.records[self.next]
-        return record[0] in 'rk' and int(record[1]) >= len(other.units) and int(record[1]) >= self.front
+        if record[0] == 'd' and self.rules['lost above'].turned('3 is not asked'):
+            return False
+        return record[0] in RECEIPTS and int(record[1]) >= len(other.units) and int(record[1]) >= self.front
 
     def make(self, other):
         """Makes the next record; a Refused where it can't be made."""
         verb, *words = self.records[self.next]
+        if words == ['boot'] and self.rules['boot'].turned('loses what is under way'):
+            self.front = len(other.units)
         if verb == 'u':
             self.user(words)
         elif verb == 's':
             self.sends(words[0])
+        elif verb == 'x':
+            composed(self.rules['composed'], self, words[0].replace('-', ''))
         elif verb == 'n':
             self.hears_noise(words[0].replace('-', ''))
         elif verb == '!':
             raise Departs(' '.join(words))
         else:
-            self.receives(other, int(words[0]), words[1].replace('-', ''), verb == 'k')
+            self.receives(other, int(words[0]), words[1].replace('-', ''), verb)
         self.next += 1
 
     def user(self, words):
         """An event of the station, or of a link."""
+        if words[0] in ('interrupt', 'interrupted'):
+            return event_carried(self.rules['carried events'], self, words)
         if len(words) > 1:
             if self.layers.turned('an event of a link only in RUNNING') and self.station.state != 'RUNNING':
                 raise Refused(14)
@@ -90,10 +100,25 @@ class Side:
         for link in self.links.links if words[0] == 'start' else []:
             link.flow.restart(self.layers)
         self.counts['periods'] += words[0] == 'start'
+        if words[0] == 'boot':
+            return self.boots()
         dropped = {'halt': 'a halt ends the links', 'start': 'a start drops the links'}[words[0]]
         if self.layers.turned(dropped):
             self.links = self.new_links(self.rules, self.own, self.peer)
         return None
+
+    def boots(self):
+        """What a boot does besides at the links and the counts."""
+        self.boots_links()
+        if self.layers.turned('a boot counts periods anew'):
+            self.counts['periods'] = 0
+        if self.layers.turned('a boot counts what came up anew'):
+            self.links.delivered = 0
+        if self.layers.turned('a boot counts records anew'):
+            self.counts['received'] = self.counts['kept'] = 0
+
+    def boots_links(self):
+        self.links.boots()
 
     # -- what is sent
 
@@ -179,24 +204,30 @@ class Side:
 
     # -- what comes
 
-    def receives(self, other, hint, text, kept):
+    def receives(self, other, hint, text, verb):
         """A receipt: its unit was sent."""
         line = self.line
+        if verb == 'd' and hint_passes(self.rules['lost above'], self, other, hint):
+            return
         is_again = hint == self.front - 1 and line.turned('the last hint again') or hint < self.front - 1 and line.turned('an earlier hint')
         if hint < self.front and not is_again:
             raise Refused(2)
         sent, unit, first, (tag, label) = other.units[hint]
-        self.front = self.front_behind(hint, text, unit, kept)
+        self.front = self.front_behind(hint, text, unit, verb != 'r')
         if first is not None and self.rules['RUNNING gets data'].turned('Respond as at the first sending'):
             unit = unit._replace(resp=first.resp)
-        if text != sent.replace('-', ''):
+        if text != sent.replace('-', '') and not (verb == 'd' and self.rules['lost above'].turned('5 is not asked')):
             unit, tag = self.damaged(unit, tag, text), None if read_unit(text) in DAMAGED else tag
-        taken = self.comes(unit, tag, label, kept)
-        self.counts.update(received=1, damaged=unit in DAMAGED, kept=kept)
-        return taken
+        self.comes(unit, tag, label, verb)
+        self.counts_receipt(unit in DAMAGED, verb)
+
+    def counts_receipt(self, is_damaged, verb):
+        """A receipt counts; one that is lost above as kept."""
+        is_kept = verb == 'k' or verb == 'd' and not self.rules['lost above'].turned('is not counted as kept')
+        self.counts.update(received=1, damaged=is_damaged, kept=is_kept)
 
     def front_behind(self, hint, text, unit, kept):
-        """The front behind a receipt."""
+        """The front after a receipt."""
         came, line = read_unit(text), self.line
         stays = any([
             came == HEADER_BAD and line.turned('a bad header leaves the front'),
@@ -218,13 +249,22 @@ class Side:
             raise Refused(5)
         return HEADER_BAD if came == MALFORMED else came
 
-    def comes(self, unit, tag, label, kept):
-        """A unit comes to the station, and a packet that it takes to the links."""
+    def comes(self, unit, tag, label, verb):
+        """A unit comes to the station, and a packet that it takes to the links, unless it is lost in between."""
+        if verb != 'd':
+            return self.comes_through(unit, tag, label, verb == 'k')
+        if lost_at_station(self.rules['lost above'], self.station, unit, tag):
+            lost_at_links(self.rules['lost above'], self, unit.packet, label)
+
+    def comes_through(self, unit, tag, label, kept):
+        """The same where nothing is lost."""
         layers = self.layers
         has_packet = unit.kind == 'data' and label is not None
         is_next = has_packet and unit.num == (self.station.received + 1) % 256
         if has_packet and kept and layers.turned('the links before the station at a receipt'):
             self.kept(unit.packet, label)
+        if unit.kind == 'STRT' and layers.turned('a STRT that comes ends the links'):
+            self.boots_links()
         if is_passed(self.rules['flags'], unit):
             return self.passes_over(kept)
         is_taken = self.station.gets(unit, tag, kept)
@@ -235,13 +275,11 @@ class Side:
             self.kept(unit.packet, label)
             if layers.turned('the links see a kept packet twice'):
                 self.kept(unit.packet, label)
-        return is_taken
 
     def passes_over(self, kept):
         """A unit comes and is passed over, where that is turned."""
         if kept:
             raise Refused(12)
-        return False
 
     def kept(self, text, label):
         """A packet is kept: the links get its message."""

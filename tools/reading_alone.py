@@ -1,4 +1,4 @@
-"""The second reading of one end alone: the node of a pair with the rules on periods and on partners left out, over a line that gives what stands in
+"""The second reading of one end alone: the node of a pair with the rules on periods and on partners left out, over a line that gives what is in
 each receipt; and what no right other end can have sent. `judged_alone(a)` is the answer to one capture, of a station alone where `line` is set, and
 of a node with queues where `queued` is. Of such a node too an acknowledgement that comes is looked at when it is received: later the node might have
 composed what was not given then. A part of tools/reading.py, which judges pairs apart from the program."""
@@ -14,6 +14,12 @@ FREE = {heading: row.copy(None, need='Anything') if 'need' in row.parts else
         row.copy(None, checks=[check for check in row.parts['checks'] if check not in ('SenderIsPartner', 'ForThisLink')])
         if heading.removeprefix('queued ').startswith('gets ') else row for heading, row in RULES.items()}
 NO_PERIOD = (0, None)
+
+
+def message_in(text):
+    """A packet, and the message of the links in it, or None."""
+    packet = read_packet(text)
+    return packet, read_nsp(packet.nsp) if packet and packet.nsp is not None and not packet.returned else None
 
 
 class ByOther(Refused):
@@ -35,7 +41,7 @@ class Alone(Side):
     def waits(self, other):
         return False
 
-    def receives(self, other, hint, text, kept):
+    def receives(self, other, hint, text, verb):
         unit = read_unit(text)
         if unit == MALFORMED and self.turned('malformed before the hint'):
             raise ByOther(1)
@@ -47,11 +53,11 @@ class Alone(Side):
         is_damaged = unit in (HEADER_BAD, DATA_BAD)
         if is_damaged and self.turned('damage is by the other end'):
             raise ByOther(1)
-        if not is_damaged and (kept or not self.turned('only kept units accuse')):
+        is_silent = verb == 'r' and self.turned('only kept units accuse') or verb == 'd' and self.turned('what is lost above accuses nobody')
+        if not is_damaged and not is_silent:
             self.accuses(unit)
-        taken = self.comes(unit, NO_PERIOD, NO_TAG, kept)
-        self.counts.update(received=1, damaged=is_damaged, kept=kept)
-        return taken
+        self.comes(unit, NO_PERIOD, NO_TAG, verb)
+        self.counts_receipt(is_damaged, verb)
 
     def accuses(self, unit):
         """What no right end sends to one in this state, whether it is kept or not."""
@@ -92,13 +98,25 @@ class Alone(Side):
         if (packet.source, packet.destination) != (self.links.other, self.links.node):
             raise Refused(16) if self.turned('the nodes are by this end') else ByOther(16)
 
+    def comes(self, unit, tag, label, verb):
+        super().comes(unit, tag, label, verb)
+        if verb == 'd':
+            self.accuses_lost(unit.packet)
+
     def kept(self, text, label):
-        packet = read_packet(text)
-        message = read_nsp(packet.nsp) if packet and packet.nsp is not None and not packet.returned else None
+        packet, message = message_in(text)
         if message is not None:
             self.accuses_nodes(packet)
             self.accuses_message(message)
         super().kept(text, label)
+
+    def accuses_lost(self, text):
+        """A packet that was lost above the station: no link met it."""
+        packet, message = message_in(text)
+        if message is not None and self.turned('the nodes of what is lost above'):
+            self.accuses_nodes(packet)
+        if message is not None and self.turned('acknowledgements in what is lost above'):
+            self.accuses_message(message)
 
     def accuses_message(self, message):
         """Of a packet that is taken: what the link that acts on it has not given."""
@@ -139,6 +157,7 @@ TURNS = {
     'any acknowledgement of a data ack', 'none in Confirming', 'the first word alone',
     'words of the other subchannel', 'a NAK word acknowledges nothing', 'the highest given is wrong', 'each word from the first', 'numbers never wrap',
     'numbers wrap at once', 'an earlier one is wrong', 'an acknowledgement is by this end',
+    'what is lost above accuses nobody', 'the nodes of what is lost above', 'acknowledgements in what is lost above',
 }
 
 

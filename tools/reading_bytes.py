@@ -18,7 +18,8 @@ def check_of(number, side, other, letter, words):
         unit = read_unit(words[1])
         return as_first_sent(unit.num, unit.packet, side.station.packets[side.station.next])
     if number == 20:
-        return segment_check(side.links, read_nsp(read_packet(read_unit(words[1]).packet).nsp))
+        packet = bytes.fromhex(words[1]) if words[0] == 'x' else read_unit(words[1]).packet
+        return segment_check(side.links, read_nsp(read_packet(packet).nsp))
     return delivery_check(side.links, int(words[2]), bytes.fromhex(words[3].replace('-', ''))) if number == 24 else None
 
 

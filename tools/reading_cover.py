@@ -1,4 +1,4 @@
-"""What a pair of captures goes through, told apart from the program: which of the 80 rows of the tables each record is, by the station of
+"""What a pair of captures goes through, told apart from the program: which of the 88 rows of the tables each record is, by the station of
 tools/reading_station.py before it, and how often. `covered(a, b)` gives the first line of the answer, and the counts of both sides."""
 from collections import Counter
 
@@ -8,7 +8,9 @@ from reading_rows import Refused
 from reading_station_rules import CAUSED, STATES
 
 UNITS = ['STRT', 'STACK', 'ACK', 'NAK', 'REP', 'DATA']
-EVENTS = ['OPEN', 'ACCEPT', 'REJECT', 'IN', 'UP', 'CLOSE']
+EVENTS = ['OPEN', 'ACCEPT', 'REJECT', 'IN', 'UP', 'CLOSE', 'BOOT', 'ABORT']
+ABOVE, UNSENT = 'link packet lost above', 'link packet never sent'
+CARRIED = 'interrupt', 'interrupted'
 
 # the kinds of tools/reading_packets.py, in the order of the rows
 MESSAGES = {
@@ -25,8 +27,10 @@ ROWS += ['ASTRT gets ' + what for what in ('STRT', 'STACK', 'ACK RESP 0', 'ACK R
 ROWS += ['RUNNING gets ' + what for what in ('STRT', 'STACK', 'ACK', 'NAK', 'REP NUM R', 'REP NUM not R', 'DATA, next, kept',
                                              'DATA, next, no buffer', 'DATA, repeat or gap')]
 ROWS += ['%s damage %s' % (state, what) for state in STATES for what in ('header bad', 'data bad')]
+ROWS += ['%s user boot' % state for state in STATES]
 ROWS += ['link user ' + event for event in EVENTS]
 ROWS += ['link %s %s' % (what, message) for what in ('sends', 'gets') for message in MESSAGES.values()]
+ROWS += [ABOVE, UNSENT]
 
 
 def of_link(what, packet):
@@ -56,8 +60,16 @@ def of_data(station, unit, kept):
     return 'next, kept' if kept else 'next, no buffer'
 
 
-def of_arrival(station, unit, kept):
+def of_packet(unit, verb):
+    """The row of the packet in a unit that comes, if it is kept."""
+    if verb == 'd':
+        return [ABOVE]
+    return of_link('gets', unit.packet) if verb == 'k' else []
+
+
+def of_arrival(station, unit, verb):
     """The rows of a sound unit that comes."""
+    kept = verb != 'r'
     state, name = station.state, UNITS[[kind.upper() for kind in UNITS].index(unit.kind.upper())]
     if state == 'ASTRT' and name in ('ACK', 'DATA'):
         name += ' RESP 0' if unit.resp == 0 else ' RESP not 0'
@@ -65,7 +77,7 @@ def of_arrival(station, unit, kept):
         name += ' NUM R' if unit.num == station.received % 256 else ' NUM not R'
     if name == 'DATA RESP 0' or state == 'RUNNING' and name == 'DATA':
         name += ', ' + of_data(station, unit, kept)
-    return ['%s gets %s' % (state, name)] + (of_link('gets', unit.packet) if kept else [])
+    return ['%s gets %s' % (state, name)] + of_packet(unit, verb)
 
 
 def of_damage(station, unit):
@@ -73,27 +85,38 @@ def of_damage(station, unit):
     return ['%s damage %s' % (station.state, 'header bad' if unit == HEADER_BAD else 'data bad')] if unit in DAMAGED else []
 
 
-def of_receipt(side, other, hint, text, kept):
+def of_receipt(side, other, hint, text, verb):
     """The rows of a receipt, by the unit that its hint names."""
     if hint >= len(other.units):
         return []
     sent, unit = other.units[hint][:2]
     if text == sent:
-        return of_arrival(side.station, unit, kept)
+        return of_arrival(side.station, unit, verb)
     return of_damage(side.station, read_unit(text.replace('-', '')))
+
+
+def of_event(station, words):
+    """The rows of a user's record."""
+    if words[0] in CARRIED:
+        return []
+    if len(words) > 1:
+        return ['link user ' + words[0].upper()]
+    return ['%s user %s' % (station.state, words[0])] + (['link user BOOT'] if words[0] == 'boot' else [])
 
 
 def rows_of(side, other):
     """The rows of the next record, if it can be made."""
     verb, *words = side.records[side.next]
     if verb == 'u':
-        return ['link user ' + words[0].upper()] if len(words) > 1 else ['%s user %s' % (side.station.state, words[0])]
+        return of_event(side.station, words)
+    if verb == 'x':
+        return [UNSENT]
     if verb == 's':
         unit = read_unit(words[0].replace('-', ''))
         return of_sending(side.station, unit) if unit.resp is not None or unit.num is not None or unit.kind in UNITS else []
     if verb == 'n':
         return of_damage(side.station, read_unit(words[0].replace('-', '')))
-    return of_receipt(side, other, int(words[0]), words[1], verb == 'k')
+    return of_receipt(side, other, int(words[0]), words[1], verb)
 
 
 def next_side(sides):
@@ -123,8 +146,8 @@ def covered(a, b):
     return 'accepted\n', counts
 
 
-def table(counts, rows=80):
-    """What is printed of the counts of both sides, of so many rows that are counted, behind the first line."""
+def table(counts, rows=len(ROWS)):
+    """What is printed of the counts of both sides, of so many rows that are counted, after the first line."""
     lines = ['%s went through %d of %d rows' % (letter, sum(n > 0 for n in of.values()), rows) for letter, of in zip('ab', counts)]
     lines.append('%-34s %6s %6s' % ('row', 'a', 'b'))
     for row in ROWS:

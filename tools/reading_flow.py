@@ -7,7 +7,7 @@ BEGINS, ENDS = 0x20, 0x40  # bits of the flag byte
 # what has words that are judged where it is sent
 BEARERS = ['a new segment', 'a repeat', 'a data ack']
 
-# The rows of what segments and words say. Their turns are switches; the checks of a segment that is sent stand in its row of the links.
+# The rows of what segments and words say. Their turns are switches; the checks of a segment that is sent are in its row of the links.
 FLOW_RULES = {heading: Row(heading) for heading in ('words that are sent', 'words that come', 'segment that comes')}
 
 

@@ -1,5 +1,5 @@
 """A second reading of what `ddcap draw` prints: the rows of two captures, apart from the program. `drawn(a, b, refused, from_, rows)` is the text
-that it prints of the captures of both sides, in format 1; `refused` is the side and number of the refused record, or None."""
+that it prints of the captures of both sides, in format 1 or 3; `refused` is the side and number of the refused record, or None."""
 from collections import namedtuple
 
 from reading_packets import DATA_BAD, HEADER_BAD, MALFORMED, read_nsp, read_packet, read_unit
@@ -8,6 +8,8 @@ from reading_packets import DATA_BAD, HEADER_BAD, MALFORMED, read_nsp, read_pack
 RECORDS_PER_ROW = 4
 # of the words between both sides
 COLUMNS = 30
+# what is beside a line with this letter
+NOTES = {'k': 'kept', 'd': 'dropped', 'x': 'composed'}
 
 # A record: its side, its line, its letter, its hint, its bytes as digits, the words of a `u` line, and the number of the unit that it sends
 Record = namedtuple('Record', 'side line letter hint digits words unit')
@@ -58,11 +60,11 @@ def is_data(digits):
 
 
 def records_of(side, text):
-    """The records of a capture in format 1."""
+    """The records of a capture in format 1 or 3."""
     units = 0
     for number, line in enumerate(text.splitlines()[1:]):
         letter, *words = line.split(' ')
-        hint = int(words[0]) if letter in 'rk' else None
+        hint = int(words[0]) if letter in 'rkd' else None
         digits = words[-1].replace('-', '') if letter != 'u' else ''
         yield Record(side, number + 2, letter, hint, digits, words if letter == 'u' else None, units if letter == 's' else None)
         units += letter == 's'
@@ -89,7 +91,7 @@ def told(sides, refused):
 
 
 def woven(records, last, pinned):
-    """These records as they are drawn, with `last` behind them: behind a sending its receipt, if that is next on its side; else of a as long as
+    """These records as they are drawn, with `last` after them: after a sending its receipt, if that is next on its side; else of a as long as
     none waits, else one of b that doesn't; where both wait, the sending that comes soonest. The first one is the first where that is `pinned`."""
     left, order = list(records), []
 
@@ -118,7 +120,7 @@ def woven(records, last, pinned):
 
 
 def rows_of(order, last):
-    """The rows: a record, or a sending and its receipt behind it."""
+    """The rows: a record, or a sending and its receipt after it."""
     rows = []
     for record in order:
         if rows and record is not last and len(rows[-1]) == 1 and rows[-1][0].side != record.side \
@@ -150,15 +152,15 @@ def is_again(sides, record):
 
 
 def note_of(record):
-    """What stands beside the line number."""
+    """What is beside the line number."""
     if record.letter == 'u':
         words = list(record.words)
-        if words[0] in ('in', 'up'):
+        if words[0] in ('in', 'up', 'interrupt', 'interrupted'):
             count = len(words[2].replace('-', '')) // 2
             words[2:] = [str(count), 'byte' if count == 1 else 'bytes']
         return ' '.join(words)
-    if record.letter == 'k':
-        return 'kept'
+    if record.letter in NOTES:
+        return NOTES[record.letter]
     return 'not kept' if record.letter == 'r' and is_data(record.digits) else ''
 
 
@@ -220,9 +222,12 @@ def middle(sides, row, last, made):
     record = row[0]
     if record.letter == 'u':
         return ' ' * 34
+    if record.letter == 'x':
+        words = ' packet%s ' % content_of(bytes.fromhex(record.digits))
+        return ('-%s-|' % words).ljust(34) if record.side == 0 else ('|-%s-' % words).rjust(34)
     if record.letter == 's':
         comes = [other.hint for other in sides[1 - record.side] if other.hint is not None and other.hint >= record.unit]
-        # the refused record is told before those behind it
+        # the refused record is told before those after it
         mark = '.' if comes[:1] == [record.unit] or record is last and not comes else 'x'
         return sent_middle(sides, row, mark)
     words = 'noise ~' + said(record.digits) if record.letter == 'n' else came_words(sides, record, made)

@@ -9,6 +9,9 @@ class WithoutLinks:
         if len(words) == 1:
             super().user(words)
 
+    def boots_links(self):
+        pass
+
     def looks_early(self, unit):
         pass
 

@@ -45,6 +45,7 @@ USER = {
     'in': ('LiveAt', ['AddressIsLive', 'RightPhase'], ['Calling', 'Confirming', 'RUN'], ['HandIn']),
     'up': ('HasAddress', ['AddressWasGiven', 'RightPhase', 'IsNextMessage'], PHASES, ['Deliver']),
     'close': ('LiveAt', ['AddressIsLive', 'RightPhase'], ['Confirming', 'RUN'], ['GoTo DI']),
+    'abort': ('LiveAt', ['AddressIsLive', 'RightPhase'], ['Calling'], ['GiveUp']),
 }
 
 # what may be sent, likewise; of a DC the phases are those of a link that may be there
@@ -87,7 +88,8 @@ def link_rules():
             tests = ['the one in Calling'] if verb == 'gets' and name in ('DI', 'DC') else []
             parts = {'look_up': look_up, 'checks': checks, 'phases': phases, 'effects': effects, 'tests': tests}
             rules.append(Row('%s %s' % (verb, name), allowed=True, begins='Called' if verb == 'gets' else 'Calling', instead={}, **parts))
-    return {**FLOW_RULES, 'not judged': Row('not judged'), **{row.heading: row for row in rules}}
+    boot = Row('boot', phases=PHASES, instead={}, tests=[])
+    return {**FLOW_RULES, 'not judged': Row('not judged'), 'boot': boot, **{row.heading: row for row in rules}}
 
 
 # ---- a link, and how it is found
@@ -169,6 +171,29 @@ class Links:
         """A DC that is sent ends the call that it answers."""
         self.go_to(link, 'Ended')
 
+    # -- a boot
+
+    def boots(self):
+        """The node boots: each link is over, and no address is anybody's last. Their numbers go on."""
+        row = self.row('boot')
+        if row.turned('keeps the links'):
+            return
+        for link in self.links:
+            if not link.is_live():
+                self.forgets(row, link, 'keeps the addresses of links that were over')
+            elif row.turned('closes the links'):
+                self.go_to(link, 'DI')
+            elif link.phase in row['phases']:
+                self.go_to(link, 'Ended')
+                self.forgets(row, link, 'keeps the addresses of links that it ends')
+        if row.turned('numbers links anew'):
+            self.links = []
+
+    def forgets(self, row, link, turn):
+        """The link has no address any more, unless it is turned so."""
+        if not row.turned(turn):
+            link.own = None
+
     # -- what the user does
 
     def user(self, words):
@@ -223,6 +248,11 @@ class Links:
             self.give_address(row, link, own)
         elif effect == 'HandIn':
             flow.handed[:] = [data] + flow.handed if row.turned('in front of the earlier') else flow.handed + [data]
+        elif effect == 'GiveUp':
+            self.go_to(link, 'Ended')
+            link.own = None if row.turned('forgets the address') else link.own
+            if row.turned('takes its number back'):
+                self.links.remove(link)
         elif effect == 'Deliver':
             self.delivered += 1
             if not row.turned('delivered again'):

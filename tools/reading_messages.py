@@ -195,6 +195,8 @@ def gets(links, packet, message, tag):
         return None
     if not all(fits(row, link, tag, check) for check in row['checks']):
         raise Refused(25)
+    if message.kind == 'CC' and row.turned('26 where a live link has the far address') and links.find(row, 'LiveTo', far=message.source):
+        raise Refused(26)
     return act(links, row, link, message, tag)
 
 

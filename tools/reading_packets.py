@@ -84,7 +84,7 @@ FIELDS = 'destination source words segnum body services info segsize reason rest
 Nsp = namedtuple('Nsp', 'kind flag bit_12 ' + FIELDS)
 NO_FIELDS = Nsp(None, 0, False, 0, 0, (), None, b'', None, None, 0, None, b'')
 
-# the fields behind a flag byte, from left to right
+# the fields after a flag byte, from left to right
 CONNECT = 'source services info segsize rest'
 MESSAGES = {
     0x10: ('link service', 'destination source rest'),

@@ -5,8 +5,10 @@ reading_program.py check [--line] [--queued] A B
 reading_program.py alone [--line] [--queued] A
 reading_program.py play SCRIPT A B
 
+reading_program.py show A
+reading_program.py convert N A B
+
 A capture is read as docs/CAPTURES.md tells, up to the first line that departs. Other words, and files that can't be read, are not for it."""
-import re
 import sys
 
 sys.dont_write_bytecode = True  # leaves no file beside the modules
@@ -15,67 +17,7 @@ from play_reading import played
 from reading import RULES, judged
 from reading_alone import judged_alone
 from reading_rows import Departs
-
-LONGEST, MOST_HINT = 131_081, 999_999_999_999_999_999
-OF_UNIT, OF_MESSAGE = 16_393, 65_535  # bytes
-NUMBER, BYTES = '(0|[1-9][0-9]{0,18})', '(-|(?:[0-9a-f]{2})+)'
-HEAD = re.compile(r'ddcap [12] NODE NODE'.replace('NODE', NUMBER + r'\.' + NUMBER))
-RECORD = re.compile('u (?:start|halt)|[sn] {bytes}|[rk] (-?{number}) {bytes}|u (?:open|close) {number}|u (?:accept|reject) {number} {number}|'
-                    'u (?:in|up) {number} {bytes}'.format(bytes=BYTES, number=NUMBER))
-
-
-def is_head(line):
-    """Whether this is the head of a capture, with its addresses."""
-    words = HEAD.fullmatch(line)
-    numbers = [int(word) for word in words.groups()] if words else []
-    return words is not None and all(1 <= area <= 63 for area in numbers[::2]) and all(1 <= node <= 1023 for node in numbers[1::2])
-
-
-def fault_of(line, mark):
-    """How a record departs from the format, or None. `mark` is where distances are counted from."""
-    if RECORD.fullmatch(line) is None:
-        return 'syntax'
-    verb, *words = line.split(' ')
-    data = words.pop() if verb != 'u' or words[0] in ('in', 'up') else '-'
-    if verb == 'u':
-        is_right = all(1 <= int(address) <= 65_535 for address in words[1:])
-    else:
-        is_right = verb in ('s', 'n') or is_hint(words[0], mark)
-    if not is_right:
-        return 'syntax'
-    return 'too long' if len(data) // 2 > (OF_MESSAGE if verb == 'u' else OF_UNIT) else None
-
-
-def is_hint(word, mark):
-    """Whether the word is a hint, or a distance from the mark."""
-    return not (word.startswith('-0') or word.startswith('-') and mark is None) and 0 <= int(word) + (mark or 0) <= MOST_HINT
-
-
-def read(path, letter):
-    """The text of a file. Its first line that departs from the format, and all behind it, are a record that says so; of a head it is said at once."""
-    with open(path, newline='', encoding='latin-1') as file:
-        text = file.read()
-    *whole, rest = text.split('\n')
-    mark = None
-    for number, line in enumerate(whole + [rest], 1):
-        is_whole = number <= len(whole)
-        if not is_whole and line == '' and number > 1:
-            break
-        fault = 'too long' if len(line) > LONGEST else None
-        fault = fault or (None if is_whole else 'syntax')
-        if fault is None and number == 1:
-            fault = None if is_head(line) else 'syntax'
-            mark = 0 if line.startswith('ddcap 2') else None
-        elif fault is None:
-            fault = fault_of(line, mark)
-        if fault:
-            said = '%s: line %d: %s' % (letter, number, fault)
-            if number == 1:
-                raise Departs(said)
-            return ''.join(line + '\n' for line in whole[:number - 1]) + '! ' + said
-        if mark is not None and line[0] in 'rk':
-            mark += int(line.split(' ')[1]) + 1
-    return text
+from reading_texts import converted, read, shown
 
 
 def answered(words, paths):
@@ -103,14 +45,25 @@ def play(path, captures):
     return ('', 'script: line %d: %s\n' % (count + 2, fault)) if fault else ('played %d steps\n' % count, '')
 
 
+def printed(command, options, words):
+    """What this command prints to both streams."""
+    if command == 'play':
+        return play(words[0], words[1:])
+    if command == 'show':
+        return shown(words[0])
+    if command == 'convert':
+        return converted(int(words[0]), *words[1:])
+    return answered([command] + options, words)
+
+
 def main():
     words = sys.argv[1:]
     options = [word for word in words[1:] if word in ('--queued', '--line')]
-    paths = words[1 + len(options):]
-    counts = {'check': 2, 'alone': 1, 'play': 3}
-    if not words or len(paths) != counts.get(words[0]):
+    others = [word for word in words[1:] if word not in options]
+    counts = {'check': 2, 'alone': 1, 'play': 3, 'show': 1, 'convert': 3}
+    if not words or len(others) != counts.get(words[0]):
         sys.exit(__doc__)
-    out, err = play(paths[0], paths[1:]) if words[0] == 'play' else answered(words[:1] + options, paths)
+    out, err = printed(words[0], options, others)
     sys.stdout.write(out)
     sys.stderr.write(err)
     sys.exit(2 if err else 1 if out.startswith('refused') else 0)

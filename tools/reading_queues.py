@@ -1,7 +1,10 @@
 """The links of a node whose packets wait between NSP and DDCMP, both ways. Of such a node it can't be seen when NSP acted on a packet that was kept,
 nor when it composed a message that is sent. So a link goes on after its end, and says what it may have composed before. Each arrival acts at its
-record: what a node can have done by acting later, it can have done by acting at once. The rows here stand in the place of those of
+record: what a node can have done by acting later, it can have done by acting at once. The rows here take the place of those of
 tools/reading_links.py; the others are the same. A part of tools/reading.py, which judges pairs apart from the program.
+
+After a boot nothing waits any more, and nothing of a call that was given up: both leave a link dead. A call is given up where all that came for it
+was acted on.
 
 A link knows besides: whether it `ran`, that is has been in RUN; whether it was `accepted` by its user; what it `said`, 1 once a message of RUN was
 sent and 2 once a DI was; and how it is: live; ending, once a DI or a DC ended it; or dead. Its phase stays what it was at its end. It is dead when
@@ -30,7 +33,7 @@ ANSWERED = {'accept': ['GiveAddress', 'GoTo Confirming', 'Accept'], 'reject': ['
 QUEUED_USER = {
     'open': USER['open'],
     **{verb: (*USER[verb][:3], effects) for verb, effects in ANSWERED.items()},
-    **{verb: ('StillAt', *USER[verb][1:]) for verb in ('in', 'close')},
+    **{verb: ('StillAt', *USER[verb][1:]) for verb in ('in', 'close', 'abort')},
 }
 
 # What may be sent: the look-up, the checks, the phases, how much the link may have said, and the effects. The phases of a CI are those of all links
@@ -64,7 +67,7 @@ def queue_rules():
         look_up, checks, phases, effects = ARRIVING[name]
         parts = {'look_up': look_up, 'checks': checks, 'phases': phases, 'effects': effects, 'begins': 'Called'}
         rules.append(Row('queued gets ' + name, allowed=True, instead={}, tests=['the one in Calling'] if name in ('DI', 'DC') else [], **parts))
-    rules += [Row('queued link'), Row('queued words of a new segment')]
+    rules += [Row('queued link'), Row('queued words of a new segment'), Row('queued boot', phases=PHASES, instead={}, tests=[])]
     return {row.heading: row for row in rules}
 
 
@@ -188,8 +191,22 @@ class QueuedLinks(Links):
         elif link.phase in ('Calling', 'Confirming') and row.turned('RUN is said in ' + link.phase):
             link.says(1)
 
+    def boots(self):
+        row = self.row('boot')
+        for link in self.links:
+            if link.end == 'ending' and row.turned('an ending link goes on'):
+                continue
+            if link.is_live() and row.turned('what waits goes on'):
+                link.end = 'ending'
+            else:
+                link.end = 'dead'
+                self.forgets(row, link, 'keeps the addresses')
+
     def do_user(self, row, effect, link, own, data):
         if effect == 'Accept':
             link.accepted = True
+        elif effect == 'GiveUp':
+            link.end = 'ending' if row.turned('what waits goes on') else 'dead'
+            link.own = None if row.turned('forgets the address') else link.own
         else:
             super().do_user(row, effect, link, own, data)

@@ -119,7 +119,7 @@ def num_is_next(station, row, unit, reason):
 
 
 def as_first_given(station, row, unit, reason):
-    """A packet that is sent again is that which has the number. Behind a start there is none with the next number."""
+    """A packet that is sent again is that which has the number. After a start there is none with the next number."""
     is_again = station.next <= station.given
     first = station.earlier.get(station.next) if is_again else None
     return (first or station.packets.get(station.next, unit.packet)) == unit.packet

@@ -13,6 +13,7 @@ NUMBERS = {'R': 'received', 'N': 'given', 'A': 'acknowledged', 'T': 'next'}
 USER = {
     'start': {'HALTED': ['anew ' + name for name in ANEW] + ['GoTo ISTRT']},
     'halt': {state: ['GoTo HALTED'] for state in STATES},
+    'boot': {state: ['GoTo HALTED'] for state in STATES},
 }
 
 # what may be sent: the state, the checks in their order, and the effects

@@ -1,11 +1,11 @@
 """What `ddcap why` says of a refused pair, by the reading of tools/reading.py, apart from the program. `said(a, b)` gives it, or None where nothing
 is refused: the JSON `lines` `refused`, `record` without the fields of its bytes, `state`, `link` and `queued`; the `rows` of both sides; how many
-records stand `behind` it; and the `check` where bytes are compared (tools/reading_bytes.py), else None. `said_alone(a, line)` gives the lines and
+records are `behind` it; and the `check` where bytes are compared (tools/reading_bytes.py), else None. `said_alone(a, line)` gives the lines and
 rows of one end without the other (tools/reading_alone.py), with `line` of its station alone; as `check`, what the other end could have sent, where
 that is told by numbers. `lines_with_queues(a, b)` gives the lines of `why --queued`, of the pair as one of nodes with queues."""
 from collections import namedtuple
 
-from reading import NAMES, RULES, Side, judged, passes_over
+from reading import NAMES, RECEIPTS, RULES, Side, judged, passes_over
 from reading_alone import FREE, Alone, ByOther, StationAlone
 from reading_bytes import check_of, counted
 from reading_packets import read_nsp, read_packet, read_unit
@@ -25,7 +25,7 @@ BY_QUEUES = {18, 19, 20, 21, 25}
 def accused(number, kind):
     """Whom a reason accuses; of 18 and 19 the record tells."""
     if number in (18, 19):
-        return 'sender' if kind == 's' else 'user'
+        return 'sender' if kind in ('s', 'x') else 'user'
     return 'sender' if number in SENDER else ACCUSED[number]
 
 
@@ -130,19 +130,28 @@ def is_open(link):
     return link.phase != 'RUN' or link.flow.given > link.flow.acknowledged or link.flow.received != link.flow.last
 
 
+def packet_of(words):
+    """The packet in a record of bytes, or None."""
+    if words[0] == 'n' or words[-1] == '-':
+        return None
+    if words[0] == 'x':
+        return read_packet(bytes.fromhex(words[-1]))
+    unit = read_unit(words[-1])
+    return read_packet(unit.packet) if unit.kind == 'data' else None
+
+
 def named_by(words):
     """The own and the far address of the link that a record names, as its side has them."""
     if words[0] == 'u':
         if words[1] in ('accept', 'reject'):
             return int(words[3]), int(words[2])
         return (int(words[2]) if len(words) > 2 else None), None
-    unit = read_unit(words[-1]) if words[0] != 'n' and words[-1] != '-' else None
-    packet = read_packet(unit.packet) if unit and unit.kind == 'data' else None
+    packet = packet_of(words)
     message = read_nsp(packet.nsp) if packet and packet.nsp is not None and not packet.returned else None
     if message is None or message.kind == 'no operation':
         return None, None
     named = message.source, message.destination if message.kind != 'CI' else None
-    return named if words[0] == 's' else named[::-1]
+    return named if words[0] in ('s', 'x') else named[::-1]
 
 
 # ---- together
@@ -151,7 +160,7 @@ def record_of(words):
     """The refused record, as the capture has it."""
     if words[0] == 'u':
         return {'what': 'record', 'kind': 'u', 'words': ' '.join(words[1:])}
-    hint = {'hint': int(words[1])} if words[0] in 'rk' else {}
+    hint = {'hint': int(words[1])} if words[0] in RECEIPTS else {}
     return {'what': 'record', 'kind': words[0], **hint, 'bytes': words[-1]}
 
 

@@ -1,10 +1,20 @@
-"""A recorder's mistakes in a pair of captures in format 1: what each makes of the lines, and what an edit of `ddcap why` makes of them again.
-Lines are counted from 1, as there. A change or an edit whose words stand nowhere here is a ValueError."""
+"""A recorder's mistakes in a pair of captures in format 1 or 3: what each makes of the lines, and what an edit of `ddcap why` makes of them again.
+Lines are counted from 1, as there. A change or an edit whose words are nowhere here is a ValueError."""
 import re
 
 from reading_packets import read_nsp, read_packet, read_unit
 
-RECEIPT = re.compile(r'([rk]) (\d+) (\S+)')
+RECEIPT = re.compile(r'([rkd]) (\d+) (\S+)')
+
+
+# lines that format 3 alone has
+OF_FORMAT_3 = re.compile(r'd .*|x .*|u boot|u (abort|interrupt|interrupted) .*')
+
+
+def in_its_format(lines):
+    """The lines of a capture, with the head of format 3 if one of them is only there."""
+    head, *records = lines
+    return [head.replace('ddcap 1 ', 'ddcap 3 ') if any(map(OF_FORMAT_3.fullmatch, records)) else head] + records
 
 
 class Pair:
@@ -14,7 +24,7 @@ class Pair:
         self.lines = {letter: text.splitlines() for letter, text in zip('ab', texts)}
 
     def texts(self):
-        return ['\n'.join(self.lines[letter]) + '\n' for letter in 'ab']
+        return ['\n'.join(in_its_format(self.lines[letter])) + '\n' for letter in 'ab']
 
     def line(self, letter, number):
         return self.lines[letter][int(number) - 1]
@@ -30,7 +40,7 @@ class Pair:
         return self.lines[letter].pop(int(number) - 1)
 
     def move(self, letter, number, before):
-        """A line goes in front of that one, which stands behind it or before it."""
+        """A line goes in front of that one, which comes after it or before it."""
         number, before = int(number), int(before)
         text = self.drop(letter, number)
         self.put(letter, before - (number < before), text)
@@ -39,6 +49,10 @@ class Pair:
         """A receipt has this letter."""
         _, hint, text = RECEIPT.fullmatch(self.line(letter, number)).groups()
         self.lines[letter][int(number) - 1] = '%s %s %s' % (verb, hint, text)
+
+    def boots(self, letter, number):
+        """The user did not halt the station: the node was started anew."""
+        self.lines[letter][int(number) - 1] = 'u boot'
 
     def names(self, letter, number, unit, to_end=False):
         """A receipt has this hint; with `to_end` those of the later ones are shifted as far, and where they begin again they go on."""
@@ -87,7 +101,7 @@ def put_damaged(pair, letter, before, unit, like, other):
 
 
 def put_noise(pair, letter, before):
-    """Damage of which the NAK in that line tells: of a header, or of data that are cut behind a good one."""
+    """Damage of which the NAK in that line tells: of a header, or of data that are cut after a good one."""
     pair.put(letter, before, 'n ' + ('00' if tells_of_header(pair, letter, before) else '810100000101e381'))
 
 
@@ -134,14 +148,15 @@ HERE = r'before line (?P<before>\d+) of (?P<letter>[ab])'
 LINE = r'line (?P<number>\d+) of (?P<letter>[ab])'
 LIKE = r'with the bytes of line (?P<like>\d+) of (?P<other>[ab])'
 EDITS = [
-    (LINE + r' is `(?P<verb>[rk])`, not `[rk]`', Pair.says),
+    (LINE + r' is `(?P<verb>[rkd])`, not `[rkd]`', Pair.says),
+    (LINE + r' is `u boot`, not `u halt`', Pair.boots),
     (r'an `s` line is missing ' + HERE + r': unit \d+, ' + LIKE, put_sent),
-    (r'an? `(?P<verb>[rk])` line is missing ' + HERE + r': unit (?P<unit>\d+) of [ab], ' + LIKE, put_receipt),
+    (r'an? `(?P<verb>[rkd])` line is missing ' + HERE + r': unit (?P<unit>\d+) of [ab], ' + LIKE, put_receipt),
     (r'the `r` line of a damaged unit is missing ' + HERE + r': unit (?P<unit>\d+) of [ab], sent in line (?P<like>\d+) of (?P<other>[ab])',
      put_damaged),
     (r'an `n` line is missing ' + HERE, put_noise),
     (r'`u up (?P<link>\d+)` with the message is missing ' + HERE, put_delivery),
-    (r'`u (?P<words>start|halt|(?:open|close) \d+|(?:accept|reject) \d+ \d+)` is missing ' + HERE, put_user),
+    (r'`u (?P<words>start|halt|boot|(?:open|close|abort) \d+|(?:accept|reject) \d+ \d+)` is missing ' + HERE, put_user),
     (r'`u in (?P<link>\d+)` with the message is missing ' + HERE, put_message),
     (LINE + r' is too late: it belongs before line (?P<before>\d+)', Pair.move),
     (LINE + r' is too early: it belongs after line (?P<behind>\d+)', move_behind),

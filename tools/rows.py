@@ -1,4 +1,4 @@
-"""The rows of tools/rows.txt, which says how they are written: what stands there, read line by line, and what its braces stand for."""
+"""The rows of tools/rows.txt, which says how they are written: what is there, read line by line, and what its braces stand for."""
 import os
 import re
 import sys
@@ -7,7 +7,9 @@ from captures import with_check, word
 
 PATH = os.path.join(os.path.dirname(os.path.abspath(__file__)), 'rows.txt')
 HEAD = 'ddplay 1 1.1 1.2\n'
-CAPTURE_HEADS = {'a': 'ddcap 1 1.1 1.2', 'b': 'ddcap 1 1.2 1.1'}
+CAPTURE_HEADS = {'a': 'ddcap %d 1.1 1.2', 'b': 'ddcap %d 1.2 1.1'}
+# the steps whose records have lines in format 3 alone
+OF_THREE = ['boot', 'abort', 'drop']
 
 # how the last step of a row ends, by the word in front of it
 ENDS = {'?': None, '!': 'bad step', 'full': 'full'}
@@ -34,10 +36,17 @@ class Block:
         """All its steps."""
         return self.all_before() + self.asked
 
-    def captures(self):
-        """The lines of both captures, their heads first and then the set-up's."""
-        first = self.from_.captures() if self.from_ else {side: [CAPTURE_HEADS[side]] for side in 'ab'}
+    def written(self):
+        """The lines of both captures after their heads, the set-up's first."""
+        first = self.from_.written() if self.from_ else {side: [] for side in 'ab'}
         return {side: first[side] + self.lines[side] for side in 'ab'}
+
+    def captures(self):
+        """The lines of both captures, their heads first."""
+        made = self.steps()[:-1] if self.stopped else self.steps()
+        number = 3 if any(step.split(' ')[1] in OF_THREE for step in made) else 1
+        written = self.written()
+        return {side: [CAPTURE_HEADS[side] % number] + written[side] for side in 'ab'}
 
 
 def counted(first, step, form, turn):

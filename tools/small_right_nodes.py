@@ -50,7 +50,7 @@ class ClosedBeforeSent(Queueing):
     """What waits is not taken out of the queue."""
 
 
-@no_bug(19, 'a user gives up a call before it is answered', at.quiet)
+@no_bug(19, 'a user gives up a call before it is answered (`u abort` in format 3)', at.quiet)
 class GivesUp(Node):
     def open(self):
         link = super().open()
@@ -58,7 +58,7 @@ class GivesUp(Node):
         return link
 
 
-@no_bug(20, 'a restart empties a queue, and a segment in it is lost before its first sending', at.restarted)
+@no_bug(20, 'a restart empties a queue, and a segment in it is lost before its first sending (an `x` line in format 3)', at.restarted)
 class QueueEmptied(Queueing):
     def reset(self):
         super().reset()

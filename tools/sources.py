@@ -97,7 +97,7 @@ def arguments(item):
 
 
 def split(text, letter):
-    """The parts of a text between the places of a letter that stand in no bracket."""
+    """The parts of a text between the places of a letter that are in no bracket."""
     parts, depth = [''], 0
     for each in text:
         depth += (each in '({[') - (each in ')}]')
@@ -151,7 +151,7 @@ def signature_end(whole, text, at):
 
 
 def said_before(text, at, mark):
-    """The comment that stands before a place, a list of lines; attributes may stand between."""
+    """The comment that comes before a place, a list of lines; attributes may come between."""
     said = []
     for line in reversed(text[:at].rpartition('\n')[0].splitlines()):
         line = line.strip()
@@ -168,7 +168,7 @@ def silenced(match):
 
 
 def closed(text, at):
-    """Behind the brace that closes the one at a place."""
+    """After the brace that closes the one at a place."""
     depth = 0
     for place in range(at, len(text)):
         depth += (text[place] == '{') - (text[place] == '}')
@@ -230,7 +230,7 @@ class Code:
 
 
 def words_of(clause):
-    """What stands in a clause, without comments and texts."""
+    """What is in a clause, without comments and texts."""
     return SILENT.sub(silenced, clause.text)
 
 

@@ -41,8 +41,12 @@ ANSWERS = (
     ('two_starts', 'accepted\n'),
     # a CC is lost as its receiver starts anew, and the CI goes again
     ('cc_lost_at_restart', 'accepted\n'),
+    # a DC was under way at a restart, and its link address calls again
+    ('called_again_at_restart', 'accepted\n'),
     # the units before the named one have a placing
-    ('other_unit_named', 'unexplained b unit 3 line 9: '),
+    ('other_unit_named', 'apart: b unit 3 line 9: 6 WrongState\n'),
+    # a station that was started anew takes the STACK that answered its earlier start
+    ('stack_of_earlier_start', 'apart: b unit 2 line 6: 7 WrongNumber\neach side is explained by itself; this accuses neither node\n'),
 )
 
 NO_UNIT = 'wire: no unit\n'

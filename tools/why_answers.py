@@ -37,7 +37,7 @@ def stored():
 
 @cache
 def pairs_by_name():
-    """Each pair of the lists by its list, the heading that it stands below and its turns; and those of tools/why by their names."""
+    """Each pair of the lists by its list, the heading that it is below and its turns; and those of tools/why by their names."""
     pairs = {}
     for name in LISTS:
         for heading, lines in lines_below(name).items():

@@ -5,7 +5,7 @@ from functools import lru_cache
 
 from program import TOP
 
-COLUMNS = 68  # of the words of a row, without what stands before them
+COLUMNS = 68  # of the words of a row, without what comes before them
 INDENT = 11 * ' '
 
 
@@ -24,7 +24,7 @@ def rows_of_check(check):
 
 
 def wrapped(lead, words):
-    """Rows of at most 79 columns that have these words: the first behind `lead`, which has eleven columns."""
+    """Rows of at most 79 columns that have these words: the first after `lead`, which has eleven columns."""
     rows = ['']
     for word in words.split(' '):
         if rows[-1] and len(rows[-1]) + 1 + len(word) > COLUMNS:

@@ -1,5 +1,5 @@
 """Two DDCMP stations that talk over a TCP connection, as emulators do, by rules of their own, and tools/wire_relay between them, which writes down
-what passes (the text that `ddcap tap` reads). They stand apart from the crates and from tools/reading.py: what a station sends is made here anew.
+what passes (the text that `ddcap tap` reads). They are kept apart from the crates and from tools/reading.py: what a station sends is made here anew.
 They carry routing control packets both ways, keep up to seven outstanding, ask by a REP where nothing is acknowledged, and refuse some packets for
 want of a buffer, as a seed says. `recorded(seed, packets)` is the text of such a session."""
 import asyncio

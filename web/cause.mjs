@@ -51,18 +51,18 @@ const PHASES = {
 export const phasesIn = text => Object.entries(PHASES).filter(([name]) => new RegExp(`\\b${name}\\b`).test(text))
   .map(([name, meaning]) => `${name}: ${meaning}.`).join(' ');
 
-const START = /^u start$/, KEPT = /^k -?\d+ 81/, SENT = /^s 81/;
+const START = /^u start$/, KEPT = /^[kd] -?\d+ 81/, SENT = /^s 81/;
 
 // The address of the link that a record is about, at its own end; or any, where the record doesn't tell it.
 function addressIn({words, nsp}) {
-  const [, own] = (words || '').match(/^(?:in|close) (\d+)/) || (nsp || '').match(/ of link (\d+)/) || [];
+  const [, own] = (words || '').match(/^(?:in|close|abort) (\d+)/) || (nsp || '').match(/ of link (\d+)/) || [];
   return own || '\\d+';
 }
-const doneWithLink = own => new RegExp(`^u ((open|close) ${own}|(accept|reject) \\d+ ${own})$`);
+const doneWithLink = own => new RegExp(`^u ((open|close|abort) ${own}|(accept|reject) \\d+ ${own})$`);
 
 // Of a reason the line before it, on the same side, that says otherwise, and what that line is; since the last start, or from the first line on.
 const EARLIER = {
-  6: () => [[/^u (start|halt)$/, 'Its last start or halt']],
+  6: () => [[/^u (start|halt|boot)$/, 'Its last start, halt or boot']],
   7: () => [[SENT, 'The data message that it sent before'], [START, 'It had sent no data message since this start']],
   8: () => [[KEPT, 'The last data message that it received in order'], [START, 'It had received no data message since this start']],
   10: ({bytes = ''}) => [[new RegExp(`^s 81.{6}${bytes.slice(8, 10)}`), 'The packet when it was sent before']],
@@ -104,10 +104,10 @@ export function contradicted({refused, record, check, state}, texts, unit) {
 
 // What a line with a data message says, and what is said of a record.
 const wordsOfLine = text => {
-  const unit = text.match(/^(?:s|[rk] -?\d+) 81.{4}(..)(..)/);
+  const unit = text.match(/^(?:s|[rkd] -?\d+) 81.{4}(..)(..)/);
   return unit ? `DATA NUM ${parseInt(unit[2], 16)} RESP ${parseInt(unit[1], 16)}` : '';
 };
-const wordsOfRecord = ({kind, words, ddcmp, nsp}) => [{s: 'sent', r: 'received', k: 'kept', n: 'noise', u: 'user'}[kind], words, ddcmp, nsp]
+const wordsOfRecord = ({kind, words, ddcmp, nsp}) => [{s: 'sent', r: 'received', k: 'kept', d: 'dropped', n: 'noise', x: 'composed', u: 'user'}[kind], words, ddcmp, nsp]
   .filter(Boolean).join(' ');
 
 // The lines around a refused one, and around the one that it contradicts: [{title, words, side, line, lines, isRefused}, ..]

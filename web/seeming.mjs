@@ -110,8 +110,8 @@ export function wrongWith({text, ends}) {
     [/ {2}/.test(text), 'it has two spaces in a row'],
     [/^[A-Z]/.test(text), 'its first letter is a capital'],
     [/ [0-9a-f]*[A-F][0-9A-Fa-f]*$/.test(text), 'it has a capital digit: hexadecimal digits are 0 to 9 and a to f'],
-    [/^(s|n|[rk] -?\d+) ([0-9a-f]{2})*[0-9a-f]$/.test(text), 'its digits are odd in number: a byte has two'],
-    [/^[rk] [0-9a-f]{9,}$/.test(text), 'the number of the unit is missing before the bytes'],
+    [/^(s|n|x|[rkd] -?\d+) ([0-9a-f]{2})*[0-9a-f]$/.test(text), 'its digits are odd in number: a byte has two'],
+    [/^[rkd] [0-9a-f]{9,}$/.test(text), 'the number of the unit is missing before the bytes'],
     [/^\d[\d:.]+ /.test(text), 'it begins with a time or a number, and a record with a letter'],
   ];
   return rows.filter(([is]) => is).map(([, words]) => words);

@@ -33,7 +33,7 @@ enum { PAGE = 65536, ALIGNMENT = 16, PAGES_AT_ONCE = 16, KINDS = 256 };
 
 struct block {
   size_t room, kind;
-  size_t unused[2]; /* what follows stands at a multiple of the alignment */
+  size_t unused[2]; /* what follows is at a multiple of the alignment */
 };
 
 static uintptr_t unused_from, unused_to;
@@ -49,7 +49,7 @@ static size_t kind_of(size_t size, size_t *room) {
   return top * 8 + (*room >> (top - 3)) % 8;
 }
 
-/* Makes the memory reach this far behind what is in use. */
+/* Makes the memory reach this far past what is in use. */
 static bool reaches(size_t size) {
   if (!unused_from) {
     unused_from = ((uintptr_t)&__heap_base + ALIGNMENT - 1) & ~(uintptr_t)(ALIGNMENT - 1);

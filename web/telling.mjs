@@ -15,6 +15,7 @@ export function verdictOf(answer, isOneEnd, isWire) {
     refused: ['bad', 'Refused', isOneEnd ? 'No capture of the other end would make this one right.'
       : 'The records of both captures can’t be put in any order that obeys the protocol.'],
     unexplained: ['bad', 'Unexplained', 'No way was found in which two right nodes would send this. This alone accuses neither node.'],
+    'apart:': ['bad', 'Apart', 'Each side by itself could have sent this, but no way was found in which both did. This accuses neither node.'],
   };
   const fault = answer.status === 2 ? 'Mend that line, and drop the file again.' : 'Something failed that is no fault of the texts.';
   const [kind, title, meaning] = rows[answer.status < 2 ? word : ''] || ['fault', 'Not judged', fault];

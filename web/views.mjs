@@ -84,7 +84,7 @@ export function causeView({refusal, text, meaning}, session, first, judgeQueued)
   parts.push(make('div', {className: 'pair lines'}, ...columns));
   const rule = (check && check.rule) || meant;
   const likely = edit.map(({words}) => words).join('; or ');
-  const place = first.match(/^unexplained ([ab]) unit (\d+) line (\d+)/);
+  const place = first.match(/^(?:unexplained|apart:) ([ab]) unit (\d+) line (\d+)/);
   const where = place && `unit ${place[2]} of ${place[1]} (counted from 0), whose first byte is on line ${place[3]} of ${source.name}`;
   const known = [['On the wire', where], ['The rule', rule], ['Accused', isWire ? '' : accusedOf({refusal, text})],
     ['The recording', likely && `likely at fault: ${likely}`]];

@@ -19,7 +19,7 @@ fits received unit = if shows_damage (reading received) then true else bytes_eq 
 abbrev pub first_fit : (received : List ℕ) → (next : ℕ) → List Record → Option (ℕ × List Record)
 first_fit received next [] = None
 first_fit received next (Sent unit ∷ rs) = if fits received unit then Some (next, rs) else first_fit received (next + 1) rs
-first_fit received next (Received hint kept bytes ∷ rs) = first_fit received next rs
+first_fit received next (Received hint fate bytes ∷ rs) = first_fit received next rs
 first_fit received next (Noise bytes ∷ rs) = first_fit received next rs
 first_fit received next (User event ∷ rs) = first_fit received next rs
 
@@ -36,7 +36,7 @@ choice received next other = or_next next (first_fit received next other)
 abbrev pub aligned : (next : ℕ) → (other : List Record) → List Record → List Record
 aligned next other [] = []
 aligned next other (Sent unit ∷ rs) = Sent unit ∷ aligned next other rs
-aligned next other (Received hint kept bytes ∷ rs) =
-    Received (choice bytes next other).0 kept bytes ∷ aligned ((choice bytes next other).0 + 1) (choice bytes next other).1 rs
+aligned next other (Received hint fate bytes ∷ rs) =
+    Received (choice bytes next other).0 fate bytes ∷ aligned ((choice bytes next other).0 + 1) (choice bytes next other).1 rs
 aligned next other (Noise bytes ∷ rs) = Noise bytes ∷ aligned next other rs
 aligned next other (User event ∷ rs) = User event ∷ aligned next other rs

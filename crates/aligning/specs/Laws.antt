@@ -3,10 +3,10 @@ use Rattle.std.specs.Prelude.{ℕ, ◌+◌, ◌≤◌, List, [], ◌∷◌}
 use Rattle.capture.specs.declared.record.Record.{Record}
 use Rattle.capture.specs.declared.record.Record.TheVariants.{Sent, Received, Noise, User}
 
--- a record but for its hint
+-- a record except for its hint
 abbrev pub without_hint : Record → Record
 without_hint (Sent unit) = Sent unit
-without_hint (Received hint kept bytes) = Received 0 kept bytes
+without_hint (Received hint fate bytes) = Received 0 fate bytes
 without_hint (Noise bytes) = Noise bytes
 without_hint (User event) = User event
 
@@ -14,6 +14,6 @@ without_hint (User event) = User event
 abbrev pub HintsRise : ℕ → List Record → Type 0
 HintsRise least [] = Unit {0}
 HintsRise least (Sent unit ∷ rs) = HintsRise least rs
-HintsRise least (Received hint kept bytes ∷ rs) = (least ≤ hint) × HintsRise (hint + 1) rs
+HintsRise least (Received hint fate bytes ∷ rs) = (least ≤ hint) × HintsRise (hint + 1) rs
 HintsRise least (Noise bytes ∷ rs) = HintsRise least rs
 HintsRise least (User event ∷ rs) = HintsRise least rs

@@ -2,16 +2,15 @@
 
 ghost use Rattle.std.specs.Prelude.{◌≡◌, ◌+◌, ◌<◌, ◌≤◌, ◌^◌, List, ◌∷◌, ◌++◌, length, IfOk, OnOk};
 ghost use Rattle.capture.specs.declared.limit.TheConstants.{MAX_MESSAGE, MAX_RECORDS};
-ghost use Rattle.capture.specs.declared.format.Format.TheVariants.{One};
 ghost use Rattle.capture.specs.declared.hint.HintForm.TheVariants.{Number};
 ghost use Rattle.capture.specs.declared.record.Record.{Record as Line};
-ghost use Rattle.capture.specs.Range.{IsCapture, record_bytes};
+ghost use Rattle.capture.specs.Range.{IsCapture, format_for, record_bytes};
 ghost use Rattle.capture.specs.Text.{capture_text, record_lines};
 ghost use Rattle.aligning.specs.Aligned as spec;
 
 use crate::choice::choose;
 use crate::whole::Whole;
-use capture::{Entry, Format, Record, put_head_line, put_line};
+use capture::{Entry, Record, format_for, put_head_line, put_line};
 use std::alloc::{AllocError, Global};
 
 /// The records of the other side from the next unit on, and its number.
@@ -21,16 +20,18 @@ pub struct Ahead<'r> {
     pub next: u64,
 }
 
-/// The text of this capture in format 1, each receipt with the number of its unit among those of the other side's records; all else is as it was.
-/// Fails for want of memory alone.
+/// The text of this capture in format 1, or in format 3 where a record is in that alone, each receipt with the number of its unit among those of
+/// the other side's records; all else is as it was. Fails for want of memory alone.
 pub fn aligned_text(alloc: Global, capture: &Whole, other: &[Record]) -> Result<Vec<u8>, AllocError>
     requires fits { IsCapture capture.now.own capture.now.peer capture.now.records.items }
     requires few { length other.now ≤ MAX_RECORDS }
     ensures { IfOk result (λ text. text.items ≡
-        capture_text One capture.now.own capture.now.peer (spec.aligned 0 other.now capture.now.records.items)) }
+        capture_text (format_for capture.now.records.items) capture.now.own capture.now.peer
+        (spec.aligned 0 other.now capture.now.records.items)) }
 {
     let mut text = Vec::new(alloc);
-    put_head_line(&mut text, Format::One, capture.own, capture.peer)?;
+    let format = format_for(capture.records.as_slice());
+    put_head_line(&mut text, format, capture.own, capture.peer)?;
     let mut ahead = Ahead {
         rest: other,
         next: 0,
@@ -56,10 +57,10 @@ fn put_record<'r>(
 {
     let (entry, bytes) = record.parts();
     match record {
-        Record::Received { kept, .. } => {
+        Record::Received { fate, .. } => {
             let choice = choose(ahead.rest, ahead.next, bytes);
             let hint = choice.unit;
-            put_line(text, Entry::Received { kept: *kept, hint }, bytes)?;
+            put_line(text, Entry::Received { fate: *fate, hint }, bytes)?;
             Ok(Ahead {
                 rest: choice.rest,
                 next: hint + 1,

@@ -2,7 +2,7 @@
 use Rattle.std.proofs.Common.{◌≡◌, ℕ, List, ◌∷◌, ◌++◌, Option, Some, None, refl, ap, ◌∙◌, lit<}
 use Rattle.std.proofs.lemmas.Option.{same_Some}
 use Rattle.capture.specs.declared.format.Format.{Format}
-use Rattle.capture.specs.declared.format.Format.TheVariants.{One, Two}
+use Rattle.capture.specs.declared.format.Format.TheVariants.{One, Two, Three}
 use Rattle.capture.specs.Text.{address_text, format_text, head_text, spaced}
 use Rattle.capture.specs.Range.{IsNode}
 use Rattle.capture.specs.Reading.{after, cut_at, address_at, head_at, headed, nodes_at, or_else}
@@ -62,13 +62,20 @@ pub head_takes : (text : List ℕ) (format : Format) (own peer : ℕ) → head_a
 unfolding head_at
 head_takes text format own peer e = by_first (after (format_text One) text) refl e
   where
-    by_second : (o : Option (List ℕ)) → after (format_text Two) text ≡ o → or_else o (headed Two) None ≡ Some (format, own, peer) →
+    by_third : (o : Option (List ℕ)) → after (format_text Three) text ≡ o → or_else o (headed Three) None ≡ Some (format, own, peer) →
         IsHeadOf text format own peer
-    by_second None begins f = absurd cc
+    by_third None begins f = absurd cc
+    by_third (Some rest) begins f = headed_takes Three text rest format own peer (after_takes (format_text Three) text rest begins) f
+
+    by_second : (o : Option (List ℕ)) → after (format_text Two) text ≡ o →
+        or_else o (headed Two) (or_else (after (format_text Three) text) (headed Three) None) ≡ Some (format, own, peer) →
+        IsHeadOf text format own peer
+    by_second None begins f = by_third (after (format_text Three) text) refl f
     by_second (Some rest) begins f = headed_takes Two text rest format own peer (after_takes (format_text Two) text rest begins) f
 
     by_first : (o : Option (List ℕ)) → after (format_text One) text ≡ o →
-        or_else o (headed One) (or_else (after (format_text Two) text) (headed Two) None) ≡ Some (format, own, peer) → IsHeadOf text format own peer
+        or_else o (headed One) (or_else (after (format_text Two) text) (headed Two) (or_else (after (format_text Three) text) (headed Three) None))
+        ≡ Some (format, own, peer) → IsHeadOf text format own peer
     by_first None begins f = by_second (after (format_text Two) text) refl f
     by_first (Some rest) begins f = headed_takes One text rest format own peer (after_takes (format_text One) text rest begins) f
 
@@ -76,3 +83,4 @@ pub head_again : (format : Format) (own peer : ℕ) → IsNode own → IsNode pe
 unfolding head_at
 head_again One own peer p q = rw (nodes_again own peer p q) refl
 head_again Two own peer p q = rw (nodes_again own peer p q) refl
+head_again Three own peer p q = rw (nodes_again own peer p q) refl

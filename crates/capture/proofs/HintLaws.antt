@@ -7,7 +7,7 @@ use Rattle.std.proofs.lemmas.Fmt.{length-decimal-le}
 use Rattle.std.proofs.lemmas.Option.{cond_some}
 use Rattle.capture.specs.declared.limit.TheConstants.{MAX_HINT, MAX_MARK}
 use Rattle.capture.specs.declared.hint.HintForm.{HintForm}
-use Rattle.capture.specs.declared.hint.HintForm.TheVariants.{Number, Distance}
+use Rattle.capture.specs.declared.hint.HintForm.TheVariants.{Number, Distance, Wide}
 use Rattle.capture.specs.declared.record.Record.{Record}
 use Rattle.capture.specs.declared.record.Record.TheVariants.{Sent, Received, Noise, User}
 use Rattle.capture.specs.Text.{hint_text, form_after}
@@ -80,16 +80,19 @@ pub hint_takes : (form : HintForm) (text : List ℕ) (hint : ℕ) → FormFits f
     (hint ≤ MAX_HINT)
 unfolding hint_at
 hint_takes Number text hint fits e = number_takes MAX_HINT text hint (lit< tt) e
+hint_takes Wide text hint fits e = number_takes MAX_HINT text hint (lit< tt) e
 hint_takes (Distance mark) text hint fits e = distance_takes mark text hint fits (after (codes "-") text) refl e
 
 pub hint_again : (form : HintForm) (hint : ℕ) → FormFits form → hint ≤ MAX_HINT → hint_at form (hint_text form hint) ≡ Some hint
 unfolding hint_at
 hint_again Number hint fits small = number_again MAX_HINT hint (lit< tt) small
+hint_again Wide hint fits small = number_again MAX_HINT hint (lit< tt) small
 hint_again (Distance mark) hint fits small =
     elim (cases_lt hint mark) [ inl below ↦ below_again mark hint fits below | inr above ↦ above_again mark hint above small ]
 
 pub hint_lacks : (form : HintForm) (b hint : ℕ) → b < 45 → FormFits form → hint ≤ MAX_HINT → HasNo b (hint_text form hint)
 hint_lacks Number b hint low fits small = decimal_lacks b hint (omega arith) (omega arith)
+hint_lacks Wide b hint low fits small = decimal_lacks b hint (omega arith) (omega arith)
 hint_lacks (Distance mark) b hint low fits small =
     elim (cases_lt hint mark) [
       | inl below ↦ rw (before_mark mark hint below) ((λ e. absurd (omega arith)), decimal_lacks b (mark - hint) (omega arith) (omega arith))
@@ -98,6 +101,7 @@ hint_lacks (Distance mark) b hint low fits small =
 
 pub hint_short : (form : HintForm) (hint : ℕ) → FormFits form → hint ≤ MAX_HINT → length (hint_text form hint) ≤ 20
 hint_short Number hint fits small = let short = length-decimal-le 18 hint (lit< tt) (omega arith) (omega arith) in omega arith
+hint_short Wide hint fits small = let short = length-decimal-le 18 hint (lit< tt) (omega arith) (omega arith) in omega arith
 hint_short (Distance mark) hint fits small =
     elim (cases_lt hint mark) [
       | inl below ↦ let short = length-decimal-le 19 (mark - hint) (lit< tt) (omega arith) (omega arith) in
@@ -109,7 +113,8 @@ hint_short (Distance mark) hint fits small =
 -- a mark is one more than some hint
 pub form_fits : (form : HintForm) (r : Record) → FormFits form → NumbersFit r → FormFits (form_after form r)
 form_fits Number r fits numbers = tt
+form_fits Wide r fits numbers = tt
 form_fits (Distance mark) (Sent bytes) fits numbers = fits
-form_fits (Distance mark) (Received hint kept bytes) fits numbers = omega (arith, numbers)
+form_fits (Distance mark) (Received hint fate bytes) fits numbers = omega (arith, numbers)
 form_fits (Distance mark) (Noise bytes) fits numbers = fits
 form_fits (Distance mark) (User event) fits numbers = fits

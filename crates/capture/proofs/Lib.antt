@@ -27,3 +27,4 @@ pub mod ListedText
 pub mod ListedSoFar
 pub mod ConvertLaws
 pub mod OverLaws
+pub mod WideLaws

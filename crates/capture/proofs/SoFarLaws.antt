@@ -8,10 +8,10 @@ use Rattle.capture.specs.declared.limit.TheConstants.{MAX_RECORDS}
 use Rattle.capture.specs.declared.fault.Departure.{Departure}
 use Rattle.capture.specs.declared.record.Record.{Record}
 use Rattle.capture.specs.declared.hint.HintForm.{HintForm}
-use Rattle.capture.specs.declared.hint.HintForm.TheVariants.{Number, Distance}
+use Rattle.capture.specs.declared.hint.HintForm.TheVariants.{Number, Distance, Wide}
 use Rattle.capture.specs.declared.format.Format.{Format}
 use Rattle.capture.specs.Text.{head_line, record_line, record_lines, capture_text, first_form, form_after, form_behind, format_of}
-use Rattle.capture.specs.Range.{FormFits, IsRecord, IsCapture, IsText, IsTextIn}
+use Rattle.capture.specs.Range.{FormFits, IsInForm, IsInFormat, IsRecord, IsCapture, IsText, IsTextIn}
 use Rattle.capture.specs.Departing.{HeadDeparts, RecordDeparts}
 use Rattle.capture.specs.Lines.{to_come}
 use Rattle.capture.specs.Reader.{CaptureState, Opens}
@@ -45,6 +45,7 @@ form_behind-push form (s ∷ rs) r = form_behind-push (form_after form s) rs r
 format_stays : (form : HintForm) (r : Record) → format_of (form_after form r) ≡ format_of form
 format_stays Number r = refl
 format_stays (Distance mark) r = refl
+format_stays Wide r = refl
 
 behind_fits : (form : HintForm) (rs : List Record) → FormFits form → AllByRecursion IsRecord rs → FormFits (form_behind form rs)
 behind_fits form [] fits each = fits
@@ -63,6 +64,7 @@ pub opened : (text left : Option (List ℕ)) (state : CaptureState) → Opens te
     IsReadSoFar text (so_far state.form state.own state.peer [] (ToCome (to_come state.unread left)))
 opened text left state opens = record {
   fits = record { own_fits = opens.0; peer_fits = opens.1; each = tt; few = omega arith };
+  lines = tt;
   begins = subst (Consumes text (to_come state.unread left)) (sym (append-nil (head_line (format_of state.form) state.own state.peer))) opens.4;
   form_is = opens.5;
 }
@@ -76,9 +78,9 @@ module _ (text before after : Option (List ℕ)) (form : HintForm) (own peer : �
   form_on : (format : Format) → form ≡ form_behind (first_form format) rs → form_after form r ≡ form_behind (first_form format) (rs ++ r ∷ [])
   form_on format is = ap (λ (f : HintForm). form_after f r) is ∙ sym (form_behind-push (first_form format) rs r)
 
-  pub one_more : length rs < MAX_RECORDS → IsRecord r → Consumes before after (record_line form r) →
+  pub one_more : length rs < MAX_RECORDS → IsRecord r → Consumes before after (record_line form r) → IsInForm form r →
       IsReadSoFar text (so_far (form_after form r) own peer (rs ++ r ∷ []) (ToCome after))
-  one_more few is_record consumes =
+  one_more few is_record consumes in_form =
       let format = format_of form in
       let same : format ≡ format_of (form_after form r) = sym (format_stays form r) in
       let all = subst (Consumes text after) (lines_on format h.form_is)
@@ -90,6 +92,7 @@ module _ (text before after : Option (List ℕ)) (form : HintForm) (own peer : �
           each = All-push IsRecord rs r h.fits.each is_record;
           few = omega (arith, length-append rs (r ∷ []));
         };
+        lines = subst (λ (f : Format). AllByRecursion (IsInFormat f) (rs ++ r ∷ [])) same (All-push (IsInForm form) rs r h.lines in_form);
         begins = subst (λ (f : Format). Consumes text after (capture_text f own peer (rs ++ r ∷ []))) same all;
         form_is = form_on format h.form_is ∙ ap (λ (f : Format). form_behind (first_form f) (rs ++ r ∷ [])) same;
       }
@@ -102,13 +105,22 @@ consumes_all (Some t) (Some bs) read first end = first ∙ ap (λ xs. read ++ xs
 
 pub ended : (text before : Option (List ℕ)) (form : HintForm) (own peer : ℕ) (rs : List Record) →
     IsReadSoFar text (so_far form own peer rs (ToCome before)) → IsAtEnd before → IsReadSoFar text (so_far form own peer rs TheEnd)
-ended text before form own peer rs h end = record { fits = h.fits; begins = consumes_all text before _ h.begins end; form_is = h.form_is }
+ended text before form own peer rs h end = record {
+  fits = h.fits;
+  lines = h.lines;
+  begins = consumes_all text before _ h.begins end;
+  form_is = h.form_is;
+}
 
 -- ---- whole texts
 
 pub whole_in : (bytes : List ℕ) (form : HintForm) (own peer : ℕ) (rs : List Record) → IsReadSoFar (Some bytes) (so_far form own peer rs TheEnd) →
     IsTextIn (format_of form) own peer rs bytes
-whole_in bytes form own peer rs h = record { fits = h.fits; spelled = h.begins ∙ append-nil (capture_text (format_of form) own peer rs) }
+whole_in bytes form own peer rs h = record {
+  fits = h.fits;
+  lines = h.lines;
+  spelled = h.begins ∙ append-nil (capture_text (format_of form) own peer rs);
+}
 
 pub whole : (bytes : List ℕ) (form : HintForm) (own peer : ℕ) (rs : List Record) → IsReadSoFar (Some bytes) (so_far form own peer rs TheEnd) →
     IsText own peer rs bytes
@@ -118,6 +130,7 @@ whole bytes form own peer rs h = record { format = format_of form; is_text = who
 record IsBegun (left : List ℕ) (own peer : ℕ) (rs : List Record) (read : ReadSoFar) : Type 0 where
   same_own : own ≡ read.own
   same_peer : peer ≡ read.peer
+  lines : AllByRecursion (IsInForm read.form) rs
   more : List Record
   all : rs ≡ read.records ++ more
   rest : left ≡ record_lines read.form more
@@ -138,6 +151,7 @@ begun bytes left own peer rs read is_text fits begins form_is =
     record {
       same_own = heads.1;
       same_peer = heads.2;
+      lines = subst (λ (f : Format). AllByRecursion (IsInFormat f) rs) heads.0 text.lines;
       more = lines.0;
       all = lines.1;
       rest =
@@ -173,7 +187,8 @@ no_line bytes left own peer rs read kind is_text marked b departs =
     by_more (r ∷ more) all d =
         let each = All-behind IsRecord read.records (r ∷ more) (subst (AllByRecursion IsRecord) all is_text.is_text.fits.each) in
         let few = room rs read.records (r ∷ more) is_text.is_text.fits.few all in
-        no_departure read.form kind r (record_lines (form_after read.form r) more) (length read.records) marked each.0 (omega arith) d
+        let lines = All-behind (IsInForm read.form) read.records (r ∷ more) (subst (AllByRecursion (IsInForm read.form)) all b.lines) in
+        no_departure read.form kind r (record_lines (form_after read.form r) more) (length read.records) marked each.0 (omega arith) lines.0 d
 
 pub form_marked : (text : Option (List ℕ)) (read : ReadSoFar) → IsReadSoFar text read → FormFits read.form
 form_marked text read h =

@@ -11,12 +11,12 @@ use Rattle.capture.specs.declared.fault.Departure.TheVariants.{Syntax, TooLong, 
 use Rattle.capture.specs.declared.hint.HintForm.{HintForm}
 use Rattle.capture.specs.declared.record.Record.{Record}
 use Rattle.capture.specs.Text.{record_text, ended}
-use Rattle.capture.specs.Range.{FormFits, IsRecord, record_bytes, most_bytes}
+use Rattle.capture.specs.Range.{FormFits, IsInForm, IsRecord, record_bytes, most_bytes}
 use Rattle.capture.specs.Departing.{first_line, IsWhole, WordsDepart, RecordDeparts, HeadWordsDepart, HeadDeparts}
-use Rattle.capture.specs.Reading.{record_at, head_at}
+use Rattle.capture.specs.Reading.{is_wide, record_at, head_at}
 use Rattle.capture.proofs.BytesLaws.{limited}
 use Rattle.capture.proofs.LineLaws.{line-split, line-append, if_known}
-use Rattle.capture.proofs.RecordLaws.{IsRecordOf, IsLongRecordOf, record_shows, record_again}
+use Rattle.capture.proofs.RecordLaws.{IsRecordOf, IsLongRecordOf, allowed_in, record_shows, record_again}
 use Rattle.capture.proofs.HeadLaws.{head_again}
 use Rattle.capture.proofs.Shown.{Shows}
 
@@ -46,12 +46,16 @@ whole-append unread rest whole =
 
 -- ---- its words
 
-record_from : (form : HintForm) (text : List ℕ) (r : Record) → IsRecordOf form text r → IsRecord r × (text ≡ record_text form r)
-record_from form text r h = (record { spelling = record { numbers = h.1; bytes = h.2 }; short = h.3 }, h.0)
+abbrev ShowsIn : HintForm → List ℕ → Result Record Departure → Type 0
+ShowsIn form text read = Shows (IsRecordOf (is_wide form) form text) (IsLongRecordOf (is_wide form) form text) read
 
-pub record_ok : (form : HintForm) (text : List ℕ) (r : Record) → FormFits form → record_at form text ≡ Ok r → IsRecord r × (text ≡ record_text form r)
-record_ok form text r fits e =
-    record_from form text r (subst (Shows (IsRecordOf form text) (IsLongRecordOf form text)) e (record_shows form text fits))
+record_from : (form : HintForm) (text : List ℕ) (r : Record) → IsRecordOf (is_wide form) form text r →
+    IsRecord r × (text ≡ record_text form r) × IsInForm form r
+record_from form text r h = (record { spelling = record { numbers = h.1; bytes = h.2 }; short = h.3 }, h.0, allowed_in form r h.4)
+
+pub record_ok : (form : HintForm) (text : List ℕ) (r : Record) → FormFits form → record_at form text ≡ Ok r →
+    IsRecord r × (text ≡ record_text form r) × IsInForm form r
+record_ok form text r fits e = record_from form text r (subst (ShowsIn form text) e (record_shows (is_wide form) form text fits))
 
 -- neither `Ok` nor `TooLong` is `Syntax`
 limited_apart : (most : ℕ) (bytes : List ℕ) (r : Record) → limited most bytes r ≡ Err Syntax → ⊥
@@ -63,14 +67,21 @@ limited_apart most bytes r e = by_test (leb (length bytes) most) e
 
 pub words_depart : (form : HintForm) (kind : Departure) (text : List ℕ) → FormFits form → record_at form text ≡ Err kind → WordsDepart form kind text
 words_depart form Syntax text fits e =
-    λ r h spelled. limited_apart (most_bytes r) (record_bytes r) r (sym (record_again form r fits h) ∙ ap (record_at form) (sym spelled) ∙ e)
+    λ r h spelled has. limited_apart (most_bytes r) (record_bytes r) r
+    (sym (record_again form r fits h has) ∙ ap (record_at form) (sym spelled) ∙ e)
 words_depart form TooLong text fits e =
-    let shown = subst (Shows (IsRecordOf form text) (IsLongRecordOf form text)) e (record_shows form text fits) in
+    let shown = subst (ShowsIn form text) e (record_shows (is_wide form) form text fits) in
     long_from shown.0 shown.1
   where
-    long_from : (r : Record) → IsLongRecordOf form text r → WordsDepart form TooLong text
-    long_from r h = (r, record { numbers = h.1; bytes = h.2 }, (λ short. let long = h.3 in absurd (omega arith)), h.0)
-words_depart form TooMany text fits e = subst (Shows (IsRecordOf form text) (IsLongRecordOf form text)) e (record_shows form text fits)
+    long_from : (r : Record) → IsLongRecordOf (is_wide form) form text r → WordsDepart form TooLong text
+    long_from r h = (
+      r,
+      record { numbers = h.1; bytes = h.2 },
+      (λ short. let long = h.3 in absurd (omega arith)),
+      h.0,
+      allowed_in form r h.4,
+    )
+words_depart form TooMany text fits e = subst (ShowsIn form text) e (record_shows (is_wide form) form text fits)
 
 -- ---- departures of what was to come
 

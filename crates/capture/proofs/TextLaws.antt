@@ -9,15 +9,15 @@ use Rattle.capture.specs.declared.fault.Departure.{Departure}
 use Rattle.capture.specs.declared.fault.Departure.TheVariants.{Syntax, TooLong, TooMany}
 use Rattle.capture.specs.declared.hint.HintForm.{HintForm}
 use Rattle.capture.specs.declared.format.Format.{Format}
-use Rattle.capture.specs.declared.format.Format.TheVariants.{One, Two}
+use Rattle.capture.specs.declared.format.Format.TheVariants.{One, Two, Three}
 use Rattle.capture.specs.declared.record.Record.{Record}
 use Rattle.capture.specs.Text.{record_text, record_line, record_lines, head_text, head_line, ended, first_form, form_after, form_behind}
-use Rattle.capture.specs.Range.{FormFits, IsRecord, IsNode, IsText, IsTextIn}
+use Rattle.capture.specs.Range.{FormFits, IsInForm, IsRecord, IsNode, IsText, IsTextIn}
 use Rattle.capture.specs.Departing.{first_line, has_lf, IsWhole, LineDeparts, WordsDepart, RecordDeparts, HeadWordsDepart, HeadDeparts}
-use Rattle.capture.specs.Reading.{record_at, head_at}
+use Rattle.capture.specs.Reading.{line_at, record_at, head_at}
 use Rattle.capture.proofs.PartLaws.{HasNo}
 use Rattle.capture.proofs.LineLaws.{line-ended}
-use Rattle.capture.proofs.RecordLaws.{record_read, record_too_long}
+use Rattle.capture.proofs.RecordLaws.{any_read, record_read, record_too_long}
 use Rattle.capture.proofs.HeadLaws.{head_again}
 use Rattle.capture.proofs.HintLaws.{form_fits}
 use Rattle.capture.proofs.LackLaws.{record_lacks, head_lacks, record_short, head_short}
@@ -37,8 +37,7 @@ same_ended a b x y p q e =
 
 same_read : (form : HintForm) (r s : Record) → FormFits form → IsRecord r → IsRecord s → record_text form r ≡ record_text form s → r ≡ s
 same_read form r s fits p q e =
-    let both : ◌≡◌ {A = Result Record Departure} (Ok r) (Ok s) = sym (record_read form r fits p) ∙ ap (record_at form) e ∙
-    record_read form s fits q in
+    let both : ◌≡◌ {A = Result Record Departure} (Ok r) (Ok s) = sym (any_read form r fits p) ∙ ap (line_at true form) e ∙ any_read form s fits q in
     cc
 
 pub one_record_line : (form : HintForm) (r s : Record) (x y : List ℕ) → FormFits form → IsRecord r → IsRecord s →
@@ -95,6 +94,7 @@ one_list form rs ss fits p q e =
 pub first_fits : (format : Format) → FormFits (first_form format)
 first_fits One = tt
 first_fits Two = omega arith
+first_fits Three = tt
 
 pub one_text : (format format' : Format) (own peer own' peer' : ℕ) (rs ss : List Record) (bytes : List ℕ) → IsTextIn format own peer rs bytes →
     IsTextIn format' own' peer' ss bytes
@@ -113,18 +113,19 @@ one_of_texts own peer own' peer' rs ss bytes a b =
 
 -- ---- departures
 
-words_fit : (form : HintForm) (kind : Departure) (r : Record) → FormFits form → IsRecord r → WordsDepart form kind (record_text form r) → ⊥
-words_fit form Syntax r fits h d = d r h.spelling refl
-words_fit form TooMany r fits h d = d
-words_fit form TooLong r fits h d =
-    let both : ◌≡◌ {A = Result Record Departure} (Ok r) (Err TooLong) = sym (record_read form r fits h) ∙ ap (record_at form) d.3 ∙
-    record_too_long form d.0 fits d.1 d.2 in
+words_fit : (form : HintForm) (kind : Departure) (r : Record) → FormFits form → IsRecord r → IsInForm form r →
+    WordsDepart form kind (record_text form r) → ⊥
+words_fit form Syntax r fits h has d = d r h.spelling refl has
+words_fit form TooMany r fits h has d = d
+words_fit form TooLong r fits h has d =
+    let both : ◌≡◌ {A = Result Record Departure} (Ok r) (Err TooLong) = sym (record_read form r fits h has) ∙ ap (record_at form) d.3 ∙
+    record_too_long form d.0 fits d.1 d.2 d.4 in
     cc
 
 -- where a record's line comes first, and may come, nothing departs
 pub no_departure : (form : HintForm) (kind : Departure) (r : Record) (rest : List ℕ) (records : ℕ) → FormFits form → IsRecord r →
-    records < MAX_RECORDS → RecordDeparts form records kind (record_line form r ++ rest) → ⊥
-no_departure form kind r rest records fits h few (inl d) = by_kind kind d
+    records < MAX_RECORDS → IsInForm form r → RecordDeparts form records kind (record_line form r ++ rest) → ⊥
+no_departure form kind r rest records fits h few has (inl d) = by_kind kind d
   where
     first : (first_line (record_line form r ++ rest) ≡ record_text form r) × (has_lf (record_line form r ++ rest) ≡ true)
     first = ended_first (record_text form r) rest (record_lacks form r fits h.spelling)
@@ -133,9 +134,9 @@ no_departure form kind r rest records fits h few (inl d) = by_kind kind d
     by_kind TooMany d = let le = d.0 in omega arith
     by_kind TooLong d = let long = d.1 in let short = record_short form r fits h in omega (arith, ap length first.0)
     by_kind Syntax d = let open_line = d.3 in let ended_line = first.1 in cc
-no_departure form kind r rest records fits h few (inr d) =
+no_departure form kind r rest records fits h few has (inr d) =
     let first = ended_first (record_text form r) rest (record_lacks form r fits h.spelling) in
-    words_fit form kind r fits h (subst (WordsDepart form kind) first.0 d.2)
+    words_fit form kind r fits h has (subst (WordsDepart form kind) first.0 d.2)
 
 -- ---- one departure
 
@@ -155,8 +156,8 @@ words_once form line Syntax Syntax p q = refl
 words_once form line TooLong TooLong p q = refl
 words_once form line TooMany b p q = absurd p
 words_once form line a TooMany p q = absurd q
-words_once form line Syntax TooLong p q = absurd (p q.0 q.1 q.3)
-words_once form line TooLong Syntax p q = absurd (q p.0 p.1 p.3)
+words_once form line Syntax TooLong p q = absurd (p q.0 q.1 q.3 q.4)
+words_once form line TooLong Syntax p q = absurd (q p.0 p.1 p.3 p.4)
 
 pub whole_or_not : (most taken : ℕ) (bytes : List ℕ) (a : Departure) → LineDeparts most taken a bytes → taken < most → IsWhole bytes → ⊥
 whole_or_not most taken bytes Syntax p lt whole = let open_line = p.3 in let ended_line = whole.ended in cc

@@ -7,9 +7,9 @@ use Rattle.capture.specs.declared.record.Record.{Record}
 use Rattle.capture.specs.declared.hint.HintForm.{HintForm}
 use Rattle.capture.specs.declared.format.Format.{Format}
 use Rattle.capture.specs.Text.{record_text, head_text}
-use Rattle.capture.specs.Range.{IsNode, IsShort, HasSpelling}
+use Rattle.capture.specs.Range.{IsNode, IsShort, IsInForm, HasSpelling}
 
--- the first line: what stands before the first LF, or before the end
+-- the first line: what comes before the first LF, or before the end
 abbrev pub first_line : List ℕ → List ℕ
 first_line [] = []
 first_line (b ∷ bs) = if b == 10 then [] else b ∷ first_line bs
@@ -31,11 +31,12 @@ LineDeparts most taken TooMany bytes = (most ≤ taken) × (bytes ≢ [])
 LineDeparts most taken TooLong bytes = (taken < most) × (MAX_LINE < length (first_line bytes))
 LineDeparts most taken Syntax bytes = (taken < most) × (bytes ≢ []) × (length (first_line bytes) ≤ MAX_LINE) × (has_lf bytes ≡ false)
 
--- The words of a line depart: they are no record's with such a hint, of any length of BYTES; or they are a record's but for too long a BYTES.
+-- The words of a line depart: they are no record's that the format of such hints has, of any length of BYTES; or they are such a record's,
+-- except that BYTES is too long.
 abbrev pub WordsDepart : HintForm → Departure → List ℕ → Type 0
 WordsDepart form TooMany line = ⊥
-WordsDepart form TooLong line = (r : Record) × HasSpelling r × ¬ (IsShort r) × (line ≡ record_text form r)
-WordsDepart form Syntax line = (r : Record) → HasSpelling r → line ≡ record_text form r → ⊥
+WordsDepart form TooLong line = (r : Record) × HasSpelling r × ¬ (IsShort r) × (line ≡ record_text form r) × IsInForm form r
+WordsDepart form Syntax line = (r : Record) → HasSpelling r → line ≡ record_text form r → IsInForm form r → ⊥
 
 -- The first line of what is to come departs, after this many records, where a hint has this form.
 abbrev pub RecordDeparts : HintForm → ℕ → Departure → List ℕ → Type 0
@@ -43,7 +44,7 @@ RecordDeparts form records kind bytes =
     LineDeparts MAX_RECORDS records kind bytes
     ⊎ ((records < MAX_RECORDS) × IsWhole bytes × WordsDepart form kind (first_line bytes))
 
--- The words of a head depart: they are no head's, in either format.
+-- The words of a head depart: they are no head's, in any format.
 abbrev pub HeadWordsDepart : Departure → List ℕ → Type 0
 HeadWordsDepart TooMany line = ⊥
 HeadWordsDepart TooLong line = ⊥

@@ -37,7 +37,7 @@ is_failed_read (Ok x) = false
 is_failed_read (Err fault) = is_read_fault fault
 
 -- The count of a reader's failed calls, before and after a call: where a failed read is answered, one failed in that call,
--- and at every other answer the count stands as it stood.
+-- and at every other answer the count is as it was.
 abbrev pub CountsReads : (failed_read : Bool) → ℕ → ℕ → Type 0
 CountsReads true old new = CountedFault old new
 CountsReads false old new = new ≡ old

@@ -1,4 +1,5 @@
 pub mod Text
+pub mod Fates
 pub mod Range
 pub mod Departing
 pub mod Listed

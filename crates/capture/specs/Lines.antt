@@ -34,7 +34,7 @@ FindsLine most state before after (Err Read) = IsCut state.unread before after
 abbrev pub IsCutBehind : Option (List ℕ) → Option (List ℕ) → Type 0
 IsCutBehind come left = (piece : List ℕ) × (has_lf piece ≡ false) × Consumes come left piece
 
--- A read moved bytes from the reader behind those read ahead, and none only where the reader is at its end.
+-- A read moved bytes from the reader to the end of those read ahead, and none only where the reader is at its end.
 abbrev pub ReadsAhead : List ℕ → List ℕ → Option (List ℕ) → Option (List ℕ) → Bool → Type 0
 ReadsAhead old new before after more = (piece : List ℕ) × (new ≡ old ++ piece) × Consumes before after piece × MatchBool more (0 < length piece)
     ((piece ≡ []) × IsAtEnd after)

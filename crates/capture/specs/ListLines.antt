@@ -13,6 +13,6 @@ pub record AreLinesOf {Item : Type 0} (form : ListForm Item) : Type 0 where
   -- its words don't depart; those of any line do in one way at most
   pub fit : (kind : Departure) (item : Item) → form.HasLine item → form.WordsDepart kind (form.line item) → ⊥
   pub once : (line : List ℕ) (a b : Departure) → form.WordsDepart a line → form.WordsDepart b line → a ≡ b
-  -- the head's first words have no LF, and with two addresses behind them they are no longer than a line may be
+  -- the head's first words have no LF, and with two addresses after them they are no longer than a line may be
   pub first_lacks : has_lf form.first_words ≡ false
   pub first_short : length form.first_words + 15 ≤ MAX_LINE

@@ -41,7 +41,7 @@ pub record IsBeginningOf {Item : Type 0} (begun all : Listed Item) : Type 0 wher
 abbrev pub list_head : (first_words : List ℕ) (node_a node_b : ℕ) → List ℕ
 list_head first_words node_a node_b = first_words ++ spaced (address_text node_a) (address_text node_b)
 
--- the addresses that a line names behind the first words
+-- the addresses that a line names after the first words
 unfoldable pub list_head_at : (first_words line : List ℕ) → Option (ℕ × ℕ)
 list_head_at first_words line = option_and_then nodes_at (after first_words line)
 
@@ -55,7 +55,7 @@ ListHeadDeparts first_words TooLong text = MAX_LINE < length (first_line text)
 ListHeadDeparts first_words Syntax text =
     ((length (first_line text) ≤ MAX_LINE) × (has_lf text ≡ false)) ⊎ (IsWhole text × IsNoHead first_words (first_line text))
 
--- What `open_list` gives, where these bytes were to come, and these are: a reader of the lines behind the head, and the addresses.
+-- What `open_list` gives, where these bytes were to come, and these are: a reader of the lines after the head, and the addresses.
 abbrev pub ListOpens : (first_words : List ℕ) → Option (List ℕ) → Option (List ℕ) → Result (LineState × ℕ × ℕ) CaptureFault → Type 0
 ListOpens first_words before after (Ok (lines, node_a, node_b)) =
     IsNode node_a × IsNode node_b × (lines.taken ≡ 1)

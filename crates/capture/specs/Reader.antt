@@ -10,7 +10,7 @@ use Rattle.capture.specs.declared.phase.Phase.TheVariants as phases
 use Rattle.capture.specs.declared.record.Record.{Record}
 use Rattle.capture.specs.declared.hint.HintForm.{HintForm}
 use Rattle.capture.specs.Text.{head_line, record_line, first_form, form_after, format_of}
-use Rattle.capture.specs.Range.{IsNode, IsRecord}
+use Rattle.capture.specs.Range.{IsInForm, IsNode, IsRecord}
 use Rattle.capture.specs.Departing.{HeadDeparts, RecordDeparts}
 use Rattle.capture.specs.Lines.{to_come}
 
@@ -54,7 +54,7 @@ pub record Turn : Type 0 where
 -- The lines taken and the bytes to come, before and after one record's turn.
 abbrev pub TakesRecord : Turn → ℕ → Option (List ℕ) → Option (List ℕ) → Result (Option Record) CaptureFault → Type 0
 TakesRecord turn taken before after (Ok (Some r)) =
-    IsRecord r × (turn.taken ≤ MAX_RECORDS) × (taken ≡ turn.taken + 1) × Consumes before after (record_line turn.form r)
+    IsRecord r × (turn.taken ≤ MAX_RECORDS) × (taken ≡ turn.taken + 1) × Consumes before after (record_line turn.form r) × IsInForm turn.form r
 TakesRecord turn taken before after (Ok None) = IsAtEnd before × (taken ≡ turn.taken)
 TakesRecord turn taken before after (Err fault) =
     FaultShows (RecordDeparts turn.form (turn.taken - 1)) (turn.taken + 1) before fault × (taken ≡ turn.taken)
@@ -65,7 +65,7 @@ abbrev pub NextGives : CaptureState → CaptureState → Option (List ℕ) → O
 NextGives old new before after (Ok (Some r)) =
     IsRecord r × (old.records < MAX_RECORDS) × (new.records ≡ old.records + 1) × (new.phase ≡ phases.Reading) ×
     Consumes before after (record_line old.form r)
-    × (new.form ≡ form_after old.form r)
+    × (new.form ≡ form_after old.form r) × IsInForm old.form r
 NextGives old new before after (Ok None) = IsAtEnd before × (new.records ≡ old.records) × (new.phase ≡ phases.Ended) × (new.form ≡ old.form)
 NextGives old new before after (Err fault) =
     FaultShows (RecordDeparts old.form old.records) (old.records + 2) before fault × (new.records ≡ old.records) × (new.phase ≡ phases.Failed)

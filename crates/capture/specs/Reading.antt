@@ -5,15 +5,18 @@ use Rattle.std.specs.Str.{all_ascii_digits, bytes_eq}
 use Rattle.std.specs.Str.Parse.{digits_value}
 use Rattle.std.specs.List.{list_all}
 use Rattle.hex.specs.Hex.{decode_of, is_hex_digit}
-use Rattle.capture.specs.declared.limit.TheConstants.{MAX_HINT, MAX_LINK, MAX_UNIT, MAX_MESSAGE}
+use Rattle.capture.specs.declared.limit.TheConstants.{MAX_HINT, MAX_LINK, MAX_UNIT, MAX_MESSAGE, MAX_PACKET, MAX_INTERRUPT}
 use Rattle.capture.specs.declared.event.Event.{Event}
 use Rattle.capture.specs.declared.event.Event.TheVariants.{Start, Halt, Open, Accept, Reject, In, Up, Close}
+use Rattle.capture.specs.declared.event.Event.TheVariants.{Boot, Abort, Composed, Interrupt, Interrupted}
+use Rattle.capture.specs.declared.fate.Fate.{Fate}
+use Rattle.capture.specs.declared.fate.Fate.TheVariants.{NotKept, Kept, Dropped}
 use Rattle.capture.specs.declared.record.Record.{Record}
 use Rattle.capture.specs.declared.record.Record.TheVariants.{Sent, Received, Noise, User}
 use Rattle.capture.specs.declared.hint.HintForm.{HintForm}
-use Rattle.capture.specs.declared.hint.HintForm.TheVariants.{Number, Distance}
+use Rattle.capture.specs.declared.hint.HintForm.TheVariants.{Number, Distance, Wide}
 use Rattle.capture.specs.declared.format.Format.{Format}
-use Rattle.capture.specs.declared.format.Format.TheVariants.{One, Two}
+use Rattle.capture.specs.declared.format.Format.TheVariants.{One, Two, Three}
 use Rattle.capture.specs.Text.{format_text}
 use Rattle.capture.specs.declared.fault.Departure.{Departure}
 use Rattle.capture.specs.declared.fault.Departure.TheVariants.{Syntax, TooLong}
@@ -39,13 +42,13 @@ abbrev pub must : {A : Type 0} → Option A → Result A Departure
 must (Some x) = Ok x
 must None = Err Syntax
 
--- what stands behind this front
+-- what follows this front
 abbrev pub after : List ℕ → List ℕ → Option (List ℕ)
 after [] text = Some text
 after (p ∷ front) [] = None
 after (p ∷ front) (b ∷ text) = if b == p then after front text else None
 
--- the parts before and behind the first such byte
+-- the parts before and after the first such byte
 abbrev pub with_first : ℕ → List ℕ × List ℕ → List ℕ × List ℕ
 with_first b parts = (b ∷ parts.0, parts.1)
 
@@ -116,6 +119,7 @@ hint_below mark text = option_map (λ distance. mark - distance) (positive_at ma
 -- a hint
 unfoldable pub hint_at : HintForm → List ℕ → Option ℕ
 hint_at Number text = number_at MAX_HINT text
+hint_at Wide text = number_at MAX_HINT text
 hint_at (Distance mark) text = or_else (after (codes "-") text) (hint_below mark) (hint_above mark text)
 
 -- two link addresses
@@ -126,49 +130,80 @@ links_at text = do
   link ← must (positive_at MAX_LINK parts.1)
   Ok (partner, link)
 
--- a link address and a message
-unfoldable pub message_at : List ℕ → Result (ℕ × List ℕ) Departure
-message_at text = do
+-- a link address and BYTES of at most `most` bytes
+unfoldable pub message_within : ℕ → List ℕ → Result (ℕ × List ℕ) Departure
+message_within most text = do
   parts ← must (cut_at 32 text)
   link ← must (positive_at MAX_LINK parts.0)
-  bytes ← bytes_at MAX_MESSAGE parts.1
+  bytes ← bytes_at most parts.1
   Ok (link, bytes)
 
+-- a link address and a message
+unfoldable pub message_at : List ℕ → Result (ℕ × List ℕ) Departure
+message_at text = message_within MAX_MESSAGE text
+
 -- a hint and a unit
-unfoldable pub receipt_at : HintForm → Bool → List ℕ → Result Record Departure
-receipt_at form kept text = do
+unfoldable pub receipt_at : HintForm → Fate → List ℕ → Result Record Departure
+receipt_at form fate text = do
   parts ← must (cut_at 32 text)
   hint ← must (hint_at form parts.0)
   bytes ← bytes_at MAX_UNIT parts.1
-  Ok (Received hint kept bytes)
+  Ok (Received hint fate bytes)
 
--- an event of a link that carries no message
-unfoldable pub link_event_at : List ℕ → Result Event Departure
-link_event_at text =
+-- ---- whether the lines that format 3 alone has are there too
+
+abbrev pub is_wide : HintForm → Bool
+is_wide Number = false
+is_wide (Distance mark) = false
+is_wide Wide = true
+
+-- an event that format 3 alone has
+unfoldable pub wide_event_at : List ℕ → Result Event Departure
+wide_event_at text =
+    if bytes_eq text (codes "boot") then Ok Boot
+    else or_else (after (codes "abort ") text) (λ rest. must (positive_at MAX_LINK rest) >>= λ link. Ok (Abort link))
+    (or_else (after (codes "interrupt ") text) (λ rest. message_within MAX_INTERRUPT rest >>= λ m. Ok (Interrupt m.0 m.1))
+    (or_else (after (codes "interrupted ") text) (λ rest. message_within MAX_INTERRUPT rest >>= λ m. Ok (Interrupted m.0 m.1))
+    (Err Syntax)))
+
+-- an event of a link that carries no message, or one of format 3
+unfoldable pub link_event_at : (wide : Bool) → List ℕ → Result Event Departure
+link_event_at wide text =
     or_else (after (codes "open ") text) (λ rest. must (positive_at MAX_LINK rest) >>= λ link. Ok (Open link))
     (or_else (after (codes "close ") text) (λ rest. must (positive_at MAX_LINK rest) >>= λ link. Ok (Close link))
     (or_else (after (codes "accept ") text) (λ rest. links_at rest >>= λ m. Ok (Accept m.0 m.1))
     (or_else (after (codes "reject ") text) (λ rest. links_at rest >>= λ m. Ok (Reject m.0 m.1))
-    (Err Syntax))))
+    (if wide then wide_event_at text else Err Syntax))))
 
--- the line behind `u `
-unfoldable pub event_at : List ℕ → Result Event Departure
-event_at text =
+-- the line after `u `
+unfoldable pub event_at : (wide : Bool) → List ℕ → Result Event Departure
+event_at wide text =
     if bytes_eq text (codes "start") then Ok Start
     else if bytes_eq text (codes "halt") then Ok Halt
     else or_else (after (codes "in ") text) (λ rest. message_at rest >>= λ m. Ok (In m.0 m.1))
     (or_else (after (codes "up ") text) (λ rest. message_at rest >>= λ m. Ok (Up m.0 m.1))
-    (link_event_at text))
+    (link_event_at wide text))
+
+-- a line that format 3 alone has, where its letter is no `u`
+unfoldable pub wide_at : HintForm → List ℕ → Result Record Departure
+wide_at form text =
+    or_else (after (codes "d ") text) (λ rest. receipt_at form Dropped rest)
+    (or_else (after (codes "x ") text) (λ rest. bytes_at MAX_PACKET rest >>= λ bytes. Ok (User (Composed bytes)))
+    (Err Syntax))
+
+-- a record's line, where hints have this form
+unfoldable pub line_at : (wide : Bool) → HintForm → List ℕ → Result Record Departure
+line_at wide form text =
+    or_else (after (codes "s ") text) (λ rest. bytes_at MAX_UNIT rest >>= λ bytes. Ok (Sent bytes))
+    (or_else (after (codes "r ") text) (λ rest. receipt_at form NotKept rest)
+    (or_else (after (codes "k ") text) (λ rest. receipt_at form Kept rest)
+    (or_else (after (codes "n ") text) (λ rest. bytes_at MAX_UNIT rest >>= λ bytes. Ok (Noise bytes))
+    (or_else (after (codes "u ") text) (λ rest. event_at wide rest >>= λ event. Ok (User event))
+    (if wide then wide_at form text else Err Syntax)))))
 
 -- a record's line
-unfoldable pub record_at : HintForm → List ℕ → Result Record Departure
-record_at form text =
-    or_else (after (codes "s ") text) (λ rest. bytes_at MAX_UNIT rest >>= λ bytes. Ok (Sent bytes))
-    (or_else (after (codes "r ") text) (λ rest. receipt_at form false rest)
-    (or_else (after (codes "k ") text) (λ rest. receipt_at form true rest)
-    (or_else (after (codes "n ") text) (λ rest. bytes_at MAX_UNIT rest >>= λ bytes. Ok (Noise bytes))
-    (or_else (after (codes "u ") text) (λ rest. event_at rest >>= λ event. Ok (User event))
-    (Err Syntax)))))
+abbrev pub record_at : HintForm → List ℕ → Result Record Departure
+record_at form text = line_at (is_wide form) form text
 
 -- the two addresses of a head
 unfoldable pub nodes_at : List ℕ → Option (ℕ × ℕ)
@@ -187,4 +222,5 @@ unfoldable pub head_at : List ℕ → Option (Format × ℕ × ℕ)
 head_at text =
     or_else (after (format_text One) text) (headed One)
     (or_else (after (format_text Two) text) (headed Two)
-    None)
+    (or_else (after (format_text Three) text) (headed Three)
+    None))

@@ -1,8 +1,9 @@
 //! A text is read in its format and written in the one that is asked for.
 
-ghost use Rattle.std.specs.Prelude.{◌≡◌, ◌≢◌, ◌+◌, ◌≤◌, ◌++◌, length, Bool, List, ℕ, OnOk, OnErr, Err};
+ghost use Rattle.std.specs.Prelude.{◌≡◌, ◌≢◌, ◌+◌, ◌≤◌, ◌++◌, length, List, ℕ, OnOk, OnErr, Err};
 ghost use Rattle.std.specs.Io.KnownBytes.{Appends};
 ghost use Rattle.wire_base.specs.Tally.{CountedFault, tally_faults, tally_lent};
+ghost use Rattle.capture.specs.declared.fate.Fate.{Fate as Became};
 ghost use Rattle.capture.specs.declared.format.Format.{Format as Layout};
 ghost use Rattle.capture.specs.declared.hint.HintForm.{HintForm as Form};
 ghost use Rattle.capture.specs.declared.limit.TheConstants.{MAX_HINT, MAX_LINE};
@@ -31,12 +32,13 @@ use wire_base::Tally;
 // More bytes than a line takes in another format, with its LF.
 const LINE: usize = 131_200;
 
-/// Reads a text in its format to its end, writes it in the format of the number `to`, which is 1 or 2, and answers how many
+/// Reads a text in its format to its end, writes it in the format of the number `to`, which is 1, 2 or 3, and answers how many
 /// records it has.
 ///
 /// The head is written first, and then the lines of the records, put together in large pieces. `Capture(Departs)`: this line departs;
 /// `Capture(Read)`: the reader failed. At either the writer has the head and the lines of all records before that, of each whole line
-/// that the reader had given, and nothing where no head was read. `Write`: the writer failed, and has a beginning of those that is not
+/// that the reader had given, and nothing where no head was read. `NotInFormat`: the record of this line is in format 3 alone, and another was
+/// asked for; the writer has the head and the lines of all records before that. `Write`: the writer failed, and has a beginning of those that is not
 /// all of them; it comes too where the text's fault was met before. `OutOfMemory`: there is no memory for a block of the reader, for
 /// the head's line or for the pieces, and nothing was written. Once the head is written nothing takes memory.
 pub fn convert<R: Read, W: Write>(
@@ -55,7 +57,8 @@ pub fn convert<R: Read, W: Write>(
 {
     match to {
         1 => convert_to(alloc, Format::One, reader, writer),
-        _ => convert_to(alloc, Format::Two, reader, writer),
+        2 => convert_to(alloc, Format::Two, reader, writer),
+        _ => convert_to(alloc, Format::Three, reader, writer),
     }
 }
 
@@ -89,6 +92,12 @@ fn convert_to<R: Read, W: Write>(
     for count in 0..MAX_RECORDS + 1 {
         match capture.advance(reader) {
             Ok(Some(entry)) => {
+                if !to.has(entry) {
+                    let Ok(()) = page.write_out(writer) else {
+                        return Err(ConvertFault::Write);
+                    };
+                    return Err(ConvertFault::NotInFormat { line: count + 2 });
+                }
                 let Ok(()) = page.make_room(LINE, writer) else {
                     return Err(ConvertFault::Write);
                 };
@@ -129,7 +138,7 @@ fn put_line(page: &mut Page, to: HintForm, entry: Entry, line: &[u8])
         line.now ≡ record_text from (record_with entry bytes) →
         page.new ≡ page.old ++ record_line to (record_with entry bytes) }
 {
-    if let Entry::Received { kept: _, hint } = entry {
+    if let Entry::Received { fate: _, hint } = entry {
         put_receipt(page, to, hint, line);
         return;
     }
@@ -141,9 +150,9 @@ fn put_line(page: &mut Page, to: HintForm, entry: Entry, line: &[u8])
 fn put_receipt(page: &mut Page, to: HintForm, hint: u64, line: &[u8])
     requires short { length line.now ≤ MAX_LINE }
     requires room { length page.old + LINE ≤ PAGE_SIZE }
-    ensures { (from : Form) (kept : Bool) (bytes : List ℕ) → FormFits from → hint ≤ MAX_HINT →
-        line.now ≡ record_text from (records.Received hint kept bytes) →
-        page.new ≡ page.old ++ record_line to (records.Received hint kept bytes) }
+    ensures { (from : Form) (fate : Became) (bytes : List ℕ) → FormFits from → hint ≤ MAX_HINT →
+        line.now ≡ record_text from (records.Received hint fate bytes) →
+        page.new ≡ page.old ++ record_line to (records.Received hint fate bytes) }
 {
     let Some((letter, rest)) = cut_at(line, b' ') else {
         return;

@@ -177,7 +177,7 @@ fn spells_many(bytes: &[u8], text: &[u8]) -> bool
     true
 }
 
-// Whether the text is digits 0 to 9 and a to f alone. The test goes on behind another: with no way out of the loop, many
+// Whether the text is digits 0 to 9 and a to f alone. The test goes on after a byte that is none: with no way out of the loop, many
 // digits are tested at once.
 fn are_digits(text: &[u8]) -> bool
     ensures { result ≡ list_all is_digit text.now }

@@ -5,17 +5,18 @@ ghost use Rattle.capture.specs.Entries.{limit_of, record_with};
 
 use crate::bytes::Bytes;
 use crate::event::Event;
-use crate::limit::{MAX_MESSAGE, MAX_UNIT};
+use crate::fate::Fate;
+use crate::limit::{MAX_INTERRUPT, MAX_MESSAGE, MAX_PACKET, MAX_UNIT};
 use crate::record::Record;
 
-/// What the line of a record says but for its bytes, which stand beside it. It is small and owns nothing. The numbers are
+/// What the line of a record says except for its bytes, which are kept beside it. It is small and owns nothing. The numbers are
 /// those of [`Record`] and [`Event`].
 #[derive(Clone, Copy, Debug, PartialEq, Eq)]
 pub enum Entry {
     /// The bytes were sent as a unit.
     Sent,
-    /// The bytes came for the unit of this hint, and the packet in it was kept, or not.
-    Received { kept: bool, hint: u64 },
+    /// The bytes came for the unit of this hint, and this became of the packet in it.
+    Received { fate: Fate, hint: u64 },
     /// The bytes came, and nobody sent them.
     Noise,
     /// The station was started.
@@ -34,10 +35,20 @@ pub enum Entry {
     Up { link: u16 },
     /// A link was closed from here.
     Close { link: u16 },
+    /// The node was started anew.
+    Boot,
+    /// A call was given up.
+    Abort { link: u16 },
+    /// The bytes were composed as a packet that will never be sent.
+    Composed,
+    /// The bytes were handed in as an interrupt.
+    Interrupt { link: u16 },
+    /// The bytes were delivered as an interrupt.
+    Interrupted { link: u16 },
 }
 
 impl Entry {
-    /// The most bytes that may stand beside it; `None` where its line has no BYTES. Takes no memory.
+    /// The most bytes that may be kept beside it; `None` where its line has no BYTES. Takes no memory.
     pub fn limit(self) -> Option<usize>
         ensures { result ≡ limit_of self }
     {
@@ -45,7 +56,9 @@ impl Entry {
             Entry::Sent | Entry::Received { .. } | Entry::Noise => Some(MAX_UNIT),
             Entry::In { .. } | Entry::Up { .. } => Some(MAX_MESSAGE),
             Entry::Start | Entry::Halt | Entry::Open { .. } | Entry::Accept { .. } => None,
-            Entry::Reject { .. } | Entry::Close { .. } => None,
+            Entry::Reject { .. } | Entry::Close { .. } | Entry::Boot | Entry::Abort { .. } => None,
+            Entry::Composed => Some(MAX_PACKET),
+            Entry::Interrupt { .. } | Entry::Interrupted { .. } => Some(MAX_INTERRUPT),
         }
     }
 
@@ -55,7 +68,7 @@ impl Entry {
     {
         match self {
             Entry::Sent => Record::Sent(bytes),
-            Entry::Received { kept, hint } => Record::Received { hint, kept, bytes },
+            Entry::Received { fate, hint } => Record::Received { hint, fate, bytes },
             Entry::Noise => Record::Noise(bytes),
             Entry::Start => Record::User(Event::Start),
             Entry::Halt => Record::User(Event::Halt),
@@ -65,6 +78,11 @@ impl Entry {
             Entry::In { link } => Record::User(Event::In { link, bytes }),
             Entry::Up { link } => Record::User(Event::Up { link, bytes }),
             Entry::Close { link } => Record::User(Event::Close { link }),
+            Entry::Boot => Record::User(Event::Boot),
+            Entry::Abort { link } => Record::User(Event::Abort { link }),
+            Entry::Composed => Record::User(Event::Composed { bytes }),
+            Entry::Interrupt { link } => Record::User(Event::Interrupt { link, bytes }),
+            Entry::Interrupted { link } => Record::User(Event::Interrupted { link, bytes }),
         }
     }
 }

@@ -99,6 +99,9 @@ pub enum ConvertFault {
     /// The text is faulty, or its reader failed: all before that was written. The fault is `Departs` or `Read`.
     #[error("{0}")]
     Capture(CaptureFault),
+    /// The format that was asked for has no line for the record of this line of the text, counted from 1: all before that was written.
+    #[error("line {line}: not in the format")]
+    NotInFormat { line: u64 },
     /// The writer failed; it has a beginning of what was to be written.
     #[error("write failed")]
     Write,

@@ -4,6 +4,7 @@ ghost use Rattle.std.specs.Prelude.{◌≡◌, ℕ, [], ◌∷◌, List, if◌th
 ghost use Rattle.std.specs.Fmt.{decimal};
 ghost use Rattle.capture.specs.Entries.{record_with};
 ghost use Rattle.capture.specs.Range.{NumbersFit};
+ghost use Rattle.capture.specs.Reading.{is_wide};
 ghost use Rattle.capture.specs.Text.{form_after, format_of, hint_text, mark_after};
 
 use crate::entry::Entry;
@@ -19,6 +20,8 @@ pub enum HintForm {
     /// mark is 0 at first and one more than the hint of the last receipt, wherever that lay: at most
     /// 1,000,000,000,000,000,000.
     Distance { mark: u64 },
+    /// The hint itself, as a decimal number; and the lines that format 3 alone has are there too: format 3.
+    Wide,
 }
 
 impl HintForm {
@@ -29,22 +32,34 @@ impl HintForm {
         match self {
             HintForm::Number => Format::One,
             HintForm::Distance { mark: _ } => Format::Two,
+            HintForm::Wide => Format::Three,
         }
     }
 
-    /// How a line spells this hint: whether `-` stands before the number, and the number. Takes no memory.
+    /// Whether the lines that format 3 alone has are there. Takes no memory.
+    #[inline(always)]
+    pub(crate) fn is_wide(self) -> bool
+        ensures { result ≡ is_wide self }
+    {
+        match self {
+            HintForm::Number | HintForm::Distance { .. } => false,
+            HintForm::Wide => true,
+        }
+    }
+
+    /// How a line spells this hint: whether `-` comes before the number, and the number. Takes no memory.
     #[inline(always)]
     pub(crate) fn spelled(self, hint: u64) -> (bool, u64)
         ensures { hint_text self hint ≡ (if result.0 then 45 ∷ decimal result.1 else decimal result.1) }
     {
         match self {
-            HintForm::Number => (false, hint),
+            HintForm::Number | HintForm::Wide => (false, hint),
             HintForm::Distance { mark } if mark <= hint => (false, hint - mark),
             HintForm::Distance { mark } => (true, mark - hint),
         }
     }
 
-    /// The form behind the line of a record of this entry, whose hint is at most 999,999,999,999,999,999. Takes no memory.
+    /// The form after the line of a record of this entry, whose hint is at most 999,999,999,999,999,999. Takes no memory.
     #[inline(always)]
     pub fn after(self, entry: Entry) -> HintForm
         requires { NumbersFit (record_with entry []) }
@@ -52,19 +67,21 @@ impl HintForm {
     {
         match self {
             HintForm::Number => HintForm::Number,
+            HintForm::Wide => HintForm::Wide,
             HintForm::Distance { mark } => HintForm::Distance {
                 mark: next_mark(mark, entry),
             },
         }
     }
 
-    /// The form behind the record's line; a hint is at most 999,999,999,999,999,999. Takes no memory.
+    /// The form after the record's line; a hint is at most 999,999,999,999,999,999. Takes no memory.
     pub fn after_record(self, record: &Record) -> HintForm
         requires { NumbersFit «record».now }
         ensures { result ≡ form_after self «record».now }
     {
         match self {
             HintForm::Number => HintForm::Number,
+            HintForm::Wide => HintForm::Wide,
             HintForm::Distance { mark } => HintForm::Distance {
                 mark: next_mark_of(mark, record),
             },
@@ -72,21 +89,23 @@ impl HintForm {
     }
 }
 
-// The mark behind the line of a record of this entry.
+// The mark after the line of a record of this entry.
 #[inline(always)]
 fn next_mark(mark: u64, entry: Entry) -> u64
     requires { NumbersFit (record_with entry []) }
     ensures { (bytes : List ℕ) → result ≡ mark_after mark (record_with entry bytes) }
 {
     match entry {
-        Entry::Received { kept: _, hint } => hint + 1,
+        Entry::Received { fate: _, hint } => hint + 1,
         Entry::Sent | Entry::Noise | Entry::Start | Entry::Halt => mark,
         Entry::Open { .. } | Entry::Close { .. } | Entry::Accept { .. } => mark,
         Entry::Reject { .. } | Entry::In { .. } | Entry::Up { .. } => mark,
+        Entry::Boot | Entry::Abort { .. } | Entry::Composed => mark,
+        Entry::Interrupt { .. } | Entry::Interrupted { .. } => mark,
     }
 }
 
-/// The mark behind the record's line; a hint is at most 999,999,999,999,999,999. Takes no memory.
+/// The mark after the record's line; a hint is at most 999,999,999,999,999,999. Takes no memory.
 pub fn next_mark_of(mark: u64, record: &Record) -> u64
     requires { NumbersFit «record».now }
     ensures { result ≡ mark_after mark «record».now }

@@ -9,7 +9,7 @@ ghost use Rattle.capture.specs.declared.hint.HintForm.{HintForm as Form};
 ghost use Rattle.capture.specs.declared.format.Format.{Format as Layout};
 ghost use Rattle.capture.specs.Text.{form_behind, head_line, record_line, record_lines, record_text};
 ghost use Rattle.capture.specs.Converting.{Converts};
-ghost use Rattle.capture.specs.Range.{FormFits, IsNode, IsRecord, IsText, IsTextIn};
+ghost use Rattle.capture.specs.Range.{FormFits, IsInForm, IsNode, IsRecord, IsText, IsTextIn};
 ghost use Rattle.capture.specs.Departing.{HeadDeparts, RecordDeparts};
 ghost use Rattle.capture.specs.Reading.{record_at};
 
@@ -44,16 +44,16 @@ pub fn no_head_begins_another()
         (format ≡ format') × (own ≡ own') × (peer ≡ peer') × (x ≡ y) }
 {}
 
-/// Where a record's line comes first, and a record may come, no line departs.
+/// Where the line of a record comes first that the format has, and a record may come, no line departs.
 pub fn no_line_departs()
     ensures { (form : Form) (kind : Kind) (r : Line) (rest : List ℕ) (records : ℕ) → FormFits form → IsRecord r → records < MAX_RECORDS →
-        RecordDeparts form records kind (record_line form r ++ rest) → ⊥ }
+        IsInForm form r → RecordDeparts form records kind (record_line form r ++ rest) → ⊥ }
 {}
 
-/// What was written is read back as written: the words of a record's line, in each form of hints,
+/// What was written is read back as written: the words of a record's line, in each form of hints whose format has the record,
 /// are read as that record.
 pub fn written_is_read()
-    ensures { (form : Form) (r : Line) → FormFits form → IsRecord r → record_at form (record_text form r) ≡ Ok r }
+    ensures { (form : Form) (r : Line) → FormFits form → IsRecord r → IsInForm form r → record_at form (record_text form r) ≡ Ok r }
 {}
 
 /// A line departs in one way at most.

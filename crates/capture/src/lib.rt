@@ -1,4 +1,4 @@
-//! The text of a capture, in either format: read and written line by line.
+//! The text of a capture, in each format: read and written line by line.
 //!
 //! The crate decides which bytes are a capture, which head and records they spell, and where and how
 //! a text departs from the format. It never touches a file or a clock, nor what a record means: what a
@@ -13,6 +13,7 @@ mod entry;
 mod entry_line;
 mod event;
 mod event_words;
+mod fate;
 mod fault;
 mod format;
 mod hint;
@@ -45,15 +46,19 @@ pub use entry::Entry;
 pub use entry_line::put_line;
 pub use event::Event;
 pub use event_words::{link_of, message_of};
+pub use fate::Fate;
 pub use fault::{CaptureFault, ConvertFault, Departure, LineFault, PartFault, WriteFault};
-pub use format::Format;
+pub use format::{Format, format_for};
 pub use hint::HintForm;
 pub use laws::{
     begun_list, converted_back, converted_is_same, no_end_departs, no_head_begins_another,
     no_head_departs, no_line_begins_another, no_line_departs, one_departure, one_head_and_list,
     one_head_departure, written_is_read,
 };
-pub use limit::{MAX_HINT, MAX_LINE, MAX_LINK, MAX_MARK, MAX_MESSAGE, MAX_RECORDS, MAX_UNIT};
+pub use limit::{
+    MAX_HINT, MAX_INTERRUPT, MAX_LINE, MAX_LINK, MAX_MARK, MAX_MESSAGE, MAX_PACKET, MAX_RECORDS,
+    MAX_UNIT,
+};
 pub use line_reader::LineReader;
 pub use line_words::{put_head, put_head_line};
 pub use list_head::open_list;
@@ -69,4 +74,6 @@ pub use record::Record;
 pub use record_words::{head_of, record_of};
 pub use side_letter::side_of;
 pub use so_far::{text_read_on, whole_text};
-pub use writer::{write_head, write_head_2, write_record, write_record_2};
+pub use writer::{
+    write_head, write_head_2, write_head_3, write_record, write_record_2, write_record_3,
+};

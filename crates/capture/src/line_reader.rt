@@ -19,7 +19,7 @@ use std::marker::Model;
 use wire_base::Tally;
 
 // A longest line with its LF, and about as much again: a line that lies across the block's end is moved to the
-// front once, and there is room behind it.
+// front once, and there is room after it.
 const BLOCK: usize = 262_144;
 
 /// Reads a text line by line from a reader that each call is lent, the same throughout.
@@ -110,7 +110,7 @@ impl LineReader {
         self.taken += 1;
     }
 
-    /// Counts the line that was left behind last no more: what it says was not kept. Where the next line begins stays as it is, so it is for
+    /// No longer counts the line that was left behind last: what it says was not kept. Where the next line begins stays as it is, so it is for
     /// a reader that reads no further. Takes no memory.
     pub(crate) fn uncount(&mut self)
         requires { 1 ≤ self.old.taken }
@@ -188,7 +188,7 @@ impl LineReader {
         }
     }
 
-    // Reads once, behind what was read ahead. `false` says that the reader is at its end.
+    // Reads once, into the room after what was read ahead. `false` says that the reader is at its end.
     fn fill<R: Read>(&mut self, reader: &mut Tally<R>) -> Result<bool, ReadFailed>
         requires { length self.old.unread ≤ MAX_LINE }
         ensures taken { self.new.taken ≡ self.old.taken }
@@ -213,7 +213,7 @@ impl LineReader {
         }
     }
 
-    // Where the first LF stands among the bytes read ahead, from `searched` on.
+    // Where the first LF is among the bytes read ahead, from `searched` on.
     #[inline(always)]
     fn find_lf(&self, searched: usize) -> Option<usize>
         requires { searched ≤ length self.now.unread }
@@ -228,7 +228,7 @@ impl LineReader {
 #[derive(Drop)]
 struct ReadFailed;
 
-// The bytes from start to end, at a place with room behind them.
+// The bytes from start to end, at a place with room after them.
 fn with_room(block: &mut Vec<u8>, start: usize, end: usize) -> (usize, usize)
     requires order { start ≤ end }
     requires within { end ≤ BLOCK }

@@ -134,6 +134,7 @@ fn put_format(line: &mut Vec<u8>, format: Format) -> Result<(), AllocError>
     match format {
         Format::One => line.extend_from_slice(b"ddcap 1 "),
         Format::Two => line.extend_from_slice(b"ddcap 2 "),
+        Format::Three => line.extend_from_slice(b"ddcap 3 "),
     }
 }
 
@@ -153,7 +154,7 @@ pub fn put_head_line(
 }
 
 /// Puts the words of a capture's head, in this format and of these node addresses (the area times 1,024, plus the node), without its LF,
-/// behind a text. `AllocError` where an allocation for the text was refused; the text may then have a beginning of the words.
+/// at the end of a text. `AllocError` where an allocation for the text was refused; the text may then have a beginning of the words.
 ///
 /// Format 1, 1025 and 1026 are the words `ddcap 1 1.1 1.2`.
 pub fn put_head(line: &mut Vec<u8>, format: Format, own: u16, peer: u16) -> Result<(), AllocError>

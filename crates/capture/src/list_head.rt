@@ -29,12 +29,12 @@ fn list_head_of(line: &[u8], first_words: &[u8]) -> Option<(u16, u16)>
     nodes_of(after(line, first_words)?)
 }
 
-/// Reads the head of a text that lists items: its first words, and then the addresses of two nodes. Gives a reader of the lines behind it, and both
+/// Reads the head of a text that lists items: its first words, and then the addresses of two nodes. Gives a reader of the lines after it, and both
 /// addresses. Takes memory for the reader's block.
 ///
-/// Faults, after which the reader has given what was read ahead: `Departs` at line 1, with `TooLong` where more than 131,081 bytes stand before
+/// Faults, after which the reader has given what was read ahead: `Departs` at line 1, with `TooLong` where more than 131,081 bytes come before
 /// the first LF or the end, and with `Syntax` where the first line has no LF, as in an empty text, or is no head; `Read` where a call of the
-/// reader failed, and at any other answer its count of them stands; `OutOfMemory` where there is no memory. Where a read failed the reader had
+/// reader failed, and at any other answer its count of them is as it was; `OutOfMemory` where there is no memory. Where a read failed the reader had
 /// given no whole line.
 pub fn open_list<R: Read>(
     alloc: Global,

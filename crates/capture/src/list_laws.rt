@@ -27,7 +27,7 @@ pub fn known_list<I: ListItem>()
         IsListSoFar I.form (Some bytes) list come → IsAtEnd come → BeginsWithList I.form bytes list [] }
 {}
 
-/// A text has one list of items. What it begins with is a beginning of them, behind which no line departs; nor does the head of any text that
+/// A text has one list of items. What it begins with is a beginning of them, after which no line departs; nor does the head of any text that
 /// begins with some.
 pub fn one_list<I: ListItem>()
     ensures same { (bytes : List ℕ) (list other : Listed I.Item) →
@@ -43,7 +43,7 @@ pub fn one_list<I: ListItem>()
     I::lines_are_apart();
 }
 
-/// A line departs in one way at most, and so does the first line of a text from a head; and a text departs behind one list of items alone, of
+/// A line departs in one way at most, and so does the first line of a text from a head; and a text departs after one list of items alone, of
 /// which everything that it begins with is a beginning.
 pub fn one_list_departure<I: ListItem>()
     ensures item { (items : ℕ) (bytes : List ℕ) (a b : Kind) →

@@ -90,10 +90,10 @@ fn take_item<I: ListItem, R: Read>(
 impl<I: ListItem> ListReader<I> {
     /// Reads the head: its first words, and then the addresses of both nodes.
     ///
-    /// Faults, after which the reader has given what was read ahead: `Departs` at line 1, with `TooLong` where more than 131,081 bytes stand before
+    /// Faults, after which the reader has given what was read ahead: `Departs` at line 1, with `TooLong` where more than 131,081 bytes come before
     /// the first LF or the end, and with `Syntax` where the first line has no LF, as in an empty text, or is no head; `Read` where a call of the
-    /// reader failed, and at any other answer its count of them stands; `OutOfMemory` where there is no memory for the reader's block or for its
-    /// room for bytes. Where a read failed the reader had given no whole line.
+    /// reader failed, and at any other answer its count of them is as it was; `OutOfMemory` where there is no memory for the reader's block or for
+    /// its room for bytes. Where a read failed the reader had given no whole line.
     pub fn open<R: Read>(
         alloc: Global,
         reader: &mut Tally<R>,
@@ -136,7 +136,7 @@ impl<I: ListItem> ListReader<I> {
         self.node_b
     }
 
-    /// How many items were read. The last of them stands on the line with one number more. Takes no memory.
+    /// How many items were read. The last of them is on the line whose number is one more. Takes no memory.
     pub fn items(&self) -> u64
         ensures { result ≡ self.now.items }
     {
@@ -153,10 +153,10 @@ impl<I: ListItem> ListReader<I> {
     /// Reads the next item and answers its entry, or finds that none is left; `bytes` lends its bytes until the next call. Takes no memory, and so
     /// never answers `OutOfMemory`.
     ///
-    /// Item i, counted from 0, stands on line i + 2. `Departs` names that line, with the first of these kinds: `TooMany` after as many items as a
+    /// Item i, counted from 0, is on line i + 2. `Departs` names that line, with the first of these kinds: `TooMany` after as many items as a
     /// text may have, whatever the line holds; `TooLong` at more than 131,081 bytes before its LF or the end; `Syntax` where it has no LF; and then
-    /// as an item's line departs. `Read` comes where a call of the reader failed, behind a piece of a line; at any other answer its count of them
-    /// stands as it stood.
+    /// as an item's line departs. `Read` comes where a call of the reader failed, after a piece of a line; at any other answer its count of them
+    /// is as it was.
     #[inline(always)]
     pub fn advance<R: Read>(
         &mut self,

@@ -48,7 +48,7 @@ pub fn positive_of(text: &[u8], most: u64) -> Option<u64>
     Some(number)
 }
 
-/// The number before the first space, if it is at most `most`, and what stands behind that space. `7 -` is 7 and `-`; `07 -`, ` -` and `7` are
+/// The number before the first space, if it is at most `most`, and what follows that space. `7 -` is 7 and `-`; `07 -`, ` -` and `7` are
 /// none.
 #[inline(always)]
 pub fn number_before(text: &[u8], most: u64) -> Option<(u64, &[u8])>

@@ -117,7 +117,7 @@ impl Page {
         }
     }
 
-    /// Writes what is on the page where there is no room for so many bytes behind it, and empties it then. `WriteFailed` as for
+    /// Writes what is on the page where there is no room for so many bytes after it, and empties it then. `WriteFailed` as for
     /// [`write_out`](Page::write_out).
     pub fn make_room<W: Write>(
         &mut self,

@@ -6,14 +6,14 @@ ghost use Rattle.capture.specs.Reading.{after, cut_at};
 
 use memchr::memchr;
 
-/// What stands behind `front`, where the text begins with it.
+/// What follows `front`, where the text begins with it.
 pub fn after<'a>(text: &'a [u8], front: &[u8]) -> Option<&'a [u8]>
     ensures { option_map (λ rest. rest.now) result ≡ after front.now text.now }
 {
     text.strip_prefix(front)
 }
 
-/// What stands before the first `mark`, and what stands behind it.
+/// What comes before the first `mark`, and what follows it.
 pub fn cut_at(text: &[u8], mark: u8) -> Option<(&[u8], &[u8])>
     ensures { option_map (λ parts. (parts.0.now, parts.1.now)) result ≡ cut_at mark text.now }
 {

@@ -101,11 +101,11 @@ fn take_entry<R: Read>(
 }
 
 impl CaptureReader {
-    /// Reads the head, `ddcap 1 OWN PEER` or `ddcap 2 OWN PEER`, and what the reader gives with it: a reader of the records behind it.
+    /// Reads the head, `ddcap 1 OWN PEER`, or with the number 2 or 3, and what the reader gives with it: a reader of the records after it.
     ///
     /// Faults, after which the reader has given what was read ahead: `Departs` at line 1, with `TooLong` where more than 131,081 bytes
-    /// stand before the first LF or the end, and with `Syntax` where the first line has no LF, as in an empty text, or is no head;
-    /// `Read` where a call of the reader failed, and at any other answer its count of them stands; `OutOfMemory` where there is no
+    /// come before the first LF or the end, and with `Syntax` where the first line has no LF, as in an empty text, or is no head;
+    /// `Read` where a call of the reader failed, and at any other answer its count of them is as it was; `OutOfMemory` where there is no
     /// memory for the reader's block or for its room for bytes. Where a read failed the reader had given no whole line.
     pub fn open<R: Read>(
         alloc: Global,
@@ -155,7 +155,7 @@ impl CaptureReader {
         self.own
     }
 
-    /// The number of the format that the head names: 1 or 2. Takes no memory.
+    /// The number of the format that the head names: 1, 2 or 3. Takes no memory.
     pub fn format(&self) -> u8
         ensures { result ≡ format_number (format_of self.now.form) }
     {
@@ -229,12 +229,12 @@ impl CaptureReader {
 
     /// Reads the next record, or finds that none is left: [`advance`](CaptureReader::advance), with a copy of the bytes that it keeps.
     ///
-    /// Record i, counted from 0, stands on line i + 2. `Departs` names that line, with the first of
+    /// Record i, counted from 0, is on line i + 2. `Departs` names that line, with the first of
     /// these kinds: `TooMany` after 1,000,000,000,000 records, whatever the line holds; `TooLong` at
     /// more than 131,081 bytes before its LF or the end; `Syntax` where it has no LF; `Syntax` where
-    /// it is no record's, in the format of the head; `TooLong` where it is one but for too many bytes. `OutOfMemory` comes where
-    /// there is no memory for the bytes of the record, and `Read` where a call of the reader failed, behind a piece of a line;
-    /// at any other answer its count of them stands as it stood.
+    /// it is no record's, in the format of the head; `TooLong` where it is one except that it has too many bytes. `OutOfMemory` comes where
+    /// there is no memory for the bytes of the record, and `Read` where a call of the reader failed, after a piece of a line;
+    /// at any other answer its count of them is as it was.
     #[inline(always)]
     pub fn next<R: Read>(&mut self, reader: &mut Tally<R>) -> Result<Option<Record>, CaptureFault>
         ensures gives { self.old.phase ≡ Phase.Reading → NextGives self.old self.new

@@ -3,6 +3,8 @@
 use crate::bytes::Bytes;
 use crate::entry::Entry;
 use crate::event::Event;
+use crate::fate::Fate;
+use crate::format::Format;
 use crate::limit::{MAX_HINT, MAX_UNIT};
 
 /// What one side of the line saw.
@@ -15,21 +17,21 @@ pub enum Record {
         /// Which unit of the other side came, counted from 0, as the recorder has it: at most
         /// 999,999,999,999,999,999.
         hint: u64,
-        /// Whether the node kept the packet in the unit.
-        kept: bool,
+        /// What became of the packet in the unit.
+        fate: Fate,
         /// The bytes as they came.
         bytes: Bytes,
     },
     /// These bytes came, at most 16,393, and nobody sent them.
     Noise(Bytes),
-    /// The node's user did something, or got something.
+    /// Something happened at the node apart from its line.
     User(Event),
 }
 
 impl Record {
     ghost use Rattle.std.specs.Prelude.{◌≡◌, ◌↔◌, IsTrue};
     ghost use Rattle.capture.specs.Entries.{record_with};
-    ghost use Rattle.capture.specs.Range.{IsRecord, record_bytes};
+    ghost use Rattle.capture.specs.Range.{IsInFormat, IsRecord, record_bytes};
 
     /// Whether the record has a line: its hint is at most 999,999,999,999,999,999, its unit has at
     /// most 16,393 bytes, its noise as many, and its event is in range. Takes no memory.
@@ -40,12 +42,20 @@ impl Record {
             Record::Sent(bytes) => bytes.as_slice().len() <= MAX_UNIT,
             Record::Received {
                 hint,
-                kept: _,
+                fate: _,
                 bytes,
             } => { *hint <= MAX_HINT && bytes.as_slice().len() <= MAX_UNIT }
             Record::Noise(bytes) => bytes.as_slice().len() <= MAX_UNIT,
             Record::User(event) => event.in_range(),
         }
+    }
+
+    /// Whether the format has a line for such a record; whether this one is in range is not asked. Takes no memory.
+    pub fn is_in(&self, format: Format) -> bool
+        ensures { IsTrue result ↔ IsInFormat format self.now }
+    {
+        let (entry, _) = self.parts();
+        format.has(entry)
     }
 
     /// What its line says beside its bytes, and the bytes: none where its line has no BYTES. Takes no memory.
@@ -55,10 +65,10 @@ impl Record {
     {
         match self {
             Record::Sent(bytes) => (Entry::Sent, bytes.as_slice()),
-            Record::Received { hint, kept, bytes } => (
+            Record::Received { hint, fate, bytes } => (
                 Entry::Received {
                     hint: *hint,
-                    kept: *kept,
+                    fate: *fate,
                 },
                 bytes.as_slice(),
             ),

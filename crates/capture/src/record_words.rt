@@ -1,7 +1,8 @@
 //! Reading the words of a record's line, and of the head.
 
-ghost use Rattle.std.specs.Prelude.{◌≡◌, ◌≤◌, length, Bool, true, false, IfOk, IfSome};
-ghost use Rattle.capture.specs.Reading.{Gives, hint_at, nodes_at, receipt_at, record_at, head_at};
+ghost use Rattle.std.specs.Prelude.{◌≡◌, ◌≤◌, length, true, IfOk};
+ghost use Rattle.capture.specs.declared.fate.Fate.{Fate as Became};
+ghost use Rattle.capture.specs.Reading.{Gives, hint_at, is_wide, nodes_at, receipt_at, record_at, wide_at, head_at};
 ghost use Rattle.capture.specs.Range.{FormFits, IsNode};
 ghost use Rattle.capture.specs.declared.limit.TheConstants.{MAX_MARK, MAX_MESSAGE};
 ghost use Rattle.std.specs.Option.{option_map};
@@ -13,6 +14,7 @@ use crate::bytes::Bytes;
 use crate::digits::{bytes_by, bytes_of};
 use crate::entry::Entry;
 use crate::event_words::event_of;
+use crate::fate::Fate;
 use crate::fault::{Departure, PartFault};
 use crate::format::Format;
 use crate::hint::HintForm;
@@ -30,7 +32,7 @@ fn hint_of(form: HintForm, text: &[u8]) -> Option<u64>
     ensures { result ≡ hint_at form text.now }
 {
     match form {
-        HintForm::Number => number_of(text, MAX_HINT),
+        HintForm::Number | HintForm::Wide => number_of(text, MAX_HINT),
         HintForm::Distance { mark } => hint_by_distance(mark, text),
     }
 }
@@ -56,10 +58,10 @@ fn hint_by_distance(mark: u64, text: &[u8]) -> Option<u64>
 #[inline(always)]
 fn receipt_of(form: HintForm, text: &[u8]) -> Option<(u64, &[u8])>
     requires { FormFits form }
-    ensures { (kept : Bool) → receipt_at form kept text.now ≡ told (option_map (λ parts. (Received kept parts.0, parts.1.now)) result) }
+    ensures { (fate : Became) → receipt_at form fate text.now ≡ told (option_map (λ parts. (Received fate parts.0, parts.1.now)) result) }
 {
     match form {
-        HintForm::Number => receipt_by_number(text),
+        HintForm::Number | HintForm::Wide => receipt_by_number(text),
         HintForm::Distance { .. } => match receipt_by_distance(form, text) {
             Some((hint, bytes)) => Some((hint, bytes)),
             None => None,
@@ -69,8 +71,10 @@ fn receipt_of(form: HintForm, text: &[u8]) -> Option<(u64, &[u8])>
 
 #[inline(always)]
 fn receipt_by_number(text: &[u8]) -> Option<(u64, &[u8])>
-    ensures { (kept : Bool) → receipt_at HintForm.Number kept text.now
-        ≡ told (option_map (λ parts. (Received kept parts.0, parts.1.now)) result) }
+    ensures number { (fate : Became) → receipt_at HintForm.Number fate text.now
+        ≡ told (option_map (λ parts. (Received fate parts.0, parts.1.now)) result) }
+    ensures wide { (fate : Became) → receipt_at HintForm.Wide fate text.now
+        ≡ told (option_map (λ parts. (Received fate parts.0, parts.1.now)) result) }
 {
     match number_before(text, MAX_HINT) {
         Some((hint, bytes)) => Some((hint, bytes)),
@@ -81,7 +85,7 @@ fn receipt_by_number(text: &[u8]) -> Option<(u64, &[u8])>
 #[tactic(auto, unfolding(crate::specs::Reading::receipt_at))]
 fn receipt_by_distance(form: HintForm, text: &[u8]) -> Option<(u64, &[u8])>
     requires { FormFits form }
-    ensures { (kept : Bool) → receipt_at form kept text.now ≡ told (option_map (λ parts. (Received kept parts.0, parts.1.now)) result) }
+    ensures { (fate : Became) → receipt_at form fate text.now ≡ told (option_map (λ parts. (Received fate parts.0, parts.1.now)) result) }
 {
     let (hint, bytes) = cut_at(text, b' ')?;
     let hint = hint_of(form, hint)?;
@@ -90,7 +94,7 @@ fn receipt_by_distance(form: HintForm, text: &[u8]) -> Option<(u64, &[u8])>
 
 /// What the line says beside its BYTES, and the text of BYTES, where it has any; `None` where it can be no record's. The line
 /// is given without its LF.
-#[tactic(auto, unfolding(crate::specs::Reading::record_at))]
+#[tactic(auto, unfolding(crate::specs::Reading::line_at))]
 pub fn entry_of(form: HintForm, line: &[u8]) -> Option<(Entry, &[u8])>
     requires { FormFits form }
     ensures { record_at form line.now ≡ told (option_map (λ parts. (parts.0, parts.1.now)) result) }
@@ -100,26 +104,64 @@ pub fn entry_of(form: HintForm, line: &[u8]) -> Option<(Entry, &[u8])>
     }
     if let Some(rest) = after(line, b"r ") {
         let (hint, bytes) = receipt_of(form, rest)?;
-        return Some((Entry::Received { kept: false, hint }, bytes));
+        return Some((
+            Entry::Received {
+                fate: Fate::NotKept,
+                hint,
+            },
+            bytes,
+        ));
     }
     if let Some(rest) = after(line, b"k ") {
         let (hint, bytes) = receipt_of(form, rest)?;
-        return Some((Entry::Received { kept: true, hint }, bytes));
+        return Some((
+            Entry::Received {
+                fate: Fate::Kept,
+                hint,
+            },
+            bytes,
+        ));
     }
     if let Some(rest) = after(line, b"n ") {
         return Some((Entry::Noise, rest));
     }
     if let Some(rest) = after(line, b"u ") {
-        return event_of(rest);
+        return event_of(form.is_wide(), rest);
+    }
+    if form.is_wide() {
+        return wide_entry_of(form, line);
+    }
+    None
+}
+
+// The same of a line that format 3 alone has.
+#[tactic(auto, unfolding(crate::specs::Reading::wide_at))]
+#[inline(never)]
+fn wide_entry_of(form: HintForm, line: &[u8]) -> Option<(Entry, &[u8])>
+    requires { FormFits form }
+    ensures { wide_at form line.now ≡ told (option_map (λ parts. (parts.0, parts.1.now)) result) }
+{
+    if let Some(rest) = after(line, b"d ") {
+        let (hint, bytes) = receipt_of(form, rest)?;
+        return Some((
+            Entry::Received {
+                fate: Fate::Dropped,
+                hint,
+            },
+            bytes,
+        ));
+    }
+    if let Some(rest) = after(line, b"x ") {
+        return Some((Entry::Composed, rest));
     }
     None
 }
 
 /// The record that the line spells; the line is given without its LF.
 ///
-/// Faults: `Departs(Syntax)` where it spells none; `Departs(TooLong)` where it would but for too
-/// many bytes; `OutOfMemory`. `r 0 -` is a record, `r 01 -` is none; where a hint is a distance, so is `r -1 -`, as far as
-/// the mark reaches, and `r -0 -` is none.
+/// Faults: `Departs(Syntax)` where it spells none; `Departs(TooLong)` where it would
+/// spell one if there were not too many bytes; `OutOfMemory`. `r 0 -` is a record, `r 01 -` is none; where a hint is a distance, so is `r -1 -`,
+/// as far as the mark reaches, and `r -0 -` is none.
 #[inline(always)]
 pub fn record_of(alloc: Global, form: HintForm, line: &[u8]) -> Result<Record, PartFault>
     requires { FormFits form }
@@ -158,7 +200,7 @@ pub fn line_into(
     Ok((entry, len))
 }
 
-/// The addresses of two nodes, as a head spells them behind its first words.
+/// The addresses of two nodes, as a head spells them after its first words.
 #[tactic(auto, unfolding(crate::specs::Reading::nodes_at))]
 pub(crate) fn nodes_of(text: &[u8]) -> Option<(u16, u16)>
     ensures { result ≡ nodes_at text.now }
@@ -181,6 +223,10 @@ pub fn head_of(line: &[u8]) -> Option<(Format, u16, u16)>
     if let Some(rest) = after(line, b"ddcap 2 ") {
         let (own, peer) = nodes_of(rest)?;
         return Some((Format::Two, own, peer));
+    }
+    if let Some(rest) = after(line, b"ddcap 3 ") {
+        let (own, peer) = nodes_of(rest)?;
+        return Some((Format::Three, own, peer));
     }
     None
 }

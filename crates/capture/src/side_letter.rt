@@ -7,7 +7,7 @@ ghost use Rattle.capture.specs.Sided.{side_at};
 use crate::part::after;
 use wire_base::Side;
 
-/// The side whose letter a line begins with, and what stands behind the letter and a space; `None` where it begins with neither side's. Takes no
+/// The side whose letter a line begins with, and what follows the letter and a space; `None` where it begins with neither side's. Takes no
 /// memory.
 #[tactic(auto, unfolding(crate::specs::Sided::side_at))]
 #[inline(always)]

@@ -8,7 +8,7 @@ ghost use Rattle.capture.specs.declared.record.Record.{Record as Line};
 ghost use Rattle.capture.specs.Lines.{to_come};
 ghost use Rattle.capture.specs.declared.hint.HintForm.{HintForm as Form};
 ghost use Rattle.capture.specs.Text.{form_after, record_line};
-ghost use Rattle.capture.specs.Range.{IsRecord, IsText};
+ghost use Rattle.capture.specs.Range.{IsInForm, IsRecord, IsText};
 ghost use Rattle.capture.specs.Reader.{CaptureState, Opens};
 ghost use Rattle.capture.specs.SoFar.{DepartsBehind, GoesOn, HeadDepartsAt, IsReadSoFar, ReadSoFar, TheEnd, ToCome, so_far};
 
@@ -19,14 +19,15 @@ pub fn text_read_on()
         IsReadSoFar text (so_far state.form state.own state.peer [] (ToCome (to_come state.unread left))) }
     ensures one_more { (text before after : Option (List ℕ)) (form : Form) (own peer : ℕ) (rs : List Line) (r : Line) →
         IsReadSoFar text (so_far form own peer rs (ToCome before)) → length rs < MAX_RECORDS → IsRecord r →
-        Consumes before after (record_line form r) → IsReadSoFar text (so_far (form_after form r) own peer (rs ++ r ∷ []) (ToCome after)) }
+        Consumes before after (record_line form r) → IsInForm form r →
+        IsReadSoFar text (so_far (form_after form r) own peer (rs ++ r ∷ []) (ToCome after)) }
     ensures ended { (text before : Option (List ℕ)) (form : Form) (own peer : ℕ) (rs : List Line) →
         IsReadSoFar text (so_far form own peer rs (ToCome before)) → IsAtEnd before →
         IsReadSoFar text (so_far form own peer rs TheEnd) }
 {}
 
 /// What was read of known bytes: to their end it is the capture whose text they are, and of a
-/// capture's text it is a beginning of that capture, behind which no line departs.
+/// capture's text it is a beginning of that capture, after which no line departs.
 pub fn whole_text()
     ensures ended { (bytes : List ℕ) (form : Form) (own peer : ℕ) (rs : List Line) →
         IsReadSoFar (Some bytes) (so_far form own peer rs TheEnd) → IsText own peer rs bytes }

@@ -19,14 +19,14 @@ pub struct Wording {
 }
 
 impl Wording {
-    /// Goes on behind the line of a record of this entry. Where hints are numbers nothing is written. Takes no memory.
+    /// Goes on after the line of a record of this entry. Where hints are numbers nothing is written. Takes no memory.
     #[inline(always)]
     pub fn go_behind(&mut self, entry: Entry)
         requires { NumbersFit (record_with entry []) }
         ensures { (bytes : List ℕ) → self.new.form ≡ form_after self.old.form (record_with entry bytes) }
     {
         match self.form {
-            HintForm::Number => {}
+            HintForm::Number | HintForm::Wide => {}
             HintForm::Distance { .. } => self.form = self.form.after(entry),
         }
     }

@@ -5,7 +5,7 @@ ghost use Rattle.std.specs.Io.KnownBytes.{Appends};
 ghost use Rattle.wire_base.specs.Tally.{tally_faults, tally_lent};
 ghost use Rattle.capture.specs.declared.limit.TheConstants.{MAX_MARK};
 ghost use Rattle.capture.specs.Text.{head_line, mark_after, record_line};
-ghost use Rattle.capture.specs.Range.{IsNode, IsRecord};
+ghost use Rattle.capture.specs.Range.{IsInFormat, IsNode, IsRecord};
 ghost use Rattle.capture.specs.Writing.{WriteMeans};
 
 use crate::entry_line::put_line_in;
@@ -62,6 +62,26 @@ pub fn write_head_2<W: Write>(
     write_head_in(alloc, Format::Two, own, peer, writer)
 }
 
+/// Writes the head `ddcap 3 OWN PEER`, in one piece. Both have to be node addresses, which `is_node` tells.
+///
+/// `Write`: the writer failed in this call, and has a beginning of the line that is not all of it.
+/// `OutOfMemory`: there is no memory for the line, and the writer was not called.
+pub fn write_head_3<W: Write>(
+    alloc: Global,
+    own: u16,
+    peer: u16,
+    writer: &mut Tally<W>,
+) -> Result<(), WriteFault>
+    requires own { IsNode own }
+    requires peer { IsNode peer }
+    ensures ok { OnOk result (Appends (W.contents (tally_lent writer.old)) (W.contents (tally_lent writer.new))
+        (head_line Format.Three own peer)) }
+    ensures fault { WriteMeans (W.contents (tally_lent writer.old)) (W.contents (tally_lent writer.new))
+        (tally_faults writer.old) (tally_faults writer.new) (head_line Format.Three own peer) result }
+{
+    write_head_in(alloc, Format::Three, own, peer, writer)
+}
+
 /// Writes the head in this format, in one piece. Its faults are those of [`write_head`].
 pub fn write_head_in<W: Write>(
     alloc: Global,
@@ -94,7 +114,7 @@ fn head_words(alloc: Global, format: Format, own: u16, peer: u16) -> Result<Vec<
     Ok(line)
 }
 
-/// Writes the record's line in format 1, in one piece. The record has to be in range (`Record::in_range`).
+/// Writes the record's line in format 1, in one piece. The record has to be in range (`Record::in_range`), and in the format (`Record::is_in`).
 ///
 /// `Write`: the writer failed in this call, and has a beginning of the line that is not all of it.
 /// `OutOfMemory`: there is no memory for the line, and the writer was not called.
@@ -103,7 +123,8 @@ pub fn write_record<W: Write>(
     record: &Record,
     writer: &mut Tally<W>,
 ) -> Result<(), WriteFault>
-    requires { IsRecord «record».now }
+    requires record { IsRecord «record».now }
+    requires format { IsInFormat Format.One «record».now }
     ensures ok { OnOk result (Appends (W.contents (tally_lent writer.old)) (W.contents (tally_lent writer.new))
         (record_line HintForm.Number «record».now)) }
     ensures fault { WriteMeans (W.contents (tally_lent writer.old)) (W.contents (tally_lent writer.new))
@@ -112,11 +133,11 @@ pub fn write_record<W: Write>(
     write_record_in(alloc, HintForm::Number, record, writer)
 }
 
-/// Writes the record's line in format 2, in one piece, and answers the mark behind it. The mark before the first record is 0;
-/// it is at most 1,000,000,000,000,000,000. The record has to be in range (`Record::in_range`).
+/// Writes the record's line in format 2, in one piece, and answers the mark after it. The mark before the first record is 0;
+/// it is at most 1,000,000,000,000,000,000. The record has to be in range (`Record::in_range`), and in the format (`Record::is_in`).
 ///
 /// `Write`: the writer failed in this call, and has a beginning of the line that is not all of it.
-/// `OutOfMemory`: there is no memory for the line, and the writer was not called. At either the old mark still stands.
+/// `OutOfMemory`: there is no memory for the line, and the writer was not called. After either the old mark still holds.
 pub fn write_record_2<W: Write>(
     alloc: Global,
     mark: u64,
@@ -125,6 +146,7 @@ pub fn write_record_2<W: Write>(
 ) -> Result<u64, WriteFault>
     requires mark { mark ≤ MAX_MARK }
     requires record { IsRecord «record».now }
+    requires format { IsInFormat Format.Two «record».now }
     ensures ok { OnOk result (Appends (W.contents (tally_lent writer.old)) (W.contents (tally_lent writer.new))
         (record_line (HintForm.Distance mark) «record».now)) }
     ensures mark { IfOk result (λ after. after ≡ mark_after mark «record».now) }
@@ -135,6 +157,24 @@ pub fn write_record_2<W: Write>(
         Ok(()) => Ok(next_mark_of(mark, record)),
         Err(fault) => Err(fault),
     }
+}
+
+/// Writes the record's line in format 3, in one piece. The record has to be in range (`Record::in_range`).
+///
+/// `Write`: the writer failed in this call, and has a beginning of the line that is not all of it.
+/// `OutOfMemory`: there is no memory for the line, and the writer was not called.
+pub fn write_record_3<W: Write>(
+    alloc: Global,
+    record: &Record,
+    writer: &mut Tally<W>,
+) -> Result<(), WriteFault>
+    requires { IsRecord «record».now }
+    ensures ok { OnOk result (Appends (W.contents (tally_lent writer.old)) (W.contents (tally_lent writer.new))
+        (record_line HintForm.Wide «record».now)) }
+    ensures fault { WriteMeans (W.contents (tally_lent writer.old)) (W.contents (tally_lent writer.new))
+        (tally_faults writer.old) (tally_faults writer.new) (record_line HintForm.Wide «record».now) result }
+{
+    write_record_in(alloc, HintForm::Wide, record, writer)
 }
 
 fn write_record_in<W: Write>(

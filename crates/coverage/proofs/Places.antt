@@ -1,10 +1,10 @@
--- Each row has a place below 80.
+-- Each row has a place below 88.
 use Rattle.std.proofs.Common.{◌<◌, arith}
 use Rattle.dna_station.specs.declared.state.State.{State}
 use Rattle.dna_station.specs.declared.state.State.TheVariants.{Halted, Istrt, Astrt, Running}
 use Rattle.coverage.specs.declared.row.Row.{Row}
-use Rattle.coverage.specs.declared.row.Row.TheVariants.{Start, Halt, Sends, ToHalted, ToIstrt, ToAstrt, ToRunning, Damaged, LinkUser, LinkSends}
-use Rattle.coverage.specs.declared.row.Row.TheVariants.{LinkGets}
+use Rattle.coverage.specs.declared.row.Row.TheVariants.{Start, Halt, Sends, ToHalted, ToIstrt, ToAstrt, ToRunning, Damaged, Boot, LinkUser}
+use Rattle.coverage.specs.declared.row.Row.TheVariants.{LinkSends, LinkGets, Lost}
 use Rattle.coverage.specs.declared.row.Sending.{Sending}
 use Rattle.coverage.specs.declared.row.Sending.TheVariants as sending
 use Rattle.coverage.specs.declared.row.UnitKind.{UnitKind}
@@ -17,9 +17,12 @@ use Rattle.coverage.specs.declared.row.Damage.{Damage}
 use Rattle.coverage.specs.declared.row.Damage.TheVariants as damage
 use Rattle.coverage.specs.declared.row.LinkAct.{LinkAct}
 use Rattle.coverage.specs.declared.row.LinkAct.TheVariants as act
+use Rattle.coverage.specs.declared.row.Loss.{Loss}
+use Rattle.coverage.specs.declared.row.Loss.TheVariants as loss
 use Rattle.coverage.specs.declared.row.MessageKind.{MessageKind}
 use Rattle.coverage.specs.declared.row.MessageKind.TheVariants as message
-use Rattle.coverage.specs.Row.{place, state_entry, sending_entry, unit_entry, astrt_entry, running_entry, damage_entry, act_entry, message_entry}
+use Rattle.coverage.specs.Row.{place, state_entry, sending_entry, unit_entry, astrt_entry, running_entry, damage_entry, act_entry, loss_entry}
+use Rattle.coverage.specs.Row.{message_entry}
 
 state_below : (state : State) → (state_entry state).0 < 4
 state_below Halted = omega arith
@@ -72,13 +75,19 @@ damage_below : (what : Damage) → (damage_entry what).0 < 2
 damage_below damage.Header = omega arith
 damage_below damage.Data = omega arith
 
-act_below : (what : LinkAct) → (act_entry what).0 < 6
+act_below : (what : LinkAct) → (act_entry what).0 < 8
 act_below act.Open = omega arith
 act_below act.Accept = omega arith
 act_below act.Reject = omega arith
 act_below act.In = omega arith
 act_below act.Up = omega arith
 act_below act.Close = omega arith
+act_below act.Boot = omega arith
+act_below act.Abort = omega arith
+
+loss_below : (what : Loss) → (loss_entry what).0 < 2
+loss_below loss.Above = omega arith
+loss_below loss.Unsent = omega arith
 
 message_below : (what : MessageKind) → (message_entry what).0 < 11
 message_below message.ConnectInitiate = omega arith
@@ -93,7 +102,7 @@ message_below message.Interrupt = omega arith
 message_below message.OtherDataAck = omega arith
 message_below message.NoOperation = omega arith
 
-pub place_below : (row : Row) → place row < 80
+pub place_below : (row : Row) → place row < 88
 place_below Start = omega arith
 place_below (Halt state) = let below = state_below state in omega arith
 place_below (Sends what) = let below = sending_below what in omega arith
@@ -105,6 +114,8 @@ place_below (Damaged state what) =
     let one = state_below state in
     let two = damage_below what in
     omega arith
+place_below (Boot state) = let below = state_below state in omega arith
 place_below (LinkUser what) = let below = act_below what in omega arith
 place_below (LinkSends what) = let below = message_below what in omega arith
 place_below (LinkGets what) = let below = message_below what in omega arith
+place_below (Lost what) = let below = loss_below what in omega arith

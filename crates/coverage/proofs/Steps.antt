@@ -7,6 +7,9 @@ use Rattle.ddcmp_msg.specs.Message.{MessageValue}
 use Rattle.ddcmp_msg.specs.Reading.{ReadingValue, reading, Sound, HeaderBad, DataBad, Malformed}
 use Rattle.ddcmp_msg.specs.declared.nak_reason.NakReason.{NakReason}
 use Rattle.ddcmp_msg.specs.declared.nak_reason.NakReason.TheVariants.{HeaderCheck, DataCheck}
+use Rattle.capture.specs.Fates.{is_kept, is_met}
+use Rattle.capture.specs.declared.fate.Fate.{Fate}
+use Rattle.capture.specs.declared.fate.Fate.TheVariants.{NotKept, Kept, Dropped}
 use Rattle.capture.specs.declared.record.Record.{Record}
 use Rattle.capture.specs.declared.record.Record.TheVariants.{Sent, Received, Noise, User}
 use Rattle.capture.specs.declared.event.Event.{Event}
@@ -28,7 +31,7 @@ use Rattle.dna_station.specs.WireBook.{wire_is_new}
 use Rattle.dna_links.specs.declared.tag.LinkTag.{LinkTag}
 use Rattle.dna_station.specs.PeriodRule.{of_any_period}
 use Rattle.dna_node.specs.Alone.{StepAlone, Makes, Refuses, station_end, step_alone, sent_alone, comes_alone, unknown_period}
-use Rattle.dna_node.specs.Alone.{unless_wrong, then_unless_wrong, if_kept, meets, ThisEnd}
+use Rattle.dna_node.specs.Alone.{unless_wrong, then_unless_wrong, if_met, meets, ThisEnd}
 use Rattle.dna_node.specs.Alone as alone
 use Rattle.coverage.specs.declared.counts.Counts.{Counts}
 use Rattle.coverage.specs.declared.half.Half.{Half}
@@ -36,6 +39,7 @@ use Rattle.coverage.specs.declared.tracker.Tracker.{Tracker}
 use Rattle.coverage.specs.declared.row.Row.{Row}
 use Rattle.coverage.specs.Counts.{AreCounts}
 use Rattle.coverage.specs.Rows.{record_rows, sent_rows, received_rows, sent_row, link_sends, arrival_row, link_gets, damage_row, user_row}
+use Rattle.coverage.specs.Rows.{link_row}
 use Rattle.coverage.specs.inner.Met.{counted, met, met_sent, met_receipt, met_damage, met_event, tracked_event}
 use Rattle.coverage.specs.inner.Tracked.{tracker_of, after_event}
 use Rattle.coverage.proofs.Counting.{option_counted}
@@ -103,22 +107,25 @@ module _ (counts : Counts) (n : StationNode) (rows : List Row) (bounded : IsBoun
 
   -- ---- what comes
 
-  module _ (m : MessageValue) (kept : Bool) (front : ℕ) where
+  module _ (m : MessageValue) (fate : Fate) (front : ℕ) where
+    abbrev kept : Bool
+    kept = is_kept fate
+
     abbrev after : Wire
     after = wire_after_arrival w (arriving.Sound m unknown_period) kept
 
-    sound_met : Goes (met_receipt half kept (Sound m)) after (rows ++ received_rows w.variables kept (Sound m))
+    sound_met : Goes (met_receipt half fate (Sound m)) after (rows ++ received_rows w.variables fate (Sound m))
     sound_met = record {
       tracks = sym (arrival_tracks m unknown_period kept w);
       bounded = effects_bounded m unknown_period kept (row w.variables.state m).effects w bounded;
-      counts = two_counted counts.met rows (Some (arrival_row w.variables.state w.variables.received kept m)) (link_gets kept m) are;
+      counts = two_counted counts.met rows (Some (arrival_row w.variables.state w.variables.received kept m)) (link_gets fate m) are;
     }
 
     sound_made : (wrong_unit wrong_taken : Option StepRefusal) (o : Option StationRefusal) →
-        GoesOn (met_receipt half kept (Sound m)) (unless_wrong wrong_unit (then_unless_wrong wrong_taken (meets n front (unless_refused o after))))
-        (received_rows w.variables kept (Sound m))
+        GoesOn (met_receipt half fate (Sound m)) (unless_wrong wrong_unit (then_unless_wrong wrong_taken (meets n front (unless_refused o after))))
+        (received_rows w.variables fate (Sound m))
     sound_made None None None end is =
-        made (met_receipt half kept (Sound m)) (record n { station = after; front = front }) end (received_rows w.variables kept (Sound m))
+        made (met_receipt half fate (Sound m)) (record n { station = after; front = front }) end (received_rows w.variables fate (Sound m))
         sound_met is
     sound_made None None (Some refusal) end is = absurd cc
     sound_made None (Some wrong) None end is = absurd cc
@@ -138,29 +145,30 @@ module _ (counts : Counts) (n : StationNode) (rows : List Row) (bounded : IsBoun
     damage_left : Goes (met_damage half bad) (damaged_by wire_book reason w) (rows ++ option_to_list (damage_row w.variables.state bad))
     damage_left = damage_met (damaged_by wire_book reason w) (damaged_same reason w (counts_damage w.variables.state))
 
-    damage_comes : (kept : Bool) (front : ℕ) → met_receipt half kept bad ≡ met_damage half bad →
-        GoesOn (met_receipt half kept bad) (meets n front (unless_refused (keep_refusal false kept) (damaged_by wire_book reason w)))
+    damage_comes : (fate : Fate) (front : ℕ) → met_receipt half fate bad ≡ met_damage half bad →
+        GoesOn (met_receipt half fate bad) (meets n front (unless_refused (keep_refusal false (is_kept fate)) (damaged_by wire_book reason w)))
         (option_to_list (damage_row w.variables.state bad))
-    damage_comes false front same end made_is =
+    damage_comes NotKept front same end made_is =
         subst (λ (left : Half). Goes left end.station (rows ++ option_to_list (damage_row w.variables.state bad))) (sym same)
         (made (met_damage half bad) (record n { station = damaged_by wire_book reason w; front = front }) end
         (option_to_list (damage_row w.variables.state bad)) damage_left made_is)
-    damage_comes true front same end made_is = absurd cc
+    damage_comes Kept front same end made_is = absurd cc
+    damage_comes Dropped front same end made_is = absurd cc
 
-  comes_goes : (kept : Bool) (front : ℕ) (read : ReadingValue) →
-      GoesOn (met_receipt half kept read) (comes_alone station_end n front kept read) (received_rows w.variables kept read)
-  comes_goes kept front (Sound m) =
-      sound_made m kept front (station_end.wrong_unit w m) (if_kept kept None)
-      (wire_arrival_refusal of_any_period w (arriving.Sound m unknown_period) kept)
-  comes_goes kept front HeaderBad = damage_comes HeaderCheck HeaderBad kept front refl
-  comes_goes kept front DataBad = damage_comes DataCheck DataBad kept front refl
-  comes_goes kept front (Malformed departure) = λ end made_is. absurd cc
+  comes_goes : (fate : Fate) (front : ℕ) (read : ReadingValue) →
+      GoesOn (met_receipt half fate read) (comes_alone station_end n front fate read) (received_rows w.variables fate read)
+  comes_goes fate front (Sound m) =
+      sound_made m fate front (station_end.wrong_unit w m) (if_met (is_met fate) None)
+      (wire_arrival_refusal of_any_period w (arriving.Sound m unknown_period) (is_kept fate))
+  comes_goes fate front HeaderBad = damage_comes HeaderCheck HeaderBad fate front refl
+  comes_goes fate front DataBad = damage_comes DataCheck DataBad fate front refl
+  comes_goes fate front (Malformed departure) = λ end made_is. absurd cc
 
-  receives_goes : (late : Bool) (kept : Bool) (front : ℕ) (read : ReadingValue) →
-      GoesOn (met_receipt half kept read) (cond late (Refuses ThisEnd HintOrder) (comes_alone station_end n front kept read))
-      (received_rows w.variables kept read)
-  receives_goes true kept front read = λ end made_is. absurd cc
-  receives_goes false kept front read = comes_goes kept front read
+  receives_goes : (late : Bool) (fate : Fate) (front : ℕ) (read : ReadingValue) →
+      GoesOn (met_receipt half fate read) (cond late (Refuses ThisEnd HintOrder) (comes_alone station_end n front fate read))
+      (received_rows w.variables fate read)
+  receives_goes true fate front read = λ end made_is. absurd cc
+  receives_goes false fate front read = comes_goes fate front read
 
   noise_goes : (read : ReadingValue) →
       GoesOn (met_damage half read) (alone.does n (noise_comes station_end.machine w (damage read)))
@@ -176,40 +184,51 @@ module _ (counts : Counts) (n : StationNode) (rows : List Row) (bounded : IsBoun
 
   -- ---- what the user does
 
+  abbrev event_rows : Event → List Row
+  event_rows said = option_to_list (user_row w.variables.state said) ++ option_to_list (link_row said)
+
   station_event : (event : StationEvent) (said : Event) (o : Option StationRefusal) →
       tracked_event (tracker_of w.variables) said ≡ after_event (tracker_of w.variables) event →
-      GoesOn (met_event half said) (alone.does n (unless_refused o (wire_after_event w event))) (option_to_list (user_row w.variables.state said))
+      GoesOn (met_event half said) (alone.does n (unless_refused o (wire_after_event w event))) (event_rows said)
   station_event event said None same end made_is =
-      made (met_event half said) (record n { station = wire_after_event w event }) end (option_to_list (user_row w.variables.state said))
+      made (met_event half said) (record n { station = wire_after_event w event }) end (event_rows said)
       (record {
         tracks = same ∙ sym (event_tracks event w);
         bounded = event_bounded event w bounded;
-        counts = option_counted counts.met rows (user_row w.variables.state said) are;
+        counts = two_counted counts.met rows (user_row w.variables.state said) (link_row said) are;
       }) made_is
   station_event event said (Some refusal) same end made_is = absurd cc
 
   link_event : (said : Event) → tracked_event (tracker_of w.variables) said ≡ tracker_of w.variables →
-      GoesOn (met_event half said) (Makes (record n { station = w })) (option_to_list (user_row w.variables.state said))
+      GoesOn (met_event half said) (Makes (record n { station = w })) (event_rows said)
   link_event said same end made_is =
-      made (met_event half said) (record n { station = w }) end (option_to_list (user_row w.variables.state said))
-      (record { tracks = same; bounded = bounded; counts = option_counted counts.met rows (user_row w.variables.state said) are }) made_is
+      made (met_event half said) (record n { station = w }) end (event_rows said)
+      (record {
+        tracks = same;
+        bounded = bounded;
+        counts = two_counted counts.met rows (user_row w.variables.state said) (link_row said) are;
+      }) made_is
 
-  user_goes : (event : Event) →
-      GoesOn (met_event half event) (alone.does n (station_end.machine.user w event)) (option_to_list (user_row w.variables.state event))
+  user_goes : (event : Event) → GoesOn (met_event half event) (alone.does n (station_end.machine.user w event)) (event_rows event)
   user_goes events.Start = station_event Start events.Start (user_refusal w.variables.state Start) refl
   user_goes events.Halt = station_event Halt events.Halt (user_refusal w.variables.state Halt) refl
+  user_goes events.Boot = station_event Halt events.Boot (user_refusal w.variables.state Halt) refl
   user_goes (events.Open link) = link_event (events.Open link) refl
   user_goes (events.Accept partner link) = link_event (events.Accept partner link) refl
   user_goes (events.Reject partner link) = link_event (events.Reject partner link) refl
   user_goes (events.In link bytes) = link_event (events.In link bytes) refl
   user_goes (events.Up link bytes) = link_event (events.Up link bytes) refl
   user_goes (events.Close link) = link_event (events.Close link) refl
+  user_goes (events.Abort link) = link_event (events.Abort link) refl
+  user_goes (events.Composed bytes) = link_event (events.Composed bytes) refl
+  user_goes (events.Interrupt link bytes) = link_event (events.Interrupt link bytes) refl
+  user_goes (events.Interrupted link bytes) = link_event (events.Interrupted link bytes) refl
 
   -- ---- a record
 
   record_goes : (r : Record) → GoesOn (met half r) (step_alone station_end n r) (record_rows w.variables r)
   record_goes (Sent bytes) = sent_goes (reading bytes)
-  record_goes (Received hint kept bytes) = receives_goes (nat_lt hint n.front) kept (hint + 1) (reading bytes)
+  record_goes (Received hint fate bytes) = receives_goes (nat_lt hint n.front) fate (hint + 1) (reading bytes)
   record_goes (Noise bytes) = noise_goes (reading bytes)
   record_goes (User event) = user_goes event
 

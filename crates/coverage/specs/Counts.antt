@@ -10,7 +10,7 @@ use Rattle.coverage.specs.declared.row.Row.{Row}
 use Rattle.coverage.specs.Row.{place}
 use Rattle.coverage.specs.Rows.{record_rows}
 
--- the rows of a record that is made, and then those behind it; one that can't be made goes through none, and ends the list
+-- the rows of a record that is made, and then those after it; one that can't be made goes through none, and ends the list
 abbrev pub then_rows : List Row → StepAlone (WireStation LinkTag) → (WireNode LinkTag → List Row) → List Row
 then_rows rows (Makes next) later = rows ++ later next
 then_rows rows (Refuses accused reason) later = []

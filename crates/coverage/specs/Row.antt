@@ -1,10 +1,10 @@
--- The place of a row, from 0 to 79, and its name.
+-- The place of a row, from 0 to 87, and its name.
 use Rattle.std.specs.Prelude.{ℕ, ◌+◌, ◌*◌, List, ◌++◌, codes}
 use Rattle.dna_station.specs.declared.state.State.{State}
 use Rattle.dna_station.specs.declared.state.State.TheVariants.{Halted, Istrt, Astrt, Running}
 use Rattle.coverage.specs.declared.row.Row.{Row}
-use Rattle.coverage.specs.declared.row.Row.TheVariants.{Start, Halt, Sends, ToHalted, ToIstrt, ToAstrt, ToRunning, Damaged, LinkUser, LinkSends}
-use Rattle.coverage.specs.declared.row.Row.TheVariants.{LinkGets}
+use Rattle.coverage.specs.declared.row.Row.TheVariants.{Start, Halt, Sends, ToHalted, ToIstrt, ToAstrt, ToRunning, Damaged, Boot, LinkUser}
+use Rattle.coverage.specs.declared.row.Row.TheVariants.{LinkSends, LinkGets, Lost}
 use Rattle.coverage.specs.declared.row.Sending.{Sending}
 use Rattle.coverage.specs.declared.row.Sending.TheVariants as sending
 use Rattle.coverage.specs.declared.row.UnitKind.{UnitKind}
@@ -17,6 +17,8 @@ use Rattle.coverage.specs.declared.row.Damage.{Damage}
 use Rattle.coverage.specs.declared.row.Damage.TheVariants as damage
 use Rattle.coverage.specs.declared.row.LinkAct.{LinkAct}
 use Rattle.coverage.specs.declared.row.LinkAct.TheVariants as act
+use Rattle.coverage.specs.declared.row.Loss.{Loss}
+use Rattle.coverage.specs.declared.row.Loss.TheVariants as loss
 use Rattle.coverage.specs.declared.row.MessageKind.{MessageKind}
 use Rattle.coverage.specs.declared.row.MessageKind.TheVariants as message
 
@@ -78,6 +80,12 @@ act_entry act.Reject = (2, codes "REJECT")
 act_entry act.In = (3, codes "IN")
 act_entry act.Up = (4, codes "UP")
 act_entry act.Close = (5, codes "CLOSE")
+act_entry act.Boot = (6, codes "BOOT")
+act_entry act.Abort = (7, codes "ABORT")
+
+abbrev pub loss_entry : Loss → ℕ × List ℕ
+loss_entry loss.Above = (0, codes "lost above")
+loss_entry loss.Unsent = (1, codes "never sent")
 
 abbrev pub message_entry : MessageKind → ℕ × List ℕ
 message_entry message.ConnectInitiate = (0, codes "CI")
@@ -103,9 +111,11 @@ place (ToIstrt what) = 19 + (unit_entry what).0
 place (ToAstrt what) = 25 + (astrt_entry what).0
 place (ToRunning what) = 35 + (running_entry what).0
 place (Damaged state what) = 44 + 2 * (state_entry state).0 + (damage_entry what).0
-place (LinkUser what) = 52 + (act_entry what).0
-place (LinkSends what) = 58 + (message_entry what).0
-place (LinkGets what) = 69 + (message_entry what).0
+place (Boot state) = 52 + (state_entry state).0
+place (LinkUser what) = 56 + (act_entry what).0
+place (LinkSends what) = 64 + (message_entry what).0
+place (LinkGets what) = 75 + (message_entry what).0
+place (Lost what) = 86 + (loss_entry what).0
 
 abbrev pub name : Row → List ℕ
 name Start = codes "HALTED user start"
@@ -116,6 +126,8 @@ name (ToIstrt what) = codes "ISTRT gets " ++ (unit_entry what).1
 name (ToAstrt what) = codes "ASTRT gets " ++ (astrt_entry what).1
 name (ToRunning what) = codes "RUNNING gets " ++ (running_entry what).1
 name (Damaged state what) = (state_entry state).1 ++ (codes " damage " ++ (damage_entry what).1)
+name (Boot state) = (state_entry state).1 ++ codes " user boot"
 name (LinkUser what) = codes "link user " ++ (act_entry what).1
 name (LinkSends what) = codes "link sends " ++ (message_entry what).1
 name (LinkGets what) = codes "link gets " ++ (message_entry what).1
+name (Lost what) = codes "link packet " ++ (loss_entry what).1

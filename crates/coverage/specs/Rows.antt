@@ -8,6 +8,9 @@ use Rattle.ddcmp_msg.specs.declared.nak_reason.NakReason.TheVariants.{HeaderChec
 use Rattle.ddcmp_msg.specs.declared.nak_reason.NakReason.TheVariants.{HeaderFormat}
 use Rattle.dna_packet.specs.Nsp.{NspValue, DataSegment, LinkService, DataAck, OtherDataAck, ConnectAck, NoOperation, ConnectInitiate, ConnectConfirm}
 use Rattle.dna_packet.specs.Nsp.{DisconnectInitiate, DisconnectConfirm}
+use Rattle.capture.specs.Fates.{is_kept}
+use Rattle.capture.specs.declared.fate.Fate.{Fate}
+use Rattle.capture.specs.declared.fate.Fate.TheVariants as fates
 use Rattle.capture.specs.declared.record.Record.{Record}
 use Rattle.capture.specs.declared.record.Record.TheVariants as records
 use Rattle.capture.specs.declared.event.Event.{Event}
@@ -21,8 +24,8 @@ use Rattle.dna_station.specs.WireBook.{wire_is_new}
 use Rattle.dna_links.specs.Links.{Carried}
 use Rattle.dna_node.specs.Content.{content}
 use Rattle.coverage.specs.declared.row.Row.{Row}
-use Rattle.coverage.specs.declared.row.Row.TheVariants.{Start, Halt, Sends, ToHalted, ToIstrt, ToAstrt, ToRunning, Damaged, LinkUser, LinkSends}
-use Rattle.coverage.specs.declared.row.Row.TheVariants.{LinkGets}
+use Rattle.coverage.specs.declared.row.Row.TheVariants.{Start, Halt, Sends, ToHalted, ToIstrt, ToAstrt, ToRunning, Damaged, Boot, LinkUser}
+use Rattle.coverage.specs.declared.row.Row.TheVariants.{LinkSends, LinkGets, Lost}
 use Rattle.coverage.specs.declared.row.Sending.TheVariants as sending
 use Rattle.coverage.specs.declared.row.UnitKind.{UnitKind}
 use Rattle.coverage.specs.declared.row.UnitKind.TheVariants as unit
@@ -32,22 +35,32 @@ use Rattle.coverage.specs.declared.row.RunningArrival.{RunningArrival}
 use Rattle.coverage.specs.declared.row.RunningArrival.TheVariants as running
 use Rattle.coverage.specs.declared.row.Damage.TheVariants as damage
 use Rattle.coverage.specs.declared.row.LinkAct.TheVariants as act
+use Rattle.coverage.specs.declared.row.Loss.TheVariants as loss
 use Rattle.coverage.specs.declared.row.MessageKind.{MessageKind}
 use Rattle.coverage.specs.declared.row.MessageKind.TheVariants as message
 
--- ---- a `u` line
+-- ---- a `u` line, or an `x` line
 
--- Start in HALTED, halt in every state, and the events of links
+-- of the station: start in HALTED, halt and boot in every state
 abbrev pub user_row : State → Event → Option Row
 user_row Halted events.Start = Some Start
 user_row state events.Start = None
 user_row state events.Halt = Some (Halt state)
-user_row state (events.Open link) = Some (LinkUser act.Open)
-user_row state (events.Accept partner link) = Some (LinkUser act.Accept)
-user_row state (events.Reject partner link) = Some (LinkUser act.Reject)
-user_row state (events.In link bytes) = Some (LinkUser act.In)
-user_row state (events.Up link bytes) = Some (LinkUser act.Up)
-user_row state (events.Close link) = Some (LinkUser act.Close)
+user_row state events.Boot = Some (Boot state)
+user_row state event = None
+
+-- of the links: their events, a boot, and a packet that is composed and never sent; interrupts are carried
+abbrev pub link_row : Event → Option Row
+link_row (events.Open link) = Some (LinkUser act.Open)
+link_row (events.Accept partner link) = Some (LinkUser act.Accept)
+link_row (events.Reject partner link) = Some (LinkUser act.Reject)
+link_row (events.In link bytes) = Some (LinkUser act.In)
+link_row (events.Up link bytes) = Some (LinkUser act.Up)
+link_row (events.Close link) = Some (LinkUser act.Close)
+link_row events.Boot = Some (LinkUser act.Boot)
+link_row (events.Abort link) = Some (LinkUser act.Abort)
+link_row (events.Composed bytes) = Some (Lost loss.Unsent)
+link_row event = None
 
 -- ---- an `s` line
 
@@ -75,7 +88,7 @@ sent_row Running is_new (Rep flags num) = Some (Sends sending.Rep)
 sent_row Running is_new (Data flags resp num body) = Some (data_row is_new)
 sent_row state is_new m = None
 
--- ---- an `r` or a `k` line with the bytes of its unit
+-- ---- an `r`, a `k` or a `d` line with the bytes of its unit
 
 abbrev pub kind_of : MessageValue → UnitKind
 kind_of (Strt flags) = unit.Strt
@@ -85,7 +98,7 @@ kind_of (Nak flags reason resp) = unit.Nak
 kind_of (Rep flags num) = unit.Rep
 kind_of (Data flags resp num body) = unit.Data
 
--- data with the number behind the last received, whose packet is kept or for which no buffer is left, or data with another number
+-- data with the number after the last received, whose packet is kept or for which no buffer is left, or data with another number
 abbrev pub astrt_data : (is_next kept : Bool) → AstrtArrival
 astrt_data true true = astrt.Kept
 astrt_data true false = astrt.NoBuffer
@@ -160,10 +173,11 @@ abbrev pub link_sends : (is_new : Bool) → MessageValue → Option Row
 link_sends true (Data flags resp num body) = option_map (λ (kind : MessageKind). LinkSends kind) (carried_kind (content body))
 link_sends is_new m = None
 
--- of data whose packet was kept
-abbrev pub link_gets : (kept : Bool) → MessageValue → Option Row
-link_gets true (Data flags resp num body) = option_map (λ (kind : MessageKind). LinkGets kind) (carried_kind (content body))
-link_gets kept m = None
+-- of data whose packet was kept: the links met it, or it was lost above the station
+abbrev pub link_gets : Fate → MessageValue → Option Row
+link_gets fates.Kept (Data flags resp num body) = option_map (λ (kind : MessageKind). LinkGets kind) (carried_kind (content body))
+link_gets fates.Dropped m = Some (Lost loss.Above)
+link_gets fate m = None
 
 -- ---- a record
 
@@ -173,12 +187,12 @@ module _ {L : Type 0} (k : StationVariables L) where
   sent_rows (Sound m) = option_to_list (sent_row k.state (wire_is_new k) m) ++ option_to_list (link_sends (wire_is_new k) m)
   sent_rows bad = []
 
-  abbrev pub received_rows : (kept : Bool) → ReadingValue → List Row
-  received_rows kept (Sound m) = arrival_row k.state k.received kept m ∷ option_to_list (link_gets kept m)
-  received_rows kept bad = option_to_list (damage_row k.state bad)
+  abbrev pub received_rows : Fate → ReadingValue → List Row
+  received_rows fate (Sound m) = arrival_row k.state k.received (is_kept fate) m ∷ option_to_list (link_gets fate m)
+  received_rows fate bad = option_to_list (damage_row k.state bad)
 
   abbrev pub record_rows : Record → List Row
   record_rows (records.Sent bytes) = sent_rows (reading bytes)
-  record_rows (records.Received hint kept bytes) = received_rows kept (reading bytes)
+  record_rows (records.Received hint fate bytes) = received_rows fate (reading bytes)
   record_rows (records.Noise bytes) = option_to_list (damage_row k.state (reading bytes))
-  record_rows (records.User event) = option_to_list (user_row k.state event)
+  record_rows (records.User event) = option_to_list (user_row k.state event) ++ option_to_list (link_row event)

@@ -13,11 +13,11 @@ use Rattle.coverage.specs.Row.{place, name}
 abbrev pub WHOLE : ℕ
 WHOLE = 2 ^ 64 - 1
 
--- in 34 columns, or more, and the words behind it
+-- in 34 columns, or more, and the words after it
 abbrev pub left : List ℕ → List ℕ
 left words = padded (format_spec 32 1 0 34 WHOLE) words
 
--- behind a space, in six columns, or more, and the words before it
+-- after a space, in six columns, or more, and the words before it
 abbrev pub right : List ℕ → List ℕ
 right words = padded (format_spec 32 3 0 6 WHOLE) words
 
@@ -44,7 +44,7 @@ row_line a b row =
 abbrev pub met_rows : List ℕ → ℕ
 met_rows counts = length (filter (λ (count : ℕ). nat_lt 0 count) counts)
 
--- `a went through 21 of 80 rows`: of so many rows that are counted
+-- `a went through 21 of 88 rows`: of so many rows that are counted
 abbrev pub side_line : (rows : ℕ) → Side → List ℕ → List ℕ
 side_line rows side counts =
     side_letter side ++ (codes " went through " ++ (decimal (met_rows counts) ++ (codes " of " ++ (decimal rows ++ codes " rows\n"))))

@@ -9,7 +9,7 @@ ghost use Rattle.coverage.specs.inner.Met.{counted_in};
 use crate::row::Row;
 
 /// How many rows there are.
-pub const ROWS: usize = 80;
+pub const ROWS: usize = 88;
 
 /// How often each row was gone through, at its place. A count stops at 2^64 - 1.
 #[derive(Clone, Copy, Debug, PartialEq, Eq)]

@@ -9,9 +9,9 @@ ghost use Rattle.coverage.specs.inner.Met as spec;
 
 use crate::counts::Counts;
 use crate::link_rows::{link_gets, link_sends};
-use crate::row::{LinkAct, Row};
+use crate::row::{LinkAct, Loss, Row};
 use crate::tracker::Tracker;
-use capture::Entry;
+use capture::{Entry, Fate};
 use ddcmp_msg::{Message, Reading, read_sound, read_unit};
 use dna_station::{State, StationEvent};
 use pair_judge::MadeEntry;
@@ -38,11 +38,11 @@ impl Half {
                     self.sent_unread(bytes);
                 }
             }
-            Entry::Received { kept, .. } => {
+            Entry::Received { fate, .. } => {
                 if next.sound {
-                    self.received(kept, &read_sound(bytes));
+                    self.received(fate, &read_sound(bytes));
                 } else {
-                    self.received_unread(kept, bytes);
+                    self.received_unread(fate, bytes);
                 }
             }
             Entry::Noise => self.damaged(read_unit(bytes)),
@@ -54,6 +54,10 @@ impl Half {
             Entry::In { .. } => self.link(LinkAct::In),
             Entry::Up { .. } => self.link(LinkAct::Up),
             Entry::Close { .. } => self.link(LinkAct::Close),
+            Entry::Boot => self.booted(),
+            Entry::Abort { .. } => self.link(LinkAct::Abort),
+            Entry::Composed => self.unsent(),
+            Entry::Interrupt { .. } | Entry::Interrupted { .. } => {}
         }
     }
 
@@ -80,22 +84,23 @@ impl Half {
 
     // A sound unit came.
     #[inline(always)]
-    fn received(&mut self, kept: bool, message: &Message<'_>)
-        ensures { self.new ≡ spec.met_receipt self.old kept (Sound (view message.now)) }
+    fn received(&mut self, fate: Fate, message: &Message<'_>)
+        ensures { self.new ≡ spec.met_receipt self.old fate (Sound (view message.now)) }
     {
+        let kept = fate.is_kept();
         self.counts
             .count(Some(self.tracker.arrival_row(message, kept)));
-        self.counts.count(link_gets(kept, message));
+        self.counts.count(link_gets(fate, message));
         self.tracker.arrived(message, kept);
     }
 
     // A unit came that nobody read yet.
     #[inline(never)]
-    fn received_unread(&mut self, kept: bool, bytes: &[u8])
-        ensures { self.new ≡ spec.met_receipt self.old kept (reading bytes.now) }
+    fn received_unread(&mut self, fate: Fate, bytes: &[u8])
+        ensures { self.new ≡ spec.met_receipt self.old fate (reading bytes.now) }
     {
         match read_unit(bytes) {
-            Reading::Sound(message) => self.received(kept, &message),
+            Reading::Sound(message) => self.received(fate, &message),
             Reading::HeaderBad => self.damaged(Reading::HeaderBad),
             Reading::DataBad => self.damaged(Reading::DataBad),
             Reading::Malformed(_) => {}
@@ -123,6 +128,22 @@ impl Half {
     {
         self.counts.count(Some(Row::Halt(self.tracker.state)));
         self.tracker.user(StationEvent::Halt);
+    }
+
+    // The node was started anew: its station was halted, and its links ended.
+    fn booted(&mut self)
+        ensures { self.new ≡ spec.met_event self.old Event.Boot }
+    {
+        self.counts.count(Some(Row::Boot(self.tracker.state)));
+        self.counts.count(Some(Row::LinkUser(LinkAct::Boot)));
+        self.tracker.user(StationEvent::Halt);
+    }
+
+    // A packet was composed that is never sent.
+    fn unsent(&mut self)
+        ensures { self.new ≡ spec.met_unsent self.old }
+    {
+        self.counts.count(Some(Row::Lost(Loss::Unsent)));
     }
 
     // The user of a link did this.

@@ -5,12 +5,12 @@ ghost use Rattle.coverage.specs.Missing.{hint_row};
 ghost use Rattle.coverage.specs.declared.order.TheConstants.{ORDER};
 
 use crate::row::{
-    AstrtArrival, Damage, LinkAct, MessageKind, Row, RunningArrival, Sending, UnitKind,
+    AstrtArrival, Damage, LinkAct, Loss, MessageKind, Row, RunningArrival, Sending, UnitKind,
 };
 use dna_station::State;
 
 /// How many rows those of stations are. They come first.
-pub const STATION_ROWS: usize = 52;
+pub const STATION_ROWS: usize = 56;
 
 /// A row, and what meets it: steps of a script with `, ` between them, of which the first may be the name of a set-up; or words, where no script
 /// does.
@@ -22,7 +22,7 @@ pub struct Hint(pub Row, pub &'static str);
 pub struct Setup(pub &'static str, pub &'static str);
 
 // `tools/test_cover` plays each.
-static HINTS: [Hint; 80] = [
+static HINTS: [Hint; 88] = [
     Hint(Row::Start, "a start"),
     Hint(Row::Halt(State::Halted), "a halt"),
     Hint(Row::Halt(State::Istrt), "a start, a halt"),
@@ -174,6 +174,10 @@ static HINTS: [Hint; 80] = [
         Row::Damaged(State::Running, Damage::Data),
         "run, a noise 810100000101e381",
     ),
+    Hint(Row::Boot(State::Halted), "a boot"),
+    Hint(Row::Boot(State::Istrt), "a start, a boot"),
+    Hint(Row::Boot(State::Astrt), "strt, b boot"),
+    Hint(Row::Boot(State::Running), "run, a boot"),
     Hint(Row::LinkUser(LinkAct::Open), "a open"),
     Hint(Row::LinkUser(LinkAct::Accept), "call, b accept 1"),
     Hint(Row::LinkUser(LinkAct::Reject), "call, b reject 1"),
@@ -183,6 +187,8 @@ static HINTS: [Hint; 80] = [
         "link, a in 1 61, a send, b deliver",
     ),
     Hint(Row::LinkUser(LinkAct::Close), "link, a close 1"),
+    Hint(Row::LinkUser(LinkAct::Boot), "a boot"),
+    Hint(Row::LinkUser(LinkAct::Abort), "a open, a abort 1"),
     Hint(
         Row::LinkSends(MessageKind::ConnectInitiate),
         "run, a open, a send",
@@ -256,26 +262,11 @@ static HINTS: [Hint; 80] = [
         Row::LinkGets(MessageKind::NoOperation),
         "no script does: the peer must send one",
     ),
-];
-
-static SETUPS: [Setup; 11] = [
-    Setup("strt", "a start, b start, a send, b deliver"),
-    Setup(
-        "both",
-        "a start, b start, a send, b send, a deliver, b deliver",
+    Hint(Row::Lost(Loss::Above), "run, a open, a send, b drop"),
+    Hint(
+        Row::Lost(Loss::Unsent),
+        "no script does: the node must lose one",
     ),
-    Setup("stack", "strt, b send, a deliver"),
-    Setup("early", "stack, a open, a send, b lose"),
-    Setup("run", "stack, a send, b deliver"),
-    Setup("lost", "run, a open, a send, b lose"),
-    Setup("again", "run, a halt, a start"),
-    Setup("call", "run, a open, a send, b deliver"),
-    Setup("back", "call, b halt, b start"),
-    Setup(
-        "link",
-        "call, b accept 1, b send, a deliver, a send, b deliver",
-    ),
-    Setup("closed", "link, a close 1, a send, b deliver"),
 ];
 
 /// A hint for each row, in their order.
@@ -287,12 +278,7 @@ pub fn all_hints() -> &'static [Hint]
 
 /// Those of the rows of stations.
 pub fn station_hints() -> &'static [Hint]
-    ensures { map hint_row result.now ≡ take 52 ORDER }
+    ensures { map hint_row result.now ≡ take 56 ORDER }
 {
     &HINTS[..STATION_ROWS]
-}
-
-/// What the names in hints stand for.
-pub fn all_setups() -> &'static [Setup] {
-    &SETUPS
 }

@@ -12,6 +12,7 @@ mod missing;
 mod order;
 mod row;
 mod row_names;
+mod setups;
 mod station_rows;
 mod text;
 mod tracker;
@@ -19,8 +20,11 @@ mod tracker;
 pub use counts::{Counts, ROWS};
 pub use cover::Cover;
 pub use covering::judge_covered;
-pub use hints::{Hint, STATION_ROWS, Setup, all_hints, all_setups, station_hints};
+pub use hints::{Hint, STATION_ROWS, Setup, all_hints, station_hints};
 pub use missing::missing_text;
 pub use order::{ORDER, rows_stand_at_their_places};
-pub use row::{AstrtArrival, Damage, LinkAct, MessageKind, Row, RunningArrival, Sending, UnitKind};
+pub use row::{
+    AstrtArrival, Damage, LinkAct, Loss, MessageKind, Row, RunningArrival, Sending, UnitKind,
+};
+pub use setups::all_setups;
 pub use text::table;

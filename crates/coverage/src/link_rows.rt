@@ -7,7 +7,8 @@ ghost use Rattle.dna_packet.specs.ReadingNsp.{nsp_at};
 ghost use Rattle.dna_packet.specs.Nsp as nsp;
 ghost use Rattle.coverage.specs.Rows as spec;
 
-use crate::row::{MessageKind, Row};
+use crate::row::{Loss, MessageKind, Row};
+use capture::Fate;
 use ddcmp_msg::Message;
 use dna_packet::{LinkService, Nsp, Packet, read_nsp, read_packet};
 
@@ -25,16 +26,17 @@ pub fn link_sends(is_new: bool, message: &Message) -> Option<Row>
     }
 }
 
-/// That of a message that comes: `None` where its packet is not kept, or has no message of the links.
+/// That of a message that comes: `None` where its packet is not kept, or the links meet it and it has no message of theirs.
 #[inline(always)]
-pub fn link_gets(kept: bool, message: &Message) -> Option<Row>
-    ensures { result ≡ spec.link_gets kept (view message.now) }
+pub fn link_gets(fate: Fate, message: &Message) -> Option<Row>
+    ensures { result ≡ spec.link_gets fate (view message.now) }
 {
-    match (kept, message) {
-        (true, Message::Data { body, .. }) => match kind_in(body) {
+    match (fate, message) {
+        (Fate::Kept, Message::Data { body, .. }) => match kind_in(body) {
             Some(kind) => Some(Row::LinkGets(kind)),
             None => None,
         },
+        (Fate::Dropped, _) => Some(Row::Lost(Loss::Above)),
         _ => None,
     }
 }

@@ -38,7 +38,7 @@ fn head(alloc: Global, rows: usize, a: &Counts, b: &Counts) -> Result<String, Al
     format!(in alloc; "{of_a}{of_b}{headings}")
 }
 
-// What stands above the rows.
+// What is above the rows.
 #[tactic(auto, unfolding(crate::specs::Missing::missing_headings))]
 fn headings(alloc: Global) -> Result<String, AllocError>
     ensures { IfOk result (λ text. string_bytes text ≡ spec.missing_headings) }

@@ -6,12 +6,12 @@ ghost use Rattle.coverage.specs.Row.{place};
 ghost use Rattle.coverage.specs.declared.order.TheConstants.{ORDER};
 
 use crate::row::{
-    AstrtArrival, Damage, LinkAct, MessageKind, Row, RunningArrival, Sending, UnitKind,
+    AstrtArrival, Damage, LinkAct, Loss, MessageKind, Row, RunningArrival, Sending, UnitKind,
 };
 use dna_station::State;
 
 /// All rows, each at its place.
-pub static ORDER: [Row; 80] = [
+pub static ORDER: [Row; 88] = [
     Row::Start,
     Row::Halt(State::Halted),
     Row::Halt(State::Istrt),
@@ -64,12 +64,18 @@ pub static ORDER: [Row; 80] = [
     Row::Damaged(State::Astrt, Damage::Data),
     Row::Damaged(State::Running, Damage::Header),
     Row::Damaged(State::Running, Damage::Data),
+    Row::Boot(State::Halted),
+    Row::Boot(State::Istrt),
+    Row::Boot(State::Astrt),
+    Row::Boot(State::Running),
     Row::LinkUser(LinkAct::Open),
     Row::LinkUser(LinkAct::Accept),
     Row::LinkUser(LinkAct::Reject),
     Row::LinkUser(LinkAct::In),
     Row::LinkUser(LinkAct::Up),
     Row::LinkUser(LinkAct::Close),
+    Row::LinkUser(LinkAct::Boot),
+    Row::LinkUser(LinkAct::Abort),
     Row::LinkSends(MessageKind::ConnectInitiate),
     Row::LinkSends(MessageKind::ConnectAck),
     Row::LinkSends(MessageKind::ConnectConfirm),
@@ -92,9 +98,11 @@ pub static ORDER: [Row; 80] = [
     Row::LinkGets(MessageKind::Interrupt),
     Row::LinkGets(MessageKind::OtherDataAck),
     Row::LinkGets(MessageKind::NoOperation),
+    Row::Lost(Loss::Above),
+    Row::Lost(Loss::Unsent),
 ];
 
-/// Each row stands once among them, at its place.
+/// Each row is among them once, at its place.
 pub fn rows_stand_at_their_places()
-    ensures { map place ORDER ≡ range_with_len 0 80 }
+    ensures { map place ORDER ≡ range_with_len 0 88 }
 {}

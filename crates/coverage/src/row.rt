@@ -2,8 +2,8 @@
 
 use dna_station::State;
 
-/// A row of the tables of the station and of the links. There are 80, and this is their order. A record goes through one of the station,
-/// by the state before it, and through one of the links where it is theirs too.
+/// A row of the tables of the station and of the links. There are 88, and this is their order. A record goes through one of the station, by the
+/// state before it, or one of the links, or both; an interrupt goes through none.
 #[derive(Clone, Copy, Debug, PartialEq, Eq)]
 pub enum Row {
     /// The user starts the station, which is in HALTED.
@@ -22,12 +22,16 @@ pub enum Row {
     ToRunning(RunningArrival),
     /// What shows damage comes to the station in this state.
     Damaged(State, Damage),
+    /// The node is started anew, and its station is in this state.
+    Boot(State),
     /// The user of a link does this.
     LinkUser(LinkAct),
     /// A new packet with this message is sent.
     LinkSends(MessageKind),
     /// A packet with this message is taken.
     LinkGets(MessageKind),
+    /// A packet of the node goes this way.
+    Lost(Loss),
 }
 
 /// What a station sends, with what its tables tell apart.
@@ -109,7 +113,7 @@ pub enum Damage {
     Data,
 }
 
-/// What the user of a link does.
+/// What the user of a link does, or what is done to all links of a node.
 #[derive(Clone, Copy, Debug, PartialEq, Eq)]
 pub enum LinkAct {
     Open,
@@ -118,6 +122,19 @@ pub enum LinkAct {
     In,
     Up,
     Close,
+    /// The node is started anew, and all its links end.
+    Boot,
+    /// A call is given up.
+    Abort,
+}
+
+/// How a packet is lost inside a node.
+#[derive(Clone, Copy, Debug, PartialEq, Eq)]
+pub enum Loss {
+    /// It came and was kept, and the links never meet it.
+    Above,
+    /// The links composed it, and it is never sent.
+    Unsent,
 }
 
 /// The kind of an NSP message (NSP 4.0, message formats).

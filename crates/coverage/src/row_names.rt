@@ -4,17 +4,17 @@ ghost use Rattle.std.specs.Prelude.{◌≡◌, ◌<◌};
 ghost use Rattle.coverage.specs.Row as spec;
 
 use crate::row::{
-    AstrtArrival, Damage, LinkAct, MessageKind, Row, RunningArrival, Sending, UnitKind,
+    AstrtArrival, Damage, LinkAct, Loss, MessageKind, Row, RunningArrival, Sending, UnitKind,
 };
 use dna_station::State;
 use std::fmt;
 
 impl Row {
-    /// Its place in the order of the rows, 0 to 79.
+    /// Its place in the order of the rows, 0 to 87.
     #[inline(always)]
     pub fn place(self) -> usize
         ensures place { result ≡ spec.place self }
-        ensures below { result < 80 }
+        ensures below { result < 88 }
     {
         match self {
             Row::Start => 0,
@@ -25,9 +25,11 @@ impl Row {
             Row::ToAstrt(arrival) => 25 + astrt_entry(arrival).0,
             Row::ToRunning(arrival) => 35 + running_entry(arrival).0,
             Row::Damaged(state, damage) => 44 + 2 * state_entry(state).0 + damage_entry(damage).0,
-            Row::LinkUser(act) => 52 + act_entry(act).0,
-            Row::LinkSends(kind) => 58 + message_entry(kind).0,
-            Row::LinkGets(kind) => 69 + message_entry(kind).0,
+            Row::Boot(state) => 52 + state_entry(state).0,
+            Row::LinkUser(act) => 56 + act_entry(act).0,
+            Row::LinkSends(kind) => 64 + message_entry(kind).0,
+            Row::LinkGets(kind) => 75 + message_entry(kind).0,
+            Row::Lost(loss) => 86 + loss_entry(loss).0,
         }
     }
 }
@@ -68,6 +70,10 @@ impl fmt::Display for Row {
                 let (_, damage) = damage_entry(damage);
                 write!(f, "{state} damage {damage}")
             }
+            Row::Boot(state) => {
+                let (_, state) = state_entry(state);
+                write!(f, "{state} user boot")
+            }
             Row::LinkUser(act) => {
                 let (_, act) = act_entry(act);
                 write!(f, "link user {act}")
@@ -79,6 +85,10 @@ impl fmt::Display for Row {
             Row::LinkGets(kind) => {
                 let (_, kind) = message_entry(kind);
                 write!(f, "link gets {kind}")
+            }
+            Row::Lost(loss) => {
+                let (_, loss) = loss_entry(loss);
+                write!(f, "link packet {loss}")
             }
         }
     }
@@ -194,7 +204,7 @@ fn damage_entry<'a>(damage: Damage) -> (usize, &'a str)
 fn act_entry<'a>(act: LinkAct) -> (usize, &'a str)
     ensures place { result.0 ≡ (spec.act_entry act).0 }
     ensures name { result.1.now ≡ (spec.act_entry act).1 }
-    ensures below { result.0 < 6 }
+    ensures below { result.0 < 8 }
 {
     match act {
         LinkAct::Open => (0, "OPEN"),
@@ -203,6 +213,21 @@ fn act_entry<'a>(act: LinkAct) -> (usize, &'a str)
         LinkAct::In => (3, "IN"),
         LinkAct::Up => (4, "UP"),
         LinkAct::Close => (5, "CLOSE"),
+        LinkAct::Boot => (6, "BOOT"),
+        LinkAct::Abort => (7, "ABORT"),
+    }
+}
+
+// How a packet is lost: its place, and its name.
+#[inline(always)]
+fn loss_entry<'a>(loss: Loss) -> (usize, &'a str)
+    ensures place { result.0 ≡ (spec.loss_entry loss).0 }
+    ensures name { result.1.now ≡ (spec.loss_entry loss).1 }
+    ensures below { result.0 < 2 }
+{
+    match loss {
+        Loss::Above => (0, "lost above"),
+        Loss::Unsent => (1, "never sent"),
     }
 }
 

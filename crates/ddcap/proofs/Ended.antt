@@ -6,11 +6,9 @@ use Rattle.pair_judge.specs.declared.fault.JudgeFault.{JudgeFault}
 use Rattle.pair_judge.specs.declared.fault.JudgeFault.TheVariants.{Capture, OutOfMemory}
 use Rattle.pair_judge.specs.declared.fault.TextFault.TheVariants.{Departs, Read}
 use Rattle.pair_judge.specs.declared.verdict.Verdict.{Verdict}
-use Rattle.wire_tap.specs.declared.tapped.Tapped.{Tapped}
-use Rattle.tap_answer.specs.Telling.{telling}
 use Rattle.ddcap.specs.Printed.{Moved, TellsFault, fault_status, verdict_status}
 use Rattle.ddcap.specs.PrintedWhy.{WritesRefusal}
-use Rattle.ddcap.specs.inner.Statuses.{EndsAsJudged, EndsAsTapped, EndsWith, told_status}
+use Rattle.ddcap.specs.inner.Statuses.{EndsAsJudged, EndsWith}
 
 -- a text is written, or a beginning of it
 pub ends_written : {A B C D : Type 0} (meant status : ℕ) → (A × B × (status ≡ meant)) ⊎ (C × D × (status ≡ 3)) → EndsWith meant status
@@ -51,12 +49,3 @@ module _ (nodes : NodeKind) (text_a text_b : Option (List ℕ)) (status : ℕ) w
   pub judged_fault : (fault : JudgeFault) → IsAnswer nodes text_a text_b (Err fault) → EndsWith (fault_status fault) status →
       EndsAsJudged nodes text_a text_b status
   judged_fault fault judged ends = record { answer = Err fault; judged = judged; ends = ends }
-
-  module _ (tapped : Tapped) where
-    pub tapped_verdict : (verdict : Verdict) → IsAnswer nodes text_a text_b (Ok verdict) →
-        EndsWith (told_status (telling tapped.ending verdict)) status → EndsAsTapped nodes tapped text_a text_b status
-    tapped_verdict verdict judged ends = record { answer = Ok verdict; judged = judged; ends = ends }
-
-    pub tapped_fault : (fault : JudgeFault) → IsAnswer nodes text_a text_b (Err fault) → EndsWith (fault_status fault) status →
-        EndsAsTapped nodes tapped text_a text_b status
-    tapped_fault fault judged ends = record { answer = Err fault; judged = judged; ends = ends }

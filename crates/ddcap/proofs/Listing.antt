@@ -13,7 +13,7 @@ use Rattle.capture.specs.declared.phase.Phase.TheVariants.{Reading}
 use Rattle.capture.specs.declared.record.Record.{Record}
 use Rattle.capture.specs.declared.hint.HintForm.{HintForm}
 use Rattle.capture.specs.Text.{form_after, record_line}
-use Rattle.capture.specs.Range.{IsRecord}
+use Rattle.capture.specs.Range.{IsInForm, IsRecord}
 use Rattle.capture.specs.Departing.{HeadDeparts, RecordDeparts}
 use Rattle.capture.specs.Faulty.{is_read_fault}
 use Rattle.capture.specs.Lines.{IsCutBehind, to_come}
@@ -65,7 +65,7 @@ pub record GrowingLaws : Type 0 where
       IsReadSoFar text (so_far state.form state.own state.peer [] (ToCome (to_come state.unread left)))
   pub one_more : (text before after : Option (List ℕ)) (form : HintForm) (own peer : ℕ) (rs : List Record) (r : Record) →
       IsReadSoFar text (so_far form own peer rs (ToCome before)) → length rs < MAX_RECORDS → IsRecord r → Consumes before after (record_line form r)
-      → IsReadSoFar text (so_far (form_after form r) own peer (rs ++ r ∷ []) (ToCome after))
+      → IsInForm form r → IsReadSoFar text (so_far (form_after form r) own peer (rs ++ r ∷ []) (ToCome after))
   pub ended : (text before : Option (List ℕ)) (form : HintForm) (own peer : ℕ) (rs : List Record) →
       IsReadSoFar text (so_far form own peer rs (ToCome before)) → IsAtEnd before → IsReadSoFar text (so_far form own peer rs TheEnd)
 
@@ -105,7 +105,8 @@ listed_on laws text before after old new number out_old out out' page kept page'
     let line = shown_line number r in
     record {
       records = h.records ++ r ∷ [];
-      read = rw (own, peer, gives.5) (laws.one_more text before after old.form old.own old.peer h.records r h.read (omega arith) gives.0 gives.4);
+      read = rw (own, peer, gives.5)
+          (laws.one_more text before after old.form old.own old.peer h.records r h.read (omega arith) gives.0 gives.4 gives.6);
       count = omega (arith, length-append h.records (r ∷ []));
       counted = gives.2 ∙ ap (λ n. n + 1) counted;
       reading = gives.3;

@@ -12,8 +12,9 @@ use Rattle.pair_judge.specs.Judged.{IsAnswer}
 use Rattle.wire_tap.specs.declared.tapped.Tapped.{Tapped}
 use Rattle.tap_answer.specs.Telling.{telling}
 use Rattle.tap_answer.specs.declared.told.Told.{Told}
-use Rattle.tap_answer.specs.declared.told.Told.TheVariants.{Accepted, Unexplained, UnexplainedEnd, TooWide}
+use Rattle.tap_answer.specs.declared.told.Told.TheVariants.{Accepted, Unexplained, Apart, UnexplainedEnd, TooWide}
 use Rattle.ddcap.specs.Printed.{Moved, TellsFault}
+use Rattle.ddcap.specs.declared.tap.Captured.{Captured}
 use Rattle.ddcap.specs.declared.tap.RefusedAt.{RefusedAt}
 use Rattle.ddcap.specs.PrintedTap.{ChecksTap, IsRefusedAt, Streams}
 use Rattle.ddcap.specs.inner.TapParts.{TellsNoMemory, TellsTold, both_streams}
@@ -24,6 +25,7 @@ pub told_there : (words : List ℕ) (tapped : Tapped) (s : Streams) (said : Told
     TellsTold words tapped (both_streams s.out s.err) said status → TellsTold words tapped s said status
 told_there words tapped s Accepted status told = told
 told_there words tapped s (Unexplained passed reason) status told = told
+told_there words tapped s (Apart passed reason) status told = told
 told_there words tapped s (UnexplainedEnd reason) status told = told
 told_there words tapped s (TooWide passed) status told = told
 
@@ -31,13 +33,13 @@ pub told_as : (words : List ℕ) (tapped : Tapped) (out err : Moved) (status : �
     TellsTold words tapped (both_streams out err) said status → TellsTold words tapped (both_streams out err) told status
 told_as words tapped out err status is = subst (λ (each : Told). TellsTold words tapped (both_streams out err) each status) is
 
-module _ (nodes : NodeKind) (text : Verdict → List ℕ) (tapped : Tapped) (s : Streams) where
+module _ (nodes : NodeKind) (text : Verdict → List ℕ) (captured : Captured) (s : Streams) where
   abbrev pub CountsOf : Result Verdict JudgeFault → Type 0
   CountsOf answer = CountsReads (is_failed_read_of A answer) s.a.old.faults s.a.new.faults
       × CountsReads (is_failed_read_of B answer) s.b.old.faults s.b.new.faults
 
   -- no text was put together for want of memory
-  pub tells_nothing : (status : ℕ) → CountsOf (Err OutOfMemory) → TellsNoMemory s.out s.err status → ChecksTap nodes text tapped s (Ok status)
+  pub tells_nothing : (status : ℕ) → CountsOf (Err OutOfMemory) → TellsNoMemory s.out s.err status → ChecksTap nodes text captured s (Ok status)
   tells_nothing status counts told = record {
     answer = Err OutOfMemory;
     judged = without_memory nodes s.a.old.bytes s.b.old.bytes;
@@ -48,20 +50,20 @@ module _ (nodes : NodeKind) (text : Verdict → List ℕ) (tapped : Tapped) (s :
 
   -- what is said of a verdict
   pub tells_verdict : (verdict : Verdict) (status : ℕ) → IsAnswer nodes s.a.old.bytes s.b.old.bytes (Ok verdict) → CountsOf (Ok verdict) →
-      TellsTold (text verdict) tapped s (telling tapped.ending verdict) status → ChecksTap nodes text tapped s (Ok status)
+      TellsTold (text verdict) captured.tapped s (telling captured.is_apart captured.tapped.ending verdict) status → ChecksTap nodes text captured s (Ok status)
   tells_verdict verdict status judged counts (inl told) =
       record { answer = Ok verdict; judged = judged; reads_a = counts.0; reads_b = counts.1; printed = told }
   tells_verdict verdict status judged counts (inr told) = tells_nothing status counts told
 
   -- the captures are to be cut at a refused record, and nothing was printed
   pub tells_cut : (verdict : Verdict) (refused : RefusedAt) → IsAnswer nodes s.a.old.bytes s.b.old.bytes (Ok verdict) → CountsOf (Ok verdict) →
-      IsRefusedAt verdict refused → s.out.new ≡ s.out.old → s.err.new ≡ s.err.old → ChecksTap nodes text tapped s (Err refused)
+      IsRefusedAt verdict refused → s.out.new ≡ s.out.old → s.err.new ≡ s.err.old → ChecksTap nodes text captured s (Err refused)
   tells_cut verdict refused judged counts at same_out same_err =
       record { answer = Ok verdict; judged = judged; reads_a = counts.0; reads_b = counts.1; printed = (at, same_out, same_err) }
 
   -- a fault
   pub tells_fault : (fault : JudgeFault) (status : ℕ) → IsAnswer nodes s.a.old.bytes s.b.old.bytes (Err fault) → CountsOf (Err fault) →
-      TellsFault s.err fault status → s.out.new ≡ s.out.old → ChecksTap nodes text tapped s (Ok status)
+      TellsFault s.err fault status → s.out.new ≡ s.out.old → ChecksTap nodes text captured s (Ok status)
   tells_fault (Capture side (Departs kind line)) status judged counts (inl told) same = record {
     answer = Err (Capture side (Departs kind line));
     judged = judged;

@@ -15,7 +15,7 @@ use Rattle.ddcap.specs.Printed.{Checks, Moved, verdict_text}
 abbrev pub empty_captures : Held
 empty_captures = held (Some []) (Some [])
 
--- the answer tells that both captures are written as far as the script goes: all was played, or a line behind the head is at fault
+-- the answer tells that both captures are written as far as the script goes: all was played, or a line after the head is at fault
 abbrev pub HasCaptures : Result Played PlayFault → Type 0
 HasCaptures (Ok played) = Unit {0}
 HasCaptures (Err (Departs kind line)) = 1 < line

@@ -6,7 +6,7 @@ use Rattle.ddcap.specs.declared.help.TheConstants.{VERSION}
 use Rattle.ddcap.specs.declared.help_pages.TheConstants.{ALIGN, CONVERT, EXPLAIN, HELP, PLAY, PROGRAM, SHOW, TAP}
 use Rattle.ddcap.specs.declared.judging_pages.TheConstants.{ALONE, CHECK, COVER, DRAW, WHY}
 
--- the page of each topic as it stands in the program; the name and the version come before that of the whole
+-- the page of each topic as it is in the program; the name and the version come before that of the whole
 abbrev pub help_text : Topic → List ℕ
 help_text on.Program = codes "ddcap " ++ (VERSION.now ++ PROGRAM.now)
 help_text on.Check = CHECK.now

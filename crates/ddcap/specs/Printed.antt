@@ -43,7 +43,7 @@ station_line side counts =
     ++ (codes " received " ++ (decimal counts.received ++ (codes " damaged " ++ (decimal counts.damaged
     ++ (codes " kept " ++ (decimal counts.kept ++ (codes " periods " ++ decimal counts.periods)))))))))))
 
--- `refused SIDE RECORD line LINE: NUMBER NAME`, where record i stands on line i + 2
+-- `refused SIDE RECORD line LINE: NUMBER NAME`, where record i is on line i + 2
 abbrev pub refused_text : Side → (place : ℕ) → Reason → List ℕ
 refused_text side place reason =
     codes "refused " ++ (side_letter side ++ (codes " " ++ (decimal place ++ (codes " line " ++ (decimal (place + 2)
@@ -61,7 +61,7 @@ verdict_text = verdict_text_by side_line
 abbrev pub line_verdict_text : Verdict → List ℕ
 line_verdict_text = verdict_text_by station_line
 
--- what was wrong with a text, behind its side
+-- what was wrong with a text, after its side
 abbrev pub text_fault : TextFault → List ℕ
 text_fault (Departs kind line) = line_fault_words kind line
 text_fault Read = codes "read failed"

@@ -21,7 +21,7 @@ use Rattle.ddcap.specs.Showing.{shown_fault, shown_fault_status}
 use Rattle.ddcap.specs.declared.layers.Layers.{Layers}
 use Rattle.ddcap.specs.declared.layers.Layers.TheVariants.{Both, Queued, Station}
 
--- behind the reason: nothing more, or that it is the other end that broke the rule
+-- after the reason: nothing more, or that it is the other end that broke the rule
 abbrev pub by_whom : Accused → List ℕ
 by_whom ThisEnd = codes "\n"
 by_whom OtherEnd = codes " by the other end\n"

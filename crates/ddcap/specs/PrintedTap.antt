@@ -1,9 +1,13 @@
 -- What `tap` prints of the captures that it wrote, and with which status it ends.
-use Rattle.std.specs.Prelude.{◌≡◌, ℕ, ◌⊎◌, List, ◌++◌, Result, Ok, Err, codes}
+use Rattle.std.specs.Prelude.{◌≡◌, ℕ, ◌⊎◌, List, ◌++◌, Option, Result, Ok, Err, codes}
 use Rattle.wire_base.specs.declared.side.Side.TheVariants.{A, B}
 use Rattle.capture.specs.declared.fault.Departure.{Departure}
 use Rattle.capture.specs.Faulty.{CountsReads, line_fault_words}
 use Rattle.dna_node.specs.Kind.{NodeKind}
+use Rattle.pair_judge.specs.declared.end_verdict.EndVerdict.TheVariants.{Passed}
+use Rattle.pair_judge.specs.declared.summary.SideSummary.{SideSummary}
+use Rattle.pair_judge.specs.EndJudged.{IsJudgedAlone}
+use Rattle.pair_judge.specs.EndKind.{EndKind}
 use Rattle.pair_judge.specs.Faulty.{is_failed_read_of}
 use Rattle.pair_judge.specs.Judged.{Answer, IsAnswer}
 use Rattle.pair_judge.specs.declared.fault.JudgeFault.TheVariants as judge
@@ -15,7 +19,8 @@ use Rattle.wire_tap.specs.declared.tapped.Tapped.{Tapped}
 use Rattle.tap_answer.specs.declared.told.Told.{Told}
 use Rattle.tap_answer.specs.declared.told.Told.TheVariants as says
 use Rattle.tap_answer.specs.Telling.{telling}
-use Rattle.tap_answer.specs.Words.{premise_words, too_wide_words, unexplained_end_words, unexplained_words}
+use Rattle.tap_answer.specs.Words.{apart_words, premise_words, too_wide_words, unexplained_end_words, unexplained_words}
+use Rattle.ddcap.specs.declared.tap.Captured.{Captured}
 use Rattle.ddcap.specs.declared.tap.RefusedAt.{RefusedAt}
 use Rattle.ddcap.specs.Printed.{Moved, Writes, fault_status, fault_text}
 use Rattle.ddcap.specs.Playing.{failed_write_text}
@@ -44,6 +49,15 @@ TellsTapFault err faults.Read status = Writes err.old err.new (tap_fault_text fa
 TellsTapFault err (faults.Write side) status = Writes err.old err.new (tap_fault_text (faults.Write side)) 3 status
 TellsTapFault err faults.OutOfMemory status = Writes err.old err.new (tap_fault_text faults.OutOfMemory) 3 status
 
+-- ---- whether each side is explained by itself
+
+-- each capture is judged alone, and passes
+pub record BothPass (end : EndKind) (text_a text_b : Option (List ℕ)) : Type 0 where
+  pub counts_a : SideSummary
+  pub counts_b : SideSummary
+  pub a : IsJudgedAlone end text_a (Ok (Passed counts_a))
+  pub b : IsJudgedAlone end text_b (Ok (Passed counts_b))
+
 -- ---- the answer
 
 -- the readers of both captures, and both streams
@@ -56,12 +70,14 @@ pub record Streams : Type 0 where
 abbrev pub streams : (a b out err : Moved) → Streams
 streams a b out err = record { a = a; b = b; out = out; err = err }
 
--- What is said stands on standard output, with what it rests on behind it, and the other stream stays as it is; too wide a choice stands on standard
+-- What is said goes to standard output, with what it rests on after it, and the other stream stays as it is; too wide a choice goes to standard
 -- error. `verdict` is the text of the verdict.
 abbrev pub TellsAs : (verdict : List ℕ) → Tapped → Streams → Told → ℕ → Type 0
 TellsAs verdict tapped s says.Accepted status = Writes s.out.old s.out.new (verdict ++ premise_words tapped) 0 status × (s.err.new ≡ s.err.old)
 TellsAs verdict tapped s (says.Unexplained passed reason) status =
     Writes s.out.old s.out.new (unexplained_words passed reason ++ premise_words tapped) 1 status × (s.err.new ≡ s.err.old)
+TellsAs verdict tapped s (says.Apart passed reason) status =
+    Writes s.out.old s.out.new (apart_words passed reason ++ premise_words tapped) 1 status × (s.err.new ≡ s.err.old)
 TellsAs verdict tapped s (says.UnexplainedEnd reason) status =
     Writes s.out.old s.out.new (unexplained_end_words reason ++ premise_words tapped) 1 status × (s.err.new ≡ s.err.old)
 TellsAs verdict tapped s (says.TooWide passed) status = Writes s.err.old s.err.new (too_wide_words passed) 2 status × (s.out.new ≡ s.out.old)
@@ -72,18 +88,19 @@ IsRefusedAt (Accepted summary) refused = ⊥
 IsRefusedAt (Refused side place reason) refused = (refused.side ≡ side) × (refused.place ≡ place)
 
 -- What is said of the verdict is printed, or nothing is, where the captures are to be cut at the refused record; or a fault is told, as by `check`.
-abbrev pub AnswersTap : (text : Verdict → List ℕ) → Tapped → Streams → Answer → Result ℕ RefusedAt → Type 0
-AnswersTap text tapped s (Ok verdict) (Ok status) = TellsAs (text verdict) tapped s (telling tapped.ending verdict) status
-AnswersTap text tapped s (Ok verdict) (Err refused) = IsRefusedAt verdict refused × (s.out.new ≡ s.out.old) × (s.err.new ≡ s.err.old)
-AnswersTap text tapped s (Err fault) (Ok status) =
+abbrev pub AnswersTap : (text : Verdict → List ℕ) → Captured → Streams → Answer → Result ℕ RefusedAt → Type 0
+AnswersTap text captured s (Ok verdict) (Ok status) =
+    TellsAs (text verdict) captured.tapped s (telling captured.is_apart captured.tapped.ending verdict) status
+AnswersTap text captured s (Ok verdict) (Err refused) = IsRefusedAt verdict refused × (s.out.new ≡ s.out.old) × (s.err.new ≡ s.err.old)
+AnswersTap text captured s (Err fault) (Ok status) =
     Writes s.err.old s.err.new (fault_text fault) (fault_status fault) status × (s.out.new ≡ s.out.old)
-AnswersTap text tapped s (Err fault) (Err refused) = ⊥
+AnswersTap text captured s (Err fault) (Err refused) = ⊥
 
 -- One call of `tap` over the captures: what is printed is said of an answer of which all is true that the judge's contract says of its own, for this
 -- kind of node and this text of a verdict.
-pub record ChecksTap (nodes : NodeKind) (text : Verdict → List ℕ) (tapped : Tapped) (s : Streams) (result : Result ℕ RefusedAt) : Type 0 where
+pub record ChecksTap (nodes : NodeKind) (text : Verdict → List ℕ) (captured : Captured) (s : Streams) (result : Result ℕ RefusedAt) : Type 0 where
   pub answer : Answer
   pub judged : IsAnswer nodes s.a.old.bytes s.b.old.bytes answer
   pub reads_a : CountsReads (is_failed_read_of A answer) s.a.old.faults s.a.new.faults
   pub reads_b : CountsReads (is_failed_read_of B answer) s.b.old.faults s.b.new.faults
-  pub printed : AnswersTap text tapped s answer result
+  pub printed : AnswersTap text captured s answer result

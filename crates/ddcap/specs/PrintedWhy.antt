@@ -51,7 +51,7 @@ pub record IsTelling (layers : Layers) (form : Form) (ends : ShownEnds) (refused
   pub is_told : IsTold layers ends refused told
   pub is_text : IsWhyText form told ends text
 
--- where no check is named, the line of the verdict stands alone
+-- where no check is named, the text is the line of the verdict alone
 abbrev pub TellsRefusal : Layers → Form → ShownEnds → Refused → List ℕ → Type 0
 TellsRefusal layers form ends refused text = IsTelling layers form ends refused text ⊎ (text ≡ verdict_text ends.verdict)
 
@@ -59,7 +59,7 @@ abbrev pub accepted_text : Layers → Form → Summary → List ℕ
 accepted_text layers Rows summary = verdict_text_over layers (Accepted summary)
 accepted_text layers Json summary = codes "{\"what\": \"accepted\"}\n"
 
--- What is said of a refusal is written, with status 1, and the other stream stays as it is; or it is written whole, and behind it that a read failed
+-- What is said of a refusal is written, with status 1, and the other stream stays as it is; or it is written whole, and after it that a read failed
 -- while the captures were read again for small edits, with status 3
 abbrev pub WritesRefusal : (out err : Moved) → (text : List ℕ) → (status : ℕ) → Type 0
 WritesRefusal out err text status =
@@ -89,7 +89,7 @@ PrintsAcceptance layers form streams summary status =
     (Writes streams.0.old streams.0.new (accepted_text layers form summary) 0 status × (streams.1.new ≡ streams.1.old))
     ⊎ (TellsFault streams.1 OutOfMemory status × (streams.0.new ≡ streams.0.old))
 
--- both ends that are shown stand where the record is refused, which is claimed of nodes without queues
+-- both ends that are shown are where the record is refused, which is claimed of nodes without queues
 abbrev pub StandsOver : Layers → (text_a text_b : Option (List ℕ)) → ShownEnds → Type 0
 StandsOver Both text_a text_b ends = StandsFor text_a text_b ends ends.verdict
 StandsOver Queued text_a text_b ends = Unit {0}

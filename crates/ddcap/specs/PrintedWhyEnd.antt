@@ -51,7 +51,7 @@ module _ (layers : Layers) where
     pub is_told : IsToldOf layers told s
     pub is_text : IsEndText form told s text
 
-  -- where no record is ahead, the line of the verdict stands alone
+  -- where no record is ahead, the text is the line of the verdict alone
   abbrev pub TellsEnd : Form → Stop → List ℕ → Type 0
   TellsEnd form s text = IsEndTelling form s text ⊎ (text ≡ end_text_over layers s.verdict)
 
@@ -83,7 +83,7 @@ module _ (layers : Layers) (form : Form) (streams : Moved × Moved) where
   PrintsWhyEnd (Err fault) status = TellsEndFault streams.1 fault status × (streams.0.new ≡ streams.0.old)
 
 -- One call of `why` of one end: what is printed, with its status, is an answer of which all is true that the judge's contract says of its own; and
--- the end that it shows stands where the record is refused.
+-- the end that it shows is where the record is refused.
 pub record ExplainsEnd (layers : Layers) (form : Form) (a : Moved) (streams : Moved × Moved) (status : ℕ) : Type 0 where
   pub answer : Result Stop CaptureFault
   pub judged : IsJudgedAlone (end_of layers) a.old.bytes (only answer (λ s. s.verdict))

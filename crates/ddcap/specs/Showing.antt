@@ -35,7 +35,7 @@ pub record HasReadAll (text : Option (List ℕ)) (records : List Record) : Type 
   pub peer : ℕ
   pub read : IsReadSoFar text (so_far form own peer records TheEnd)
 
--- the head's line departs, before any record; or the line behind these records
+-- the head's line departs, before any record; or the line after these records
 abbrev pub IsFaultyBehind : Option (List ℕ) → List Record → Departure → ℕ → Type 0
 IsFaultyBehind text records kind line =
     ((records ≡ []) × HeadDepartsAt text kind line)
@@ -54,7 +54,7 @@ IsReadTo (Faulty OutOfMemory) text records = HasBegun text records
 IsReadTo (Faulty Failed) text records = ⊥
 IsReadTo (Cut met) text records = HasBegun text records
 
--- Where a read failed: each whole line that the reader had given until then was read. Behind these lines, or where no head was read, it had given a
+-- Where a read failed: each whole line that the reader had given until then was read. After these lines, or where no head was read, it had given a
 -- piece of a line. `left` is what it has left.
 abbrev pub ListsWholeLines : Ending → (text left : Option (List ℕ)) → List Record → Type 0
 ListsWholeLines (Faulty Read) text left records = ((records ≡ []) × IsCutBehind text left) ⊎ ((h : HasRead text records) × IsCutBehind h.come left)
@@ -112,7 +112,7 @@ pub record Lists (a out : Moved) (ending : Ending) : Type 0 where
   pub reads : CountsReads (has_failed_to_read ending) a.old.faults a.new.faults
   pub lines : Lines ending out.old out.new (shown_lines 0 records)
 
--- One call of `show`: the lines, and behind them a fault.
+-- One call of `show`: the lines, and after them a fault.
 pub record Shows (a out err : Moved) (status : ℕ) : Type 0 where
   pub ending : Ending
   pub lists : Lists a out ending

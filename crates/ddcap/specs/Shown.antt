@@ -2,6 +2,10 @@
 use Rattle.std.specs.Prelude.{ℕ, ◌+◌, Bool, true, false, List, [], ◌∷◌, ◌++◌, length, codes}
 use Rattle.std.specs.Fmt.{decimal}
 use Rattle.capture.specs.Text.{event_text, spaced}
+use Rattle.capture.specs.declared.event.Event.{Event}
+use Rattle.capture.specs.declared.event.Event.TheVariants.{Composed}
+use Rattle.capture.specs.declared.fate.Fate.{Fate}
+use Rattle.capture.specs.declared.fate.Fate.TheVariants.{NotKept, Kept, Dropped}
 use Rattle.capture.specs.declared.record.Record.{Record}
 use Rattle.capture.specs.declared.record.Record.TheVariants.{Sent, Received, Noise, User}
 use Rattle.ddcmp_msg.specs.declared.flags.Flags.{Flags}
@@ -19,7 +23,7 @@ flags_digits true true = codes "c0"
 abbrev pub flags_text : Flags → List ℕ
 flags_text flags = flags_digits flags.quick_sync flags.select
 
--- the words of a data message, but for its body
+-- the words of a data message, except for its body
 abbrev pub data_words : Flags → (resp num count : ℕ) → List ℕ
 data_words flags resp num count =
     codes "data flags " ++
@@ -46,13 +50,23 @@ reading_words (Malformed departure) = codes "malformed " ++ decimal (departure_n
 abbrev pub unit_words : List ℕ → List ℕ
 unit_words bytes = reading_words (reading bytes)
 
--- the words of each record: a receipt's with its hint, and an event's as they stand in its line
+-- what became of the packet of a receipt
+abbrev pub fate_words : Fate → List ℕ
+fate_words NotKept = codes "received "
+fate_words Kept = codes "kept "
+fate_words Dropped = codes "dropped "
+
+-- what comes before the words of an event
+abbrev pub event_name : Event → List ℕ
+event_name (Composed bytes) = codes "composed "
+event_name event = codes "user "
+
+-- the words of each record: a receipt's with its hint, and an event's as they are in its line
 abbrev pub record_words : Record → List ℕ
 record_words (Sent bytes) = codes "sent " ++ unit_words bytes
-record_words (Received hint false bytes) = codes "received " ++ spaced (decimal hint) (unit_words bytes)
-record_words (Received hint true bytes) = codes "kept " ++ spaced (decimal hint) (unit_words bytes)
+record_words (Received hint fate bytes) = fate_words fate ++ spaced (decimal hint) (unit_words bytes)
 record_words (Noise bytes) = codes "noise " ++ unit_words bytes
-record_words (User event) = codes "user " ++ event_text event
+record_words (User event) = event_name event ++ event_text event
 
 -- a record's line: its number, its words and an LF
 abbrev pub shown_line : ℕ → Record → List ℕ

@@ -2,9 +2,8 @@
 
 ghost use Rattle.std.specs.Prelude.{◌≡◌, IfOk};
 ghost use Rattle.aligning.specs.Aligned.{aligned};
-ghost use Rattle.capture.specs.Range.{IsCapture};
+ghost use Rattle.capture.specs.Range.{IsCapture, format_for};
 ghost use Rattle.capture.specs.Text.{capture_text};
-ghost use Rattle.capture.specs.declared.format.Format.TheVariants.{One};
 
 use crate::check::{print, print_fault, print_out_of_memory};
 use crate::fault_told::FaultTold;
@@ -79,9 +78,9 @@ fn aligned_pair(alloc: Global, a: &Whole, b: &Whole) -> Result<Alignment, AllocE
     requires a { IsCapture a.now.own a.now.peer a.now.records.items }
     requires b { IsCapture b.now.own b.now.peer b.now.records.items }
     ensures a { IfOk result (λ alignment. alignment.a.items ≡
-        capture_text One a.now.own a.now.peer (aligned 0 b.now.records.items a.now.records.items)) }
+        capture_text (format_for a.now.records.items) a.now.own a.now.peer (aligned 0 b.now.records.items a.now.records.items)) }
     ensures b { IfOk result (λ alignment. alignment.b.items ≡
-        capture_text One b.now.own b.now.peer (aligned 0 a.now.records.items b.now.records.items)) }
+        capture_text (format_for b.now.records.items) b.now.own b.now.peer (aligned 0 a.now.records.items b.now.records.items)) }
 {
     let told_a = told_of(alloc, a, b.records.as_slice())?;
     let told_b = told_of(alloc, b, a.records.as_slice())?;

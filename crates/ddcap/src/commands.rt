@@ -1,4 +1,4 @@
-//! The words that the program knows, and what may stand behind each.
+//! The words that the program knows, and what may follow each.
 
 use crate::draw_words::draw;
 use clap::{Arg, ArgAction, Command};

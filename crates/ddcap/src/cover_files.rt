@@ -51,7 +51,7 @@ pub fn cover_files<R: Files + AllocGlobal, O: Write, E: Write>(
 // The hints of the rows that are counted.
 fn hints_of(layers: Layers) -> &'static [Hint]
     ensures both { layers ≡ Layers.Both → map hint_row result.now ≡ ORDER }
-    ensures station { layers ≡ Layers.Station → map hint_row result.now ≡ take 52 ORDER }
+    ensures station { layers ≡ Layers.Station → map hint_row result.now ≡ take 56 ORDER }
 {
     match layers {
         Layers::Both | Layers::Queued => all_hints(),

@@ -12,7 +12,7 @@ use std::alloc::Global;
 use std::io::{Read, Seek, Write};
 use wire_base::Tally;
 
-/// Judges the captures that two files give from where they stand, prints the rows of this range, and answers the status.
+/// Judges the captures that two files give from where they are, prints the rows of this range, and answers the status.
 ///
 /// The rows are printed to `out`, status 0 of an accepted pair, 1 of a refused one. A fault is printed to `err` as `check` prints it. A failed write
 /// ends the printing, with status 3.

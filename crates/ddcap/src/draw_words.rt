@@ -1,4 +1,4 @@
-//! The words behind `draw`.
+//! The words after `draw`.
 
 ghost use Rattle.std.specs.Prelude.{◌≤◌, IfSome};
 ghost use Rattle.drawing.specs.declared.range.TheConstants.{MAX_ROWS};

@@ -1,6 +1,6 @@
 //! The lines that the bytes of records tell of: where they are missing, and in front of which line they belong.
 
-use capture::Entry;
+use capture::{Entry, Fate};
 use ddcmp_msg::{Message, NakReason, Reading, read_unit};
 use dna_packet::{Nsp, Packet, Segment, read_nsp, read_packet};
 use edited::{Damage, Due, Row, Stretch};
@@ -12,7 +12,7 @@ const MESSAGES: usize = 4;
 /// A line that nobody sent, whose header shows damage.
 const BAD_HEADER: [u8; 1] = [0];
 
-/// A line that nobody sent, whose data are cut behind a good header.
+/// A line that nobody sent, whose data are cut after a good header.
 const BAD_BODY: [u8; 8] = [0x81, 0x01, 0x00, 0x00, 0x01, 0x01, 0xe3, 0x81];
 
 /// The lines that the record which a side comes to tells of, the likeliest first, but not `u start` and `u halt`, which are tried before any
@@ -129,7 +129,7 @@ fn add(
     Ok(())
 }
 
-// The last messages of this link that came whole in front of the record, each with the line behind the receipt that ended it, but those that go up
+// The last messages of this link that came whole in front of the record, each with the line after the receipt that ended it, except those that go up
 // in that line.
 fn add_messages(
     alloc: Global,
@@ -164,7 +164,11 @@ fn add_messages(
 
 // The segment of this link that was received, where its packet was kept.
 fn segment_kept(row: &Row, link: u16) -> Option<Segment<'_>> {
-    let Entry::Received { kept: true, .. } = row.entry else {
+    let Entry::Received {
+        fate: Fate::Kept,
+        ..
+    } = row.entry
+    else {
         return None;
     };
     let Reading::Sound(Message::Data { body, .. }) = read_unit(&row.bytes) else {

@@ -31,7 +31,7 @@ pub struct EndPrintout<'n> {
 
 /// Judges the capture that a reader gives without that of the other end, over these layers, prints what is answered and why, and answers the status.
 ///
-/// A pass and a fault are printed as `alone` does (of JSON objects `{"what": "passed"}` alone). Behind a refusal comes what is said of it; of a
+/// A pass and a fault are printed as `alone` does (of JSON objects `{"what": "passed"}` alone). After a refusal comes what is said of it; of a
 /// station alone no link is shown, and what packets of DECnet say is told all the same. The whole text is put together before the first write;
 /// where there is no memory for it, the answer is `out of memory`.
 pub fn why_end_to<A: Read, O: Write, E: Write>(

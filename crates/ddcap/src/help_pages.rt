@@ -11,7 +11,7 @@ pub const PROGRAM: &str = "\
   ddcap draw A B          draw the traffic between both ends
   ddcap show A            print what a capture says, one line per record
   ddcap play SCRIPT A B   write both captures of a script
-  ddcap convert N IN OUT  write a capture in format N: 1 or 2
+  ddcap convert N IN OUT  write a capture in format N: 1, 2 or 3
   ddcap align A B OUT_A OUT_B  find the hints of both captures by their bytes
   ddcap tap WIRE A B      make both captures from the bytes on a line
   ddcap help [WORD]       print this page, or the page of one command
@@ -19,8 +19,8 @@ pub const PROGRAM: &str = "\
 
 Status:
   0  done; from check, alone, why, cover, draw, tap: accepted or passed
-  1  from check, alone, why, cover, draw: refused; from tap: unexplained;
-     from align: a received unit was never sent
+  1  from check, alone, why, cover, draw: refused; from tap: unexplained or
+     apart; from align: a received unit was never sent
   2  the command, or a line of a file, is faulty
   3  a file failed, or memory ran out
 
@@ -48,8 +48,8 @@ It ends with status 0 and prints:
   3 received 0 stack flags c0
   4 sent ack flags 00 resp 0
 
-The number after received or kept is the hint: which unit of the other end
-this was, counted from 0.
+The number after received, kept or dropped is the hint: which unit of the
+other end this was, counted from 0.
 
 Status:
   0  all records were printed
@@ -88,10 +88,11 @@ Status:
 pub const CONVERT: &str = "\
 ddcap convert N IN OUT
 
-Writes the capture in the file IN into the file OUT, in format N: 1 or 2. They
-differ in the hints: in format 1 a hint is the number of a unit, in format 2
-its distance from the next one. IN may be in either format. The file OUT is
-created, or emptied first; if it is the same file as IN, nothing changes.
+Writes the capture in the file IN into the file OUT, in format N: 1, 2 or 3. A
+hint in format 1 or 3 is the number of a unit, in format 2 its distance from
+the next one. Format 3 alone has the lines u boot, u abort, u interrupt,
+u interrupted, d and x. IN may be in any format. The file OUT is created, or
+emptied first; if it is the same file as IN, nothing changes.
 
 Example, in the top folder of the sources:
 
@@ -103,7 +104,8 @@ It ends with status 0 and prints:
 
 Status:
   0  all records were written
-  2  a faulty line of IN, as a: line 3: syntax; OUT has the records before it
+  2  a faulty line of IN, as a: line 3: syntax, or one that format N does not
+     have, as a: line 7: not in format 2; OUT has the records before it
   3  a: cannot open (b: for OUT), b: same file as a, a: read failed, b: write
      failed, out of memory, or a failed write to standard output or error
 ";
@@ -112,9 +114,9 @@ pub const ALIGN: &str = "\
 ddcap align A B OUT_A OUT_B
 
 Finds the hints of both captures by the bytes, and writes the captures with
-them into OUT_A and OUT_B, in format 1. The hints of A and B are ignored: a
-recorder that counts no units writes r 0 BYTES or k 0 BYTES in format 2.
-Nothing but the hints changes.
+them into OUT_A and OUT_B, in format 1, or 3 if a line needs it. The hints of
+A and B are ignored: a recorder that counts no units writes r 0 BYTES or
+k 0 BYTES in format 2. Nothing but the hints changes.
 
 Example, in the top folder of the sources:
 
@@ -214,7 +216,8 @@ If it finds nothing that explains a unit, it names that unit. Unit 7 of a
   unexplained a unit 7 line 16: 7 WrongNumber
   no consistent explanation was found; this alone accuses neither node
 
-Both captures then end with that unit. Then: ddcap why A B
+It begins with apart: where each side is explained by itself. Both captures
+then end with that unit. Then: ddcap why --queued A B
 
 The nodes may have queues between NSP and DDCMP: docs/LINKS.md says more. With
 --line only DDCMP is judged: a packet may be any bytes. Units whose header
@@ -224,7 +227,7 @@ With --json the answer is one JSON object; docs/KEYS.md has its keys.
 
 Status:
   0  accepted
-  1  unexplained
+  1  unexplained, or apart
   2  a faulty line, as wire: line 3: syntax (or too long, too many), or a unit
      with too many possibilities before it: too wide a choice
   3  wire: cannot open: PATH (or a: or b:), b: same file as a, wire: read

@@ -115,7 +115,7 @@ Status:
 pub const COVER: &str = "\
 ddcap cover A B
 
-Judges a pair as check does, and counts which of the 80 rows of the rules each
+Judges a pair as check does, and counts which of the 88 rows of the rules each
 side went through. A pair that goes through few of them says little.
 
 Example, in the top folder of the sources:
@@ -125,8 +125,8 @@ Example, in the top folder of the sources:
 It ends with status 0 and prints:
 
   accepted
-  a went through 4 of 80 rows
-  b went through 4 of 80 rows
+  a went through 4 of 88 rows
+  b went through 4 of 88 rows
   row                                     a      b
   HALTED user start                       1      1
   ISTRT sends STRT                        2      .
@@ -147,7 +147,7 @@ with steps of a script that meet it; short names are explained at the end.
 
 With --line only DDCMP is judged, and rows of links are not counted. With
 --queued nodes with queues are judged, as by check. With --json the answer is
-one JSON object, with all 80 rows; docs/KEYS.md has its keys.
+one JSON object, with all 88 rows; docs/KEYS.md has its keys.
 
 Status:
   0  accepted

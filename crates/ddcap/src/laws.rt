@@ -20,7 +20,7 @@ ghost use Rattle.wire_base.specs.declared.side.Side.{Side as OfSide};
 use pair_player::starts_once_throughout;
 
 /// Of what is played into two empty captures, whatever the steps, the judge names no line as one that departs from the format. So it is of all
-/// that the player answers behind the head of a script, where no device and no memory failed.
+/// that the player answers after the head of a script, where no device and no memory failed.
 pub fn played_texts_stand()
     ensures reached { (text : Option (List ℕ)) (r : Reached) (written : Held) (answer : Answer) → HasPlayed text r →
         HasWritten empty_captures written r → IsAnswer both_layers written.a written.b answer → NamesNoText answer }
@@ -29,7 +29,7 @@ pub fn played_texts_stand()
 {}
 
 /// What is played into two empty captures, of steps that start each side at most once, the judge accepts, where neither memory nor a read fails
-/// him. So it is of all that the player answers behind the head of a script, where no device and no memory failed; and of the program: where
+/// it. So it is of all that the player answers after the head of a script, where no device and no memory failed; and of the program: where
 /// `play` ends with status 0, `check` of what it wrote ends with 0, or with 3 for want of memory or a failed device.
 pub fn played_is_accepted()
     ensures reached { (text : Option (List ℕ)) (r : Reached) (written : Held) (answer : Answer) →

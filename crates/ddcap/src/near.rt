@@ -10,10 +10,10 @@ use wire_base::{Side, Tally};
 /// How many records in front of one are near it.
 const BEFORE: u64 = 20;
 
-/// How many records behind it are near it.
+/// How many records after it are near it.
 const BEHIND: u64 = 8;
 
-/// How many receipts behind a record are kept at most.
+/// How many receipts after a record are kept at most.
 const MOST_RECEIPTS: usize = 4_096;
 
 /// How many bytes the kept receipts have at most.
@@ -93,7 +93,7 @@ pub fn near_of<R: Read + Seek>(
 }
 
 /// Reads a capture to its end, or to a line that departs, and keeps the record with this number, counted from 0, the last ones in front of it, the
-/// first ones behind it, the receipts behind it where they are few, and what is asked for. `Err`: the head departs, a read failed, or there is no
+/// first ones after it, the receipts after it where they are few, and what is asked for. `Err`: the head departs, a read failed, or there is no
 /// memory for what is near.
 pub fn records_near<R: Read>(
     alloc: Global,
@@ -103,6 +103,7 @@ pub fn records_near<R: Read>(
 ) -> Result<Near, CaptureFault> {
     let mut capture = CaptureReader::open(alloc, reader)?;
     let mut keeper = Keeper::new(alloc, place, asked, first_form(capture.format()));
+    keeper.head = (capture.own(), capture.peer());
     for number in 0..MAX_RECORDS + 1 {
         match capture.advance(reader) {
             Ok(Some(entry)) => match keeper.take(number, entry, capture.bytes()) {
@@ -121,6 +122,8 @@ pub fn records_near<R: Read>(
 #[derive(Drop)]
 struct Keeper {
     alloc: Global,
+    // the addresses of its node and of the peer
+    head: (u16, u16),
     place: u64,
     asked: Asked,
     unit: Option<Vec<u8>>,
@@ -139,6 +142,7 @@ impl Keeper {
     fn new(alloc: Global, place: u64, asked: Asked, form: HintForm) -> Keeper {
         Keeper {
             alloc,
+            head: (0, 0),
             place,
             asked,
             unit: None,
@@ -210,7 +214,7 @@ impl Keeper {
         Ok(())
     }
 
-    // Record i stands in line i + 2.
+    // Record i is on line i + 2.
     fn row(&self, number: u64, entry: Entry, bytes: &[u8]) -> Result<Row, AllocError> {
         Ok(Row {
             line: number.saturating_add(2),
@@ -224,12 +228,15 @@ impl Keeper {
     // The capture has so many records; where it has not ended there, a line departs.
     fn finish(self, records: u64, has_ended: bool) -> Near {
         let (has_all_later, receipts) = (self.has_all_later, self.later);
+        let (own, peer) = self.head;
         let later = match has_all_later {
             true => Some(receipts),
             false => None,
         };
         Near {
             stretch: Stretch {
+                own,
+                peer,
                 line: self.place.saturating_add(2),
                 rows: self.rows,
                 later,
@@ -246,16 +253,17 @@ impl Keeper {
 fn first_form(format: u8) -> HintForm {
     match format {
         2 => Format::Two.first_form(),
+        3 => Format::Three.first_form(),
         _ => Format::One.first_form(),
     }
 }
 
-// The form of the hint behind that one: in format 2 it is told from one more.
+// The form of the hint after that one: in format 2 it is told from one more.
 fn form_behind(form: HintForm, hint: u64) -> HintForm {
     match form {
         HintForm::Distance { .. } => HintForm::Distance {
             mark: hint.saturating_add(1),
         },
-        HintForm::Number => form,
+        HintForm::Number | HintForm::Wide => form,
     }
 }

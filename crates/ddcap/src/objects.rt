@@ -94,7 +94,7 @@ pub fn ended(mut object: Vec<u8>) -> Result<Vec<u8>, AllocError> {
     Ok(object)
 }
 
-/// Appends words as they stand.
+/// Appends words as they are.
 pub fn put(object: &mut Vec<u8>, words: &str) -> Result<(), AllocError> {
     object.extend_from_slice(words.as_bytes())
 }

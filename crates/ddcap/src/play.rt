@@ -18,11 +18,11 @@ const PLAYED: u8 = 0;
 /// Plays the script that a reader gives, writes both captures, prints how many steps it has, and answers the status.
 ///
 /// Status 0: `played N steps` is printed to `out`. Else a fault is printed to `err`: a line of the script that departs, its kind
-/// behind it, or whose step can't be made, `bad step` or `full`, status 2, or a failed read, `script: read failed`, status 3,
+/// after it, or whose step can't be made, `bad step` or `full`, status 2, or a failed read, `script: read failed`, status 3,
 /// where both captures have their heads and the records of all steps before it, and nothing where no head was read;
 /// `a: write failed` or `b: write failed`, status 3, where each capture has a beginning of those; or `out of memory`, status 3.
 /// A failed write to `out` or to `err` ends the printing, with status 3. The memory for the printed text is asked for first, so that
-/// no allocation comes behind a write to `out` or `err`.
+/// no allocation comes after a write to `out` or `err`.
 pub fn play_to<S: Read, A: Write, B: Write, O: Write, E: Write>(
     alloc: Global,
     script: &mut Tally<S>,

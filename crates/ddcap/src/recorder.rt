@@ -94,7 +94,7 @@ impl Tried {
 
 /// Judges the pair again, over these layers, under small edits of a recorder's mistakes near the refused record of this side, the likeliest first:
 /// at most 64, and none is begun once 500,000,000 bytes were read. Where one makes it a run, it is judged with one field of the refused unit changed
-/// too. Nothing is tried where a file can't be read again from its beginning, nor where fewer than [`FEW_RECORDS`] records stand behind the refused
+/// too. Nothing is tried where a file can't be read again from its beginning, nor where fewer than [`FEW_RECORDS`] records come after the refused
 /// one; and nothing more once a read failed. `AllocError` where there is no memory for an edit.
 pub fn try_edits<A: Read + Seek, B: Read + Seek>(
     alloc: Global,
@@ -249,7 +249,7 @@ fn what_is_left(near_a: Near, near_b: Near) -> (Option<Vec<u8>>, ComesLater) {
     (unit_a.or(unit_b), later)
 }
 
-// How many records of both captures stand behind the refused one.
+// How many records of both captures come after the refused one.
 fn records_behind(ends: &JudgedEnds, near_a: &Near, near_b: &Near) -> u64 {
     let left_a = near_a.records.saturating_sub(ends.records(Side::A));
     let left_b = near_b.records.saturating_sub(ends.records(Side::B));

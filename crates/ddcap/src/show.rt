@@ -31,7 +31,7 @@ pub enum Ending {
 ///
 /// The lines go to `out`, put together and written in large pieces. Status 0: the lines of all records were written. At a fault of the
 /// text the lines of the records before it are written, and then the fault to `err`: a faulty line and its kind, status 2; a failed
-/// read, behind all whole lines that the reader had given, or want of memory, status 3. A failed write ends the printing, with
+/// read, after all whole lines that the reader had given, or want of memory, status 3. A failed write ends the printing, with
 /// status 3. The memory for the pieces and for the reader's block is asked for before the first write; after that, nothing takes
 /// memory.
 pub fn show_to<A: Read, O: Write, E: Write>(

@@ -12,7 +12,7 @@ ghost use Rattle.ddcmp_msg.specs.Reading.{reading, reading_view};
 ghost use Rattle.ddcap.specs.declared.shown_line.TheConstants.{LINE};
 ghost use Rattle.ddcap.specs.Shown.{flags_digits, data_words, message_words, reading_words, unit_words, record_words, shown_line};
 
-use capture::{Entry, Page};
+use capture::{Entry, Fate, Page};
 use ddcmp_msg::{Flags, Message, Reading, read_unit};
 
 /// More bytes than a line has: two digits for each byte of a longest message, and some words and numbers.
@@ -41,12 +41,25 @@ fn put_entry(page: &mut Page, entry: Entry, bytes: &[u8])
             page.put(b" sent ");
             put_unit(page, bytes);
         }
-        Entry::Received { kept: false, hint } => {
+        Entry::Received {
+            fate: Fate::NotKept,
+            hint,
+        } => {
             page.put(b" received ");
             put_receipt(page, hint, bytes);
         }
-        Entry::Received { kept: true, hint } => {
+        Entry::Received {
+            fate: Fate::Kept,
+            hint,
+        } => {
             page.put(b" kept ");
+            put_receipt(page, hint, bytes);
+        }
+        Entry::Received {
+            fate: Fate::Dropped,
+            hint,
+        } => {
+            page.put(b" dropped ");
             put_receipt(page, hint, bytes);
         }
         Entry::Noise => {
@@ -61,6 +74,14 @@ fn put_entry(page: &mut Page, entry: Entry, bytes: &[u8])
         Entry::In { link } => put_message_event(page, b" user in ", link, bytes),
         Entry::Up { link } => put_message_event(page, b" user up ", link, bytes),
         Entry::Close { link } => put_field(page, b" user close ", u64::from(link)),
+        Entry::Boot => page.put(b" user boot"),
+        Entry::Abort { link } => put_field(page, b" user abort ", u64::from(link)),
+        Entry::Composed => {
+            page.put(b" composed");
+            put_message_bytes(page, bytes);
+        }
+        Entry::Interrupt { link } => put_message_event(page, b" user interrupt ", link, bytes),
+        Entry::Interrupted { link } => put_message_event(page, b" user interrupted ", link, bytes),
     }
 }
 
@@ -134,7 +155,7 @@ fn put_message(page: &mut Page, message: Message<'_>)
     }
 }
 
-// What a data message says, but for its body.
+// What a data message says, except for its body.
 fn put_data(page: &mut Page, flags: Flags, resp: u8, num: u8, count: usize)
     requires room { length page.old + 250 ≤ PAGE_SIZE }
     ensures bytes { page.new ≡ page.old ++ data_words flags resp num count }
@@ -169,7 +190,7 @@ fn put_flags(page: &mut Page, name: &[u8], flags: Flags)
     }
 }
 
-// A field behind its name.
+// A field after its name.
 fn put_field(page: &mut Page, name: &[u8], number: u64)
     requires room { length page.old + length name.now + 40 ≤ PAGE_SIZE }
     ensures bytes { page.new ≡ page.old ++ (name.now ++ decimal number) }
@@ -179,7 +200,7 @@ fn put_field(page: &mut Page, name: &[u8], number: u64)
     page.put_number(number);
 }
 
-// Two links behind the words of their event.
+// Two links after the words of their event.
 fn put_links(page: &mut Page, words: &[u8], partner: u16, link: u16)
     requires room { length page.old + length words.now + 81 ≤ PAGE_SIZE }
     ensures bytes { page.new ≡ page.old ++ (words.now ++ spaced (decimal partner) (decimal link)) }
@@ -189,7 +210,7 @@ fn put_links(page: &mut Page, words: &[u8], partner: u16, link: u16)
     put_field(page, b" ", u64::from(link));
 }
 
-// A link and its message behind the words of their event.
+// A link and its message after the words of their event.
 fn put_message_event(page: &mut Page, words: &[u8], link: u16, bytes: &[u8])
     requires short { length bytes.now ≤ MAX_MESSAGE }
     requires room { length page.old + length words.now + 131_111 ≤ PAGE_SIZE }

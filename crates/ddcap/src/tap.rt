@@ -23,7 +23,7 @@ use pair_judge::Verdict;
 use std::alloc::{AllocError, Global};
 use std::io::{Read, Write};
 use tap_answer::{
-    Told, premise_text, said_of, too_wide_text, unexplained_end_text, unexplained_text,
+    Told, apart_text, premise_text, said_of, too_wide_text, unexplained_end_text, unexplained_text,
 };
 use wire_base::{Side, Tally};
 use wire_tap::{Ending, TapFault, Tapped};
@@ -34,6 +34,17 @@ pub const ACCEPTED: u8 = 0;
 /// The status where they are not.
 pub const UNEXPLAINED: u8 = 1;
 
+/// Captures that a tap wrote.
+#[derive(Clone, Copy, Debug, PartialEq, Eq)]
+pub struct Captured {
+    /// How they end, and what was skipped.
+    pub tapped: Tapped,
+    /// Whether they were cut at a unit that is named.
+    pub is_cut: bool,
+    /// Whether each side is explained by itself.
+    pub is_apart: bool,
+}
+
 /// A refused record of captures that are to be cut there, before anything is printed.
 #[derive(Clone, Copy, Debug, PartialEq, Eq)]
 pub struct RefusedAt {
@@ -41,26 +52,25 @@ pub struct RefusedAt {
     pub place: u64,
 }
 
-/// Judges the captures that two readers give, which a tap wrote as `tapped` says, as those of nodes with queues, since nobody who taps a line sees when
-/// a node acts; prints the answer, and answers the status. Where they are refused,
-/// and `is_cut` does not say that they were cut for that, nothing is printed, and the answer is the refused record.
+/// Judges the captures that two readers give, which a tap wrote, as those of nodes with queues, since nobody who taps a line sees when a node acts;
+/// prints the answer, and answers the status. Where they are refused, and were not cut for that, nothing is printed, and the answer is the refused
+/// record.
 ///
-/// Printed to `out`: the verdict as `check_to` prints it, status 0, or `unexplained ..`, status 1, with what it rests on and what was skipped behind
-/// it. To `err`: `.. too wide a choice`, status 2, and the faults that `check_to` tells, with their statuses.
+/// Printed to `out`: the verdict as `check_to` prints it, status 0, or `unexplained ..` or `apart: ..`, status 1, each followed by what it rests on
+/// and what was skipped. To `err`: `.. too wide a choice`, status 2, and the faults that `check_to` tells, with their statuses.
 pub fn tap_to<A: Read, B: Read, O: Write, E: Write>(
     alloc: Global,
     a: &mut Tally<A>,
     b: &mut Tally<B>,
-    tapped: Tapped,
-    is_cut: bool,
+    captured: Captured,
     out: &mut Tally<O>,
     err: &mut Tally<E>,
 ) -> Result<u8, RefusedAt>
-    ensures checks { ChecksTap (layers_kind With) verdict_text_of tapped (streams (moved A.remaining a.old a.new) (moved B.remaining b.old b.new)
+    ensures checks { ChecksTap (layers_kind With) verdict_text_of captured (streams (moved A.remaining a.old a.new) (moved B.remaining b.old b.new)
         (moved O.contents out.old out.new) (moved E.contents err.old err.new)) result }
-    ensures cut { is_cut ≡ true → is_ok result ≡ true }
+    ensures cut { captured.is_cut ≡ true → is_ok result ≡ true }
 {
-    tap_over(alloc, Layers::Queued, a, b, tapped, is_cut, out, err)
+    tap_over(alloc, Layers::Queued, a, b, captured, out, err)
 }
 
 /// Judges stations and line alone, and prints the answer as `tap_to` does, with the verdict as `check_line_to` prints it.
@@ -68,16 +78,15 @@ pub fn tap_line_to<A: Read, B: Read, O: Write, E: Write>(
     alloc: Global,
     a: &mut Tally<A>,
     b: &mut Tally<B>,
-    tapped: Tapped,
-    is_cut: bool,
+    captured: Captured,
     out: &mut Tally<O>,
     err: &mut Tally<E>,
 ) -> Result<u8, RefusedAt>
-    ensures checks { ChecksTap stations_alone line_verdict_text_of tapped (streams (moved A.remaining a.old a.new) (moved B.remaining b.old b.new)
+    ensures checks { ChecksTap stations_alone line_verdict_text_of captured (streams (moved A.remaining a.old a.new) (moved B.remaining b.old b.new)
         (moved O.contents out.old out.new) (moved E.contents err.old err.new)) result }
-    ensures cut { is_cut ≡ true → is_ok result ≡ true }
+    ensures cut { captured.is_cut ≡ true → is_ok result ≡ true }
 {
-    tap_over(alloc, Layers::Station, a, b, tapped, is_cut, out, err)
+    tap_over(alloc, Layers::Station, a, b, captured, out, err)
 }
 
 // The same over these layers.
@@ -86,22 +95,21 @@ fn tap_over<A: Read, B: Read, O: Write, E: Write>(
     layers: Layers,
     a: &mut Tally<A>,
     b: &mut Tally<B>,
-    tapped: Tapped,
-    is_cut: bool,
+    captured: Captured,
     out: &mut Tally<O>,
     err: &mut Tally<E>,
 ) -> Result<u8, RefusedAt>
-    ensures checks { ChecksTap (nodes_of layers) (verdict_text_over layers) tapped (streams (moved A.remaining a.old a.new)
+    ensures checks { ChecksTap (nodes_of layers) (verdict_text_over layers) captured (streams (moved A.remaining a.old a.new)
         (moved B.remaining b.old b.new) (moved O.contents out.old out.new) (moved E.contents err.old err.new)) result }
-    ensures cut { is_cut ≡ true → is_ok result ≡ true }
+    ensures cut { captured.is_cut ≡ true → is_ok result ≡ true }
 {
     match judge_over(alloc, layers, a, b) {
         Ok(verdict) => {
-            if let Some(refused) = to_be_cut(tapped.ending, verdict, is_cut) {
+            if let Some(refused) = to_be_cut(captured.tapped.ending, verdict, captured.is_cut) {
                 return Err(refused);
             }
             let text = verdict_text(alloc, layers, verdict);
-            Ok(print_told(alloc, verdict, text, tapped, out, err))
+            Ok(print_told(alloc, verdict, text, captured, out, err))
         }
         Err(fault) => Ok(print_fault(alloc, fault, err)),
     }
@@ -144,17 +152,27 @@ fn print_told<O: Write, E: Write>(
     alloc: Global,
     verdict: Verdict,
     text: Result<String, AllocError>,
-    tapped: Tapped,
+    captured: Captured,
     out: &mut Tally<O>,
     err: &mut Tally<E>,
 ) -> u8
-    ensures { (words : List ℕ) → IfOk text (λ t. string_bytes t ≡ words) → TellsTold words tapped
-        (both_streams (moved O.contents out.old out.new) (moved E.contents err.old err.new)) (telling tapped.ending verdict) result }
+    ensures { (words : List ℕ) → IfOk text (λ t. string_bytes t ≡ words) → TellsTold words captured.tapped
+        (both_streams (moved O.contents out.old out.new) (moved E.contents err.old err.new))
+        (telling captured.is_apart captured.tapped.ending verdict) result }
 {
-    match said_of(tapped.ending, verdict) {
+    let Captured {
+        tapped,
+        is_apart,
+        ..
+    } = captured;
+    match said_of(tapped.ending, verdict, is_apart) {
         Told::Accepted => print_behind(alloc, text, tapped, ACCEPTED, out, err),
         Told::Unexplained { passed, reason } => {
             let text = unexplained_text(alloc, passed, reason);
+            print_behind(alloc, text, tapped, UNEXPLAINED, out, err)
+        }
+        Told::Apart { passed, reason } => {
+            let text = apart_text(alloc, passed, reason);
             print_behind(alloc, text, tapped, UNEXPLAINED, out, err)
         }
         Told::UnexplainedEnd { reason } => {
@@ -168,7 +186,7 @@ fn print_told<O: Write, E: Write>(
     }
 }
 
-// Prints a text, if there was memory for it, with what it rests on behind it, and answers the status.
+// Prints a text, if there was memory for it, with what it rests on after it, and answers the status.
 fn print_behind<O: Write, E: Write>(
     alloc: Global,
     text: Result<String, AllocError>,

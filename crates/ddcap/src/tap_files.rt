@@ -6,15 +6,19 @@ use crate::check_files::not_judged;
 use crate::fault_told::{FaultKind, FaultTold};
 use crate::files::{Named, Wanted, opened, opened_plain};
 use crate::layers::Layers;
-use crate::tap::{RefusedAt, print_no_unit, print_tap_fault, tap_line_to, tap_to};
+use crate::tap::{Captured, RefusedAt, print_no_unit, print_tap_fault, tap_line_to, tap_to};
+use crate::tap_apart::are_apart;
 use crate::tap_naming::named_unit;
 use crate::tap_object::tap_json_to;
+use crate::tap_turning::turn_one;
 use crate::telling::Form;
 use crate::written::{Beside, written_pair};
+use placing::{Explained, Turn};
 use std::io::Write;
 use std::rt::Files;
+use tap_answer::MOST_TURNS;
 use wire_base::{Side, Tally};
-use wire_tap::{Tapped, tap};
+use wire_tap::{Asked, Tapped, tap};
 
 /// The names of the files: what passed, and the captures to be written; and whether stations and line alone are judged.
 #[derive(Clone, Copy, Debug, PartialEq, Eq)]
@@ -35,8 +39,8 @@ impl TapPaths<'_> {
     }
 }
 
-/// Writes the captures of what passed, judges them as they were written, prints the answer, and answers the status. Where they are refused, they are
-/// written once more, as far as the unit that is named, and judged again.
+/// Writes the captures of what passed, judges them as they were written, prints the answer, and answers the status. Where they are refused, and
+/// starts that are turned do not mend it, they are written once more, as far as the unit that is named, and judged again.
 pub fn tap_files<R: Files + AllocGlobal, O: Write, E: Write>(
     rt: &R,
     form: Form,
@@ -58,28 +62,61 @@ fn tap_whole<R: Files + AllocGlobal, O: Write, E: Write>(
     out: &mut Tally<O>,
     err: &mut Tally<E>,
 ) -> Result<u8, FaultTold> {
-    let tapped = write_captures(rt, paths, None, err)?;
-    if tapped.is_silent() {
-        let status = print_no_unit(err);
-        return Err(FaultTold::of(Named::Wire, FaultKind::NoUnit, status));
-    }
-    match judge_captures(rt, form, paths, tapped, false, out, err)? {
-        Ok(status) => Ok(status),
-        Err(refused) => {
-            let unit = named_unit(rt, paths, tapped, refused, err)?;
-            let tapped = write_captures(rt, paths, Some(unit), err)?;
-            match judge_captures(rt, form, paths, tapped, true, out, err)? {
-                Ok(status) => Ok(status),
-                Err(_) => unreachable!(),
+    let mut turns = Vec::new(rt.alloc());
+    let mut named = (Side::A, 0);
+    for _ in 0..=MOST_TURNS {
+        let tapped = write_captures(rt, paths, Explained::Together, turns.as_slice(), None, err)?;
+        if tapped.is_silent() {
+            let status = print_no_unit(err);
+            return Err(FaultTold::of(Named::Wire, FaultKind::NoUnit, status));
+        }
+        let whole = Captured {
+            tapped,
+            is_cut: false,
+            is_apart: false,
+        };
+        match judge_captures(rt, form, paths, whole, out, err)? {
+            Ok(status) => return Ok(status),
+            Err(refused) => {
+                named = named_unit(rt, paths, turns.as_slice(), tapped, refused, err)?;
             }
         }
+        if turns.len() >= MOST_TURNS || !turn_one(rt, paths, &mut turns, named, err)? {
+            break;
+        }
+    }
+    tell_unit(rt, form, paths, turns.as_slice(), named, out, err)
+}
+
+// Writes the captures as far as this unit, with which they are refused, judges them, prints the answer, and answers the status.
+fn tell_unit<R: Files + AllocGlobal, O: Write, E: Write>(
+    rt: &R,
+    form: Form,
+    paths: TapPaths<'_>,
+    turns: &[Turn],
+    unit: (Side, u64),
+    out: &mut Tally<O>,
+    err: &mut Tally<E>,
+) -> Result<u8, FaultTold> {
+    let is_apart = are_apart(rt, paths, turns, unit, err)?;
+    let tapped = write_captures(rt, paths, Explained::Together, turns, Some(unit), err)?;
+    let cut = Captured {
+        tapped,
+        is_cut: true,
+        is_apart,
+    };
+    match judge_captures(rt, form, paths, cut, out, err)? {
+        Ok(status) => Ok(status),
+        Err(_) => unreachable!(),
     }
 }
 
-/// Writes the captures of what passed, to the end, or to this unit of that side.
+/// Writes the captures of what passed, explained so, to the end, or to this unit of that side.
 pub(crate) fn write_captures<R: Files + AllocGlobal, E: Write>(
     rt: &R,
     paths: TapPaths<'_>,
+    explained: Explained,
+    turns: &[Turn],
     last: Option<(Side, u64)>,
     err: &mut Tally<E>,
 ) -> Result<Tapped, FaultTold> {
@@ -93,13 +130,18 @@ pub(crate) fn write_captures<R: Files + AllocGlobal, E: Write>(
         Wanted::by_path(Named::B, paths.b),
     );
     let (mut a, mut b) = written_pair(rt, &beside, wanted_a, wanted_b, err)?;
+    let asked = Asked {
+        line_alone: paths.line_alone,
+        explained,
+        last,
+    };
     match tap(
         rt.alloc(),
         &mut Tally::new(wire),
         &mut a,
         &mut b,
-        paths.line_alone,
-        last,
+        asked,
+        turns,
     ) {
         Ok(tapped) => Ok(tapped),
         Err(fault) => {
@@ -114,12 +156,11 @@ fn judge_captures<R: Files + AllocGlobal, O: Write, E: Write>(
     rt: &R,
     form: Form,
     paths: TapPaths<'_>,
-    tapped: Tapped,
-    is_cut: bool,
+    captured: Captured,
     out: &mut Tally<O>,
     err: &mut Tally<E>,
 ) -> Result<Result<u8, RefusedAt>, FaultTold>
-    ensures { IfOk result (λ told. is_cut ≡ true → is_ok told ≡ true) }
+    ensures { IfOk result (λ told. captured.is_cut ≡ true → is_ok told ≡ true) }
 {
     let mut a = opened(rt, Wanted::by_path(Named::A, paths.a), err)?;
     let mut b = opened(rt, Wanted::by_path(Named::B, paths.b), err)?;
@@ -131,14 +172,13 @@ fn judge_captures<R: Files + AllocGlobal, O: Write, E: Write>(
             paths.wire,
             &mut a,
             &mut b,
-            tapped,
-            is_cut,
+            captured,
             out,
             err,
         ));
     }
     if paths.line_alone {
-        return Ok(tap_line_to(rt.alloc(), &mut a, &mut b, tapped, is_cut, out, err));
+        return Ok(tap_line_to(rt.alloc(), &mut a, &mut b, captured, out, err));
     }
-    Ok(tap_to(rt.alloc(), &mut a, &mut b, tapped, is_cut, out, err))
+    Ok(tap_to(rt.alloc(), &mut a, &mut b, captured, out, err))
 }

@@ -8,6 +8,7 @@ use crate::layers::judge_over;
 use crate::tap::{RefusedAt, refused_at};
 use crate::tap_files::{TapPaths, write_captures};
 use capture::CaptureFault;
+use placing::{Explained, Turn};
 use std::io::Write;
 use std::rt::Files;
 use tap_answer::units_before;
@@ -22,7 +23,7 @@ pub type Unit = (Side, u64);
 
 // How many units of both sides captures have.
 #[derive(Clone, Copy, Debug, PartialEq, Eq)]
-struct Reach {
+pub(crate) struct Reach {
     a: u64,
     b: u64,
 }
@@ -47,6 +48,7 @@ impl Reach {
 pub fn named_unit<R: Files + AllocGlobal, E: Write>(
     rt: &R,
     paths: TapPaths<'_>,
+    turns: &[Turn],
     tapped: Tapped,
     refused: RefusedAt,
     err: &mut Tally<E>,
@@ -54,9 +56,9 @@ pub fn named_unit<R: Files + AllocGlobal, E: Write>(
     let mut high = Reach::of(tapped);
     let mut unit = unit_of(rt, paths, refused, err)?;
     for _ in 0..MOST_CUTS {
-        let (cut, again) = judge_cut(rt, paths, unit, err)?;
+        let (cut, again) = judge_cut(rt, paths, turns, unit, err)?;
         let Some(refused) = again else {
-            return unit_between(rt, paths, cut, high, err);
+            return unit_between(rt, paths, turns, cut, high, err);
         };
         let earlier = unit_of(rt, paths, refused, err)?;
         if earlier == unit {
@@ -73,6 +75,7 @@ pub fn named_unit<R: Files + AllocGlobal, E: Write>(
 fn unit_between<R: Files + AllocGlobal, E: Write>(
     rt: &R,
     paths: TapPaths<'_>,
+    turns: &[Turn],
     mut low: Reach,
     mut high: Reach,
     err: &mut Tally<E>,
@@ -83,11 +86,11 @@ fn unit_between<R: Files + AllocGlobal, E: Write>(
             break;
         }
         let mut middle = middle_unit(low, of_a, of_b);
-        let (mut cut, mut refused) = judge_cut(rt, paths, middle, err)?;
+        let (mut cut, mut refused) = judge_cut(rt, paths, turns, middle, err)?;
         if cut == high {
             // One unit of each side is left, and this one is the last of both.
             middle = (Side::B, low.b);
-            (cut, refused) = judge_cut(rt, paths, middle, err)?;
+            (cut, refused) = judge_cut(rt, paths, turns, middle, err)?;
         }
         match refused {
             None => low = cut,
@@ -114,14 +117,15 @@ fn last_unit(low: Reach, high: Reach) -> Unit {
     (Side::B, high.b.saturating_sub(1))
 }
 
-// Writes the captures that end with this unit, and judges them: how far they reach, and the refused record.
-fn judge_cut<R: Files + AllocGlobal, E: Write>(
+/// Writes the captures that end with this unit, and judges them: how far they reach, and the refused record. `Err`: a fault, which was told.
+pub(crate) fn judge_cut<R: Files + AllocGlobal, E: Write>(
     rt: &R,
     paths: TapPaths<'_>,
+    turns: &[Turn],
     unit: Unit,
     err: &mut Tally<E>,
 ) -> Result<(Reach, Option<RefusedAt>), FaultTold> {
-    let tapped = write_captures(rt, paths, Some(unit), err)?;
+    let tapped = write_captures(rt, paths, Explained::Together, turns, Some(unit), err)?;
     let mut a = opened(rt, Wanted::by_path(Named::A, paths.a), err)?;
     let mut b = opened(rt, Wanted::by_path(Named::B, paths.b), err)?;
     match judge_over(rt.alloc(), paths.layers(), &mut a, &mut b) {

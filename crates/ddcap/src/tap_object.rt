@@ -11,7 +11,7 @@ use crate::check::{print, print_fault, print_out_of_memory};
 use crate::fault_told::FaultTold;
 use crate::layers::{Layers, judge_over};
 use crate::objects::{begun, ended, put, put_counts, put_reason};
-use crate::tap::{ACCEPTED, RefusedAt, UNEXPLAINED, to_be_cut};
+use crate::tap::{ACCEPTED, Captured, RefusedAt, UNEXPLAINED, to_be_cut};
 use crate::text::FAULTY;
 use pair_judge::{Reason, Verdict};
 use std::alloc::{AllocError, Global};
@@ -28,20 +28,19 @@ pub fn tap_json_to<A: Read, B: Read, O: Write, E: Write>(
     name: &str,
     a: &mut Tally<A>,
     b: &mut Tally<B>,
-    tapped: Tapped,
-    is_cut: bool,
+    captured: Captured,
     out: &mut Tally<O>,
     err: &mut Tally<E>,
 ) -> Result<u8, RefusedAt>
-    ensures ends { IfOk result (EndsAsTapped (nodes_of layers) tapped (A.remaining (tally_lent a.old)) (B.remaining (tally_lent b.old))) }
-    ensures cut { is_cut ≡ true → is_ok result ≡ true }
+    ensures ends { IfOk result (EndsAsTapped (nodes_of layers) captured (A.remaining (tally_lent a.old)) (B.remaining (tally_lent b.old))) }
+    ensures cut { captured.is_cut ≡ true → is_ok result ≡ true }
 {
     match judge_over(alloc, layers, a, b) {
         Ok(verdict) => {
-            if let Some(refused) = to_be_cut(tapped.ending, verdict, is_cut) {
+            if let Some(refused) = to_be_cut(captured.tapped.ending, verdict, captured.is_cut) {
                 return Err(refused);
             }
-            Ok(print_tapped(alloc, layers, name, verdict, tapped, out, err))
+            Ok(print_tapped(alloc, layers, name, verdict, captured, out, err))
         }
         Err(fault) => {
             let status = print_fault(alloc, fault, err);
@@ -57,23 +56,32 @@ fn print_tapped<O: Write, E: Write>(
     layers: Layers,
     name: &str,
     verdict: Verdict,
-    tapped: Tapped,
+    captured: Captured,
     out: &mut Tally<O>,
     err: &mut Tally<E>,
 ) -> u8
-    ensures { EndsWith (told_status (telling tapped.ending verdict)) result }
+    ensures { EndsWith (told_status (telling captured.is_apart captured.tapped.ending verdict)) result }
 {
-    match said_of(tapped.ending, verdict) {
+    let Captured {
+        tapped,
+        is_apart,
+        ..
+    } = captured;
+    match said_of(tapped.ending, verdict, is_apart) {
         Told::Accepted => {
             let object = accepted_object(alloc, layers, name, verdict, tapped);
             print_object(object, ACCEPTED, out, err)
         }
         Told::Unexplained { passed, reason } => {
-            let object = unexplained_object(alloc, name, Some(passed), reason, tapped);
+            let object = refused_object(alloc, "unexplained", name, Some(passed), reason, tapped);
+            print_object(object, UNEXPLAINED, out, err)
+        }
+        Told::Apart { passed, reason } => {
+            let object = refused_object(alloc, "apart", name, Some(passed), reason, tapped);
             print_object(object, UNEXPLAINED, out, err)
         }
         Told::UnexplainedEnd { reason } => {
-            let object = unexplained_object(alloc, name, None, reason, tapped);
+            let object = refused_object(alloc, "unexplained", name, None, reason, tapped);
             print_object(object, UNEXPLAINED, out, err)
         }
         Told::TooWide(passed) => {
@@ -110,14 +118,15 @@ fn accepted_object(
 }
 
 // They are refused, for this reason, and end with this unit, if one is named.
-fn unexplained_object(
+fn refused_object(
     alloc: Global,
+    answer: &str,
     name: &str,
     passed: Option<Passed>,
     reason: Reason,
     tapped: Tapped,
 ) -> Result<Vec<u8>, AllocError> {
-    let mut object = begun(alloc, "unexplained", name)?;
+    let mut object = begun(alloc, answer, name)?;
     match passed {
         Some(passed) => put_unit(alloc, &mut object, passed)?,
         None => put(

@@ -12,7 +12,7 @@ use crate::layers::{Layers, failed_over, watch_over};
 use crate::queued_too::with_queues_too;
 use crate::recorder::{ComesLater, Tried, try_edits};
 use crate::text::{FAILED, verdict_text};
-use capture::Entry;
+use capture::{Entry, Fate};
 use ladder::{Drawn, Ladder, Sending, What};
 use pair_judge::{JudgedEnds, Reason, Summary, Verdict, Watched};
 use std::alloc::{AllocError, Global};
@@ -53,9 +53,9 @@ pub struct Printout<'n> {
     pub name_b: &'n str,
 }
 
-/// Judges the captures that two files give from where they stand, over these layers, prints what is answered and why, and answers the status.
+/// Judges the captures that two files give from where they are, over these layers, prints what is answered and why, and answers the status.
 ///
-/// An accepted pair and a fault are printed as `check` does (of JSON objects `{"what": "accepted"}` alone). Behind a refusal comes what is said of
+/// An accepted pair and a fault are printed as `check` does (of JSON objects `{"what": "accepted"}` alone). After a refusal comes what is said of
 /// it; small edits of both captures are judged as far as the files can be read again from their beginning. Where a read fails meanwhile, that is told
 /// last, with status 3. The whole text is put together before the first write; where there is no memory for it, the answer is `out of memory`.
 pub fn why_to<A: Read + Seek, B: Read + Seek, O: Write, E: Write>(
@@ -236,8 +236,11 @@ fn tell_later(ladder: &mut Ladder, later: &ComesLater) {
 
 fn tell_hints(ladder: &mut Ladder, side: Side, hints: &[u64]) {
     for hint in hints {
-        let hint = *hint;
-        ladder.follows(side, Entry::Received { kept: false, hint });
+        let entry = Entry::Received {
+            fate: Fate::NotKept,
+            hint: *hint,
+        };
+        ladder.follows(side, entry);
     }
 }
 

@@ -60,7 +60,7 @@ impl fmt::Display for CountsLine {
     }
 }
 
-/// A line that departs, as it is told behind its side.
+/// A line that departs, as it is told after its side.
 #[derive(Clone, Copy)]
 pub struct FaultyLine {
     pub kind: Departure,

@@ -130,7 +130,7 @@ pub fn task_of<'a, S: AsStr>(alloc: Global, words: &'a [S]) -> Result<Task<'a>, 
     }
 }
 
-// What the words behind `draw` ask for.
+// What the words after `draw` ask for.
 fn drawn_of<'a>(found: &ArgMatches<'a>) -> Result<Task<'a>, WordsFault> {
     match drawing_asked(found) {
         Ok(asked) => Ok(Task::Draw(asked)),
@@ -138,7 +138,7 @@ fn drawn_of<'a>(found: &ArgMatches<'a>) -> Result<Task<'a>, WordsFault> {
     }
 }
 
-// The conversion that the words behind `convert` ask for: the format's number has one spelling.
+// The conversion that the words after `convert` ask for: the format's number has one spelling.
 fn conversion_of<'a>(found: &ArgMatches<'a>) -> Result<Task<'a>, WordsFault> {
     let (Some(number), Some(a), Some(b)) = (
         found.get_str("N"),
@@ -158,11 +158,16 @@ fn conversion_of<'a>(found: &ArgMatches<'a>) -> Result<Task<'a>, WordsFault> {
             a,
             b,
         }),
+        "3" => Ok(Task::Convert {
+            to: Format::Three,
+            a,
+            b,
+        }),
         _ => Err(WordsFault::BadWords),
     }
 }
 
-// The script and the captures that the words behind `play` name.
+// The script and the captures that the words after `play` name.
 fn played_of<'a>(found: &ArgMatches<'a>) -> Result<Task<'a>, WordsFault> {
     match (
         found.get_str("SCRIPT"),
@@ -174,7 +179,7 @@ fn played_of<'a>(found: &ArgMatches<'a>) -> Result<Task<'a>, WordsFault> {
     }
 }
 
-// The captures that the words behind `align` name, and the files that are written.
+// The captures that the words after `align` name, and the files that are written.
 fn alignment_asked<'a>(found: &ArgMatches<'a>) -> Result<Task<'a>, WordsFault> {
     match (
         found.get_str("A"),
@@ -192,7 +197,7 @@ fn alignment_asked<'a>(found: &ArgMatches<'a>) -> Result<Task<'a>, WordsFault> {
     }
 }
 
-// The page that the word behind `help` asks for; with no word, that of the whole.
+// The page that the word after `help` asks for; with no word, that of the whole.
 fn help_of<'a>(found: &ArgMatches<'a>) -> Result<Task<'a>, WordsFault> {
     let topic = match found.get_str("WORD") {
         None => Topic::Program,
@@ -213,7 +218,7 @@ fn help_of<'a>(found: &ArgMatches<'a>) -> Result<Task<'a>, WordsFault> {
     Ok(Task::Help { topic })
 }
 
-// The reason that the word behind `explain` names, by its number, which has one spelling, or by its name.
+// The reason that the word after `explain` names, by its number, which has one spelling, or by its name.
 fn explanation_asked<'a>(alloc: Global, found: &ArgMatches<'a>) -> Result<Task<'a>, WordsFault> {
     let Some(word) = found.get_str("N") else {
         return Err(WordsFault::BadWords);

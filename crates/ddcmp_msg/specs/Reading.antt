@@ -27,7 +27,7 @@ reading_view variants.HeaderBad = HeaderBad
 reading_view variants.DataBad = DataBad
 reading_view (variants.Malformed departure) = Malformed departure
 
--- The body of a message that was read is no copy: it lies in the bytes that were read, behind the eight of the header.
+-- The body of a message that was read is no copy: it lies in the bytes that were read, after the eight of the header.
 abbrev pub BodyLiesIn : Message → Bor (List ℕ) → Type 0
 BodyLiesIn (messages.Data flags resp num body) unit = (body.ref_ptr.0 ≡ unit.ref_ptr.0) × (body.ref_ptr.1 ≡ unit.ref_ptr.1 + 8)
 BodyLiesIn message unit = Unit {0}
@@ -82,7 +82,7 @@ if_address address message = if address == ADDRESS then Sound message else Malfo
 abbrev pub data_message : List ℕ → MessageValue
 data_message unit = Data (unit_flags unit) (receiver_of unit) (sender_of unit) (slice_range unit 8 (8 + count_of unit))
 
--- behind SOH: COUNT, the data with their check, the end, and the address
+-- after SOH: COUNT, the data with their check, the end, and the address
 abbrev pub data_reading : List ℕ → ReadingValue
 data_reading unit =
     if count_of unit == 0 then Malformed WrongLength
@@ -105,7 +105,7 @@ plain_reading type unit =
     else (if type == 7 then if_zero (receiver_of unit) (if_zero (sender_of unit) (if_address (address_of unit) (Stack (unit_flags unit))))
     else Malformed UnknownType)))
 
--- behind ENQ: the end, TYPE and SUBTYPE, and the bytes of one value
+-- after ENQ: the end, TYPE and SUBTYPE, and the bytes of one value
 abbrev pub control_reading : List ℕ → ReadingValue
 control_reading unit =
     if nat_lt 8 (length unit) then Malformed WrongLength

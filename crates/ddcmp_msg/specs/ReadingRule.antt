@@ -16,7 +16,7 @@ pub record HasGoodHeader (unit : List ℕ) : Type 0 where
   pub long : 8 ≤ length unit
   pub check : HasGoodCheck (take 8 unit)
 
--- behind the header the data are there, as many as COUNT says, and their check
+-- after the header the data are there, as many as COUNT says, and their check
 pub record HasGoodData (unit : List ℕ) : Type 0 where
   pub long : count_of unit + 10 ≤ length unit
   pub check : HasGoodCheck (slice_range unit 8 (count_of unit + 10))
@@ -27,7 +27,7 @@ HasKnownType unit =
     (message : MessageValue) × (start_of (header message) ≡ ENQ) × (type_of (header message) ≡ type_of unit)
     × (subtype_of (header message) ≡ subtype_of unit)
 
--- the first departure of a unit whose header is good, and behind SOH with a COUNT its data too
+-- the first departure of a unit whose header is good, and after SOH with a COUNT its data too
 abbrev pub Departs : Departure → List ℕ → Type 0
 Departs UnknownStart unit = (start_of unit ≢ SOH) × (start_of unit ≢ ENQ) × (start_of unit ≢ DLE)
 Departs Maintenance unit = start_of unit ≡ DLE

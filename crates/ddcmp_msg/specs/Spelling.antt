@@ -37,7 +37,7 @@ header (Rep flags num) = control 3 0 flags 0 num
 header (Strt flags) = control 6 0 flags 0 0
 header (Stack flags) = control 7 0 flags 0 0
 
--- the field, and behind it two bytes that make its check good
+-- the field, and after it two bytes that make its check good
 abbrev pub IsChecked : List ℕ → List ℕ → Type 0
 IsChecked field bytes = (low high : ℕ) × (bytes ≡ field ++ low ∷ high ∷ []) × HasGoodCheck bytes
 
@@ -58,7 +58,7 @@ pub record IsUnit (message : MessageValue) (unit : List ℕ) : Type 0 where
 
 -- ---- the spelling as a function
 
--- a field and behind it its check
+-- a field and after it its check
 abbrev pub with_check : List ℕ → List ℕ
 with_check field = field ++ check_bytes field
 

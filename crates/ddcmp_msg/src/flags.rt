@@ -26,7 +26,7 @@ impl Flags {
         }
     }
 
-    /// The flags that stand in a byte. Bits 0 to 5 are not looked at.
+    /// The flags in a byte. Bits 0 to 5 are not looked at.
     pub fn from_byte(byte: u8) -> Flags
         ensures { result ≡ flags_of byte }
     {

@@ -30,9 +30,9 @@ pub enum Reading<'a> {
 ///
 /// 1. `HeaderBad`: it has fewer than eight bytes, or the block check of its first eight is wrong.
 /// 2. `Malformed`: the first byte is DLE (a maintenance message), or none of SOH, ENQ and DLE.
-/// 3. Behind SOH: COUNT is 0 (`Malformed`); the data and their check are cut, or the check is wrong (`DataBad`); bytes
+/// 3. After SOH: COUNT is 0 (`Malformed`); the data and their check are cut, or the check is wrong (`DataBad`); bytes
 ///    follow, or the address is not 1 (`Malformed`).
-/// 4. Behind ENQ, all `Malformed`: bytes follow; no message has the TYPE and SUBTYPE; a byte that has to be 0 is not, or
+/// 4. After ENQ, all `Malformed`: bytes follow; no message has the TYPE and SUBTYPE; a byte that has to be 0 is not, or
 ///    the address is not 1.
 /// 5. `Sound`: the bytes are the one unit of the message.
 ///

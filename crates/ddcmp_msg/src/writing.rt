@@ -12,7 +12,7 @@ use byteorder::{ByteOrder, LittleEndian};
 use std::alloc::{AllocError, Global};
 use wire_base::block_check;
 
-// Six bytes of a header, and behind them room for their check.
+// Six bytes of a header, and after them room for their check.
 type Header = ArrayVec<u8, 8>;
 
 /// The one unit of the message (DDCMP 4.1, message formats): its header and check, and of a data message the body and

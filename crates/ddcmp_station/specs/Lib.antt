@@ -1,4 +1,4 @@
--- What a contract sees of the types of this crate; the rules stand in `dna_station`
+-- What a contract sees of the types of this crate; the rules are in `dna_station`
 pub mod Arrival
 pub mod PeriodRules
 pub mod Permit

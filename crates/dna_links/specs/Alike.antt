@@ -1,4 +1,4 @@
--- Links of both sides but for what the queues leave open of them: what every run has, with queues or without.
+-- Links of both sides except for what the queues leave open of them: what every run has, with queues or without.
 use Rattle.std.specs.Prelude.{◌≡◌, ℕ, List, map}
 use Rattle.dna_links.specs.declared.queue.Queues.TheVariants.{With}
 use Rattle.dna_links.specs.Queues.{fresh}
@@ -20,7 +20,7 @@ bare_side own = record { links = bare_links own.links; sent = own.sent; front = 
 abbrev pub bare_world : LinkWorld → LinkWorld
 bare_world w = record { a = bare_side w.a; b = bare_side w.b }
 
--- steps of links with queues lead to a world that is this one but for that
+-- steps of links with queues lead to a world that is this one except for that
 pub record IsLedTo (start w : LinkWorld) (of_a of_b : List LinkEventValue) : Type 0 where
   pub world : LinkWorld
   pub reached : Reached With start world of_a of_b

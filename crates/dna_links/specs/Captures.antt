@@ -36,13 +36,13 @@ handed_in own events = until_given own (message_in own) events
 abbrev pub delivered_up : ℕ → List LinkEventValue → List (List ℕ)
 delivered_up own events = until_given own (message_up own) events
 
--- the events behind the one at this place
+-- the events after the one at this place
 abbrev pub behind : ℕ → List LinkEventValue → List LinkEventValue
 behind place [] = []
 behind zero (event ∷ events) = events
 behind (suc place) (event ∷ events) = behind place events
 
--- the event at this place gave the link its address, and behind it stands what was handed in and delivered there
+-- the event at this place gave the link its address, and after it comes what was handed in and delivered there
 pub record IsReadFrom (events : List LinkEventValue) (link : LinkOf TrueSegments) (place : ℕ) : Type 0 where
   pub event : LinkEventValue
   pub there : slice_get events place ≡ Some event

@@ -13,9 +13,9 @@ use Rattle.dna_links.specs.declared.queue.Queues.TheVariants.{Without, With}
 use Rattle.dna_links.specs.LookUps.{is_at}
 use Rattle.dna_links.specs.SegmentBook.{SegmentBook, Sending, Late, wider}
 use Rattle.dna_links.specs.Links.{LinkOf, LinksOf, LinkTruth, check, with_link, with_seen, begun, changed, in_phase, with_segments}
-use Rattle.dna_links.specs.Queues.{fresh, in_use, with_in_use, may_send, with_queue, goes_to, ends_by_message, drops, freed, shows, settled}
+use Rattle.dna_links.specs.Queues.{fresh, in_use, with_in_use, may_send, with_queue, goes_to, ends_by_message, drops, freed, booted, shows, settled}
 use Rattle.dna_links.specs.Table.{Ask, Finds, FindsEither, FindsNone, FindsInUse, KnowsInUse, InPhase, InTurn, OrElse, ForThisLink, OfThisPair, Delivers}
-use Rattle.dna_links.specs.Table.{SendsSegment, SendsAcks, Effect, OpenHere, GiveAddress, Connect, GoTo, End, Drop, Say, Settle, Keep, HandIn}
+use Rattle.dna_links.specs.Table.{SendsSegment, SendsAcks, Effect, OpenHere, GiveAddress, Connect, GoTo, End, Drop, EndAll, Say, Settle, Keep, HandIn}
 use Rattle.dna_links.specs.Table.{TakeSegment, TakeAcks, Row, Asks, user_row}
 use Rattle.dna_links.specs.User.{LinkEventValue}
 
@@ -48,6 +48,7 @@ module _ {D K : Type 0} (queues : Queues) (book : SegmentBook D K) where
   does truth link (GoTo phase) = goes_to book queues phase link
   does truth link End = ends_by_message book queues link
   does truth link Drop = drops book queues link
+  does truth link EndAll = link
   does truth link (Say said) = shows book said link
   does truth link (Settle own) = link
   does truth link Keep = link
@@ -135,6 +136,7 @@ module _ {D K : Type 0} (queues : Queues) (book : SegmentBook D K) where
   after s [] number link known = s
   after s (Settle own ∷ effects) number link known =
       with_link (HasAddress own) s s (λ n l. changed n (settled book l.queue.waits l) s)
+  after s (EndAll ∷ effects) number link known = booted book queues s
   after s (effect ∷ effects) None link known = begun link (others (effect ∷ effects) s)
   after s (effect ∷ effects) (Some number) link known = changed number link (others (effect ∷ effects) s)
 

@@ -1,4 +1,4 @@
--- The logical links of one node, over any book of their segments (NSP 4.0, ports). The rules stand in `Table`, and how
+-- The logical links of one node, over any book of their segments (NSP 4.0, ports). The rules are in `Table`, and how
 -- links go by them in `LinkBook`.
 use Rattle.std.specs.Prelude.{ℕ, Bool, true, false, Option, Some, None, List, [], ◌∷◌, ◌++◌, slice_get, slice_set, position, Result, Err}
 use Rattle.dna_packet.specs.Nsp.{NspValue}
@@ -39,7 +39,7 @@ pub record LinkTruth (K : Type 0) : Type 0 where
   pub tag : LinkTag
   pub known : K
 
--- a check that is not passed refuses; behind one that is passed come the next ones
+-- a check that is not passed refuses; after one that is passed come the next ones
 abbrev pub check : {R : Type 0} → Bool → LinkRefusal → Result R LinkRefusal → Result R LinkRefusal
 check true refusal next = next
 check false refusal next = Err refusal

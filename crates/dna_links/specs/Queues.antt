@@ -1,6 +1,6 @@
 -- What links do by their nodes' queues (NSP 4.0, port states). Without queues NSP acts on a message when DDCMP keeps it, and composes one when it is
 -- first sent. With queues a link may act later and compose earlier, each in order: a message is right if it was when it may have been composed.
-use Rattle.std.specs.Prelude.{Bool, true, false, ◌&&◌, ◌||◌, not, ℕ, Option, Some, None}
+use Rattle.std.specs.Prelude.{Bool, true, false, ◌&&◌, ◌||◌, not, ℕ, Option, Some, None, map}
 use Rattle.dna_links.specs.declared.port.Phase.{Phase}
 use Rattle.dna_links.specs.declared.port.Phase.TheVariants.{Calling, Confirming, Running, Disconnecting, Ended}
 use Rattle.dna_links.specs.declared.port.Port.{Port}
@@ -134,6 +134,14 @@ module _ {D K : Type 0} (book : SegmentBook D K) where
 
   abbrev pub freed : Queues → (own : ℕ) → LinksOf D → LinksOf D
   freed queues own s = with_link (HasAddress own) s s (λ number link. changed number (forgotten queues link) s)
+
+  -- The node starts anew: each link is over, nothing of it waits, and its address is nobody's. What it was handed and what it delivered stays
+  -- a matter of record
+  abbrev pub booted_link : Queues → LinkOf D → LinkOf D
+  booted_link queues link = forgotten queues (drops queues link)
+
+  abbrev pub booted : Queues → LinksOf D → LinksOf D
+  booted queues s = record s { links = map (booted_link queues) s.links }
 
   -- ---- what a message that is sent shows, with queues
 

@@ -1,7 +1,7 @@
 -- The links of both sides, and the packets that went from each to the other: all of a run that the links meet. Of stations, units and
 -- lines they know nothing but this: packets that are kept come in the order of their first sending, each at most once, and with what
--- was true of them then.
-use Rattle.std.specs.Prelude.{◌≡◌, ℕ, ◌+◌, ◌≤◌, Option, Some, None, List, [], ◌∷◌, ◌++◌, slice_get, Ok}
+-- was true of them then; some are lost before the links, and some that the links made are never sent.
+use Rattle.std.specs.Prelude.{◌≡◌, ℕ, ◌+◌, ◌<◌, ◌≤◌, Option, Some, None, List, [], ◌∷◌, ◌++◌, length, slice_get, Ok}
 use Rattle.dna_links.specs.declared.queue.Queues.{Queues}
 use Rattle.dna_links.specs.Links.{Carried, LinkTruth}
 use Rattle.dna_links.specs.User.{LinkEventValue}
@@ -16,7 +16,7 @@ pub record SentMessage : Type 0 where
   pub truth : LinkTruth Numbers
 
 -- One side: its links; all packets that it ever first sent, by place, None for one that has no message of the links; and the place
--- behind the last packet that it kept
+-- after the last packet that it kept
 pub record LinkSide : Type 0 where
   pub links : Links
   pub sent : List (Option SentMessage)
@@ -41,10 +41,14 @@ pub data LinkStep (queues : Queues) (own other : LinkSide) : List LinkEventValue
   Sends : (packet : Carried) (made : Sent TrueSegments Numbers) → links_sent queues own.links packet ≡ Ok made →
       LinkStep queues own other [] (sends own made.links (Some (record { packet = packet; truth = made.truth })))
   SendsNone : LinkStep queues own other [] (sends own own.links None)
-  -- a packet is kept: it lies at or behind the front, and is the one that was first sent there, with its truth
+  -- a packet is composed and never sent: for the links it is one that is first sent, and it has no place
+  Composes : (packet : Carried) (made : Sent TrueSegments Numbers) → links_sent queues own.links packet ≡ Ok made →
+      LinkStep queues own other [] (record { links = made.links; sent = own.sent; front = own.front })
+  -- a packet is kept: it lies at or after the front, and is the one that was first sent there, with its truth
   Keeps : (place : ℕ) (unit : SentMessage) (links : Links) → own.front ≤ place → slice_get other.sent place ≡ Some (Some unit) →
       links_arrived queues of_partner own.links unit.packet unit.truth ≡ Ok links → LinkStep queues own other [] (keeps own links place)
-  KeepsNone : (place : ℕ) → own.front ≤ place → slice_get other.sent place ≡ Some None → LinkStep queues own other [] (keeps own own.links place)
+  -- a packet is kept that has no message of the links, or is lost before them
+  Passes : (place : ℕ) → own.front ≤ place → place < length other.sent → LinkStep queues own other [] (keeps own own.links place)
 
 -- What steps lead to, one after another on either side, with the events of each user in their order
 pub data Reached (queues : Queues) (start : LinkWorld) : LinkWorld → (of_a of_b : List LinkEventValue) → Type 0 where

@@ -1,4 +1,4 @@
--- What the tables of the links ask of the segments of one link, both ways: a book of them. The tables stand once over any book; `TrueSegments`
+-- What the tables of the links ask of the segments of one link, both ways: a book of them. The tables are written once, over any book; `TrueSegments`
 -- is the one on numbers without a bound, `WireSegments` the one that a node keeps. Numbers, windows and repeats: NSP 4.0, data segments and
 -- acknowledgements.
 use Rattle.std.specs.Prelude.{ℕ, ◌+◌, min, Bool, true, false, Option, List, Result, Ok, Err}

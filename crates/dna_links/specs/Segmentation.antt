@@ -24,7 +24,7 @@ same_piece p q = alike p.begins q.begins && (alike p.ends q.ends && bytes_eq p.b
 
 -- ---- what was handed in and is in no segment yet
 
--- The rest of the current message and the messages behind it; `begun` tells that a segment has begun the current one
+-- The rest of the current message and the messages after it; `begun` tells that a segment has begun the current one
 pub record Unsent : Type 0 where
   pub begun : Bool
   pub messages : List (List ℕ)
@@ -36,7 +36,7 @@ abbrev pub with_message : List ℕ → Unsent → Unsent
 with_message message u = record u { messages = u.messages ++ message ∷ [] }
 
 -- The next bytes of the current message, of which `rest` is left: the piece begins it exactly if nothing has begun it, ends it exactly
--- if nothing is left behind, and is empty only for an empty message
+-- if nothing is left after it, and is empty only for an empty message
 abbrev pub is_piece_of : Piece → Bool → List ℕ → Bool
 is_piece_of p begun rest =
     bytes_eq p.body (take (length p.body) rest)

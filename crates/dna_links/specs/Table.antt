@@ -1,5 +1,5 @@
 -- The rules of logical links, as tables to be laid beside the standard (NSP 4.0, session control interface, port states, message formats). A
--- row says what is asked, in this order, and then what is done. What its words mean stands in `LinkBook`, which link passes a test in `LookUps`.
+-- row says what is asked, in this order, and then what is done. What its words mean is in `LinkBook`, which link passes a test in `LookUps`.
 -- SERVICES, INFO, REASON and user data are never judged. Where the standard leaves a choice on what comes the table is the project's own: what is
 -- not named changes nothing, and a message that is acted on is of this pair of links, which no byte tells.
 use Rattle.std.specs.Prelude.{ℕ, Bool, ◌==◌, Option, Some, None, List, [], ◌∷◌}
@@ -14,8 +14,8 @@ use Rattle.dna_links.specs.declared.port.LinkTest.{LinkTest}
 use Rattle.dna_links.specs.declared.port.LinkTest.TheVariants.{HasAddress, LiveAt, TheLink, LiveTo, OpenedAt, CallingAt, CalledBy, BegunBy, ActedOn}
 use Rattle.dna_links.specs.declared.queue.Said.{Said}
 use Rattle.dna_links.specs.declared.queue.Said.TheVariants.{OfRun, Disconnect}
-use Rattle.dna_links.specs.LookUps.{is_connected, takes_messages}
-use Rattle.dna_links.specs.User.{LinkEventValue, Open, Accept, Reject, In, Up, Close}
+use Rattle.dna_links.specs.LookUps.{is_calling, is_connected, takes_messages}
+use Rattle.dna_links.specs.User.{LinkEventValue, Open, Accept, Reject, In, Up, Close, Abort, Boot}
 
 -- What is done with the link, or where none was found with one that begins
 pub data Effect : Type 0 where
@@ -25,6 +25,7 @@ pub data Effect : Type 0 where
   GoTo : Phase → Effect
   End : Effect  -- it is over, by what came
   Drop : Effect  -- it is over, and nothing of it waits
+  EndAll : Effect  -- all links are over, and none has an address any more
   Say : Said → Effect  -- it has come so far in what it sends
   Keep : Effect  -- what becomes of its segments as was asked is kept
   HandIn : (message : List ℕ) → Effect
@@ -68,6 +69,8 @@ user_row (Reject far own) =
 user_row (In own message) = Asks (found_in (LiveAt own) takes_messages) (HandIn message ∷ [])
 user_row (Up own message) = Asks (Finds (HasAddress own) (Some NoLink) ∷ Delivers message WrongDelivery ∷ []) (Keep ∷ [])
 user_row (Close own) = Asks (found_in (LiveAt own) is_connected) (GoTo Disconnecting ∷ [])
+user_row (Abort own) = Asks (found_in (LiveAt own) is_calling) (Drop ∷ [])
+user_row Boot = Asks [] (EndAll ∷ [])
 
 -- a message that is to be sent
 abbrev pub sending_row : NspValue → Row

@@ -32,7 +32,7 @@ pub record TrueSegments : Type 0 where
 pub record Numbers : Type 0 where
   -- what SEGNUM stands for; 0 where the message has none
   pub segment : ℕ
-  -- what its acknowledgement words stand for, but for those of the other subchannel
+  -- what its acknowledgement words stand for, except for those of the other subchannel
   pub acknowledgements : List ℕ
   -- the sender's own numbers after the sending, and its last acknowledgement before. No link goes by them
   pub given : ℕ

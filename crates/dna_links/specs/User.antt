@@ -12,6 +12,8 @@ pub data LinkEventValue : Type 0 where
   In : (link : ℕ) (message : List ℕ) → LinkEventValue
   Up : (link : ℕ) (message : List ℕ) → LinkEventValue
   Close : (link : ℕ) → LinkEventValue
+  Abort : (link : ℕ) → LinkEventValue
+  Boot : LinkEventValue
 
 abbrev pub view : LinkEvent → LinkEventValue
 view (rust.Open link) = Open link
@@ -20,6 +22,8 @@ view (rust.Reject partner link) = Reject partner link
 view (rust.In link message) = In link message.now
 view (rust.Up link message) = Up link message.now
 view (rust.Close link) = Close link
+view (rust.Abort link) = Abort link
+view rust.Boot = Boot
 
 -- The limits beyond those of the fields' types: addresses are from 1, and a message has a line in a capture
 abbrev pub IsInRange : LinkEventValue → Type 0
@@ -29,3 +33,5 @@ IsInRange (Reject partner link) = (1 ≤ partner) × (1 ≤ link)
 IsInRange (In link message) = (1 ≤ link) × (length message ≤ MAX_MESSAGE)
 IsInRange (Up link message) = (1 ≤ link) × (length message ≤ MAX_MESSAGE)
 IsInRange (Close link) = 1 ≤ link
+IsInRange (Abort link) = 1 ≤ link
+IsInRange Boot = Unit {0}

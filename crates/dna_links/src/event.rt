@@ -2,7 +2,7 @@
 
 use capture::MAX_MESSAGE;
 
-/// An event at a link. `link` is an address of this node, and `partner` one of the other node's: each is from 1 to 65,535.
+/// An event at a link, or a boot. `link` is an address of this node, and `partner` one of the other node's: each is from 1 to 65,535.
 /// A message has at most 65,535 bytes.
 #[derive(Clone, Copy, Debug, PartialEq, Eq)]
 pub enum LinkEvent<'a> {
@@ -18,6 +18,10 @@ pub enum LinkEvent<'a> {
     Up { link: u16, message: &'a [u8] },
     /// The link is closed from here.
     Close { link: u16 },
+    /// The call that was opened from here is given up.
+    Abort { link: u16 },
+    /// The node starts anew: all links are over, and no address is anybody's last any more.
+    Boot,
 }
 
 impl LinkEvent<'_> {
@@ -29,12 +33,14 @@ impl LinkEvent<'_> {
         ensures { IsTrue result ↔ IsInRange (view self.now) }
     {
         match self {
-            LinkEvent::Open { link } | LinkEvent::Close { link } => *link > 0,
+            LinkEvent::Open { link } | LinkEvent::Close { link } | LinkEvent::Abort { link } =>
+                *link > 0,
             LinkEvent::Accept { partner, link } | LinkEvent::Reject { partner, link } => *partner
                 > 0
                 && *link > 0,
             LinkEvent::In { link, message } | LinkEvent::Up { link, message } => *link > 0
                 && message.len() <= MAX_MESSAGE,
+            LinkEvent::Boot => true,
         }
     }
 }

@@ -9,6 +9,10 @@ use Rattle.two_nodes.specs.Cutting.{cut_half, cut_outcome}
 use Rattle.ddcmp_msg.specs.Message.{MessageValue}
 use Rattle.capture.specs.declared.record.Record.{Record}
 use Rattle.capture.specs.declared.event.Event.{Event}
+use Rattle.capture.specs.declared.event.Event.TheVariants as events
+use Rattle.capture.specs.declared.fate.Fate.{Fate}
+use Rattle.capture.specs.declared.fate.Fate.TheVariants.{NotKept, Kept, Dropped}
+use Rattle.capture.specs.Fates.{is_kept}
 use Rattle.dna_station.specs.declared.tag.Tag.{Tag}
 use Rattle.dna_links.specs.declared.tag.LinkTag.{LinkTag}
 use Rattle.dna_station.specs.declared.state.StationEvent.{StationEvent}
@@ -18,7 +22,6 @@ use Rattle.dna_station.specs.declared.refusal.StepRefusal.{StepRefusal}
 use Rattle.dna_station.specs.declared.link_refusal.LinkRefusal.{LinkRefusal}
 use Rattle.dna_station.specs.Table.{user_refusal, Change, SendPacket, change_of}
 use Rattle.dna_links.specs.declared.queue.Queues.{Queues}
-use Rattle.dna_node.proofs.Events.{by_event}
 use Rattle.dna_node.specs.TagRules.{judged_by}
 use Rattle.dna_station.specs.Station.{Station, PastPeriod, packets_of, all_given, after_event}
 use Rattle.dna_station.specs.Truth.{Truth, tag_of}
@@ -29,7 +32,7 @@ use Rattle.dna_station.specs.WireBook.{wire_after_sending, wire_arrival_refusal,
 use Rattle.dna_station.specs.Bounds.{IsWithin, IsBounded}
 use Rattle.dna_station.specs.Cut.{AreLabelled, cut, all_after}
 use Rattle.dna_station.specs.Machine.{unless_refused, step}
-use Rattle.dna_links.specs.User.{LinkEventValue}
+use Rattle.dna_links.specs.User.{LinkEventValue, Open, Accept, Reject, In, Up, Close, Abort, Boot}
 use Rattle.dna_links.specs.Sending as links_sending
 use Rattle.dna_links.specs.Links.{Carried}
 use Rattle.dna_links.specs.TrueSegments.{TrueSegments, Numbers}
@@ -43,9 +46,10 @@ use Rattle.dna_links.specs.Runs.{SentMessage}
 use Rattle.dna_links.specs.Bounds.{AreCutInStep}
 use Rattle.dna_node.specs.Content.{content}
 use Rattle.dna_node.specs.Layers.{Layers, LayersTruth, LayersNode, LayersUnit, with_station, with_links, first_sent, with_message, sends_first}
-use Rattle.dna_node.specs.Layers.{sends_again, sends_on, keeps, meets_on, layers_machine, unit_of_station, stations}
+use Rattle.dna_node.specs.Layers.{sends_again, sends_on, keeps, meets_on, with_composed, composes, layers_machine, unit_of_station, stations}
 use Rattle.dna_node.specs.WireLayers.{WireLayers, LayersTag, with_wire_station, with_wire_links, first_tagged, with_tag, wire_sends_first}
 use Rattle.dna_node.specs.WireLayers.{wire_sends_again, wire_sends_on, tag_or_none, wire_keeps_packet, wire_meets_on, wire_layers_machine}
+use Rattle.dna_node.specs.WireLayers.{with_wire_composed, wire_composes}
 use Rattle.dna_node.specs.LayersPair.{side_of}
 use Rattle.dna_node.specs.CutLayers.{tag_of_packet, with_tags, tagged_packets, cut_layers_by, tag_by, cut_truth, layers_seen_by}
 use Rattle.dna_station.proofs.Cut.Sending.{sending_labelled, sending_refusal_same, sending_same, first_same, label_same}
@@ -118,10 +122,42 @@ module _ (queues : Queues) where
         (with_links s (links_user queues s.links event))
     link_made event = ap (λ o. with_wire_links ((cut_layers_by queues) s) o) (sym (c.links.user event)) ∙ by_links s (links_user queues s.links event)
 
-    user_made : (event : Event) → (wire_layers_machine (judged_by queues)).user ((cut_layers_by queues) s) event ≡ layers_result ((layers_machine (judged_by queues)).user s event)
-    user_made = by_event (λ event. (wire_layers_machine (judged_by queues)).user ((cut_layers_by queues) s) event ≡ layers_result ((layers_machine (judged_by queues)).user s event))
-        (by_station Start (user_refusal s.station.state Start)) (by_station Halt (user_refusal s.station.state Halt))
-        (λ event link e. rw e (link_made link))
+    -- a boot halts the station, and ends the links
+    boot_made : with_wire_links (record ((cut_layers_by queues) s) { station = wire_after_event w Halt }) (wire_links_user queues (cut_links queues s.links) Boot)
+        ≡ layers_result (with_links (record s { station = after_event s.station Halt }) (links_user queues s.links Boot))
+    boot_made =
+        ap (λ o. with_wire_links (record ((cut_layers_by queues) s) { station = wire_after_event w Halt }) o) (sym (c.links.user Boot))
+        ∙ by_links (record s { station = after_event s.station Halt }) (links_user queues s.links Boot)
+
+    composed_made : (o : Result (links_sending.Sent TrueSegments Numbers) LinkRefusal) →
+        with_wire_composed ((cut_layers_by queues) s) (of_links.cut_sent queues o) ≡ layers_result (with_composed s o)
+    composed_made (Ok made) = refl
+    composed_made (Err refusal) = refl
+
+    packet_made : (r : Result (Option Carried) StepRefusal) →
+        wire_composes (judged_by queues) ((cut_layers_by queues) s) r ≡ layers_result (composes (judged_by queues) s r)
+    packet_made (Ok (Some packet)) =
+        ap (λ (o : Result (links_sending.Sent WireSegments (Unit {0})) LinkRefusal). with_wire_composed ((cut_layers_by queues) s) o)
+        (sym (c.links.sent packet))
+        ∙ composed_made (links_sent queues s.links packet)
+    packet_made (Ok None) = refl
+    packet_made (Err refusal) = refl
+
+    user_made : (event : Event) → (wire_layers_machine (judged_by queues)).user ((cut_layers_by queues) s) event
+        ≡ layers_result ((layers_machine (judged_by queues)).user s event)
+    user_made events.Start = by_station Start (user_refusal s.station.state Start)
+    user_made events.Halt = by_station Halt (user_refusal s.station.state Halt)
+    user_made (events.Open link) = link_made (Open link)
+    user_made (events.Accept partner link) = link_made (Accept partner link)
+    user_made (events.Reject partner link) = link_made (Reject partner link)
+    user_made (events.In link message) = link_made (In link message)
+    user_made (events.Up link message) = link_made (Up link message)
+    user_made (events.Close link) = link_made (Close link)
+    user_made events.Boot = boot_made
+    user_made (events.Abort link) = link_made (Abort link)
+    user_made (events.Composed packet) = packet_made (content packet)
+    user_made (events.Interrupt link message) = refl
+    user_made (events.Interrupted link message) = refl
 
     -- ---- a message is sent
 
@@ -204,15 +240,17 @@ module _ (queues : Queues) where
       left_station : cut all (after_arrival s.station arrival kept) ≡ ((cut_layers_by queues) left).station
       left_station = ap (λ (l : List (HeldPacket LinkTag)). cut l (after_arrival s.station arrival kept)) (sym packets_still)
 
-    header_made : (kept : Bool) → (wire_layers_machine (judged_by queues)).arrives ((cut_layers_by queues) s) HeaderBad kept ≡ layers_result
-        ((layers_machine (judged_by queues)).arrives s HeaderBad kept)
-    header_made true = refl
-    header_made false = ap (wire_left (cut_links queues s.links)) (sym (header_same all s.station false) ∙ left_station HeaderBad false)
+    header_made : (fate : Fate) → (wire_layers_machine (judged_by queues)).arrives ((cut_layers_by queues) s) HeaderBad fate ≡ layers_result
+        ((layers_machine (judged_by queues)).arrives s HeaderBad fate)
+    header_made Kept = refl
+    header_made Dropped = refl
+    header_made NotKept = ap (wire_left (cut_links queues s.links)) (sym (header_same all s.station false) ∙ left_station HeaderBad false)
 
-    data_bad_made : (kept : Bool) → (wire_layers_machine (judged_by queues)).arrives ((cut_layers_by queues) s) DataBad kept ≡ layers_result
-        ((layers_machine (judged_by queues)).arrives s DataBad kept)
-    data_bad_made true = refl
-    data_bad_made false = ap (wire_left (cut_links queues s.links)) (sym (data_bad_same all s.station false) ∙ left_station DataBad false)
+    data_bad_made : (fate : Fate) → (wire_layers_machine (judged_by queues)).arrives ((cut_layers_by queues) s) DataBad fate ≡ layers_result
+        ((layers_machine (judged_by queues)).arrives s DataBad fate)
+    data_bad_made Kept = refl
+    data_bad_made Dropped = refl
+    data_bad_made NotKept = ap (wire_left (cut_links queues s.links)) (sym (data_bad_same all s.station false) ∙ left_station DataBad false)
 
     module _ (hint : ℕ) (unit : LayersUnit) (there : slice_get other.sent hint ≡ Some unit) (ahead : own.state.front ≤ hint) where
       abbrev u : Truth
@@ -249,27 +287,29 @@ module _ (queues : Queues) where
           sym (arrival_same all s.station fits c.station.ordered unit.message u kept (within (not_crossed s.station unit.message u kept allowed)))
           ∙ left_station (Sound unit.message u) kept
 
-      abbrev wire_met : Bool → Result (WireStation LinkTag) StepRefusal → Result WireLayers StepRefusal
-      wire_met kept o = wire_meets_on (judged_by queues) ((cut_layers_by queues) s) (Sound unit.message (cut_truth unit.message unit.known)) kept o
+      abbrev wire_met : Fate → Result (WireStation LinkTag) StepRefusal → Result WireLayers StepRefusal
+      wire_met fate o = wire_meets_on (judged_by queues) ((cut_layers_by queues) s) (Sound unit.message (cut_truth unit.message unit.known)) fate o
 
-      by_arrival : (kept : Bool) (o : Option StationRefusal) → arrival_refusal (judged_by queues).periods s.station (Sound unit.message u) kept ≡ o →
-          wire_met kept (unless_refused o (wire_after_arrival w (Sound unit.message u.tag) kept))
-          ≡ layers_result (meets_on (judged_by queues) s (Sound unit.message unit.known) kept
-          (unless_refused o (after_arrival s.station (Sound unit.message u) kept)))
-      by_arrival true None allowed =
-          ap (λ (x : WireStation LinkTag). wire_met true (Ok x)) (station_left true allowed)
+      by_arrival : (fate : Fate) (o : Option StationRefusal) →
+          arrival_refusal (judged_by queues).periods s.station (Sound unit.message u) (is_kept fate) ≡ o →
+          wire_met fate (unless_refused o (wire_after_arrival w (Sound unit.message u.tag) (is_kept fate)))
+          ≡ layers_result (meets_on (judged_by queues) s (Sound unit.message unit.known) fate
+          (unless_refused o (after_arrival s.station (Sound unit.message u) (is_kept fate))))
+      by_arrival Kept None allowed =
+          ap (λ (x : WireStation LinkTag). wire_met Kept (Ok x)) (station_left true allowed)
           ∙ by_kept (after_arrival s.station (Sound unit.message u) true) (c.kept hint unit there ahead allowed)
-      by_arrival false None allowed = ap (λ (x : WireStation LinkTag). wire_met false (Ok x)) (station_left false allowed)
-      by_arrival kept (Some refusal) allowed = refl
+      by_arrival Dropped None allowed = ap (λ (x : WireStation LinkTag). wire_met Dropped (Ok x)) (station_left true allowed)
+      by_arrival NotKept None allowed = ap (λ (x : WireStation LinkTag). wire_met NotKept (Ok x)) (station_left false allowed)
+      by_arrival fate (Some refusal) allowed = refl
 
-      sound_made : (kept : Bool) →
-          wire_met kept (unless_refused (wire_arrival_refusal (judged_by queues).periods w (Sound unit.message u.tag) kept)
-          (wire_after_arrival w (Sound unit.message u.tag) kept))
-          ≡ layers_result ((layers_machine (judged_by queues)).arrives s (Sound unit.message unit.known) kept)
-      sound_made kept =
-          ap (λ (o : Option StationRefusal). wire_met kept (unless_refused o (wire_after_arrival w (Sound unit.message u.tag) kept)))
-          (sym (arrival_refusal_same {L = LinkTag} all (judged_by queues).periods s.station unit.message u kept within))
-          ∙ by_arrival kept (arrival_refusal (judged_by queues).periods s.station (Sound unit.message u) kept) refl
+      sound_made : (fate : Fate) →
+          wire_met fate (unless_refused (wire_arrival_refusal (judged_by queues).periods w (Sound unit.message u.tag) (is_kept fate))
+          (wire_after_arrival w (Sound unit.message u.tag) (is_kept fate)))
+          ≡ layers_result ((layers_machine (judged_by queues)).arrives s (Sound unit.message unit.known) fate)
+      sound_made fate =
+          ap (λ (o : Option StationRefusal). wire_met fate (unless_refused o (wire_after_arrival w (Sound unit.message u.tag) (is_kept fate))))
+          (sym (arrival_refusal_same {L = LinkTag} all (judged_by queues).periods s.station unit.message u (is_kept fate) within))
+          ∙ by_arrival fate (arrival_refusal (judged_by queues).periods s.station (Sound unit.message u) (is_kept fate)) refl
 
     -- ---- a record
 
@@ -277,7 +317,7 @@ module _ (queues : Queues) where
     layers_same = record {
       user = user_made;
       sending = sends_made;
-      sound = λ hint unit kept there ahead. sound_made hint unit there ahead kept;
+      sound = λ hint unit fate there ahead. sound_made hint unit there ahead fate;
       header_bad = header_made;
       data_bad = data_bad_made;
     }

@@ -5,7 +5,7 @@ use Rattle.std.specs.Prelude.{slice_get}
 use Rattle.std.proofs.lemmas.Bool.{eqb-false}
 use Rattle.std.proofs.lemmas.Grind.{flat_map-append}
 use Rattle.std.proofs.lemmas.List.{length_push}
-use Rattle.std.proofs.lemmas.Option.{same_Some, slice_get-map}
+use Rattle.std.proofs.lemmas.Option.{same_Some, slice_get-map, slice_get_within}
 use Rattle.two_nodes.specs.Nodes.{Half, World, Run}
 use Rattle.two_nodes.specs.Kept.{IsKept}
 use Rattle.two_nodes.specs.Cutting.{cut_half, cut_world}
@@ -15,6 +15,7 @@ use Rattle.two_nodes.proofs.Lasting.{lasts}
 use Rattle.ddcmp_msg.specs.Message.{MessageValue, Data}
 use Rattle.ddcmp_msg.specs.declared.nak_reason.NakReason.{NakReason}
 use Rattle.ddcmp_msg.specs.declared.nak_reason.NakReason.TheVariants.{HeaderCheck, DataCheck}
+use Rattle.capture.specs.Fates.{is_kept}
 use Rattle.capture.specs.declared.record.Record.{Record}
 use Rattle.dna_station.specs.declared.head.Head.{Head}
 use Rattle.dna_station.specs.declared.state.StationEvent.TheVariants.{Start, Halt}
@@ -27,8 +28,8 @@ use Rattle.dna_station.specs.Book.{ArrivalValue, Sound, HeaderBad, DataBad, body
 use Rattle.dna_station.specs.StationBook.{with_packet, does, after_sending, truth_of, gives_number, after_arrival, station_book}
 use Rattle.dna_station.specs.Bounds.{IsOrdered}
 use Rattle.dna_station.specs.Line.{SentUnit}
-use Rattle.dna_links.specs.User.{LinkEventValue}
-use Rattle.dna_links.specs.Runs.{SentMessage, LinkSide, LinkWorld, LinkStep, ByUser, Sends, SendsNone, Keeps, KeepsNone, Reached, Start as Begun, ByA}
+use Rattle.dna_links.specs.User.{LinkEventValue, Boot}
+use Rattle.dna_links.specs.Runs.{SentMessage, LinkSide, LinkWorld, LinkStep, ByUser, Sends, SendsNone, Composes, Keeps, Passes, Reached, Start as Begun, ByA}
 use Rattle.dna_node.specs.Layers.{Layers, LayersTruth, LayersNode, LayersUnit, of_place, carried_again, to_station, unit_of_station, stations}
 use Rattle.dna_node.specs.LayersPair.{layers_pair_by, layers_start, one_or_none, link_event_in, link_events, side_of, new_links_world, AreJoined}
 use Rattle.dna_station.proofs.Steps.Effects.{kept_by_all, does_stays}
@@ -37,7 +38,8 @@ use Rattle.dna_station.proofs.Steps.Happens.{happens}
 use Rattle.two_nodes.proofs.NumberedSteps.{at_pushed}
 use Rattle.dna_station.proofs.Bounds.Numbers.{is_data}
 use Rattle.dna_station.proofs.Delivery.PlacesInOrder.{BothPlaced, placed_kept, start_placed, IsBehind, LeftBehind, behind_left, behind_beside}
-use Rattle.dna_node.proofs.OnTop.{NoMessage, Message, NotKept, KeptNone, KeptOne, OnTop, ByStation, ByLinks, Again, First, Receipt, Counted, Unheard}
+use Rattle.dna_node.proofs.OnTop.{NoMessage, Message, NotKept, LostAbove, KeptNone, KeptOne, OnTop, ByStation, ByLinks, ByBoth, Composed, Carries}
+use Rattle.dna_node.proofs.OnTop.{Again, First, Receipt, Counted, Unheard}
 use Rattle.dna_node.proofs.OnTop.{follows}
 use Rattle.dna_links.proofs.Runs.Steps.{reached_exchanged}
 use Rattle.dna_node.proofs.Alike.{IsExchangeable, IsKeptByA, kept_alike}
@@ -129,6 +131,9 @@ module _ (queues : Queues) where
     told_left r h (Unheard bytes) = record { counted = t.counted; told = t.told }
     told_left r h (ByStation Start) = record { counted = t.counted ∙ sym (ap length (given_start s.station)); told = t.told }
     told_left r h (ByStation Halt) = record { counted = t.counted; told = t.told }
+    told_left r h (ByBoth links done) = record { counted = t.counted; told = t.told }
+    told_left r h (Composed body packet made done) = record { counted = t.counted; told = t.told }
+    told_left r h (Carries event none) = record { counted = t.counted; told = t.told }
     told_left r h (ByLinks event of_links links is done) = record { counted = t.counted; told = t.told }
     told_left r h (Again bytes m old) = record {
       counted = t.counted ∙ sym (ap length (given_again s.station m old));
@@ -142,8 +147,8 @@ module _ (queues : Queues) where
           (λ i x at. slice_get-append s.messages (carried ∷ []) i x at)
           (λ d. ap (slice_get (s.messages ++ carried ∷ [])) (first_place s.station m new ∙ sym t.counted) ∙ next_at s.messages [] carried);
     }
-    told_left r h (Receipt hint kept bytes unit arrival there links met) =
-        record { counted = t.counted ∙ sym (ap length (given_arrival s.station (to_station arrival) kept)); told = t.told }
+    told_left r h (Receipt hint fate bytes unit arrival there links met) =
+        record { counted = t.counted ∙ sym (ap length (given_arrival s.station (to_station arrival) (is_kept fate))); told = t.told }
 
   -- ---- what a record is to the links
 
@@ -166,11 +171,27 @@ module _ (queues : Queues) where
     kept_unit hint unit u there at =
         same_Some u (unit_of_station unit) (sym at ∙ slice_get-map unit_of_station other.sent hint ∙ ap (option_map unit_of_station) there)
 
+    -- its packet was first sent
+    passed : (hint : ℕ) (unit : LayersUnit) (u : SentUnit) → slice_get other.sent hint ≡ Some unit →
+        (slice_get (map unit_of_station other.sent) hint ≡ Some u) × (is_data u.message ≡ true) → u.known.place < length other.state.station.messages
+    passed hint unit u there at =
+        let same = kept_unit hint unit u there at.0 in
+        let d : is_data unit.message ≡ true = ap (λ (x : SentUnit). is_data x.message) (sym same) ∙ at.1 in
+        slice_get_within other.state.station.messages u.known.place unit.known.carried
+        (ap (λ (x : SentUnit). slice_get other.state.station.messages x.known.place) same ∙ theirs.told hint unit there d)
+
     moved : (r : Record) (h : Half LayersNode LayersUnit) → OnTop (judged_by queues) own other r h → Left h r → Moved own other h r front of_other
     moved r h (Counted bytes reason) l = record { front_left = front; moves = NoStep; behind = l }
     moved r h (Unheard bytes) l = record { front_left = front; moves = NoStep; behind = l }
     moved r h (ByStation Start) l = record { front_left = front; moves = NoStep; behind = l }
     moved r h (ByStation Halt) l = record { front_left = front; moves = NoStep; behind = l }
+    moved r h (ByBoth links done) l = record { front_left = front; moves = OneStep (ByUser Boot links done); behind = l }
+    moved r h (Composed body packet made done) l = record { front_left = front; moves = OneStep (Composes packet made done); behind = l }
+    moved r h (Carries event none) l = record {
+      front_left = front;
+      moves = subst (λ (x : Option LinkEventValue). Moves (side_of own front) (side_of other of_other) (one_or_none x) (side_of own front)) (sym none) NoStep;
+      behind = l;
+    }
     moved r h (ByLinks event of_links links is done) l = record {
       front_left = front;
       moves = subst (λ (x : Option LinkEventValue). Moves (side_of own front) (side_of other of_other) (one_or_none x) (side_of h front)) (sym is)
@@ -181,18 +202,12 @@ module _ (queues : Queues) where
     moved r h (First bytes m new links carried (NoMessage read)) l = record { front_left = front; moves = OneStep SendsNone; behind = l }
     moved r h (First bytes m new links carried (Message packet made read done)) l =
         record { front_left = front; moves = OneStep (Sends packet made done); behind = l }
-    moved r h (Receipt hint kept bytes unit arrival there links NotKept) l = record { front_left = front; moves = NoStep; behind = l }
-    moved r h (Receipt hint kept bytes unit arrival there links (KeptNone none)) l =
-        let same = kept_unit hint unit l.0 there (l.1).0 in
-        let place = ap (λ (x : SentUnit). x.known.place) same in
-        let d : is_data unit.message ≡ true = ap (λ (x : SentUnit). is_data x.message) (sym same) ∙ (l.1).1 in
-        record {
-          front_left = (l.0).known.place + 1;
-          moves = OneStep (KeepsNone (l.0).known.place l.2
-              (ap (slice_get other.state.station.messages) place ∙ theirs.told hint unit there d ∙ ap Some none));
-          behind = l.3;
-        }
-    moved r h (Receipt hint kept bytes unit arrival there links (KeptOne message left is done)) l =
+    moved r h (Receipt hint fate bytes unit arrival there links NotKept) l = record { front_left = front; moves = NoStep; behind = l }
+    moved r h (Receipt hint fate bytes unit arrival there links LostAbove) l =
+        record { front_left = (l.0).known.place + 1; moves = OneStep (Passes (l.0).known.place l.2 (passed hint unit l.0 there l.1)); behind = l.3 }
+    moved r h (Receipt hint fate bytes unit arrival there links (KeptNone none)) l =
+        record { front_left = (l.0).known.place + 1; moves = OneStep (Passes (l.0).known.place l.2 (passed hint unit l.0 there l.1)); behind = l.3 }
+    moved r h (Receipt hint fate bytes unit arrival there links (KeptOne message left is done)) l =
         let same = kept_unit hint unit l.0 there (l.1).0 in
         let place = ap (λ (x : SentUnit). x.known.place) same in
         let d : is_data unit.message ≡ true = ap (λ (x : SentUnit). is_data x.message) (sym same) ∙ (l.1).1 in

@@ -7,6 +7,7 @@ use Rattle.two_nodes.specs.Kept.{IsKept}
 use Rattle.two_nodes.specs.Cutting.{Commutes, cut_half, cut_outcome}
 use Rattle.ddcmp_msg.specs.Message.{MessageValue, Data}
 use Rattle.capture.specs.declared.record.Record.{Record}
+use Rattle.capture.specs.declared.fate.Fate.TheVariants.{Kept}
 use Rattle.capture.specs.declared.record.Record.TheVariants.{Received}
 use Rattle.dna_station.specs.declared.head.Head.{Head}
 use Rattle.dna_station.specs.Table.{SendPacket, change_of}
@@ -55,8 +56,8 @@ module _ (queues : Queues) where
           front = hint + 1;
         } in
         let l = behind_left (cut_half stations own) (cut_half stations other) sound partnered placed front behind
-        (Received hint true unit.bytes) (stepped (cut_half stations own) met)
-        (Receipt hint true unit.bytes (unit_of_station unit) (Sound unit.message unit.known.station) low_there ahead (Itself refl) allowed) in
+        (Received hint Kept unit.bytes) (stepped (cut_half stations own) met)
+        (Receipt hint Kept unit.bytes (unit_of_station unit) (Sound unit.message unit.known.station) low_there ahead (Itself refl) allowed) in
         let same : l.0 ≡ unit_of_station unit = same_Some l.0 (unit_of_station unit) (sym (l.1).0 ∙ low_there) in
         let d : is_data unit.message ≡ true = ap (λ (x : SentUnit). is_data x.message) (sym same) ∙ (l.1).1 in
         let here = told.told hint unit there d in

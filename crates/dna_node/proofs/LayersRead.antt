@@ -6,6 +6,7 @@ use Rattle.std.proofs.lemmas.Option.{slice_get_within}
 use Rattle.two_nodes.specs.Nodes.{Half, World}
 use Rattle.two_nodes.specs.Kept.{IsKept}
 use Rattle.ddcmp_msg.specs.Message.{MessageValue, Data}
+use Rattle.capture.specs.Fates.{is_kept}
 use Rattle.capture.specs.declared.record.Record.{Record}
 use Rattle.dna_station.specs.declared.head.Head.{Head}
 use Rattle.dna_station.specs.declared.state.StationEvent.TheVariants.{Start, Halt}
@@ -24,7 +25,8 @@ use Rattle.dna_node.specs.Layers.{LayersNode, LayersUnit, to_station}
 use Rattle.dna_node.specs.LayersPair.{layers_pair_by, layers_start}
 use Rattle.two_nodes.proofs.NumberedSteps.{at_pushed}
 use Rattle.dna_station.proofs.Bounds.Numbers.{is_data}
-use Rattle.dna_node.proofs.OnTop.{FirstSent, NoMessage, Message, OnTop, ByStation, ByLinks, Again, First, Receipt, Counted, Unheard, follows}
+use Rattle.dna_node.proofs.OnTop.{FirstSent, NoMessage, Message, OnTop, ByStation, ByLinks, ByBoth, Composed, Carries, Again, First, Receipt}
+use Rattle.dna_node.proofs.OnTop.{Counted, Unheard, follows}
 use Rattle.dna_node.proofs.Joined.{given_start, given_arrival, given_first, given_again, AreTold, LayersJoined}
 use Rattle.dna_node.proofs.Joined.{joined_exchanged, joined_kept, start_joined}
 use Rattle.dna_node.proofs.Alike.{IsExchangeable, IsKeptByA, kept_alike}
@@ -72,15 +74,18 @@ module _ (queues : Queues) where
     read_left r h (ByStation Start) = packets_same (all_given (after_event own.state.station.station Start)) (given_start own.state.station.station)
     read_left r h (ByStation Halt) = before
     read_left r h (ByLinks event of_links links is done) = before
+    read_left r h (ByBoth links done) = before
+    read_left r h (Composed body packet made done) = before
+    read_left r h (Carries event none) = before
     read_left r h (Again bytes m old) =
         packets_same (all_given (after_sending own.state.station.station m)) (given_again own.state.station.station m old)
     read_left r h (First bytes m new links carried made) =
         subst (AreReadAs (own.state.station.messages ++ carried ∷ [])) (sym (given_first own.state.station.station m new))
         (read_more own.state.station.messages (all_given own.state.station.station) carried (body_of m) t.counted
         (first_read queues own.state.station.links links (body_of m) carried made) before)
-    read_left r h (Receipt hint kept bytes unit arrival there links met) =
-        packets_same (all_given (after_arrival own.state.station.station (to_station arrival) kept))
-        (given_arrival own.state.station.station (to_station arrival) kept)
+    read_left r h (Receipt hint fate bytes unit arrival there links met) =
+        packets_same (all_given (after_arrival own.state.station.station (to_station arrival) (is_kept fate)))
+        (given_arrival own.state.station.station (to_station arrival) (is_kept fate))
 
   -- ---- a data message
 

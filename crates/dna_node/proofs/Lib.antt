@@ -1,6 +1,5 @@
 -- what a record does over both layers, and the links in every run
 pub mod Alike
-pub mod Events
 pub mod OnTop
 pub mod Joined
 -- the tags beside packets, and what is read of the packets

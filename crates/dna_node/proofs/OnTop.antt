@@ -14,6 +14,9 @@ use Rattle.ddcmp_msg.specs.declared.nak_reason.NakReason.TheVariants.{HeaderChec
 use Rattle.ddcmp_msg.specs.Message.{MessageValue}
 use Rattle.ddcmp_msg.specs.Reading.{ReadingValue, reading}
 use Rattle.ddcmp_msg.specs.Reading as read_as
+use Rattle.capture.specs.declared.fate.Fate.{Fate}
+use Rattle.capture.specs.declared.fate.Fate.TheVariants as fates
+use Rattle.capture.specs.Fates.{is_kept, is_met}
 use Rattle.capture.specs.declared.record.Record.{Record}
 use Rattle.capture.specs.declared.record.Record.TheVariants.{Sent, Received, Noise, User}
 use Rattle.capture.specs.declared.event.Event.{Event}
@@ -36,14 +39,15 @@ use Rattle.dna_station.specs.Machine.{does, user_step, sends, sent_step, met, co
 use Rattle.dna_station.specs.Node.{Node, station_machine}
 use Rattle.dna_station.specs.Pair.{pair}
 use Rattle.dna_links.specs.Links.{Carried}
-use Rattle.dna_links.specs.User.{LinkEventValue, Open, Accept, Reject, In, Up, Close}
+use Rattle.dna_links.specs.User.{LinkEventValue, Open, Accept, Reject, In, Up, Close, Boot, Abort}
 use Rattle.dna_links.specs.Sending as links_sending
 use Rattle.dna_links.specs.TrueSegments.{TrueSegments, Numbers}
 use Rattle.dna_links.specs.TrueLinks.{Links, links_user, links_sent, links_arrived}
 use Rattle.dna_links.specs.Runs.{SentMessage}
 use Rattle.dna_node.specs.Content.{content, link_event}
 use Rattle.dna_node.specs.Layers.{Layers, LayersTruth, LayersNode, LayersUnit, with_station, with_links, first_sent, with_message, sends_first}
-use Rattle.dna_node.specs.Layers.{sends_again, sends_on, to_station, keeps, meets_on, layers_machine, unit_of_station, stations}
+use Rattle.dna_node.specs.Layers.{sends_again, sends_on, to_station, keeps, meets_on, with_composed, composes, layers_machine, unit_of_station}
+use Rattle.dna_node.specs.Layers.{stations}
 use Rattle.dna_node.specs.LayersPair.{layers_pair_by}
 use Rattle.dna_station.proofs.Steps.Happens.{event_of}
 
@@ -54,12 +58,13 @@ pub data FirstSent (queues : Queues) (links : Links) (body : List ℕ) : Links �
       links_sent queues links packet ≡ Ok made →
       FirstSent queues links body made.links (Some (record { packet = packet; truth = made.truth }))
 
--- and of a receipt, by whether its packet was kept
-pub data IsMet (rules : Rules) (links : Links) (carried : Option SentMessage) : Bool → Links → Type 0 where
-  NotKept : IsMet rules links carried false links
-  KeptNone : carried ≡ None → IsMet rules links carried true links
+-- and of a receipt, by what became of its packet
+pub data IsMet (rules : Rules) (links : Links) (carried : Option SentMessage) : Fate → Links → Type 0 where
+  NotKept : IsMet rules links carried fates.NotKept links
+  LostAbove : IsMet rules links carried fates.Dropped links
+  KeptNone : carried ≡ None → IsMet rules links carried fates.Kept links
   KeptOne : (message : SentMessage) (left : Links) → carried ≡ Some message → links_arrived rules.queues rules.partners links message.packet message.truth ≡ Ok
-      left → IsMet rules links carried true left
+      left → IsMet rules links carried fates.Kept left
 
 abbrev pub sent_by : Half LayersNode LayersUnit → MessageValue → Station × Truth
 sent_by own m = (after_sending own.state.station.station m, truth_of own.state.station.station m)
@@ -75,17 +80,27 @@ pub data OnTop (rules : Rules) (own other : Half LayersNode LayersUnit) : Record
   ByLinks : (event : Event) (of_links : LinkEventValue) (links : Links) → link_event event ≡ Some of_links →
       links_user rules.queues own.state.station.links of_links ≡ Ok links →
       OnTop rules own other (User event) (stepped own (record own.state { station = record own.state.station { links = links } }))
+  ByBoth : (links : Links) → links_user rules.queues own.state.station.links Boot ≡ Ok links →
+      OnTop rules own other (User events.Boot)
+      (stepped own (record own.state {
+        station = record own.state.station { station = after_event own.state.station.station Halt; links = links };
+      }))
+  Composed : (body : List ℕ) (packet : Carried) (made : links_sending.Sent TrueSegments Numbers) →
+      links_sent rules.queues own.state.station.links packet ≡ Ok made →
+      OnTop rules own other (User (events.Composed body))
+      (stepped own (record own.state { station = record own.state.station { links = made.links } }))
+  Carries : (event : Event) → link_event event ≡ None → OnTop rules own other (User event) (stepped own own.state)
   Again : (bytes : List ℕ) (m : MessageValue) → gives_number own.state.station.station m ≡ false →
       OnTop rules own other (Sent bytes) (sent_with own bytes m (sends_again own.state.station m (sent_by own m)))
   First : (bytes : List ℕ) (m : MessageValue) → gives_number own.state.station.station m ≡ true → (links : Links) (carried : Option SentMessage) →
       FirstSent rules.queues own.state.station.links (body_of m) links carried →
       OnTop rules own other (Sent bytes) (sent_with own bytes m (first_sent own.state.station (sent_by own m) links carried))
-  Receipt : (hint : ℕ) (kept : Bool) (bytes : List ℕ) (unit : LayersUnit) (arrival : ArrivalValue LayersTruth) →
+  Receipt : (hint : ℕ) (fate : Fate) (bytes : List ℕ) (unit : LayersUnit) (arrival : ArrivalValue LayersTruth) →
       slice_get other.sent hint ≡ Some unit →
-      (links : Links) → IsMet rules own.state.station.links unit.known.carried kept links →
-      OnTop rules own other (Received hint kept bytes)
+      (links : Links) → IsMet rules own.state.station.links unit.known.carried fate links →
+      OnTop rules own other (Received hint fate bytes)
       (stepped own (record own.state {
-        station = record own.state.station { station = after_arrival own.state.station.station (to_station arrival) kept; links = links };
+        station = record own.state.station { station = after_arrival own.state.station.station (to_station arrival) (is_kept fate); links = links };
         front =
             hint + 1;
       }))
@@ -127,6 +142,24 @@ module _ (rules : Rules) (own other h : Half LayersNode LayersUnit) where
   by_links event of_links is (Ok links) done made = left _ _ (ByLinks event of_links links is done) made
   by_links event of_links is (Err refusal) done made = absurd cc
 
+  by_boot : (o : Result Links LinkRefusal) → links_user rules.queues s.links Boot ≡ o →
+      answered own other (does own.state (with_links (record s { station = after_event s.station Halt }) o)) ≡ Made h →
+      Follows (User events.Boot) (Made (stepped low (record low.state { station = after_event s.station Halt })))
+  by_boot (Ok links) done made = left _ _ (ByBoth links done) made
+  by_boot (Err refusal) done made = absurd cc
+
+  by_composed : (body : List ℕ) (packet : Carried) (o : Result (links_sending.Sent TrueSegments Numbers) LinkRefusal) →
+      links_sent rules.queues s.links packet ≡ o → answered own other (does own.state (with_composed s o)) ≡ Made h →
+      Follows (User (events.Composed body)) (Made (stepped low low.state))
+  by_composed body packet (Ok made) done is = left _ _ (Composed body packet made done) is
+  by_composed body packet (Err refusal) done is = absurd cc
+
+  by_packet : (body : List ℕ) (o : Result (Option Carried) StepRefusal) → answered own other (does own.state (composes rules s o)) ≡ Made h →
+      Follows (User (events.Composed body)) (Made (stepped low low.state))
+  by_packet body (Ok (Some packet)) made = by_composed body packet _ refl made
+  by_packet body (Ok None) made = left _ _ (Carries (events.Composed body) refl) made
+  by_packet body (Err refusal) made = absurd cc
+
   by_user : (event : Event) → answered own other (user_step (layers_machine rules) own.state event) ≡ Made h →
       Follows (User event) (answered low low_other (user_step (station_machine rules.periods) low.state event))
   by_user events.Start made = by_station Start (user_refusal s.station.state Start) made
@@ -137,6 +170,11 @@ module _ (rules : Rules) (own other h : Half LayersNode LayersUnit) where
   by_user (events.In link bytes) made = by_links (events.In link bytes) (In link bytes) refl _ refl made
   by_user (events.Up link bytes) made = by_links (events.Up link bytes) (Up link bytes) refl _ refl made
   by_user (events.Close link) made = by_links (events.Close link) (Close link) refl _ refl made
+  by_user (events.Abort link) made = by_links (events.Abort link) (Abort link) refl _ refl made
+  by_user events.Boot made = by_boot _ refl made
+  by_user (events.Composed body) made = by_packet body (content body) made
+  by_user (events.Interrupt link bytes) made = left _ _ (Carries (events.Interrupt link bytes) refl) made
+  by_user (events.Interrupted link bytes) made = left _ _ (Carries (events.Interrupted link bytes) refl) made
 
   -- ---- a message is sent
 
@@ -201,57 +239,60 @@ module _ (rules : Rules) (own other h : Half LayersNode LayersUnit) where
     by_kept : (arrival : ArrivalValue LayersTruth) (message : SentMessage) → unit.known.carried ≡ Some message → (o : Result Links LinkRefusal) →
         links_arrived rules.queues rules.partners s.links message.packet message.truth ≡ o →
         concluded own (met own.state (hint + 1) (with_links (record s { station = arrives_at arrival true }) o)) ≡ Made h →
-        Follows (Received hint true bytes) (Made (stepped low (record low.state { station = arrives_at arrival true; front = hint + 1 })))
-    by_kept arrival message is (Ok links) done made = left _ _ (Receipt hint true bytes unit arrival there links (KeptOne message links is done)) made
+        Follows (Received hint fates.Kept bytes) (Made (stepped low (record low.state { station = arrives_at arrival true; front = hint + 1 })))
+    by_kept arrival message is (Ok links) done made = left _ _ (Receipt hint fates.Kept bytes unit arrival there links (KeptOne message links is done)) made
     by_kept arrival message is (Err refusal) done made = absurd cc
 
     by_carried : (arrival : ArrivalValue LayersTruth) (carried : Option SentMessage) → unit.known.carried ≡ carried →
         concluded own (met own.state (hint + 1) (keeps rules (record s { station = arrives_at arrival true }) carried)) ≡ Made h →
-        Follows (Received hint true bytes) (Made (stepped low (record low.state { station = arrives_at arrival true; front = hint + 1 })))
+        Follows (Received hint fates.Kept bytes) (Made (stepped low (record low.state { station = arrives_at arrival true; front = hint + 1 })))
     by_carried arrival (Some message) is made = by_kept arrival message is _ refl made
-    by_carried arrival None is made = left _ _ (Receipt hint true bytes unit arrival there s.links (KeptNone is)) made
+    by_carried arrival None is made = left _ _ (Receipt hint fates.Kept bytes unit arrival there s.links (KeptNone is)) made
 
-    by_sound : (kept : Bool) (o : Option StationRefusal) →
+    by_sound : (fate : Fate) (o : Option StationRefusal) →
         concluded own (met own.state (hint + 1)
-        (meets_on rules s (Sound unit.message unit.known) kept (unless_refused o (arrives_at (Sound unit.message unit.known) kept)))) ≡ Made h →
-        Follows (Received hint kept bytes)
-        (concluded low (met low.state (hint + 1) (unless_refused o (arrives_at (Sound unit.message unit.known) kept))))
-    by_sound true None made = by_carried (Sound unit.message unit.known) unit.known.carried refl made
-    by_sound false None made = left _ _ (Receipt hint false bytes unit (Sound unit.message unit.known) there s.links NotKept) made
-    by_sound kept (Some refusal) made = absurd cc
+        (meets_on rules s (Sound unit.message unit.known) fate (unless_refused o (arrives_at (Sound unit.message unit.known) (is_kept fate))))) ≡ Made h →
+        Follows (Received hint fate bytes)
+        (concluded low (met low.state (hint + 1) (unless_refused o (arrives_at (Sound unit.message unit.known) (is_kept fate)))))
+    by_sound fates.Kept None made = by_carried (Sound unit.message unit.known) unit.known.carried refl made
+    by_sound fates.NotKept None made = left _ _ (Receipt hint fates.NotKept bytes unit (Sound unit.message unit.known) there s.links NotKept) made
+    by_sound fates.Dropped None made = left _ _ (Receipt hint fates.Dropped bytes unit (Sound unit.message unit.known) there s.links LostAbove) made
+    by_sound fate (Some refusal) made = absurd cc
 
-    by_damage : (kept : Bool) (r : ReadingValue) → concluded own (comes (layers_machine rules) own.state (hint + 1) kept (damage r)) ≡ Made h →
-        Follows (Received hint kept bytes) (concluded low (comes (station_machine rules.periods) low.state (hint + 1) kept (damage r)))
-    by_damage true read_as.HeaderBad made = absurd cc
-    by_damage false read_as.HeaderBad made = left _ _ (Receipt hint false bytes unit HeaderBad there s.links NotKept) made
-    by_damage true read_as.DataBad made = absurd cc
-    by_damage false read_as.DataBad made = left _ _ (Receipt hint false bytes unit DataBad there s.links NotKept) made
-    by_damage kept (read_as.Sound m) made = absurd cc
-    by_damage kept (read_as.Malformed departure) made = absurd cc
+    by_damage : (fate : Fate) (r : ReadingValue) → concluded own (comes (layers_machine rules) own.state (hint + 1) fate (damage r)) ≡ Made h →
+        Follows (Received hint fate bytes) (concluded low (comes (station_machine rules.periods) low.state (hint + 1) fate (damage r)))
+    by_damage fates.Kept read_as.HeaderBad made = absurd cc
+    by_damage fates.Dropped read_as.HeaderBad made = absurd cc
+    by_damage fates.NotKept read_as.HeaderBad made = left _ _ (Receipt hint fates.NotKept bytes unit HeaderBad there s.links NotKept) made
+    by_damage fates.Kept read_as.DataBad made = absurd cc
+    by_damage fates.Dropped read_as.DataBad made = absurd cc
+    by_damage fates.NotKept read_as.DataBad made = left _ _ (Receipt hint fates.NotKept bytes unit DataBad there s.links NotKept) made
+    by_damage fate (read_as.Sound m) made = absurd cc
+    by_damage fate (read_as.Malformed departure) made = absurd cc
 
-    by_coming : (kept same : Bool) (r : ReadingValue) →
-        concluded own (comes (layers_machine rules) own.state (hint + 1) kept (coming_by same unit r)) ≡ Made h →
-        Follows (Received hint kept bytes)
-        (concluded low (comes (station_machine rules.periods) low.state (hint + 1) kept (coming_by same (unit_of_station unit) r)))
-    by_coming kept true r made = by_sound kept (arrival_refusal rules.periods s.station (Sound unit.message unit.known.station) kept) made
-    by_coming kept false r made = by_damage kept r made
+    by_coming : (fate : Fate) (same : Bool) (r : ReadingValue) →
+        concluded own (comes (layers_machine rules) own.state (hint + 1) fate (coming_by same unit r)) ≡ Made h →
+        Follows (Received hint fate bytes)
+        (concluded low (comes (station_machine rules.periods) low.state (hint + 1) fate (coming_by same (unit_of_station unit) r)))
+    by_coming fate true r made = by_sound fate (arrival_refusal rules.periods s.station (Sound unit.message unit.known.station) (is_kept fate)) made
+    by_coming fate false r made = by_damage fate r made
 
-  by_read : (hint : ℕ) (kept : Bool) (bytes : List ℕ) (o : Option LayersUnit) → slice_get other.sent hint ≡ o →
-      read own (receives (layers_machine rules) own.state hint kept bytes) o ≡ Made h →
-      Follows (Received hint kept bytes)
-      (read low (receives (station_machine rules.periods) low.state hint kept bytes) (option_map unit_of_station o))
-  by_read hint kept bytes None there made = absurd cc
-  by_read hint kept bytes (Some unit) there made = go (nat_lt hint own.state.front) made
+  by_read : (hint : ℕ) (fate : Fate) (bytes : List ℕ) (o : Option LayersUnit) → slice_get other.sent hint ≡ o →
+      read own (receives (layers_machine rules) own.state hint fate bytes) o ≡ Made h →
+      Follows (Received hint fate bytes)
+      (read low (receives (station_machine rules.periods) low.state hint fate bytes) (option_map unit_of_station o))
+  by_read hint fate bytes None there made = absurd cc
+  by_read hint fate bytes (Some unit) there made = go (nat_lt hint own.state.front) made
     where
       go : (b : Bool) → concluded own
-          (cond b (Err HintOrder) (comes (layers_machine rules) own.state (hint + 1) kept
+          (cond b (Err HintOrder) (comes (layers_machine rules) own.state (hint + 1) fate
           (coming_by (bytes_eq bytes unit.bytes) unit (reading bytes)))) ≡ Made h →
-          Follows (Received hint kept bytes)
+          Follows (Received hint fate bytes)
           (concluded low (cond b (Err HintOrder)
-          (comes (station_machine rules.periods) low.state (hint + 1) kept
+          (comes (station_machine rules.periods) low.state (hint + 1) fate
           (coming_by (bytes_eq bytes unit.bytes) (unit_of_station unit) (reading bytes)))))
       go true made = absurd cc
-      go false made = by_coming hint bytes unit there kept (bytes_eq bytes unit.bytes) (reading bytes) made
+      go false made = by_coming hint bytes unit there fate (bytes_eq bytes unit.bytes) (reading bytes) made
 
   -- ---- noise
 
@@ -271,10 +312,10 @@ module _ (rules : Rules) (own other h : Half LayersNode LayersUnit) where
   pub follows : (r : Record) → advance (step (layers_machine rules)) own other r ≡ Made h →
       Follows r (advance (step (station_machine rules.periods)) low low_other r)
   follows (Sent bytes) made = by_reading bytes (reading bytes) made
-  follows (Received hint kept bytes) made =
-      let f = by_read hint kept bytes (slice_get other.sent hint) refl made in
+  follows (Received hint fate bytes) made =
+      let f = by_read hint fate bytes (slice_get other.sent hint) refl made in
       record {
-        station = ap (read low (receives (station_machine rules.periods) low.state hint kept bytes))
+        station = ap (read low (receives (station_machine rules.periods) low.state hint fate bytes))
             (slice_get-map unit_of_station other.sent hint) ∙ f.station;
         links = f.links;
       }

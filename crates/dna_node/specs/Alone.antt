@@ -1,9 +1,12 @@
 -- One end alone: its node makes the records of its capture without the other one. What came is taken as what the other end sent: the line gives what
--- stands in the receipt, and the node goes by none of the two rules that ask what no byte tells. A record that can't be made so is in no run.
+-- is in the receipt, and the node goes by none of the two rules that ask what no byte tells. A record that can't be made so is in no run.
 use Rattle.std.specs.Prelude.{◌≡◌, ℕ, ◌+◌, Bool, true, false, Option, Some, None, Result, Ok, Err, List, [], ◌∷◌, if◌then◌else◌, nat_lt}
 use Rattle.ddcmp_msg.specs.Message.{MessageValue}
 use Rattle.ddcmp_msg.specs.Reading.{ReadingValue, reading, Malformed}
 use Rattle.ddcmp_msg.specs.Reading as read
+use Rattle.capture.specs.declared.fate.Fate.{Fate}
+use Rattle.capture.specs.declared.fate.Fate.TheVariants.{NotKept}
+use Rattle.capture.specs.Fates.{is_met}
 use Rattle.capture.specs.declared.record.Record.{Record}
 use Rattle.capture.specs.declared.record.Record.TheVariants.{Sent, Received, Noise, User}
 use Rattle.dna_station.specs.declared.head.Head.{Head}
@@ -50,7 +53,7 @@ accused_by refusal = ThisEnd
 
 -- so of a record
 abbrev pub accused_of : Record → StepRefusal → Accused
-accused_of (Received hint kept bytes) refusal = accused_by refusal
+accused_of (Received hint fate bytes) refusal = accused_by refusal
 accused_of (Sent bytes) refusal = ThisEnd
 accused_of (Noise bytes) refusal = ThisEnd
 accused_of (User event) refusal = ThisEnd
@@ -80,33 +83,34 @@ module _ {S : Type 0} where
   then_unless_wrong wrong (Makes n) = unless_wrong wrong (Makes n)
   then_unless_wrong wrong (Refuses accused reason) = Refuses accused reason
 
-abbrev pub if_kept : Bool → Option StepRefusal → Option StepRefusal
-if_kept true wrong = wrong
-if_kept false wrong = None
+-- asked of what the links meet
+abbrev pub if_met : Bool → Option StepRefusal → Option StepRefusal
+if_met true wrong = wrong
+if_met false wrong = None
 
 module _ {S K : Type 0} (one : EndOf S K) where
   abbrev pub sent_alone : NodeOf S → ReadingValue → StepAlone S
   sent_alone n (read.Sound m) = sends n (one.machine.sends n.station m)
   sent_alone n bad = Refuses ThisEnd NotAMessage
 
-  abbrev pub sound_comes : NodeOf S → (front : ℕ) → Bool → MessageValue → StepAlone S
-  sound_comes n front kept m =
+  abbrev pub sound_comes : NodeOf S → (front : ℕ) → Fate → MessageValue → StepAlone S
+  sound_comes n front fate m =
       unless_wrong (one.wrong_unit n.station m)
-      (then_unless_wrong (if_kept kept (one.wrong_taken n.station m)) (meets n front (one.machine.arrives n.station (Sound m one.unknown) kept)))
+      (then_unless_wrong (if_met (is_met fate) (one.wrong_taken n.station m)) (meets n front (one.machine.arrives n.station (Sound m one.unknown) fate)))
 
   -- bytes with good checks that are no message are not damage: the other end sent them (1)
-  abbrev pub comes_alone : NodeOf S → (front : ℕ) → Bool → ReadingValue → StepAlone S
-  comes_alone n front kept (read.Sound m) = sound_comes n front kept m
-  comes_alone n front kept read.HeaderBad = meets n front (one.machine.arrives n.station HeaderBad kept)
-  comes_alone n front kept read.DataBad = meets n front (one.machine.arrives n.station DataBad kept)
-  comes_alone n front kept (Malformed departure) = Refuses OtherEnd NotAMessage
+  abbrev pub comes_alone : NodeOf S → (front : ℕ) → Fate → ReadingValue → StepAlone S
+  comes_alone n front fate (read.Sound m) = sound_comes n front fate m
+  comes_alone n front fate read.HeaderBad = meets n front (one.machine.arrives n.station HeaderBad fate)
+  comes_alone n front fate read.DataBad = meets n front (one.machine.arrives n.station DataBad fate)
+  comes_alone n front fate (Malformed departure) = Refuses OtherEnd NotAMessage
 
-  abbrev pub receives_alone : NodeOf S → ℕ → Bool → ReadingValue → StepAlone S
-  receives_alone n hint kept bytes = if nat_lt hint n.front then Refuses ThisEnd HintOrder else comes_alone n (hint + 1) kept bytes
+  abbrev pub receives_alone : NodeOf S → ℕ → Fate → ReadingValue → StepAlone S
+  receives_alone n hint fate bytes = if nat_lt hint n.front then Refuses ThisEnd HintOrder else comes_alone n (hint + 1) fate bytes
 
   abbrev pub step_alone : NodeOf S → Record → StepAlone S
   step_alone n (Sent bytes) = sent_alone n (reading bytes)
-  step_alone n (Received hint kept bytes) = receives_alone n hint kept (reading bytes)
+  step_alone n (Received hint fate bytes) = receives_alone n hint fate (reading bytes)
   step_alone n (Noise bytes) = does n (noise_comes one.machine n.station (damage (reading bytes)))
   step_alone n (User event) = does n (one.machine.user n.station event)
 

@@ -23,7 +23,7 @@ pub record CountsAlike (own same : Layers) : Type 0 where
   pub links : length own.links.links ≡ length same.links.links
   pub delivered : deliveries own.links.links ≡ deliveries same.links.links
 
--- Nodes with queues make all of these records, and what they leave is this end but for what the queues leave open
+-- Nodes with queues make all of these records, and what they leave is this end except for what the queues leave open
 pub record IsRunWithQueues (head_a head_b : Head) (end : World LayersNode LayersUnit) (of_a of_b : List Record) : Type 0 where
   pub left : World LayersNode LayersUnit
   pub run : Run (layers_pair_by With) (layers_start head_a head_b) of_a of_b left

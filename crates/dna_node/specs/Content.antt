@@ -12,7 +12,7 @@ use Rattle.dna_packet.specs.ReadingNsp.{nsp_at}
 use Rattle.dna_station.specs.declared.refusal.StepRefusal.{StepRefusal}
 use Rattle.dna_station.specs.declared.refusal.StepRefusal.TheVariants.{BadPacket, BadNsp}
 use Rattle.dna_links.specs.Links.{Carried}
-use Rattle.dna_links.specs.User.{LinkEventValue, Open, Accept, Reject, In, Up, Close}
+use Rattle.dna_links.specs.User.{LinkEventValue, Open, Accept, Reject, In, Up, Close, Boot, Abort}
 
 -- bit 4 of RTFLG: the packet is on its way back to its source
 abbrev pub is_returned : ℕ → Bool
@@ -32,7 +32,7 @@ content_of (Err fault) = Err BadPacket
 abbrev pub content : List ℕ → Result (Option Carried) StepRefusal
 content packet = content_of (packet_at packet)
 
--- What an event of the user is to the links; None where it is the station's
+-- What an event is to the links; None where it is the station's alone, or none that is judged. What is composed is met as a message that is sent
 abbrev pub link_event : Event → Option LinkEventValue
 link_event events.Start = None
 link_event events.Halt = None
@@ -42,3 +42,8 @@ link_event (events.Reject partner link) = Some (Reject partner link)
 link_event (events.In link message) = Some (In link message)
 link_event (events.Up link message) = Some (Up link message)
 link_event (events.Close link) = Some (Close link)
+link_event events.Boot = Some Boot
+link_event (events.Abort link) = Some (Abort link)
+link_event (events.Composed packet) = None
+link_event (events.Interrupt link message) = None
+link_event (events.Interrupted link message) = None

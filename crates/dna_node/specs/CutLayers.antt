@@ -20,13 +20,13 @@ abbrev pub tag_of_packet : Option SentMessage → LinkTag
 tag_of_packet None = of_no_link
 tag_of_packet (Some message) = message.truth.tag
 
--- these packets, each with the tag of what stands at its place
+-- these packets, each with the tag of what is at its place
 abbrev pub with_tags : List (List ℕ) → List (Option SentMessage) → List (HeldPacket LinkTag)
 with_tags [] messages = []
 with_tags (body ∷ packets) [] = record { body = body; label = None } ∷ with_tags packets []
 with_tags (body ∷ packets) (carried ∷ messages) = record { body = body; label = Some (tag_of_packet carried) } ∷ with_tags packets messages
 
--- all packets given in the period, which come behind those of the periods before
+-- all packets given in the period, which come after those of the periods before
 abbrev pub tagged_packets : Layers → List (HeldPacket LinkTag)
 tagged_packets s = with_tags s.station.packets (drop (length (packets_of s.station.earlier)) s.messages)
 

@@ -4,6 +4,9 @@ use Rattle.std.specs.Prelude.{Bool, if◌then◌else◌, Option, Some, None, Lis
 use Rattle.two_nodes.specs.Cutting.{Cut}
 use Rattle.ddcmp_msg.specs.Message.{MessageValue}
 use Rattle.capture.specs.declared.event.Event.{Event}
+use Rattle.capture.specs.declared.event.Event.TheVariants.{Composed}
+use Rattle.capture.specs.declared.fate.Fate.{Fate}
+use Rattle.capture.specs.Fates.{is_met}
 use Rattle.dna_station.specs.declared.head.Head.{Head}
 use Rattle.dna_station.specs.declared.refusal.StepRefusal.{StepRefusal}
 use Rattle.dna_station.specs.declared.refusal.StepRefusal.TheVariants.{Links as OfLinks}
@@ -57,6 +60,11 @@ abbrev pub with_message : Layers → Station × Truth → Carried → Result (Se
 with_message s after packet (Ok made) = Ok (first_sent s after made.links (Some (record { packet = packet; truth = made.truth })))
 with_message s after packet (Err refusal) = Err (OfLinks refusal)
 
+-- a message that was composed and is never sent: its packet gets no place
+abbrev pub with_composed : Layers → Result (Sent TrueSegments Numbers) LinkRefusal → Result Layers StepRefusal
+with_composed s (Ok made) = Ok (record s { links = made.links })
+with_composed s (Err refusal) = Err (OfLinks refusal)
+
 -- the message of the packet that is sent again, found by its place
 abbrev pub of_place : Option (Option SentMessage) → Option SentMessage
 of_place None = None
@@ -103,24 +111,38 @@ module _ (rules : Rules) where
   keeps s (Some message) = with_links s (links_arrived rules.queues rules.partners s.links message.packet message.truth)
   keeps s None = Ok s
 
-  -- what the station made of it, with the links on top: they meet a packet where it was kept
-  abbrev pub meets_on : Layers → ArrivalValue LayersTruth → (kept : Bool) → Result Station StepRefusal → Result Layers StepRefusal
-  meets_on s arrival kept (Ok station) =
-      if kept then keeps (record s { station = station }) (carried_by arrival) else Ok (record s { station = station })
-  meets_on s arrival kept (Err refusal) = Err refusal
+  -- what the station made of it, with the links on top: they meet a packet where it was kept, and not lost above
+  abbrev pub meets_on : Layers → ArrivalValue LayersTruth → Fate → Result Station StepRefusal → Result Layers StepRefusal
+  meets_on s arrival fate (Ok station) =
+      if is_met fate then keeps (record s { station = station }) (carried_by arrival) else Ok (record s { station = station })
+  meets_on s arrival fate (Err refusal) = Err refusal
+
+  -- ---- an event
+
+  -- what the station made of it, with the links on top
+  abbrev pub user_on : Layers → Option LinkEventValue → Result Station StepRefusal → Result Layers StepRefusal
+  user_on s None made = with_station s made
+  user_on s (Some of_links) (Ok station) = with_links (record s { station = station }) (links_user rules.queues s.links of_links)
+  user_on s (Some of_links) (Err refusal) = Err refusal
+
+  -- what was composed and is never sent is to the links as if it were first sent, and nothing to the station
+  abbrev pub composes : Layers → Result (Option Carried) StepRefusal → Result Layers StepRefusal
+  composes s (Ok (Some packet)) = with_composed s (links_sent rules.queues s.links packet)
+  composes s (Ok None) = Ok s
+  composes s (Err refusal) = Err refusal
+
+  abbrev pub layers_user : Layers → Event → Result Layers StepRefusal
+  layers_user s (Composed packet) = composes s (content packet)
+  layers_user s event = user_on s (link_event event) ((station_machine rules.periods).user s.station event)
 
   -- ---- the node
 
-  abbrev pub user_on : Layers → Event → Option LinkEventValue → Result Layers StepRefusal
-  user_on s event (Some of_links) = with_links s (links_user rules.queues s.links of_links)
-  user_on s event None = with_station s ((station_machine rules.periods).user s.station event)
-
   abbrev pub layers_machine : Machine Layers LayersTruth
   layers_machine = record {
-    user = λ (s : Layers) (event : Event). user_on s event (link_event event);
+    user = λ (s : Layers) (event : Event). layers_user s event;
     sends = λ (s : Layers) (m : MessageValue). sends_on s m ((station_machine rules.periods).sends s.station m);
-    arrives = λ (s : Layers) (arrival : ArrivalValue LayersTruth) (kept : Bool). meets_on s arrival kept
-        ((station_machine rules.periods).arrives s.station (to_station arrival) kept);
+    arrives = λ (s : Layers) (arrival : ArrivalValue LayersTruth) (fate : Fate). meets_on s arrival fate
+        ((station_machine rules.periods).arrives s.station (to_station arrival) fate);
   }
 
 abbrev pub LayersNode : Type 0

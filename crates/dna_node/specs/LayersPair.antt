@@ -43,7 +43,7 @@ one_or_none (Some event) = event ∷ []
 abbrev pub link_event_in : Record → List LinkEventValue
 link_event_in (User event) = one_or_none (link_event event)
 link_event_in (Sent bytes) = []
-link_event_in (Received hint kept bytes) = []
+link_event_in (Received hint fate bytes) = []
 link_event_in (Noise bytes) = []
 
 -- the events of a capture that are the links', in their order
@@ -57,8 +57,8 @@ side_of half front = record { links = half.state.station.links; sent = half.stat
 abbrev pub new_links_world : (head_a head_b : Head) → LinkWorld
 new_links_world head_a head_b = new_world head_a.own head_a.peer head_b.own head_b.peer
 
--- The links of both sides, with the packets that went between them, are led to by steps of the links alone: behind some places of the last
--- packets kept
+-- The links of both sides, with the packets that went between them, are led to by steps of the links alone, for some places after the
+-- last packets kept
 pub record AreJoined (queues : Queues) (head_a head_b : Head) (w : World LayersNode LayersUnit) (of_a of_b : List Record) : Type 0 where
   pub front_a : ℕ
   pub front_b : ℕ

@@ -5,6 +5,9 @@ use Rattle.two_nodes.specs.Nodes.{Nodes, World, start_world}
 use Rattle.ddcmp_msg.specs.Message.{MessageValue}
 use Rattle.capture.specs.declared.record.Record.{Record}
 use Rattle.capture.specs.declared.event.Event.{Event}
+use Rattle.capture.specs.declared.event.Event.TheVariants.{Composed}
+use Rattle.capture.specs.declared.fate.Fate.{Fate}
+use Rattle.capture.specs.Fates.{is_met}
 use Rattle.dna_station.specs.declared.head.Head.{Head}
 use Rattle.dna_station.specs.declared.tag.Tag.{Tag}
 use Rattle.dna_links.specs.declared.queue.Queues.{Queues}
@@ -58,6 +61,10 @@ abbrev pub with_tag : WireStation LinkTag × Tag → Result (Sent WireSegments (
 with_tag after (Ok made) = Ok (first_tagged after made.links made.truth.tag)
 with_tag after (Err refusal) = Err (OfLinks refusal)
 
+abbrev pub with_wire_composed : WireLayers → Result (Sent WireSegments (Unit {0})) LinkRefusal → Result WireLayers StepRefusal
+with_wire_composed s (Ok made) = Ok (record s { links = made.links })
+with_wire_composed s (Err refusal) = Err (OfLinks refusal)
+
 abbrev pub wire_sends_again : WireLayers → MessageValue → WireStation LinkTag × Tag → WireLayers × LayersTag
 wire_sends_again s m after = (record s { station = after.0 }, record { station = after.1; link = label_again s.station m })
 
@@ -98,24 +105,35 @@ module _ (rules : Rules) where
   wire_keeps s HeaderBad = Ok s
   wire_keeps s DataBad = Ok s
 
-  abbrev pub wire_meets_on : WireLayers → ArrivalValue LayersTag → (kept : Bool) → Result (WireStation LinkTag) StepRefusal →
-      Result WireLayers StepRefusal
-  wire_meets_on s arrival kept (Ok station) =
-      if kept then wire_keeps (record s { station = station }) arrival else Ok (record s { station = station })
-  wire_meets_on s arrival kept (Err refusal) = Err refusal
+  abbrev pub wire_meets_on : WireLayers → ArrivalValue LayersTag → Fate → Result (WireStation LinkTag) StepRefusal → Result WireLayers StepRefusal
+  wire_meets_on s arrival fate (Ok station) =
+      if is_met fate then wire_keeps (record s { station = station }) arrival else Ok (record s { station = station })
+  wire_meets_on s arrival fate (Err refusal) = Err refusal
+
+  -- ---- an event
+
+  abbrev pub wire_user_on : WireLayers → Option LinkEventValue → Result (WireStation LinkTag) StepRefusal → Result WireLayers StepRefusal
+  wire_user_on s None made = with_wire_station s made
+  wire_user_on s (Some of_links) (Ok station) = with_wire_links (record s { station = station }) (wire_links_user rules.queues s.links of_links)
+  wire_user_on s (Some of_links) (Err refusal) = Err refusal
+
+  abbrev pub wire_composes : WireLayers → Result (Option Carried) StepRefusal → Result WireLayers StepRefusal
+  wire_composes s (Ok (Some packet)) = with_wire_composed s (wire_links_sent rules.queues s.links packet)
+  wire_composes s (Ok None) = Ok s
+  wire_composes s (Err refusal) = Err refusal
+
+  abbrev pub wire_layers_user : WireLayers → Event → Result WireLayers StepRefusal
+  wire_layers_user s (Composed packet) = wire_composes s (content packet)
+  wire_layers_user s event = wire_user_on s (link_event event) ((wire_machine rules.periods).user s.station event)
 
   -- ---- the node
 
-  abbrev pub wire_user_on : WireLayers → Event → Option LinkEventValue → Result WireLayers StepRefusal
-  wire_user_on s event (Some of_links) = with_wire_links s (wire_links_user rules.queues s.links of_links)
-  wire_user_on s event None = with_wire_station s ((wire_machine rules.periods).user s.station event)
-
   abbrev pub wire_layers_machine : Machine WireLayers LayersTag
   wire_layers_machine = record {
-    user = λ (s : WireLayers) (event : Event). wire_user_on s event (link_event event);
+    user = λ (s : WireLayers) (event : Event). wire_layers_user s event;
     sends = λ (s : WireLayers) (m : MessageValue). wire_sends_on s m ((wire_machine rules.periods).sends s.station m);
-    arrives = λ (s : WireLayers) (arrival : ArrivalValue LayersTag) (kept : Bool). wire_meets_on s arrival kept
-        ((wire_machine rules.periods).arrives s.station (to_wire_station arrival) kept);
+    arrives = λ (s : WireLayers) (arrival : ArrivalValue LayersTag) (fate : Fate). wire_meets_on s arrival fate
+        ((wire_machine rules.periods).arrives s.station (to_wire_station arrival) fate);
   }
 
 abbrev pub WireLayersNode : Type 0

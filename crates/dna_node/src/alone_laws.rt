@@ -17,7 +17,7 @@ ghost use Rattle.dna_node.specs.Alone.{Accused, ThisEnd, accused_of, Refused, ju
 ghost use Rattle.dna_node.specs.Alone.{is_seen_alone, Passes};
 
 /// Refused is final, with queues or without: in a run of two captures the end alone makes all records of either side. So a capture of which it
-/// refuses a record is a side of no run, whatever the other one is, and however it goes on behind that record.
+/// refuses a record is a side of no run, whatever the other one is, and however it goes on after that record.
 pub fn refused_alone_is_final()
     ensures a_passes { (queues : Queues) (head_a head_b : Head) (of_a of_b : List Record)
         → IsRunOf (layers_kind queues) head_a head_b of_a of_b → PassesBy queues head_a of_a }
@@ -54,7 +54,7 @@ pub fn alone_with_queues_does_as_much()
 
 /// Refused is final for a station alone too: in a run of two captures as stations alone, which read no packet and go by no event of the links,
 /// the station alone makes all records of either side. So a capture of which it refuses a record is a side of no such run, whatever the other
-/// one is, and however it goes on behind that record.
+/// one is, and however it goes on after that record.
 pub fn refused_station_alone_is_final()
     ensures a_passes { (head_a head_b : Head) (of_a of_b : List Record)
         → IsRunOf stations_alone head_a head_b of_a of_b → StationPasses head_a of_a }

@@ -77,8 +77,8 @@ pub fn queued_wire_layers_see_right()
     simulation::<Brand>();
 }
 
-/// Nodes with queues do as much as nodes without: they make each run of two captures that those make, and what they leave is the same but for
-/// what the queues leave open of the links. As many links begin at each, and as many messages are delivered.
+/// Nodes with queues do as much as nodes without: they make each run of two captures that those make, and what they leave is the same except
+/// for what the queues leave open of the links. As many links begin at each, and as many messages are delivered.
 pub fn layers_with_queues_do_as_much()
     ensures run { (head_a head_b : Head) (end : World LayersNode LayersUnit) (of_a of_b : List Record)
         → Run layers_pair (layers_start head_a head_b) of_a of_b end → IsRunWithQueues head_a head_b end of_a of_b }

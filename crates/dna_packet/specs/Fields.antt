@@ -1,4 +1,4 @@
--- Fields as they stand in a message, one after the other, and as they are read, from left to right.
+-- Fields as they appear in a message, one after the other, and as they are read, from left to right.
 use Rattle.std.specs.Prelude.{◌≡◌, ℕ, ◌+◌, ◌*◌, ◌/◌, ◌%◌, List, [], ◌∷◌, length, Result, Ok, Err}
 use Rattle.std.specs.Borrow.{Bor}
 

@@ -96,7 +96,7 @@ nsp_bytes (DisconnectConfirm dst src reason) = 0x48 ∷ (addresses dst src ++ wo
 abbrev pub AreAddresses : ℕ → ℕ → Type 0
 AreAddresses dst src = (dst < 2 ^ 16) × (src < 2 ^ 16)
 
--- SERVICES, INFO and SEGSIZE, of which any value may stand
+-- SERVICES, INFO and SEGSIZE, which may each have any value
 abbrev pub AreConnectFields : ℕ → ℕ → ℕ → Type 0
 AreConnectFields services info segsize = (services < 2 ^ 8) × (info < 2 ^ 8) × (segsize < 2 ^ 16)
 

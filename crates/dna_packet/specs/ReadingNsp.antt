@@ -8,7 +8,7 @@ use Rattle.dna_packet.specs.AckWord.{ack_of}
 use Rattle.dna_packet.specs.Nsp.{NspValue, DataSegment, LinkService, DataAck, OtherDataAck, ConnectAck, NoOperation, ConnectInitiate, ConnectConfirm}
 use Rattle.dna_packet.specs.Nsp.{DisconnectInitiate, DisconnectConfirm}
 
--- no byte stands after the end
+-- no byte follows the end
 abbrev pub no_more_at : List ℕ → Result (Unit {0}) NspFault
 no_more_at [] = Ok tt
 no_more_at (byte ∷ rest) = Err TrailingBytes
@@ -62,7 +62,7 @@ link_service_at interrupt bytes = do
   links ← addresses_at bytes
   Ok (LinkService interrupt links.0 links.1 links.2)
 
--- the words of a data acknowledgement: behind the first a second one, if any byte follows
+-- the words of a data acknowledgement: after the first a second one, if any byte follows
 abbrev pub second_ack_at : AckWord → List ℕ → Result (List AckWord × List ℕ) NspFault
 second_ack_at first [] = Ok (first ∷ [], [])
 second_ack_at first (byte ∷ rest) = do
@@ -132,7 +132,7 @@ disconnect_confirm_at bytes = do
   end ← no_more_at reason.1
   Ok (DisconnectConfirm links.0 links.1 reason.0)
 
--- the message behind a flag byte
+-- the message after a flag byte
 abbrev pub message_at : ℕ → List ℕ → Result NspValue NspFault
 message_at flag rest =
     if flag == 0x00 then segment_at false false rest else

@@ -5,7 +5,7 @@ use Rattle.dna_packet.specs.declared.fault.PacketFault.TheVariants.{Padded, Long
 use Rattle.dna_packet.specs.Fields.{◌>>=◌, byte_at, word_at}
 use Rattle.dna_packet.specs.Packet.{PacketValue, Data, Control}
 
--- what stands behind RTFLG in a short data packet
+-- what follows RTFLG in a short data packet
 abbrev pub data_at : ℕ → List ℕ → Result PacketValue PacketFault
 data_at rtflg bytes = do
   dst ← word_at Short bytes

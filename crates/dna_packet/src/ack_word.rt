@@ -18,7 +18,7 @@ pub enum AckQualifier {
 }
 
 impl AckQualifier {
-    /// The qualifier's number, 0 to 3, as it stands in bits 12 to 14.
+    /// The qualifier's number, 0 to 3, as it appears in bits 12 to 14.
     pub fn number(self) -> u8
         ensures { result ≡ qualifier_number self }
     {
@@ -31,7 +31,7 @@ impl AckQualifier {
     }
 }
 
-/// An acknowledgement word: bit 15 is set, the qualifier stands in bits 12 to 14, the number in bits 0 to 11.
+/// An acknowledgement word: bit 15 is set, the qualifier is in bits 12 to 14, the number in bits 0 to 11.
 #[derive(Clone, Copy, Debug, PartialEq, Eq, Default)]
 pub struct AckWord {
     /// What the word says.
@@ -58,7 +58,7 @@ impl AckWord {
         })
     }
 
-    /// The word as it stands in a message. The number must be in range.
+    /// The word as it appears in a message. The number must be in range.
     pub fn to_word(self) -> u16
         requires { IsAckWord self }
         ensures { result ≡ ack_word self }

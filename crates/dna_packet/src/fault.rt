@@ -8,7 +8,7 @@ use thiserror::Error;
 /// Where bytes first depart from the packets of a DDCMP circuit (Routing Layer 2.0, packet formats).
 #[derive(Clone, Copy, Debug, PartialEq, Eq, Error)]
 pub enum PacketFault {
-    /// Bit 7 of the first byte is set: padding stands before the packet.
+    /// Bit 7 of the first byte is set: padding comes before the packet.
     #[error("padded packet")]
     Padded,
     /// The low three bits of the first byte are 110: a long format data packet.
@@ -52,7 +52,7 @@ pub enum NspFault {
     /// SEGNUM has bit 13, 14 or 15 set; a third acknowledgement word is read as SEGNUM.
     #[error("bad segment number")]
     BadSegnum,
-    /// Bytes stand after the end of a data acknowledgement, a connect acknowledgement or a DC.
+    /// Bytes follow the end of a data acknowledgement, a connect acknowledgement or a DC.
     #[error("bytes after the end")]
     TrailingBytes,
     /// DSTADDR of a CI is not 0.

@@ -74,7 +74,7 @@ fn link_service(interrupt: bool, bytes: &[u8]) -> Result<Nsp<'_>, NspFault>
     }))
 }
 
-/// Whether no byte stands after the end.
+/// Whether no byte follows the end.
 #[inline(always)]
 fn ends(rest: &[u8]) -> Result<(), NspFault>
     ensures { Gives (λ _. tt) result (no_more_at rest.now) }
@@ -213,7 +213,7 @@ fn disconnect_confirm(bytes: &[u8]) -> Result<Nsp<'_>, NspFault>
     }))
 }
 
-/// The message behind a flag byte.
+/// The message after a flag byte.
 #[inline(always)]
 fn message(flag: u8, rest: &[u8]) -> Result<Nsp<'_>, NspFault>
     ensures read { Gives view result (message_at flag rest.now) }
@@ -245,8 +245,8 @@ fn message(flag: u8, rest: &[u8]) -> Result<Nsp<'_>, NspFault>
 /// Fields are read from left to right, and the first that is missing or wrong decides:
 /// [`NspFault::UnknownFlag`] at the flag byte; [`NspFault::MissingField`] where a field is missing or cut;
 /// [`NspFault::BadAckWord`], [`NspFault::BadSegnum`] and [`NspFault::NonzeroDstaddr`] at their fields;
-/// [`NspFault::TrailingBytes`] behind the last field of a message without a rest. In a data acknowledgement any
-/// byte behind the first word begins a second; in a segment a word with bit 15 set is an acknowledgement word,
+/// [`NspFault::TrailingBytes`] after the last field of a message without a rest. In a data acknowledgement any
+/// byte after the first word begins a second; in a segment a word with bit 15 set is an acknowledgement word,
 /// at most twice.
 ///
 /// `24 0200` acknowledges a CI to link 2; `24 0200 00` has a byte after its end; no bytes miss the flag byte.

@@ -9,7 +9,7 @@ use crate::fault::PacketFault;
 use crate::fields;
 use crate::packet::{CONTROL, FORMAT, LONG_FORMAT, PADDED, Packet, SHORT_FORMAT};
 
-/// The fields behind RTFLG.
+/// The fields after RTFLG.
 fn data(rtflg: u8, bytes: &[u8]) -> Result<Packet<'_>, PacketFault>
     ensures read { Gives view result (data_at rtflg bytes.now) }
     ensures lies { IfOk result (PartsLieIn bytes.entry) }

@@ -4,6 +4,7 @@ use Rattle.std.specs.Prelude.{ℕ, Bool, true, ◌&&◌, nat_lt, nat_le, List, [
 use Rattle.capture.specs.declared.limit.TheConstants.{MAX_HINT, MAX_LINK}
 use Rattle.capture.specs.declared.event.Event.{Event}
 use Rattle.capture.specs.declared.event.Event.TheVariants.{Start, Halt, Open, Accept, Reject, In, Up, Close}
+use Rattle.capture.specs.declared.event.Event.TheVariants.{Boot, Abort, Composed, Interrupt, Interrupted}
 use Rattle.capture.specs.declared.record.Record.{Record}
 use Rattle.capture.specs.declared.record.Record.TheVariants.{Sent, Received, Noise, User}
 use Rattle.capture.specs.Range.{record_bytes, most_bytes}
@@ -20,10 +21,15 @@ event_numbers_fit (Reject partner link) = is_link partner && is_link link
 event_numbers_fit (In link bytes) = is_link link
 event_numbers_fit (Up link bytes) = is_link link
 event_numbers_fit (Close link) = is_link link
+event_numbers_fit Boot = true
+event_numbers_fit (Abort link) = is_link link
+event_numbers_fit (Composed bytes) = true
+event_numbers_fit (Interrupt link bytes) = is_link link
+event_numbers_fit (Interrupted link bytes) = is_link link
 
 abbrev pub numbers_fit : Record → Bool
 numbers_fit (Sent bytes) = true
-numbers_fit (Received hint kept bytes) = nat_le hint MAX_HINT
+numbers_fit (Received hint fate bytes) = nat_le hint MAX_HINT
 numbers_fit (Noise bytes) = true
 numbers_fit (User event) = event_numbers_fit event
 

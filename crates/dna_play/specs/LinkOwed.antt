@@ -23,7 +23,7 @@ pub record LinkOwed : Type 0 where
   pub data_ack : Bool
   -- whether a CI was sent: the next one goes as a repeated one
   pub initiated : Bool
-  -- how many of the outstanding segments are sent in the present go: the next to send is the one behind them
+  -- how many of the outstanding segments are sent in the present go: the next to send is the one after them
   pub ahead : ℕ
 
 abbrev pub nothing : LinkOwed

@@ -15,7 +15,7 @@ use Rattle.dna_links.specs.WireSegments.{LinkVariables}
 use Rattle.dna_links.specs.CutSegments as segments
 use Rattle.dna_node.specs.Layers.{LayersNode, LayersUnit}
 use Rattle.dna_node.specs.LayersPair.{bytes_pair, layers_start}
-use Rattle.dna_play.specs.Script.{StepValue, ScriptStep, Script, Start}
+use Rattle.dna_play.specs.Script.{StepValue, ScriptStep, Script, Start, Boot}
 use Rattle.dna_play.specs.NextSent.{LinkEnd}
 use Rattle.dna_play.specs.StoredEnd.{StoredEnd}
 use Rattle.dna_play.specs.Played.{Played, head_a, head_b}
@@ -46,9 +46,10 @@ pub record AreOfNodes (played : Played) : Type 0 where
   pub of_a : IsOfNode played.ends.pair.a.end played.nodes.a
   pub of_b : IsOfNode played.ends.pair.b.end played.nodes.b
 
--- how often a side is started by these steps
+-- how often a side is started by these steps; one that boots is begun anew, which counts as two
 abbrev pub starts_now : StepValue → ℕ
 starts_now Start = 1
+starts_now Boot = 2
 starts_now step = 0
 
 abbrev pub starts_at : Side → Side → StepValue → ℕ
@@ -60,7 +61,7 @@ abbrev pub starts_of : Side → List ScriptStep → ℕ
 starts_of side [] = 0
 starts_of side (step ∷ later) = starts_at side step.side step.step + starts_of side later
 
--- each side is started at most once
+-- each side is started at most once, and none boots
 pub record StartsOnce (steps : List ScriptStep) : Type 0 where
   pub of_a : starts_of A steps ≤ 1
   pub of_b : starts_of B steps ≤ 1

@@ -1,5 +1,5 @@
--- What ends with a node beside each make of a script. A node is one of a judge, on true numbers, but for the two rules that it alone asks; it makes
--- each record of its end, and a step whose record it can't make, or that would have no line in a capture, can't be made.
+-- What ends with a node beside each make of a script. A node is one of a judge, on true numbers, except for the two rules that it alone asks; it
+-- makes each record of its end, and a step whose record it can't make, or that would have no line in a capture, can't be made.
 use Rattle.std.specs.Prelude.{if◌then◌else◌, Option, Some, None, option_map, option_and_then, ok_or, List, [], ◌∷◌, Result, Ok, Err}
 use Rattle.two_nodes.specs.Nodes.{Answer, Half, World, Outcome, Made, advance}
 use Rattle.wire_base.specs.declared.side.Side.{Side}

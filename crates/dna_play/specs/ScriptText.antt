@@ -9,8 +9,8 @@ use Rattle.capture.specs.declared.fault.Departure.TheVariants.{Syntax, TooLong, 
 use Rattle.capture.specs.Text.{bytes_text, spaced}
 use Rattle.capture.specs.Range.{IsLink}
 use Rattle.capture.specs.Listed.{Listed, ListForm, item_line, IsList, BeginsWithList, ItemDeparts, ListHeadDeparts}
-use Rattle.dna_play.specs.Script.{StepValue, ScriptStep, Script, Start, Halt, Timer, Send, Deliver, Refuse, Lose, Damage, Noise, Open, Accept, Reject}
-use Rattle.dna_play.specs.Script.{In, Close, Retry}
+use Rattle.dna_play.specs.Script.{StepValue, ScriptStep, Script, Start, Halt, Boot, Timer, Send, Deliver, Refuse, Drop, Lose, Damage, Noise, Open}
+use Rattle.dna_play.specs.Script.{Accept, Reject, In, Close, Abort, Retry}
 
 -- how many steps a script may have
 abbrev pub MAX_STEPS : ℕ
@@ -18,14 +18,16 @@ MAX_STEPS = 100000000
 
 -- ---- steps
 
--- the line behind the letter of its side
+-- the line after the letter of its side
 abbrev pub step_text : StepValue → List ℕ
 step_text Start = codes "start"
 step_text Halt = codes "halt"
+step_text Boot = codes "boot"
 step_text Timer = codes "timer"
 step_text Send = codes "send"
 step_text Deliver = codes "deliver"
 step_text Refuse = codes "refuse"
+step_text Drop = codes "drop"
 step_text Lose = codes "lose"
 step_text (Damage place value) = codes "damage " ++ spaced (decimal place) (decimal value)
 step_text (Noise bytes) = codes "noise " ++ bytes_text bytes
@@ -34,6 +36,7 @@ step_text (Accept partner) = codes "accept " ++ decimal partner
 step_text (Reject partner) = codes "reject " ++ decimal partner
 step_text (In link message) = codes "in " ++ spaced (decimal link) (bytes_text message)
 step_text (Close link) = codes "close " ++ decimal link
+step_text (Abort link) = codes "abort " ++ decimal link
 step_text (Retry link) = codes "retry " ++ decimal link
 
 -- a step's line, without its LF
@@ -49,6 +52,7 @@ NumbersFit (Accept partner) = IsLink partner
 NumbersFit (Reject partner) = IsLink partner
 NumbersFit (In link message) = IsLink link
 NumbersFit (Close link) = IsLink link
+NumbersFit (Abort link) = IsLink link
 NumbersFit (Retry link) = IsLink link
 NumbersFit step = Unit {0}
 
@@ -79,7 +83,7 @@ pub record IsStep (step : ScriptStep) : Type 0 where
 
 -- ---- departures
 
--- The words of a line depart: they are no step's, of any length of BYTES; or they are a step's but for too long a BYTES
+-- The words of a line depart: they are no step's, of any length of BYTES; or they are a step's, except that BYTES is too long
 abbrev pub WordsDepart : Departure → List ℕ → Type 0
 WordsDepart TooMany line = ⊥
 WordsDepart TooLong line = (step : ScriptStep) × HasSpelling step × ¬ (IsShort step) × (line ≡ line_text step)

@@ -6,10 +6,11 @@ use Rattle.capture.specs.declared.limit.TheConstants.{MAX_LINK}
 use Rattle.dna_station.specs.declared.state.State.TheVariants.{Halted}
 use Rattle.dna_links.specs.declared.port.Phase.{Phase}
 use Rattle.dna_links.specs.declared.port.Phase.TheVariants.{Calling, Called, Confirming, Running, Disconnecting}
-use Rattle.dna_play.specs.Script.{StepValue, Start, Halt, Timer, Send, Deliver, Refuse, Lose, Damage, Noise, Open, Accept, Reject, In, Close, Retry}
-use Rattle.dna_play.specs.Script.{ScriptStep, Script}
+use Rattle.dna_play.specs.Script.{StepValue, Start, Halt, Boot, Timer, Send, Deliver, Refuse, Drop, Lose, Damage, Noise, Open, Accept, Reject, In}
+use Rattle.dna_play.specs.Script.{Close, Abort, Retry, ScriptStep, Script}
 use Rattle.dna_play.specs.NextSent.{LinkEnd, Choice, choice, link_choice}
 use Rattle.dna_play.specs.StoredEnd.{StoredEnd}
+use Rattle.dna_play.specs.StoredStation.{can_keep}
 use Rattle.dna_play.specs.StoredPlayed.{StoredPair, own_side}
 use Rattle.dna_play.specs.Stop.{Stop, BadStep, Full, Stopped}
 use Rattle.dna_play.specs.Played.{Played}
@@ -64,15 +65,17 @@ pub record IsCalled (own : StoredEnd) (partner : ℕ) : Type 0 where
 -- ---- the rule of each step
 
 abbrev pub Asks : StoredEnd → (coming : List (List ℕ)) → StepValue → Type 0
--- start: in HALTED; halt: always; timer: not in HALTED
+-- start: in HALTED; halt and boot: always; timer: not in HALTED
 Asks own coming Start = IsHalted own
 Asks own coming Halt = Unit {0}
+Asks own coming Boot = Unit {0}
 Asks own coming Timer = ¬ (IsHalted own)
 -- send: something to send
 Asks own coming Send = HasUnit own
--- the line: a unit on it
+-- the line: a unit on it; drop: one whose packet can be taken
 Asks own coming Deliver = HasNext coming
 Asks own coming Refuse = HasNext coming
+Asks own coming Drop = (bytes : List ℕ) × IsNext coming bytes × (can_keep (reading bytes) own.station ≡ true)
 Asks own coming Lose = HasNext coming
 Asks own coming (Damage place value) = (bytes : List ℕ) × IsNext coming bytes × IsHurt place value bytes
 -- noise: bytes that are damaged
@@ -83,6 +86,7 @@ Asks own coming (Accept partner) = IsCalled own partner
 Asks own coming (Reject partner) = IsCalled own partner
 Asks own coming (In link message) = HasLink own link (Calling ∷ Confirming ∷ Running ∷ [])
 Asks own coming (Close link) = HasLink own link (Confirming ∷ Running ∷ [])
+Asks own coming (Abort link) = HasLink own link (Calling ∷ [])
 Asks own coming (Retry link) = HasLink own link (Calling ∷ Confirming ∷ Disconnecting ∷ Running ∷ [])
 
 -- whether it gives a link its address
@@ -113,7 +117,7 @@ StepsByRule pair step result = let own = own_side step.side pair in GoesByRule o
 abbrev pub and_then : Script → ScriptStep → Script
 and_then script step = record script { steps = script.steps ++ step ∷ [] }
 
--- the step that stops a script is the one behind those that were made, and stops it by its rule
+-- the step that stops a script is the one after those that were made, and stops it by its rule
 pub record StopsByRule (script : Script) (stopped : Stopped Played) : Type 0 where
   pub step : ScriptStep
   pub there : slice_get script.steps stopped.steps ≡ Some step

@@ -7,7 +7,7 @@ pub data Stop : Type 0 where
   BadStep : Stop
   Full : Stop
 
--- how many steps were made, what stops the one behind them, and all that they made
+-- how many steps were made, what stops the one after them, and all that they made
 pub record Stopped (S : Type 0) : Type 0 where
   pub steps : ℕ
   pub stop : Stop

@@ -8,6 +8,9 @@ use Rattle.dna_packet.specs.Nsp.{NspValue, DataSegment}
 use Rattle.capture.specs.declared.limit.TheConstants.{MAX_HINT, MAX_LINK, MAX_UNIT, MAX_MESSAGE}
 use Rattle.capture.specs.declared.event.Event.{Event}
 use Rattle.capture.specs.declared.event.Event.TheVariants as events
+use Rattle.capture.specs.declared.fate.Fate.{Fate}
+use Rattle.capture.specs.declared.fate.Fate.TheVariants.{NotKept, Kept, Dropped}
+use Rattle.capture.specs.Fates.{is_kept, is_met}
 use Rattle.capture.specs.declared.record.Record.{Record}
 use Rattle.capture.specs.declared.record.Record.TheVariants.{Sent, Received, User}
 use Rattle.capture.specs.declared.record.Record.TheVariants as recorded
@@ -16,17 +19,18 @@ use Rattle.dna_station.specs.declared.refusal.StationRefusal.{StationRefusal}
 use Rattle.dna_links.specs.declared.port.Phase.TheVariants.{Confirming, Disconnecting}
 use Rattle.dna_links.specs.declared.port.LinkTest.TheVariants.{LiveAt, CalledBy}
 use Rattle.dna_station.specs.Table.{user_refusal}
-use Rattle.dna_links.specs.LookUps.{is_connected, takes_messages}
-use Rattle.dna_play.specs.Script.{StepValue, Start, Halt, Timer, Send, Deliver, Refuse, Lose, Damage, Noise, Open, Accept, Reject, In, Close, Retry}
+use Rattle.dna_links.specs.LookUps.{is_calling, is_connected, takes_messages}
+use Rattle.dna_play.specs.Script.{StepValue, Start, Halt, Boot, Timer, Send, Deliver, Refuse, Drop, Lose, Damage, Noise, Open, Accept, Reject, In}
+use Rattle.dna_play.specs.Script.{Close, Abort, Retry}
 use Rattle.dna_play.specs.Owed.{Debt, OwesStrt, timer_debt}
 use Rattle.dna_play.specs.LinkOwed.{LinkOwed, ConfirmDuty, DisconnectDuty, retried}
 use Rattle.dna_play.specs.NextSent.{LinkEnd, Choice, SendNew, link_choice, choice}
 use Rattle.dna_play.specs.Compose.{message_of}
 use Rattle.dna_play.specs.Stop.{Stop, BadStep, Full}
 use Rattle.dna_play.specs.Receipt.{carried, is_damage, damaged}
-use Rattle.dna_play.specs.StoredEnd.{StoredStation, StoredLinks, StoredEnd}
+use Rattle.dna_play.specs.StoredEnd.{StoredStation, StoredLinks, StoredEnd, no_stored_links}
 use Rattle.dna_play.specs.StoredStation as stations
-use Rattle.dna_play.specs.StoredLinks.{Delivering, delivering_none, arrives, with_end, changed, begun, opened, answered, handed, closed}
+use Rattle.dna_play.specs.StoredLinks.{Delivering, delivering_none, arrives, with_end, changed, ended, begun, opened, answered, handed, closed}
 use Rattle.dna_play.specs.StoredLinks as of_links
 
 -- What a step makes of an end: the end after it, the units that it sends, and the records that it adds to that end's capture
@@ -61,6 +65,11 @@ starts e = unless_refused (user_refusal e.station.variables.state station_events
 abbrev pub halts : StoredEnd → Result StoredStepped Stop
 halts e = made events.Halt (with_station (stations.after_event station_events.Halt e.station) e)
 
+-- the node starts anew: its station is halted, it has no links and owes them nothing, and no address is given
+abbrev pub boots : StoredEnd → Result StoredStepped Stop
+boots e = made events.Boot
+    (record e { station = stations.after_event station_events.Halt e.station; links = no_stored_links; addresses = 0 })
+
 -- with the next address, if one is left
 abbrev pub giving : StoredEnd → (StoredEnd → (address : ℕ) → Result StoredStepped Stop) → Result StoredStepped Stop
 giving e next = if nat_lt e.addresses MAX_LINK then next (record e { addresses = e.addresses + 1 }) (e.addresses + 1) else Err Full
@@ -92,6 +101,11 @@ hands_in e own message = with_end (LiveAt own) e.links (Err BadStep) (λ place l
 abbrev pub closes : StoredEnd → (own : ℕ) → Result StoredStepped Stop
 closes e own = with_end (LiveAt own) e.links (Err BadStep) (λ place link.
     if_so (is_connected link.port.phase) (made (events.Close own) (with_links (changed place (closed link) e.links) e)))
+
+-- a call of its own, to which no answer came, is given up: the link is over
+abbrev pub aborts : StoredEnd → (own : ℕ) → Result StoredStepped Stop
+aborts e own = with_end (LiveAt own) e.links (Err BadStep) (λ place link.
+    if_so (is_calling link.port.phase) (made (events.Abort own) (with_links (ended place e.links) e)))
 
 -- ---- timers
 
@@ -157,14 +171,23 @@ came_as e r station own delivering = if all_short delivering.messages then Ok (r
   records = r ∷ ups own delivering.messages;
 }) else Err BadStep
 
-abbrev pub receives : StoredEnd → List ℕ → ReadingValue → (kept : Bool) → Result StoredStepped Stop
-receives e bytes read kept = if nat_le e.passed MAX_HINT
-    then came_as e (Received e.passed kept bytes) (stations.after_arrival read kept e.station) (up_address (carried kept read))
-    (arrived (carried kept read) e.links)
+-- the links meet it where it was not lost before them
+abbrev pub receives : StoredEnd → List ℕ → ReadingValue → Fate → Result StoredStepped Stop
+receives e bytes read fate = if nat_le e.passed MAX_HINT
+    then came_as e (Received e.passed fate bytes) (stations.after_arrival read (is_kept fate) e.station) (up_address (carried (is_met fate) read))
+    (arrived (carried (is_met fate) read) e.links)
     else Err BadStep
 
+abbrev pub kept_or_not : (kept : Bool) → Fate
+kept_or_not true = Kept
+kept_or_not false = NotKept
+
 abbrev pub comes : StoredEnd → (buffer : Bool) → List ℕ → Result StoredStepped Stop
-comes e buffer bytes = receives e bytes (reading bytes) (stations.keeps buffer (reading bytes) e.station)
+comes e buffer bytes = receives e bytes (reading bytes) (kept_or_not (stations.keeps buffer (reading bytes) e.station))
+
+-- its packet is kept, and lost before the links; where it can't be taken it can't
+abbrev pub drops : StoredEnd → List ℕ → Result StoredStepped Stop
+drops e bytes = if_so (stations.can_keep (reading bytes) e.station) (receives e bytes (reading bytes) Dropped)
 
 -- no script has so many steps that its units pass the last hint
 abbrev pub loses : StoredEnd → Result StoredStepped Stop
@@ -197,10 +220,12 @@ with_next (bytes ∷ later) next = next bytes
 unfoldable pub stored_plays : StoredEnd → (coming : List (List ℕ)) → StepValue → Result StoredStepped Stop
 stored_plays e coming Start = starts e
 stored_plays e coming Halt = halts e
+stored_plays e coming Boot = boots e
 stored_plays e coming Timer = times_out e
 stored_plays e coming Send = sends e
 stored_plays e coming Deliver = with_next coming (comes e true)
 stored_plays e coming Refuse = with_next coming (comes e false)
+stored_plays e coming Drop = with_next coming (drops e)
 stored_plays e coming Lose = with_next coming (λ bytes. loses e)
 stored_plays e coming (Damage place value) = with_next coming (comes_damaged e place value)
 stored_plays e coming (Noise bytes) = hears e bytes (reading bytes)
@@ -209,4 +234,5 @@ stored_plays e coming (Accept partner) = accepts e partner
 stored_plays e coming (Reject partner) = rejects e partner
 stored_plays e coming (In link message) = hands_in e link message
 stored_plays e coming (Close link) = closes e link
+stored_plays e coming (Abort link) = aborts e link
 stored_plays e coming (Retry link) = retries e link

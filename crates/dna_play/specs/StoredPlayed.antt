@@ -4,7 +4,7 @@ use Rattle.std.specs.Result.{result_map_both}
 use Rattle.wire_base.specs.declared.side.Side.{Side}
 use Rattle.wire_base.specs.declared.side.Side.TheVariants.{A, B}
 use Rattle.capture.specs.declared.record.Record.{Record}
-use Rattle.dna_play.specs.Script.{StepValue, ScriptStep, Script, Deliver, Refuse, Lose, Damage}
+use Rattle.dna_play.specs.Script.{StepValue, ScriptStep, Script, Deliver, Refuse, Drop, Lose, Damage}
 use Rattle.dna_play.specs.Stop.{Stop, Stopped, plays_all}
 use Rattle.dna_play.specs.StoredEnd.{StoredEnd, new_stored_end}
 use Rattle.dna_play.specs.StoredPlay.{StoredStepped, stored_plays}
@@ -24,6 +24,7 @@ pub record StoredPair : Type 0 where
 abbrev pub is_of_line : StepValue → Bool
 is_of_line Deliver = true
 is_of_line Refuse = true
+is_of_line Drop = true
 is_of_line Lose = true
 is_of_line (Damage place value) = true
 is_of_line step = false

@@ -32,8 +32,8 @@ pub fn played_captures_are_few()
         → (length stopped.so_far.ends.of_a ≤ MAX_RECORDS) × (length stopped.so_far.ends.of_b ≤ MAX_RECORDS) }
 {}
 
-/// The captures of a script that starts each side at most once are a run of two nodes as a judge has them; so are those of the steps before one
-/// that can't be made, where these start each side at most once.
+/// The captures of a script that starts each side at most once and boots none are a run of two nodes as a judge has them; so are those of the
+/// steps before one that can't be made, where these start each side at most once and boot none.
 pub fn played_captures_are_a_run()
     ensures played { (script : Script) (played : Played) → play script ≡ Ok played → StartsOnce script.steps
         → Run layers_pair (layers_start (head_a script) (head_b script)) played.ends.of_a played.ends.of_b played.nodes }
@@ -41,8 +41,9 @@ pub fn played_captures_are_a_run()
         → Run layers_pair (layers_start (head_a script) (head_b script)) stopped.so_far.ends.of_a stopped.so_far.ends.of_b stopped.so_far.nodes }
 {}
 
-/// A step behind a script that starts each side at most once goes by its rule, where both have a text: it is bad exactly where it breaks the
-/// rule, and full exactly where it keeps the rule but needs a link address and all of its end are given. So does the step that stops a script.
+/// A step after a script that starts each side at most once and boots none goes by its rule, where both have a text: it is bad exactly where it
+/// breaks the rule, and full exactly where it keeps the rule but needs a link address and all of its end are given. So does the step that stops a
+/// script.
 pub fn steps_go_by_their_rules()
     ensures next { (script : Script) (step : ScriptStep) (so_far : Played) → IsScript (and_then script step) → play script ≡ Ok so_far
         → StartsOnce script.steps → StepsByRule so_far.ends.pair step (plays_step so_far step) }
@@ -51,9 +52,9 @@ pub fn steps_go_by_their_rules()
         → StopsByRule script stopped }
 {}
 
-/// The node beside each end makes all that the end makes of a script that starts each side at most once: the ends with their nodes play it as the
-/// ends alone do, to the same captures, or to the same step that can't be made. So it is where the steps before that one start each side at most
-/// once.
+/// The node beside each end makes all that the end makes of a script that starts each side at most once and boots none: the ends with their nodes
+/// play it as the ends alone do, to the same captures, or to the same step that can't be made. So it is where the steps before that one start each
+/// side at most once and boot none.
 pub fn nodes_make_what_ends_make()
     ensures played { (script : Script) → IsScript script → StartsOnce script.steps → ends_of (play script) ≡ stored_play script }
     ensures stopped { (script : Script) (stopped : Stopped Played) → IsScript script → play script ≡ Err stopped →

@@ -56,7 +56,7 @@ pub record Went (l x : Link) : Type 0 where
   pub accepted : x.queue.accepted ≡ l.queue.accepted
   pub leaves : Leaves l.segments x.segments
 
-went_itself : (l : Link) → Went l l
+pub went_itself : (l : Link) → Went l l
 went_itself l = record {
   port = refl;
   waits = refl;

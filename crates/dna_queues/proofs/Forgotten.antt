@@ -9,10 +9,10 @@ use Rattle.dna_links.specs.declared.port.Phase.TheVariants.{Confirming, Disconne
 use Rattle.dna_links.specs.declared.port.LinkTest.{LinkTest}
 use Rattle.dna_links.specs.declared.port.LinkTest.TheVariants.{HasAddress, LiveAt, CalledBy}
 use Rattle.dna_links.specs.declared.queue.Queues.TheVariants.{Without}
-use Rattle.dna_links.specs.LookUps.{passes, takes_messages, is_connected}
+use Rattle.dna_links.specs.LookUps.{passes, takes_messages, is_calling, is_connected}
 use Rattle.dna_links.specs.Links.{number_of, on_link, at_number, with_link, begun, changed, in_phase, with_segments}
 use Rattle.dna_links.specs.LinkBook.{user_step}
-use Rattle.dna_links.specs.Queues.{forgotten, freed}
+use Rattle.dna_links.specs.Queues.{ended, forgotten, freed, booted_link, booted}
 use Rattle.dna_links.specs.inner.Forms.{opened, answered, delivered}
 use Rattle.dna_links.specs.User.{LinkEventValue, Accept, Reject}
 use Rattle.dna_links.specs.TrueSegments.{TrueSegments, hands_in, delivers, true_segments}
@@ -90,6 +90,11 @@ module _ (s : Links) where
           ∙ ap (λ (o : Option ℕ). at_number (forget_links s).links o (forget_links s)
           (λ n l. changed n (forgotten true_segments Without l) (forget_links s))) (sym (number_forget (HasAddress own) s ∙ e))
 
+  booted_forget : (links : List LateLink) → map forget (map (booted_link late_segments Without) links) ≡
+      map (booted_link true_segments Without) (map forget links)
+  booted_forget [] = refl
+  booted_forget (h ∷ links) = ap (λ (all : List Link). booted_link true_segments Without (forget h) ∷ all) (booted_forget links)
+
   -- ---- the user
 
   pub record UserToo (event : LinkEventValue) (left : plain.Links) : Type 0 where
@@ -151,6 +156,20 @@ module _ (s : Links) where
         same = changed_forget number (in_phase Disconnecting t.h) s
             ∙ ap (λ (x : Link). changed number (in_phase Disconnecting x) (forget_links s)) t.is;
       }
+  user_by event left (outcomes.Aborts own number link found calling) =
+      let t = there (LiveAt own) number link found in
+      record {
+        links = changed number (ended late_segments t.h) s;
+        does = at_found (LiveAt own) s number t.h _ _ t.found
+            ∙ passed_check (is_calling t.h.port.phase) LinkState _ (ap (λ (x : Link). is_calling x.port.phase) t.is ∙ calling);
+        same = changed_forget number (ended late_segments t.h) s
+            ∙ ap (λ (x : Link). changed number (ended true_segments x) (forget_links s)) t.is;
+      }
+  user_by event left outcomes.Boots = record {
+    links = booted late_segments Without s;
+    does = refl;
+    same = ap (λ (links : List Link). record (forget_links s) { links = links }) (booted_forget s.links);
+  }
 
   pub user_too : (event : LinkEventValue) (left : plain.Links) → plain.links_user Without (forget_links s) event ≡ Ok left → UserToo event left
   user_too event left e = user_by event left (user_did true_segments (forget_links s) left event e)

@@ -28,6 +28,9 @@ mod Messages
 mod Users
 mod Settled
 mod Ends
+mod Gone
+mod GoneOn
+mod Booted
 mod Complete
 mod WorkedSteps
 mod Forgotten
@@ -59,6 +62,8 @@ mod EndsActed
 mod Settling
 mod SettledTimed
 mod ClosedTimed
+mod AbortTimed
+mod BootTimed
 mod DeliveredTimed
 mod AnsweredTimed
 mod KeptLists

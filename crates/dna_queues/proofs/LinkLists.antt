@@ -182,23 +182,28 @@ module _ {D : Type 0} where
           let at = position_passes (λ (x : LinkOf D). passes test x.port) s.links j k.0 found k.1 in
           found ∙ ap Some (unique j i k.0 l k.1 there own (owns k.0.port at) (owns l.port passed))
 
-module _ {D E : Type 0} (s : LinksOf D) (t : LinksOf E) (size : length s.links ≡ length t.links) where
-  tests_alike : (test : LinkTest) (xs : List (LinkOf D)) (ys : List (LinkOf E)) → length xs ≡ length ys →
-      ((i : ℕ) (h : LinkOf D) (l : LinkOf E) → slice_get xs i ≡ Some h → slice_get ys i ≡ Some l → passes test h.port ≡ passes test l.port) →
-      map (λ (x : LinkOf D). passes test x.port) xs ≡ map (λ (y : LinkOf E). passes test y.port) ys
-  tests_alike test [] [] size same = refl
-  tests_alike test [] (y ∷ ys) size same = absurd (omega (arith, size))
-  tests_alike test (x ∷ xs) [] size same = absurd (omega (arith, size))
-  tests_alike test (x ∷ xs) (y ∷ ys) size same =
+module _ {X Y : Type 0} (f : X → Bool) (g : Y → Bool) where
+  tests_alike : (xs : List X) (ys : List Y) → length xs ≡ length ys →
+      ((i : ℕ) (x : X) (y : Y) → slice_get xs i ≡ Some x → slice_get ys i ≡ Some y → f x ≡ g y) → map f xs ≡ map g ys
+  tests_alike [] [] size same = refl
+  tests_alike [] (y ∷ ys) size same = absurd (omega (arith, size))
+  tests_alike (x ∷ xs) [] size same = absurd (omega (arith, size))
+  tests_alike (x ∷ xs) (y ∷ ys) size same =
       ap₂ (λ (p : Bool) (ps : List Bool). p ∷ ps) (same zero x y refl refl)
-      (tests_alike test xs ys (omega (arith, size)) (λ i h l at_h at_l. same (suc i) h l at_h at_l))
+      (tests_alike xs ys (omega (arith, size)) (λ i h l at_h at_l. same (suc i) h l at_h at_l))
 
+  -- the first that passes is at the same place in both where the same pass
+  pub position_same : (xs : List X) (ys : List Y) → length xs ≡ length ys →
+      ((i : ℕ) (x : X) (y : Y) → slice_get xs i ≡ Some x → slice_get ys i ≡ Some y → f x ≡ g y) → position f xs ≡ position g ys
+  position_same xs ys size same =
+      sym (position-map (λ (b : Bool). b) f xs) ∙ ap (position (λ (b : Bool). b)) (tests_alike xs ys size same)
+      ∙ position-map (λ (b : Bool). b) g ys
+
+module _ {D E : Type 0} (s : LinksOf D) (t : LinksOf E) (size : length s.links ≡ length t.links) where
   -- the same is found in both where the same pass
   pub number_same : (test : LinkTest) →
       ((i : ℕ) (h : LinkOf D) (l : LinkOf E) → slice_get s.links i ≡ Some h → slice_get t.links i ≡ Some l →
       passes test h.port ≡ passes test l.port) →
       number_of test s ≡ number_of test t
   number_same test same =
-      sym (position-map (λ (b : Bool). b) (λ (x : LinkOf D). passes test x.port) s.links)
-      ∙ ap (position (λ (b : Bool). b)) (tests_alike test s.links t.links size same)
-      ∙ position-map (λ (b : Bool). b) (λ (y : LinkOf E). passes test y.port) t.links
+      position_same (λ (x : LinkOf D). passes test x.port) (λ (y : LinkOf E). passes test y.port) s.links t.links size same

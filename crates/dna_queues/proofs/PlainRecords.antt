@@ -9,9 +9,9 @@ use Rattle.dna_station.specs.declared.link_refusal.LinkRefusal.TheVariants.{NoLi
 use Rattle.dna_links.specs.declared.port.LinkTest.TheVariants.{LiveTo, BegunBy}
 use Rattle.dna_links.specs.declared.queue.Queues.TheVariants.{Without}
 use Rattle.dna_links.specs.Links.{Carried, begun}
-use Rattle.dna_links.specs.LinkBook.{on_ok}
+use Rattle.dna_links.specs.LinkBook.{on_ok, user_step}
 use Rattle.dna_links.specs.inner.Forms.{unchanged, called}
-use Rattle.dna_links.specs.User.{LinkEventValue, Open, Accept, Reject, In, Up, Close}
+use Rattle.dna_links.specs.User.{LinkEventValue, Open, Accept, Reject, Boot}
 use Rattle.dna_links.specs.Sending.{Sent, sent_step, message_sent}
 use Rattle.dna_links.specs.Arriving.{of_partner, arrived_step, message_arrived}
 use Rattle.dna_links.specs.TrueSegments.{TrueSegments, Numbers, true_segments}
@@ -21,7 +21,7 @@ use Rattle.dna_links.proofs.Tables.Outcomes.{looked, checked}
 use Rattle.dna_queues.proofs.Facts.{passed_check, same_Ok}
 use Rattle.dna_queues.specs.Records.{LinkRecord, OfUser, Sends, Keeps, OfNoLink, links_left, made_without, AreInRange}
 use Rattle.dna_queues.specs.Hidden.{LateSegments, late_segments, Links, Node, dstaddr, is_composed, First, Acts, Composes, Acknowledges, AllActed}
-use Rattle.dna_queues.specs.Made.{new_node, IsFree, MayBe, EndsCall, UserDoes}
+use Rattle.dna_queues.specs.Made.{new_node, IsFree, EndsCall, MakesStep, UserDoes, Boots}
 use Rattle.dna_queues.specs.Made.{SendsComposed, SendsConfirm, SendsNothing, KeepsForLink, KeepsAtOnce, PassesBy}
 use Rattle.dna_queues.specs.Made.{MadeByHidden, NoMore, Hides, Makes}
 use Rattle.dna_queues.proofs.LinkLists.{at_found, at_none}
@@ -35,13 +35,14 @@ quiet s = record { links = s; kept = []; composed = [] }
 free : (own : ℕ) (s : Links) → IsFree own (quiet s)
 free own s = record { nothing_for = refl; nothing_of = λ number e. refl }
 
-may_be : (event : LinkEventValue) (s : Links) → MayBe event (quiet s)
-may_be (Open own) s = free own s
-may_be (Accept far own) s = free own s
-may_be (Reject far own) s = free own s
-may_be (In own message) s = tt
-may_be (Up own message) s = tt
-may_be (Close own) s = tt
+-- the step of each event
+user_makes : (event : LinkEventValue) (s links : Links) → user_step Without late_segments s event ≡ Ok links →
+    MakesStep (quiet s) (OfUser event) (quiet links)
+user_makes (Open own) s links does = UserDoes (Open own) links (free own s) does
+user_makes (Accept far own) s links does = UserDoes (Accept far own) links (free own s) does
+user_makes (Reject far own) s links does = UserDoes (Reject far own) links (free own s) does
+user_makes Boot s links does = subst (λ (x : Links). MakesStep (quiet s) (OfUser Boot) (quiet x)) (same_Ok _ links does) Boots
+user_makes event s links does = UserDoes event links tt does
 
 ends_call : (z : Bool) (made : Sent LateSegments Numbers) (s : Links) → EndsCall z made (quiet s)
 ends_call true made s = λ number e. refl
@@ -58,7 +59,7 @@ module _ (later : List LinkRecord) (left : plain.Links)
   by_user s event (Err refusal) does e = absurd cc
   by_user s event (Ok t) does e =
       let u = user_too s event t does in
-      Makes (quiet s) (quiet u.links) (OfUser event) later (UserDoes event u.links (may_be event s) u.does) (on u.links t u.same e)
+      Makes (quiet s) (quiet u.links) (OfUser event) later (user_makes event s u.links u.does) (on u.links t u.same e)
 
   -- ---- what is sent
 

@@ -1,7 +1,6 @@
 -- Whatever records the machine makes a node with queues makes too, by hidden steps.
 use Rattle.std.proofs.Common.{◌≡◌, ℕ, true, ◌&&◌, ◌==◌, Option, Some, None, List, [], ◌∷◌, ◌++◌, Result, Ok, Err}
 use Rattle.std.proofs.Common.{refl, sym, ap, ◌∙◌, subst, append-nil}
-use Rattle.std.specs.Prelude.{slice_get}
 use Rattle.dna_packet.specs.Nsp.{NspValue, DataSegment, LinkService, DataAck, OtherDataAck, ConnectAck, NoOperation, ConnectInitiate, ConnectConfirm}
 use Rattle.dna_packet.specs.Nsp.{DisconnectInitiate, DisconnectConfirm, IsInRange}
 use Rattle.dna_station.specs.declared.link_refusal.LinkRefusal.{LinkRefusal}
@@ -9,9 +8,8 @@ use Rattle.dna_station.specs.declared.link_refusal.LinkRefusal.TheVariants.{Wron
 use Rattle.dna_links.specs.declared.port.LinkTest.TheVariants.{LiveTo}
 use Rattle.dna_links.specs.declared.queue.Queues.TheVariants.{Without, With}
 use Rattle.dna_links.specs.Links.{Carried, number_of, begun}
-use Rattle.dna_links.specs.LinkBook.{blank}
 use Rattle.dna_links.specs.inner.Forms.{called}
-use Rattle.dna_links.specs.User.{LinkEventValue, Open, Accept, Reject, In, Up, Close}
+use Rattle.dna_links.specs.User.{LinkEventValue, Open, Accept, Reject, In, Up, Close, Abort, Boot}
 use Rattle.dna_links.specs.User as user
 use Rattle.dna_links.specs.Sending.{Sent, message_sent}
 use Rattle.dna_links.specs.Arriving.{of_partner, arrived_step, message_arrived}
@@ -23,7 +21,6 @@ use Rattle.dna_queues.proofs.Facts.{passed_check, same_Ok}
 use Rattle.dna_queues.specs.Records.{LinkRecord, OfUser, Sends, Keeps, OfNoLink, links_left, MadeByMachine, AreInRange, EventsAreInRange}
 use Rattle.dna_queues.specs.Hidden.{late_segments, Links, Node, dstaddr, link_it_is_for}
 use Rattle.dna_queues.specs.Made.{new_node, KeepsAtOnce, PassesBy, MadeByHidden, NoMore, Makes}
-use Rattle.dna_queues.proofs.Goes.{Link}
 use Rattle.dna_queues.proofs.Lists.{waiting_none}
 use Rattle.dna_queues.proofs.LinkLists.{at_none}
 use Rattle.dna_queues.proofs.MachineSends.{is_of_link}
@@ -32,6 +29,8 @@ use Rattle.dna_queues.proofs.Timed.{Timed}
 use Rattle.dna_queues.proofs.SentTimed.{Sound, sent_sound}
 use Rattle.dna_queues.proofs.UserTimed.{in_sound}
 use Rattle.dna_queues.proofs.ClosedTimed.{close_sound}
+use Rattle.dna_queues.proofs.AbortTimed.{abort_sound}
+use Rattle.dna_queues.proofs.BootTimed.{none_due, none_are_due, boot_sound}
 use Rattle.dna_queues.proofs.DeliveredTimed.{up_sound}
 use Rattle.dna_queues.proofs.Addressed.{awaits_nothing}
 use Rattle.dna_queues.proofs.ConfirmTimed.{confirm_sound, nothing_sound}
@@ -125,6 +124,8 @@ module _ (s : machine.Links) (sane : AreSane s) (later : List LinkRecord) where
     by_user (In own message) small e = in_sound s sane later left rest own message e
     by_user (Up own message) small e = up_sound s sane later left rest own message e
     by_user (Close own) small e = close_sound s sane later left rest own e
+    by_user (Abort own) small e = abort_sound s sane later left rest own e
+    by_user Boot small e = boot_sound s sane later left rest e
 
     by_sending : (packet : Carried) → IsInRange packet.message → links_left (machine.links_sent With s packet) ≡ Ok left →
         Sound s (Sends packet ∷ later)
@@ -171,17 +172,10 @@ module _ (s : machine.Links) (sane : AreSane s) (later : List LinkRecord) where
 
 -- ---- all of them
 
-abbrev link_or : Option Link → Link
-link_or None = blank With true_segments
-link_or (Some l) = l
-
 sound_from : (made : List LinkRecord) (s : machine.Links) → AreSane s → AreInRange made → EventsAreInRange made → MadeByMachine s made → Sound s made
 sound_from [] s sane small events by_machine = record {
-  dues = λ i. record { packets = []; link = link_or (slice_get s.links i) };
-  due = record {
-    each = λ i l at. record { can = sym (ap link_or at); early = tt };
-    beyond = λ i none. refl;
-  };
+  dues = none_due s;
+  due = none_are_due s;
   made = λ n t. NoMore n;
 }
 sound_from (OfUser event ∷ later) s sane small events m =

@@ -23,7 +23,7 @@ use Rattle.dna_links.specs.TrueLinks as machine
 use Rattle.dna_links.proofs.Tables.Outcomes.{IsFound, user_did}
 use Rattle.dna_links.proofs.Tables.Outcomes as outcomes
 use Rattle.dna_queues.proofs.Facts.{passed_check}
-use Rattle.dna_queues.specs.Records.{AreAnswered, next_links}
+use Rattle.dna_queues.specs.Records.{AreAnswered, IsNoAbort, next_links}
 use Rattle.dna_queues.specs.Records as records
 use Rattle.dna_queues.specs.Hidden.{LateSegments, late_segments, over, delivered_over, Links, Node, link_it_is_for, link_it_is_of, waiting}
 use Rattle.dna_queues.specs.Made.{MayBe}
@@ -225,20 +225,23 @@ module _ (n : Node) (t : machine.Links) (b : Beside n t) (near : AreAnswered t) 
 
   -- ---- any event
 
-  user_by : (event : LinkEventValue) (links : Links) → MayBe event n → outcomes.UserDid late_segments n.links event links →
+  user_by : (event : LinkEventValue) (links : Links) → MayBe event n → IsNoAbort (records.OfUser event) →
+      outcomes.UserDid late_segments n.links event links →
       Follow (record n { links = links }) t (records.OfUser event)
-  user_by event links may (outcomes.Opens own free) = opens_beside n t b own may free
-  user_by event links may (outcomes.Accepts far own number link found free) =
+  user_by event links may keeps (outcomes.Opens own free) = opens_beside n t b own may free
+  user_by event links may keeps (outcomes.Accepts far own number link found free) =
       answers_beside n t b near (Accept far own) far own number link Confirming may found free (refl, refl, refl, refl)
       (λ q. (refl, refl, refl, refl)) (λ q. (λ e. refl, λ e. refl)) refl
-  user_by event links may (outcomes.Rejects far own number link found free) =
+  user_by event links may keeps (outcomes.Rejects far own number link found free) =
       answers_beside n t b near (Reject far own) far own number link Disconnecting may found free (refl, refl, refl, refl)
       (λ q. (refl, refl, refl, refl)) (λ q. (λ e. e, λ e. absurd cc)) refl
-  user_by event links may (outcomes.HandsIn own message number link found takes) = hands_in_beside own message number link found takes
-  user_by event links may (outcomes.Delivers own message number link segments found does) = delivers_beside own message number link segments
+  user_by event links may keeps (outcomes.HandsIn own message number link found takes) = hands_in_beside own message number link found takes
+  user_by event links may keeps (outcomes.Delivers own message number link segments found does) = delivers_beside own message number link segments
       found does
-  user_by event links may (outcomes.Closes own number link found connected) = closes_beside own number link found connected
+  user_by event links may keeps (outcomes.Closes own number link found connected) = closes_beside own number link found connected
+  user_by event links may keeps (outcomes.Aborts own number link found calling) = absurd keeps
+  user_by event links may keeps outcomes.Boots = absurd may
 
-  pub user_beside : (event : LinkEventValue) (links : Links) → MayBe event n → user_step Without late_segments n.links event ≡ Ok links →
-      Follow (record n { links = links }) t (records.OfUser event)
-  user_beside event links may e = user_by event links may (user_did late_segments n.links links event e)
+  pub user_beside : (event : LinkEventValue) (links : Links) → MayBe event n → IsNoAbort (records.OfUser event) →
+      user_step Without late_segments n.links event ≡ Ok links → Follow (record n { links = links }) t (records.OfUser event)
+  user_beside event links may keeps e = user_by event links may keeps (user_did late_segments n.links links event e)

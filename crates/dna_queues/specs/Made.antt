@@ -5,7 +5,8 @@ use Rattle.dna_links.specs.declared.port.LinkTest.TheVariants.{HasAddress}
 use Rattle.dna_links.specs.declared.queue.Queues.TheVariants.{Without}
 use Rattle.dna_links.specs.Links.{LinkOf, Carried, no_links, number_of}
 use Rattle.dna_links.specs.LinkBook.{user_step}
-use Rattle.dna_links.specs.User.{LinkEventValue, Open, Accept, Reject}
+use Rattle.dna_links.specs.Queues.{booted}
+use Rattle.dna_links.specs.User.{LinkEventValue, Open, Accept, Reject, Boot}
 use Rattle.dna_links.specs.Sending.{Sent, sent_step}
 use Rattle.dna_links.specs.Arriving.{of_partner, arrived_step}
 use Rattle.dna_links.specs.TrueSegments.{Numbers}
@@ -29,11 +30,12 @@ pub record IsFree (address : ℕ) (n : Node) : Type 0 where
   pub nothing_for : waiting link_it_is_for (Some address) n.kept ≡ []
   pub nothing_of : SaysNoMore (number_of (HasAddress address) n.links) n
 
--- an address is given only then
+-- an address is given only then; a boot has a step of its own
 abbrev pub MayBe : LinkEventValue → Node → Type 0
 MayBe (Open own) n = IsFree own n
 MayBe (Accept far own) n = IsFree own n
 MayBe (Reject far own) n = IsFree own n
+MayBe Boot n = ⊥
 MayBe event n = Unit {0}
 
 -- A DC answers what came for its SRCADDR, and is the last of its link; and so of the call that one with SRCADDR 0 ends
@@ -46,6 +48,8 @@ EndsCall false made n = Unit {0}
 pub data MakesStep (n : Node) : LinkRecord → Node → Type 0 where
   UserDoes : (event : LinkEventValue) (links : Links) → MayBe event n → user_step Without late_segments n.links event ≡ Ok links →
       MakesStep n (OfUser event) (record n { links = links })
+  -- the node starts anew: all links are over, and what waits is dropped
+  Boots : MakesStep n (OfUser Boot) (record { links = booted late_segments Without n.links; kept = []; composed = [] })
   -- what was composed is sent, the first of its link
   SendsComposed : (unit : SentMessage) (left : List SentMessage) → Takes link_it_is_of n.composed unit left →
       MakesStep n (Sends unit.packet) (record n { composed = left })

@@ -4,7 +4,7 @@ use Rattle.dna_packet.specs.Nsp.{IsInRange}
 use Rattle.dna_station.specs.declared.link_refusal.LinkRefusal.{LinkRefusal}
 use Rattle.dna_links.specs.declared.queue.Queues.TheVariants.{Without, With}
 use Rattle.dna_links.specs.Links.{LinkOf, Carried}
-use Rattle.dna_links.specs.User.{LinkEventValue}
+use Rattle.dna_links.specs.User.{LinkEventValue, Abort}
 use Rattle.dna_links.specs.User as user
 use Rattle.dna_links.specs.LinkBook.{on_ok}
 use Rattle.dna_links.specs.Sending.{Sent}
@@ -41,6 +41,11 @@ abbrev pub MadeByMachine : Links → List LinkRecord → Type 0
 MadeByMachine s [] = Unit {0}
 MadeByMachine s (one ∷ later) = (left : Links) × (next_links s one ≡ Ok left) × MadeByMachine left later
 
+-- what they come to, or the first refusal
+abbrev pub left_by_machine : Links → List LinkRecord → Result Links LinkRefusal
+left_by_machine s [] = Ok s
+left_by_machine s (one ∷ later) = on_ok (next_links s one) (λ left. left_by_machine left later)
+
 -- ---- what links without queues make of them
 
 abbrev pub made_without : Links → List LinkRecord → Result Links LinkRefusal
@@ -61,6 +66,16 @@ abbrev pub EventsAreInRange : List LinkRecord → Type 0
 EventsAreInRange [] = Unit {0}
 EventsAreInRange (OfUser event ∷ later) = user.IsInRange event × EventsAreInRange later
 EventsAreInRange (other ∷ later) = EventsAreInRange later
+
+-- No call is given up. With queues the machine takes a call for answered once the answer is kept, and the node only once it acts on that: so the node
+-- may give up a call, and send its CI after that, where the machine refuses both
+abbrev pub IsNoAbort : LinkRecord → Type 0
+IsNoAbort (OfUser (Abort own)) = ⊥
+IsNoAbort one = Unit {0}
+
+abbrev pub NoneGivesUp : List LinkRecord → Type 0
+NoneGivesUp [] = Unit {0}
+NoneGivesUp (one ∷ later) = IsNoAbort one × NoneGivesUp later
 
 -- ---- what holds of these numbers beside a right other end
 

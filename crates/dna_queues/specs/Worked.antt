@@ -1,9 +1,10 @@
--- A link is closed from the other side while an acknowledgement that it has composed waits to be sent.
+-- A link is closed from the other side while an acknowledgement that it has composed waits to be sent; and a call is given up while its answer
+-- waits to be acted on.
 use Rattle.std.specs.Prelude.{false, Some, List, [], ◌∷◌}
 use Rattle.dna_packet.specs.declared.ack_word.AckQualifier.TheVariants.{Ack}
 use Rattle.dna_packet.specs.Nsp.{NspValue, DataAck, ConnectInitiate, ConnectConfirm, DisconnectInitiate}
 use Rattle.dna_links.specs.Links.{Carried}
-use Rattle.dna_links.specs.User.{Open}
+use Rattle.dna_links.specs.User.{Open, Abort}
 use Rattle.dna_links.specs.TrueSegments.{true_segments}
 use Rattle.dna_links.specs.Runs.{SentMessage}
 use Rattle.dna_queues.specs.Records.{LinkRecord, OfUser, Sends, Keeps}
@@ -32,3 +33,6 @@ closing = from_there (DisconnectInitiate 7 9 0 [])
 
 abbrev pub worked : List LinkRecord
 worked = OfUser (Open 7) ∷ Sends call ∷ Keeps confirmation ∷ Keeps closing ∷ Sends acknowledgement ∷ []
+
+abbrev pub given_up : List LinkRecord
+given_up = OfUser (Open 7) ∷ Sends call ∷ Keeps confirmation ∷ OfUser (Abort 7) ∷ []

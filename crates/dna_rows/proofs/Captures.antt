@@ -1,6 +1,7 @@
 -- The records with which most rows begin, of side a and of side b.
-use Rattle.std.proofs.Common.{ℕ, true, false, List, [], ◌∷◌, ◌++◌}
+use Rattle.std.proofs.Common.{ℕ, List, [], ◌∷◌, ◌++◌}
 use Rattle.wire_base.specs.declared.side.Side.{Side}
+use Rattle.capture.specs.declared.fate.Fate.TheVariants.{NotKept, Kept}
 use Rattle.capture.specs.declared.record.Record.{Record}
 use Rattle.capture.specs.declared.record.Record.TheVariants.{Sent, Received, User}
 use Rattle.capture.specs.declared.event.Event.TheVariants.{Start, Open, Accept}
@@ -12,28 +13,28 @@ use Rattle.dna_rows.proofs.Units.{STRT, STACK, ACK, CI, CC, LINK_SERVICE, data_a
 
 -- a starts and is in RUNNING; b answers and is in ASTRT
 abbrev pub started : List Record
-started = User Start ∷ Sent STRT ∷ Received 0 false STACK ∷ []
+started = User Start ∷ Sent STRT ∷ Received 0 NotKept STACK ∷ []
 
 abbrev pub answered : List Record
-answered = User Start ∷ Received 0 false STRT ∷ Sent STACK ∷ []
+answered = User Start ∷ Received 0 NotKept STRT ∷ Sent STACK ∷ []
 
 -- an ACK brings b into RUNNING too
 abbrev pub acked_a : List Record
 acked_a = started ++ Sent (ACK 0) ∷ []
 
 abbrev pub acked_b : List Record
-acked_b = answered ++ Received 1 false (ACK 0) ∷ []
+acked_b = answered ++ Received 1 NotKept (ACK 0) ∷ []
 
 -- a calls from its link 1
 abbrev pub called_a : List Record
 called_a = started ++ User (Open 1) ∷ Sent (data_a 1 0 (CI 1)) ∷ []
 
 abbrev pub called_b : List Record
-called_b = answered ++ Received 1 true (data_a 1 0 (CI 1)) ∷ []
+called_b = answered ++ Received 1 Kept (data_a 1 0 (CI 1)) ∷ []
 
 -- b accepts at its link 2, and its CC comes
 abbrev pub confirmed_a : List Record
-confirmed_a = called_a ++ Received 1 true (data_b 1 1 (CC 1 2 512)) ∷ []
+confirmed_a = called_a ++ Received 1 Kept (data_b 1 1 (CC 1 2 512)) ∷ []
 
 abbrev pub confirmed_b : List Record
 confirmed_b = called_b ++ User (Accept 1 2) ∷ Sent (data_b 1 1 (CC 1 2 512)) ∷ []
@@ -43,7 +44,7 @@ abbrev pub running_a : List Record
 running_a = confirmed_a ++ Sent (data_a 2 1 (LINK_SERVICE 2 1)) ∷ []
 
 abbrev pub running_b : List Record
-running_b = confirmed_b ++ Received 2 true (data_a 2 1 (LINK_SERVICE 2 1)) ∷ []
+running_b = confirmed_b ++ Received 2 Kept (data_a 2 1 (LINK_SERVICE 2 1)) ∷ []
 
 -- this record, counted from 0, is refused
 abbrev pub refused : Side → (place : ℕ) → StepRefusal → Finding

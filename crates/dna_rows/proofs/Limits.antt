@@ -4,6 +4,7 @@
 use Rattle.std.proofs.Common.{◌≡◌, ◌≢◌, ℕ, true, List, [], length, inl, inr, refl, arith}
 use Rattle.std.specs.List.{AllByRecursion}
 use Rattle.capture.specs.declared.fault.Departure.TheVariants.{TooLong, TooMany}
+use Rattle.capture.specs.declared.fate.Fate.TheVariants.{Kept}
 use Rattle.capture.specs.declared.record.Record.{Record}
 use Rattle.capture.specs.declared.record.Record.TheVariants.{Sent, Received, Noise, User}
 use Rattle.capture.specs.declared.event.Event.TheVariants.{In, Up}
@@ -33,11 +34,11 @@ line_of_131081_does_not text count departs = let long = departs.1 in absurd (ome
 
 -- ---- a unit, or noise: at most 16,393 bytes, as a data message of 16,383 has them. Refuses another MAX_UNIT
 
-longest_unit : (bytes : List ℕ) → length bytes ≡ 16393 → IsShort (Sent bytes) × IsShort (Received 0 true bytes) × IsShort (Noise bytes)
+longest_unit : (bytes : List ℕ) → length bytes ≡ 16393 → IsShort (Sent bytes) × IsShort (Received 0 Kept bytes) × IsShort (Noise bytes)
 longest_unit bytes count = (omega arith, omega arith, omega arith)
 
 unit_of_16394 : (bytes : List ℕ) → length bytes ≡ 16394 →
-    (IsShort (Sent bytes) → ⊥) × (IsShort (Received 0 true bytes) → ⊥) × (IsShort (Noise bytes) → ⊥)
+    (IsShort (Sent bytes) → ⊥) × (IsShort (Received 0 Kept bytes) → ⊥) × (IsShort (Noise bytes) → ⊥)
 unit_of_16394 bytes count = (λ short. absurd (omega arith), λ short. absurd (omega arith), λ short. absurd (omega arith))
 
 -- ---- a message that is handed in or delivered: at most 65,535 bytes. Refuses another MAX_MESSAGE
@@ -98,10 +99,10 @@ last_line form text (inr departs) = absurd departs.2
 
 -- ---- hints: at most 999,999,999,999,999,999, and a mark may be one more. Refuses another MAX_HINT or MAX_MARK
 
-greatest_hint : NumbersFit (Received 999999999999999999 true []) × FormFits (Distance 1000000000000000000)
+greatest_hint : NumbersFit (Received 999999999999999999 Kept []) × FormFits (Distance 1000000000000000000)
 greatest_hint = (omega arith, omega arith)
 
-hint_above : (NumbersFit (Received 1000000000000000000 true []) → ⊥) × (FormFits (Distance 1000000000000000001) → ⊥)
+hint_above : (NumbersFit (Received 1000000000000000000 Kept []) → ⊥) × (FormFits (Distance 1000000000000000001) → ⊥)
 hint_above = (λ fits. absurd (omega arith), λ fits. absurd (omega arith))
 
 -- ---- the steps of a script: at most 100,000,000. Refuses another MAX_STEPS of the definitions, to which the reader of scripts is held

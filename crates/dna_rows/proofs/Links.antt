@@ -1,6 +1,7 @@
 mod Steps
 pub mod OneLink
 mod User
+mod Boots
 mod Arriving
 mod Calls
 mod Confirming

@@ -1,3 +1,4 @@
+mod Anew
 mod BadSteps
 mod Bounds
 mod Links

@@ -1,7 +1,8 @@
 -- How the worked rows of the player are stated: a script over nodes 1.1 and 1.2, and what becomes of it, by its ends alone and with their nodes.
-use Rattle.std.proofs.Common.{◌≡◌, ℕ, ◌+◌, ◌%◌, zero, suc, true, false, List, [], ◌∷◌, ◌++◌, Result, Ok, Err}
+use Rattle.std.proofs.Common.{◌≡◌, ℕ, ◌+◌, ◌%◌, zero, suc, List, [], ◌∷◌, ◌++◌, Result, Ok, Err}
 use Rattle.wire_base.specs.declared.side.Side.TheVariants.{A, B}
 use Rattle.ddcmp_msg.specs.Spelling.{spelling}
+use Rattle.capture.specs.declared.fate.Fate.TheVariants.{NotKept, Kept, Dropped}
 use Rattle.capture.specs.declared.record.Record.{Record}
 use Rattle.capture.specs.declared.record.Record.TheVariants.{Sent, Received, Noise}
 use Rattle.dna_play.specs.Script.{StepValue, ScriptStep, Script, Start, Send, Deliver, Open, Accept, Reject}
@@ -35,10 +36,13 @@ abbrev pub s : List ℕ → Record
 s digits = Sent (hex digits)
 
 abbrev pub r : ℕ → List ℕ → Record
-r hint digits = Received hint false (hex digits)
+r hint digits = Received hint NotKept (hex digits)
 
 abbrev pub k : ℕ → List ℕ → Record
-k hint digits = Received hint true (hex digits)
+k hint digits = Received hint Kept (hex digits)
+
+abbrev pub d : ℕ → List ℕ → Record
+d hint digits = Received hint Dropped (hex digits)
 
 abbrev pub n : List ℕ → Record
 n digits = Noise (hex digits)

@@ -2,6 +2,7 @@
 use Rattle.std.specs.Prelude.{◌≡◌, ℕ, Bool, true, false, Option, Some, None, List, [], ◌∷◌, ◌++◌, slice_get, map, flat_map, fold}
 use Rattle.ddcmp_msg.specs.Message.{MessageValue, Data}
 use Rattle.ddcmp_msg.specs.Reading.{ReadingValue, reading, Sound}
+use Rattle.capture.specs.Fates.{is_kept}
 use Rattle.capture.specs.declared.record.Record.{Record}
 use Rattle.capture.specs.declared.record.Record.TheVariants.{Sent, Received, Noise, User}
 use Rattle.capture.specs.declared.event.Event.{Event}
@@ -46,13 +47,17 @@ in_last packets [] = packets ∷ []
 in_last packets (period ∷ []) = (period ++ packets) ∷ []
 in_last packets (period ∷ next ∷ periods) = period ∷ in_last packets (next ∷ periods)
 
+-- of a receipt whose packet was kept
+abbrev pub with_packets : (kept : Bool) → List (List ℕ) → List (List (List ℕ)) → List (List (List ℕ))
+with_packets true packets periods = in_last packets periods
+with_packets false packets periods = periods
+
 abbrev pub with_period : Bool → List (List (List ℕ)) → List (List (List ℕ))
 with_period true periods = periods ++ [] ∷ []
 with_period false periods = periods
 
 abbrev pub delivered_by : List (List (List ℕ)) → Record → List (List (List ℕ))
-delivered_by periods (Received hint true bytes) = in_last (packet_in (reading bytes)) periods
-delivered_by periods (Received hint false bytes) = periods
+delivered_by periods (Received hint fate bytes) = with_packets (is_kept fate) (packet_in (reading bytes)) periods
 delivered_by periods (Noise bytes) = periods
 delivered_by periods (User event) = with_period (begins event) periods
 delivered_by periods (Sent bytes) = periods
@@ -63,7 +68,7 @@ delivered records = fold delivered_by ([] ∷ []) records
 
 -- ---- over all periods
 
--- the first packets stand among the second ones, in order
+-- the first packets are among the second ones, in order
 pub data AreAmong : List (List ℕ) → List (List ℕ) → Type 0 where
   NoMore : {ys : List (List ℕ)} → AreAmong [] ys
   Next : {y : List ℕ} {xs ys : List (List ℕ)} → AreAmong xs ys → AreAmong (y ∷ xs) (y ∷ ys)

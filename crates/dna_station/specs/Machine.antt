@@ -4,6 +4,9 @@ use Rattle.two_nodes.specs.Nodes.{Answer, Nodes}
 use Rattle.two_nodes.specs.Nodes.Answer.{Refuses, Goes, Sends, Reads}
 use Rattle.ddcmp_msg.specs.Message.{MessageValue}
 use Rattle.ddcmp_msg.specs.Reading.{ReadingValue, reading, Sound}
+use Rattle.capture.specs.declared.fate.Fate.{Fate}
+use Rattle.capture.specs.declared.fate.Fate.TheVariants.{NotKept}
+use Rattle.capture.specs.Fates.{is_kept}
 use Rattle.capture.specs.declared.record.Record.{Record}
 use Rattle.capture.specs.declared.record.Record.TheVariants.{Sent, Received, Noise, User}
 use Rattle.capture.specs.declared.event.Event.{Event}
@@ -22,7 +25,7 @@ use Rattle.dna_station.specs.Line.{UnitOf, coming, damage}
 pub record Machine (S K : Type 0) : Type 0 where
   pub user : S → Event → Result S StepRefusal
   pub sends : S → MessageValue → Result (S × K) StepRefusal
-  pub arrives : S → ArrivalValue K → (kept : Bool) → Result S StepRefusal
+  pub arrives : S → ArrivalValue K → Fate → Result S StepRefusal
 
 pub record NodeOf (S : Type 0) : Type 0 where
   -- the addresses in the head of its capture: the station does not go by them, the links do
@@ -55,19 +58,19 @@ module _ {S K : Type 0} (machine : Machine S K) where
   sent_step n bytes (Sound m) = sends n bytes m (machine.sends n.station m)
   sent_step n bytes read = Refuses NotAMessage
 
-  abbrev pub comes : NodeOf S → (front : ℕ) → Bool → Option (ArrivalValue K) → Result (NodeOf S) StepRefusal
-  comes n front kept None = Err Undetected
-  comes n front kept (Some arrival) = met n front (machine.arrives n.station arrival kept)
+  abbrev pub comes : NodeOf S → (front : ℕ) → Fate → Option (ArrivalValue K) → Result (NodeOf S) StepRefusal
+  comes n front fate None = Err Undetected
+  comes n front fate (Some arrival) = met n front (machine.arrives n.station arrival fate)
 
   -- the unit has been sent; its number lies at or above the front, which goes past it
-  abbrev pub receives : NodeOf S → ℕ → Bool → List ℕ → UnitOf K → Result (NodeOf S) StepRefusal
-  receives n hint kept bytes unit =
-      if nat_lt hint n.front then Err HintOrder else comes n (hint + 1) kept (coming unit bytes)
+  abbrev pub receives : NodeOf S → ℕ → Fate → List ℕ → UnitOf K → Result (NodeOf S) StepRefusal
+  receives n hint fate bytes unit =
+      if nat_lt hint n.front then Err HintOrder else comes n (hint + 1) fate (coming unit bytes)
 
   -- bytes that nobody sent: damage that a block check shows is met as such an arrival, and all else is no noise
   abbrev pub noise_comes : S → Option (ArrivalValue K) → Result S StepRefusal
   noise_comes s None = Err NotNoise
-  noise_comes s (Some arrival) = machine.arrives s arrival false
+  noise_comes s (Some arrival) = machine.arrives s arrival NotKept
 
   -- the front stays
   abbrev pub noise_step : NodeOf S → ReadingValue → Answer (NodeOf S) (UnitOf K) StepRefusal
@@ -75,7 +78,7 @@ module _ {S K : Type 0} (machine : Machine S K) where
 
   abbrev pub step : NodeOf S → Record → Answer (NodeOf S) (UnitOf K) StepRefusal
   step n (Sent bytes) = sent_step n bytes (reading bytes)
-  step n (Received hint kept bytes) = Reads hint (receives n hint kept bytes)
+  step n (Received hint fate bytes) = Reads hint (receives n hint fate bytes)
   step n (Noise bytes) = noise_step n (reading bytes)
   step n (User event) = user_step n event
 
@@ -84,14 +87,14 @@ module _ {S K : Type 0} (machine : Machine S K) where
 -- the other side's unit that a record names
 abbrev pub named_unit : Record → Option ℕ
 named_unit (Sent bytes) = None
-named_unit (Received hint kept bytes) = Some hint
+named_unit (Received hint fate bytes) = Some hint
 named_unit (Noise bytes) = None
 named_unit (User event) = None
 
 -- whether a record sends a unit
 abbrev pub is_sent : Record → Bool
 is_sent (Sent bytes) = true
-is_sent (Received hint kept bytes) = false
+is_sent (Received hint fate bytes) = false
 is_sent (Noise bytes) = false
 is_sent (User event) = false
 
@@ -109,6 +112,8 @@ module _ {S K : Type 0} (rule : PeriodRule) (book : Book S K) where
   abbrev pub user_by : S → Event → Result S StepRefusal
   user_by s events.Start = unless_refused (user_refusal (book.state s) Start) (book.after_event s Start)
   user_by s events.Halt = unless_refused (user_refusal (book.state s) Halt) (book.after_event s Halt)
+  -- a boot halts it
+  user_by s events.Boot = unless_refused (user_refusal (book.state s) Halt) (book.after_event s Halt)
   -- it has no links, and their events change nothing
   user_by s (events.Open link) = Ok s
   user_by s (events.Accept partner link) = Ok s
@@ -116,10 +121,15 @@ module _ {S K : Type 0} (rule : PeriodRule) (book : Book S K) where
   user_by s (events.In link bytes) = Ok s
   user_by s (events.Up link bytes) = Ok s
   user_by s (events.Close link) = Ok s
+  user_by s (events.Abort link) = Ok s
+  user_by s (events.Composed bytes) = Ok s
+  user_by s (events.Interrupt link bytes) = Ok s
+  user_by s (events.Interrupted link bytes) = Ok s
 
   abbrev pub station_alone : Machine S K
   station_alone = record {
     user = user_by;
     sends = λ s m. unless_refused (sending_refusal_by book s m) (after_sending_by book s m, book.known s (after_sending_by book s m) m);
-    arrives = λ s arrival kept. unless_refused (arrival_refusal_by book rule s arrival kept) (after_arrival_by book s arrival kept);
+    arrives = λ s arrival fate.
+        unless_refused (arrival_refusal_by book rule s arrival (is_kept fate)) (after_arrival_by book s arrival (is_kept fate));
   }

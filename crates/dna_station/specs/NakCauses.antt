@@ -1,4 +1,4 @@
--- What a station in RUNNING may answer with a NAK: the open causes of each reason (DDCMP 4.1, NAK message). What opens one stands in `Table`.
+-- What a station in RUNNING may answer with a NAK: the open causes of each reason (DDCMP 4.1, NAK message). What opens one is in `Table`.
 -- That a NAK wants an open cause, and uses it up, is this project's own.
 use Rattle.std.specs.Prelude.{ℕ, ◌+◌, ◌-◌, Bool, true, nat_lt}
 use Rattle.ddcmp_msg.specs.Message.{MessageValue, Nak}

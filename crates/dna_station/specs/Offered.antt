@@ -8,7 +8,7 @@ use Rattle.dna_station.specs.Station.{Station, PastPeriod, wire}
 use Rattle.dna_station.specs.Delivery.{AreAmong, begins, delivered, in_last, periods, with_period}
 use Rattle.two_nodes.specs.Beginning.{BeginsWith}
 
--- What a unit that is sent offers behind these packets of its period: a data message with the number after theirs is a new one, and any
+-- What a unit that is sent offers after these packets of its period: a data message with the number after theirs is a new one, and any
 -- other number is that of a packet that is sent again, since no more than 255 are outstanding
 abbrev pub offers : ReadingValue → List (List ℕ) → List (List ℕ)
 offers (Sound (Data flags resp num body)) packets = if num == wire (length packets + 1) then body ∷ [] else []
@@ -22,7 +22,7 @@ present (period ∷ next ∷ periods) = present (next ∷ periods)
 
 abbrev pub offered_by : List (List (List ℕ)) → Record → List (List (List ℕ))
 offered_by periods (Sent bytes) = in_last (offers (reading bytes) (present periods)) periods
-offered_by periods (Received hint kept bytes) = periods
+offered_by periods (Received hint fate bytes) = periods
 offered_by periods (Noise bytes) = periods
 offered_by periods (User event) = with_period (begins event) periods
 
@@ -54,5 +54,5 @@ all_of periods = flat_map (λ (packets : List (List ℕ)). packets) periods
 pub record Delivers (own : Station) (of_own of_other : List Record) : Type 0 where
   -- in every period a beginning of what its partner period was offered, and nothing where it has no partner
   pub in_order : (q : ℕ) → IsBeginning (get_or (partners own) q None) (get_or (delivered of_own) q []) (offered of_other)
-  -- over all periods it stands, in order, among all that the other side was ever offered
+  -- over all periods it is, in order, among all that the other side was ever offered
   pub among : AreAmong (all_of (delivered of_own)) (all_of (offered of_other))

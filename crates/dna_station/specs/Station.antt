@@ -1,5 +1,5 @@
 -- One DDCMP station, on numbers without a bound (DDCMP 4.1, station variables), and what its user does. What it may send
--- and what an arrival does to it stands in `Table`, with its words in `StationBook`.
+-- and what an arrival does to it is in `Table`, with its words in `StationBook`.
 use Rattle.std.specs.Prelude.{ℕ, ◌+◌, Option, None, List, [], ◌∷◌, ◌++◌, length, flat_map}
 use Rattle.wire_base.specs.Seq.{wire_value}
 use Rattle.dna_station.specs.declared.state.State.{State}

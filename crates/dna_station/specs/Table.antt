@@ -1,5 +1,5 @@
 -- The rules of a DDCMP station, as tables to be laid beside the standard (DDCMP 4.1, startup state table, data transfer). What a check and an
--- effect mean stands in `StationBook` on true numbers and in `WireBook` on numbers modulo 256; how the rows are gone by stands in `Book`. R is the
+-- effect mean is in `StationBook` on true numbers and in `WireBook` on numbers modulo 256; how a station goes by the rows is in `Book`. R is the
 -- last number received in order, N the highest given, A the highest acknowledged, T the next to send. Numbers in brackets are those of
 -- reasons. A period is what lies between two starts of a station, and its partner the period of the other station that it talks to; both are
 -- this project's own. Whether a station answers, as a STACK or a REP with an ACK, is not judged: each row says what it takes note of.

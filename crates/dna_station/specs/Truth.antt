@@ -36,7 +36,7 @@ response_of s (Nak flags reason resp) = s.received
 response_of s (Data flags resp num body) = s.received
 response_of s m = 0
 
--- number 1 of the period stands behind all packets of the periods before
+-- number 1 of the period comes after all packets of the periods before
 abbrev pub place_of : Station → MessageValue → ℕ
 place_of s (Data flags resp num body) = length (packets_of s.earlier) + (s.next_to_send - 1)
 place_of s m = 0

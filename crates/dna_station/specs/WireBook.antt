@@ -1,5 +1,5 @@
 -- What the words of the tables mean to a station as a node keeps it: on numbers modulo 256, and on the bytes of a message. What an effect
--- does to the station variables, which any node keeps, stands apart from what it does to what a judge keeps besides.
+-- does to the station variables, which any node keeps, is kept apart from what it does to what a judge keeps besides.
 use Rattle.std.specs.Prelude.{ℕ, ◌+◌, ◌-◌, Bool, true, false, ◌&&◌, not, ◌==◌, nat_lt, nat_le, if◌then◌else◌, Option, Some, None, List, drop, length}
 use Rattle.std.specs.Prelude.{slice_get, option_and_then}
 use Rattle.std.specs.Str.{bytes_eq}

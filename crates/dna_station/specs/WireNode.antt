@@ -3,6 +3,7 @@ use Rattle.std.specs.Prelude.{ℕ, Bool, None, Result, List, map}
 use Rattle.two_nodes.specs.Nodes.{Answer, Nodes, World, start_world}
 use Rattle.two_nodes.specs.Cutting.{Cut}
 use Rattle.ddcmp_msg.specs.Reading.{ReadingValue}
+use Rattle.capture.specs.declared.fate.Fate.{Fate}
 use Rattle.capture.specs.declared.record.Record.{Record}
 use Rattle.capture.specs.declared.event.Event.{Event}
 use Rattle.dna_station.specs.declared.head.Head.{Head}
@@ -36,8 +37,8 @@ module _ {L : Type 0} where
   abbrev pub wire_sent_step : WireNode L → List ℕ → ReadingValue → Answer (WireNode L) WireUnit StepRefusal
   wire_sent_step n bytes read = sent_step (wire_machine of_period) n bytes read
 
-  abbrev pub wire_receives : PeriodRule → WireNode L → ℕ → Bool → List ℕ → WireUnit → Result (WireNode L) StepRefusal
-  wire_receives rule n hint kept bytes unit = receives (wire_machine rule) n hint kept bytes unit
+  abbrev pub wire_receives : PeriodRule → WireNode L → ℕ → Fate → List ℕ → WireUnit → Result (WireNode L) StepRefusal
+  wire_receives rule n hint fate bytes unit = receives (wire_machine rule) n hint fate bytes unit
 
   abbrev pub wire_step : PeriodRule → WireNode L → Record → Answer (WireNode L) WireUnit StepRefusal
   wire_step rule n r = step (wire_machine rule) n r

@@ -1,5 +1,5 @@
 -- One station as a node keeps it: numbers modulo 256, and the packets that are not acknowledged. What the words of the tables mean on that
--- stands in `WireBook`; `Cut` says how it goes together with the station on true numbers.
+-- is in `WireBook`; `Cut` says how it goes together with the station on true numbers.
 use Rattle.std.specs.Prelude.{ℕ, ◌+◌, ◌-◌, Bool, true, false, Option, Some, None, List, [], ◌∷◌, ◌++◌, length, slice_get, slice_set}
 use Rattle.dna_station.specs.declared.state.State.{State}
 use Rattle.dna_station.specs.declared.state.State.TheVariants.{Halted}

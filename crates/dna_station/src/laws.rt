@@ -50,7 +50,7 @@ pub fn delivered_in_order()
     ensures b_captured { (head_a head_b : Head) (w : World Node SentUnit) (of_a of_b : List Record)
         → Run pair (start head_a head_b) of_a of_b w → delivered of_b ≡ taken_by_period w.b.state.station }
 
-    // Over all periods it stands in order among all that the other gave.
+    // Over all periods it is, in order, among all that the other gave.
     ensures a_among { (head_a head_b : Head) (w : World Node SentUnit) (of_a of_b : List Record)
         → Run pair (start head_a head_b) of_a of_b w → AreAmong (all_taken w.a.state.station) (all_given w.b.state.station) }
     ensures b_among { (head_a head_b : Head) (w : World Node SentUnit) (of_a of_b : List Record)

@@ -48,19 +48,19 @@ TellsAhead side reason ends before after =
     × (after ≡ refused before side entry bytes (is_changed reason)))
     ⊎ (((of_side side ends.a ends.b).ahead ≡ None) × (after ≡ before))
 
--- records behind the refused one, and perhaps that none is left
+-- records after the refused one, and perhaps that none is left
 abbrev pub Followed : LadderView → LadderView → Type 0
 Followed before after = (behind : LadderView) × WereFollowed before behind × ((after ≡ behind) ⊎ (after ≡ record behind { ended = true }))
 
 abbrev pub IsRefusedThere : Side → Reason → ShownEnds → (made after : LadderView) → Type 0
 IsRefusedThere side reason ends made after = (here : LadderView) × TellsAhead side reason ends made here × Followed here after
 
--- behind the records that were made none is left, or one is refused, and perhaps records of both captures stand behind it
+-- after the records that were made none is left, or one is refused, and perhaps records of both captures come after it
 abbrev pub IsLadder : Verdict → ShownEnds → (made after : LadderView) → Type 0
 IsLadder (Accepted summary) ends made after = after ≡ record made { ended = true }
 IsLadder (Refused side place reason) ends made after = IsRefusedThere side reason ends made after
 
--- where the ladder was not told of the rest, it was told of nothing behind that
+-- where the ladder was not told of the rest, it was told of nothing after that
 abbrev pub IsLadderBy : (rest : List MadeRecord) → Verdict → ShownEnds → (made after : LadderView) → Type 0
 IsLadderBy [] verdict ends made after = IsLadder verdict ends made after
 IsLadderBy (next ∷ more) verdict ends made after = after ≡ made

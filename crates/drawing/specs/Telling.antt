@@ -43,7 +43,7 @@ takes ladder next = made ladder next.side next.entry next.bytes
 abbrev pub ladder_told : LadderView → List MadeEntry → LadderView
 ladder_told ladder records = fold takes ladder records
 
--- records behind those, which tell what becomes of units
+-- records after those, which tell what becomes of units
 abbrev pub passes : LadderView → Later → LadderView
 passes ladder next = follows ladder next.side next.entry
 
@@ -86,7 +86,7 @@ pub record WereTold (keep : Keep) (rows : ℕ) (ladder : LadderView) (rest order
   pub reached :
       ladder ≡ ladder_behind (ladder_told (with_no_rows keep rows (ladder_told (ladder_knowing start gone) near)) calls) (map later_entry later)
 
--- ---- those behind a refused record
+-- ---- those after a refused record
 
 abbrev pub WereFollowed : LadderView → LadderView → Type 0
 WereFollowed before after = (behind : List Later) × (after ≡ ladder_behind before behind)

@@ -1,4 +1,4 @@
-//! What stands behind a refused record: it tells which units come still.
+//! What comes after a refused record: it tells which units come still.
 
 ghost use Rattle.std.specs.Prelude.{Err, IfErr, OnOk};
 ghost use Rattle.pair_judge.specs.Judged.{JudgesOrFails};
@@ -12,8 +12,8 @@ use std::alloc::Global;
 use std::io::{Read, Seek};
 use wire_base::{Side, Tally};
 
-/// Reads both captures again from their beginnings, and tells the ladder of the records that were not made, but the refused one. Where a file
-/// can't be read again, or a text departs from its format, what stands there is not known, and neither are units that never come. `Err`: memory
+/// Reads both captures again from their beginnings, and tells the ladder of the records that were not made, except the refused one. Where a file
+/// can't be read again, or a text departs from its format, what is there is not known, and neither are units that never come. `Err`: memory
 /// was wanting, or a read failed.
 #[tactic(auto, using(crate::proofs::Told::followed_all, crate::proofs::Told::followed_ended))]
 pub fn tell_behind<A: Read + Seek, B: Read + Seek>(
@@ -49,7 +49,7 @@ fn passed(ends: &JudgedEnds, side: Side) -> u64 {
     }
 }
 
-// Tells of this side's records behind so many; whether all were read.
+// Tells of this side's records after so many; whether all were read.
 #[tactic(auto, using(crate::proofs::Told::followed_none))]
 fn tell_side<R: Read + Seek>(
     alloc: Global,
@@ -94,7 +94,7 @@ fn tell_records<R: Read>(
     Ok(false)
 }
 
-// Tells of a record, if it stands behind the refused one.
+// Tells of a record, if it comes after the refused one.
 #[tactic(auto, using(crate::proofs::Told::followed_none, crate::proofs::Told::followed_one))]
 fn follow(ladder: &mut Ladder, side: Side, entry: Entry, is_behind: bool)
     ensures { WereFollowed ladder.old ladder.new }

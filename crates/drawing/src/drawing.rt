@@ -34,12 +34,12 @@ pub struct DrawnPair {
     pub drawn: Drawn,
 }
 
-/// Judges the captures that two files give from where they stand, writes the rows of this range to `out`, and answers the verdict.
+/// Judges the captures that two files give from where they are, writes the rows of this range to `out`, and answers the verdict.
 ///
-/// A row is written as [`ladder::Row::text`] tells it, with its LF, which no clause says; none, where the range begins behind what was read. A refused pair is read
-/// again from its beginning, to see which units come behind the refused record; where that can't be, it is told of none that it never comes. The
-/// whole text is put together before the first write. `Err`: there is no verdict, memory was wanting, or a read failed, and nothing is written;
-/// or a write failed, and a beginning is.
+/// A row is written as [`ladder::Row::text`] tells it, with its LF, which no clause says; none, where the range begins after what was read.
+/// A refused pair is read again from its beginning, to see which units come after the refused record; where that can't be, it is told of none that it
+/// never comes. The whole text is put together before the first write. `Err`: there is no verdict, memory was wanting, or a read failed, and
+/// nothing is written; or a write failed, and a beginning is.
 #[tactic(auto, using(crate::proofs::Writings::draws_all, crate::proofs::Writings::draws_some, crate::proofs::Ladders::failed_answer))]
 pub fn draw_to<A: Read + Seek, B: Read + Seek, O: Write>(
     alloc: Global,
@@ -198,7 +198,7 @@ fn ends_begun(
     }
 }
 
-// What is drawn of a ladder, which is told what stands behind.
+// What is drawn of a ladder, which is told what comes after.
 fn finished<A: Read + Seek, B: Read + Seek>(
     alloc: Global,
     begun: Begun,
@@ -218,7 +218,7 @@ fn finished<A: Read + Seek, B: Read + Seek>(
     }
 }
 
-// Tells what stands behind the records that were made, if the ladder was told of them all.
+// Tells what comes after the records that were made, if the ladder was told of them all.
 #[tactic(auto, using(crate::proofs::Ladders::left_so, crate::proofs::Ladders::all_so))]
 fn tell_end<A: Read + Seek, B: Read + Seek>(
     alloc: Global,
@@ -238,7 +238,7 @@ fn tell_end<A: Read + Seek, B: Read + Seek>(
     tell_all_ended(alloc, ladder, ends, a, b)
 }
 
-// Tells that none is left, or which one is refused and what stands behind it.
+// Tells that none is left, or which one is refused and what comes after it.
 fn tell_all_ended<A: Read + Seek, B: Read + Seek>(
     alloc: Global,
     ladder: &mut Ladder,

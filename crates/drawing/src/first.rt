@@ -15,10 +15,10 @@ use ladder::{Keep, Ladder};
 use pair_judge::MadeEntry;
 use std::alloc::{AllocError, Global};
 
-// So many records behind them are looked at, to see what becomes of the units that the first ones sent.
+// So many records after them are looked at, to see what becomes of the units that the first ones sent.
 const LATER: usize = 4000;
 
-/// The first records that were told, what those behind them tell, and whether that is all.
+/// The first records that were told, what those after them tell, and whether that is all.
 #[derive(Drop)]
 pub struct First {
     alloc: Global,
@@ -82,7 +82,7 @@ impl First {
         })
     }
 
-    /// Tells a ladder of them, and of what stands behind them. `AllocError` where there is no memory for a unit.
+    /// Tells a ladder of them, and of what comes after them. `AllocError` where there is no memory for a unit.
     pub fn tell(&self, ladder: &mut Ladder) -> Result<(), AllocError>
         ensures { OnOk result (ladder.new ≡ ladder_behind (ladder_told ladder.old self.now.records.items) self.now.later.items) }
     {

@@ -1,4 +1,4 @@
-//! Records one behind the other, in memory that is used again.
+//! Records one after the other, in memory that is used again.
 
 ghost use Rattle.std.specs.Prelude.{◌≡◌, ◌++◌, ◌∷◌, ◌<◌, ◌≤◌, [], true, false, length, OnOk};
 ghost use Rattle.drawing.specs.declared.log.TheConstants.{RECORDS};
@@ -9,7 +9,7 @@ use std::alloc::{AllocError, Global};
 use std::marker::Model;
 
 /// So many of the last records are kept at least: four for each row that may be drawn. A row has two at most, and some more tell better how those
-/// near the end stand.
+/// near the end are placed.
 pub const RECORDS: usize = 800;
 
 /// Records that were told, `RECORDS` of them at most.

@@ -35,6 +35,6 @@ pub enum Judging {
 pub struct Start {
     /// Whose capture has it.
     pub side: Side,
-    /// In which line of that capture it stands.
+    /// Which line of that capture it is on.
     pub line: u64,
 }

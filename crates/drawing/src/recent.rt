@@ -16,7 +16,7 @@ use pair_judge::MadeEntry;
 use std::alloc::{AllocError, Global};
 use std::mem;
 
-/// The last records that were told, at least as many as a log has, and what a ladder knows of those before them. They stand in two logs: where the
+/// The last records that were told, at least as many as a log has, and what a ladder knows of those before them. They are kept in two logs: where the
 /// newer one is full, the ladder learns the older one, whose memory the next records take.
 #[derive(Drop)]
 pub struct Recent {

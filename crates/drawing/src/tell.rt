@@ -34,7 +34,7 @@ pub fn tell_all(ladder: &mut Ladder, records: &[ToldRecord]) -> Result<(), Alloc
     Ok(())
 }
 
-/// All of these stand behind those that are drawn.
+/// All of these come after those that are drawn.
 #[tactic(auto, using(crate::proofs::Told::followed_one_more))]
 pub fn follow_all(ladder: &mut Ladder, later: &[Later])
     ensures { ladder.new ≡ ladder_behind ladder.old later.now }

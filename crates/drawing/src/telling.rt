@@ -62,7 +62,7 @@ impl Observer for BothEnds {
 #[derive(Drop)]
 pub struct Onward {
     start: Start,
-    // In which line the next record of the side stands whose record is the first one.
+    // Which line the next record is on, of the side whose record is the first one.
     line: u64,
     pub before: Recent,
     pub first: First,
@@ -104,7 +104,7 @@ impl Onward {
         })
     }
 
-    // Whether this side's next record stands before the one with which the rows begin.
+    // Whether this side's next record comes before the one with which the rows begin.
     fn is_before(&self, side: Side) -> bool
         ensures { IsTrue result → self.now.first.records.items ≡ [] }
     {

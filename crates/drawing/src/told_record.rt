@@ -51,7 +51,7 @@ impl ToldRecord {
         })
     }
 
-    /// Another record stands in the memory of this one. `AllocError` where it has no room and there is no memory for more; then it is of no use.
+    /// Another record takes the memory of this one. `AllocError` where it has no room and there is no memory for more; then it is of no use.
     #[inline(always)]
     pub fn refill(&mut self, next: &MadeEntry<'_>) -> Result<(), AllocError>
         ensures { OnOk result (self.new ≡ next.now) }

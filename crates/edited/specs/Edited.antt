@@ -8,13 +8,13 @@ first_lines zero text = []
 first_lines (suc n) [] = []
 first_lines (suc n) (b ∷ text) = b ∷ first_lines (if b == 10 then n else suc n) text
 
--- what stands behind them
+-- what comes after them
 abbrev pub behind_lines : ℕ → List ℕ → List ℕ
 behind_lines zero text = text
 behind_lines (suc n) [] = []
 behind_lines (suc n) (b ∷ text) = behind_lines (if b == 10 then n else suc n) text
 
--- the text with these changes: each lets lines pass, puts bytes behind them, and drops the lines that come then
+-- the text with these changes: each lets lines pass, puts bytes after them, and drops the lines that come then
 abbrev pub edited : List Change → List ℕ → List ℕ
 edited [] text = text
 edited (change ∷ later) text =

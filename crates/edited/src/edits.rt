@@ -55,7 +55,7 @@ impl Edits {
         Ok(())
     }
 
-    // Whether an edit exchanges the same two lines, which stand one behind the other: the later one goes up, or the earlier one down.
+    // Whether an edit exchanges the same two lines, which come one after the other: the later one goes up, or the earlier one down.
     fn has_exchange(&self, side: Side, mistake: Mistake) -> bool {
         let Some(first) = mistake.exchanged() else {
             return false;

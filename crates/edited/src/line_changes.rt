@@ -2,12 +2,12 @@
 
 ghost use Rattle.std.specs.Prelude.{◌≡◌, ◌<◌, ℕ, List, IfOk};
 ghost use Rattle.edited.specs.Edited.{edited};
-ghost use Rattle.edited.specs.inner.LineChanges.{line_in_place, with_bytes_before, with_line_down, with_line_up};
+ghost use Rattle.edited.specs.inner.LineChanges.{line_in_place, with_bytes_before, with_first, with_line_down, with_line_up};
 
 use crate::change::Change;
 use std::alloc::{AllocError, Global};
 
-/// Puts bytes in front of a line, counted from 1; or behind the text, where it has fewer lines.
+/// Puts bytes in front of a line, counted from 1; or after the text, where it has fewer lines.
 pub fn put_before(alloc: Global, line: u64, put: Vec<u8>) -> Result<Vec<Change>, AllocError>
     ensures { IfOk result (λ changes. (text : List ℕ) → edited changes.items text ≡ with_bytes_before line put.items text) }
 {
@@ -29,6 +29,33 @@ pub fn line_replaced(alloc: Global, line: u64, put: Vec<u8>) -> Result<Vec<Chang
         passed: line.saturating_sub(1),
         put,
         dropped: 1,
+    })?;
+    Ok(changes)
+}
+
+/// Puts bytes in the place of the first line, and makes a change after it that let it pass.
+pub fn with_first_line(
+    alloc: Global,
+    first: Vec<u8>,
+    change: Change,
+) -> Result<Vec<Change>, AllocError>
+    ensures { IfOk result (λ changes. (text : List ℕ) → edited changes.items text ≡ with_first first.items change text) }
+{
+    let mut changes = Vec::new(alloc);
+    changes.push(Change {
+        passed: 0,
+        put: first,
+        dropped: 1,
+    })?;
+    let Change {
+        passed,
+        put,
+        dropped,
+    } = change;
+    changes.push(Change {
+        passed: passed.saturating_sub(1),
+        put,
+        dropped,
     })?;
     Ok(changes)
 }
@@ -57,7 +84,7 @@ pub fn line_moved_up(
     Ok(changes)
 }
 
-/// Drops a line, counted from 1, and puts bytes, its own, behind a later one.
+/// Drops a line, counted from 1, and puts bytes, its own, after a later one.
 pub fn line_moved_down(
     alloc: Global,
     line: u64,

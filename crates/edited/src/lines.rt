@@ -5,7 +5,7 @@ ghost use Rattle.edited.specs.inner.Lines.{Reaches};
 
 use memchr::memchr;
 
-// How many of the bytes are of the first `lines` lines, and how many of these reach on behind the bytes.
+// How many of the bytes are of the first `lines` lines, and how many of these reach on past the bytes.
 pub(crate) fn reach(bytes: &[u8], lines: u64) -> (usize, u64)
     ensures reaches { Reaches lines bytes.now result.0 result.1 }
     ensures some { 0 < lines → 0 < length bytes.now → 0 < result.0 }

@@ -1,16 +1,21 @@
 //! Mistakes of a recorder, and their words.
 
-use capture::Entry;
+use capture::{Entry, Fate};
 use std::fmt;
 use wire_base::Side;
 
 /// What a recorder may have done wrong in the capture of one side. Lines are those of the capture as it stands, counted from 1.
 #[derive(Clone, Copy)]
 pub enum Mistake {
-    /// A receipt has the wrong one of `k` and `r`; `kept` is what it should say.
+    /// A receipt has the wrong one of `r`, `k` and `d`: what it says, and what became of its packet.
     WrongLetter {
         line: u64,
-        kept: bool,
+        said: Fate,
+        fate: Fate,
+    },
+    /// A node was started anew, and its line says that it was halted.
+    BootAsHalt {
+        line: u64,
     },
     /// The `s` line of a unit is missing, whose bytes are in that line of the other side.
     SentMissing {
@@ -21,7 +26,7 @@ pub enum Mistake {
     /// The receipt of a unit is missing, whose bytes are in that line of the other side.
     ReceiptMissing {
         before: u64,
-        kept: bool,
+        fate: Fate,
         unit: u64,
         like: u64,
     },
@@ -35,7 +40,7 @@ pub enum Mistake {
     NoiseMissing {
         before: u64,
     },
-    /// A line of the user is missing.
+    /// A line that begins with `u` is missing.
     UserMissing {
         before: u64,
         entry: Entry,
@@ -90,16 +95,21 @@ impl fmt::Display for MistakeOf {
     fn fmt<W: fmt::Write>(&self, f: &mut fmt::Formatter<W>) -> fmt::Result {
         let side = self.side;
         match self.mistake {
-            Mistake::WrongLetter { line, kept } => write_letter(f, side, line, kept),
+            Mistake::WrongLetter { line, said, fate } => {
+                write_letter(f, side, line, (fate, said))
+            }
+            Mistake::BootAsHalt { line } => {
+                write!(f, "line {line} of {side} is `u boot`, not `u halt`")
+            }
             Mistake::SentMissing { before, unit, like } => {
                 write_sent(f, unit_missing(side, before, unit, like))
             }
             Mistake::ReceiptMissing {
                 before,
-                kept,
+                fate,
                 unit,
                 like,
-            } => write_receipt(f, unit_missing(side, before, unit, like), kept),
+            } => write_receipt(f, unit_missing(side, before, unit, like), fate),
             Mistake::DamagedMissing { before, unit, like } => {
                 write_damaged(f, unit_missing(side, before, unit, like))
             }
@@ -127,14 +137,18 @@ fn write_letter<W: fmt::Write>(
     f: &mut fmt::Formatter<W>,
     side: Side,
     line: u64,
-    kept: bool,
+    fates: (Fate, Fate),
 ) -> fmt::Result {
-    let (right, wrong) = (letter(kept), letter(!kept));
+    let (right, wrong) = (letter(fates.0), letter(fates.1));
     write!(f, "line {line} of {side} is `{right}`, not `{wrong}`")
 }
 
-fn letter(kept: bool) -> &'static str {
-    if kept { "k" } else { "r" }
+fn letter(fate: Fate) -> &'static str {
+    match fate {
+        Fate::NotKept => "r",
+        Fate::Kept => "k",
+        Fate::Dropped => "d",
+    }
 }
 
 // That this is missing before a line of this side.
@@ -175,9 +189,9 @@ fn write_sent<W: fmt::Write>(f: &mut fmt::Formatter<W>, missing: Missing) -> fmt
 fn write_receipt<W: fmt::Write>(
     f: &mut fmt::Formatter<W>,
     missing: Missing,
-    kept: bool,
+    fate: Fate,
 ) -> fmt::Result {
-    write_missing(f, missing.side, receipt_line(kept), missing.before)?;
+    write_missing(f, missing.side, receipt_line(fate), missing.before)?;
     let (unit, like) = (missing.unit, missing.like);
     let other = missing.side.other();
     write!(
@@ -186,8 +200,12 @@ fn write_receipt<W: fmt::Write>(
     )
 }
 
-fn receipt_line(kept: bool) -> &'static str {
-    if kept { "a `k` line" } else { "an `r` line" }
+fn receipt_line(fate: Fate) -> &'static str {
+    match fate {
+        Fate::NotKept => "an `r` line",
+        Fate::Kept => "a `k` line",
+        Fate::Dropped => "a `d` line",
+    }
 }
 
 fn write_damaged<W: fmt::Write>(f: &mut fmt::Formatter<W>, missing: Missing) -> fmt::Result {
@@ -211,7 +229,7 @@ fn write_user_line<W: fmt::Write>(
     write_missing(f, side, "", before)
 }
 
-// The line of the user, where it has a message without that.
+// The line of an event, where it has a message without that.
 fn write_user<W: fmt::Write>(f: &mut fmt::Formatter<W>, entry: Entry) -> fmt::Result {
     match entry {
         Entry::Start => f.write_str("`u start`"),
@@ -222,6 +240,11 @@ fn write_user<W: fmt::Write>(f: &mut fmt::Formatter<W>, entry: Entry) -> fmt::Re
         Entry::In { link } => write_of_link(f, "in", link, " with the message"),
         Entry::Up { link } => write_of_link(f, "up", link, " with the message"),
         Entry::Close { link } => write_of_link(f, "close", link, ""),
+        Entry::Boot => f.write_str("`u boot`"),
+        Entry::Abort { link } => write_of_link(f, "abort", link, ""),
+        Entry::Interrupt { link } => write_of_link(f, "interrupt", link, " with its bytes"),
+        Entry::Interrupted { link } => write_of_link(f, "interrupted", link, " with its bytes"),
+        Entry::Composed => f.write_str("an `x` line"),
         Entry::Sent | Entry::Received { .. } | Entry::Noise => f.write_str("a line"),
     }
 }

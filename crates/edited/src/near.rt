@@ -2,6 +2,7 @@
 
 ghost use Rattle.std.specs.Prelude.{◌<◌, length, IfSome};
 
+mod anew;
 mod hints;
 mod letters;
 mod missing;
@@ -12,12 +13,13 @@ use crate::row::{Refused, Row, Stretch};
 use std::alloc::{AllocError, Global};
 use wire_base::Side;
 
-/// What is known where a record of a side is refused: its side, the rows of this side in front of it, its own, those behind it, all receipts
-/// behind it, if they are at hand, and the rows of the other side.
+/// What is known where a record of a side is refused: its side, the addresses of its head, the rows of this side in front of it, its own, those after it, all receipts
+/// after it, if they are at hand, and the rows of the other side.
 #[derive(Clone, Copy)]
 pub(crate) struct Near<'r> {
     pub(crate) alloc: Global,
     pub(crate) side: Side,
+    pub(crate) head: (u16, u16),
     pub(crate) before: &'r [Row],
     pub(crate) row: &'r Row,
     pub(crate) behind: &'r [Row],
@@ -37,6 +39,7 @@ enum Group {
     User,
     Moves,
     Hints,
+    Anew,
 }
 
 /// The edits that are worth a try, the likeliest for this reason first; none where the refused record is not among the rows of its side.
@@ -73,6 +76,7 @@ fn near_of<'r>(
     Some(Near {
         alloc,
         side,
+        head: (own.own, own.peer),
         before: &own.rows[..at],
         row: &own.rows[at],
         behind: &own.rows[at + 1..],
@@ -98,12 +102,13 @@ fn add_near(edits: &mut Edits, near: Near<'_>, refused: &Refused) -> Result<(), 
             Group::User => missing::add_user(edits, near, &refused.due)?,
             Group::Moves => moves::add_moves(edits, near)?,
             Group::Hints => hints::add_hints(edits, near)?,
+            Group::Anew => anew::add_anew(edits, near)?,
         }
     }
     Ok(())
 }
 
-// Where the row of this line stands.
+// Where the row of this line is.
 fn place_of(rows: &[Row], line: u64) -> Option<usize>
     ensures { IfSome result (λ at. at < length rows.now) }
 {
@@ -116,15 +121,16 @@ fn place_of(rows: &[Row], line: u64) -> Option<usize>
 }
 
 // What a reason comes from, mostly, first.
-fn order(reason: u64) -> [Group; 6] {
+fn order(reason: u64) -> [Group; 7] {
     let [letters, sent, receipts] = [Group::Letters, Group::Sent, Group::Receipts];
     let [user, moves, hints] = [Group::User, Group::Moves, Group::Hints];
+    let anew = Group::Anew;
     match reason {
-        2 => [hints, sent, letters, moves, receipts, user],
-        3..=5 => [sent, hints, moves, letters, receipts, user],
-        6 | 14 => [user, receipts, moves, letters, sent, hints],
-        7 => [sent, receipts, moves, letters, user, hints],
-        18..=26 => [user, letters, moves, receipts, sent, hints],
-        _ => [letters, moves, receipts, sent, hints, user],
+        2 => [hints, sent, letters, moves, receipts, user, anew],
+        3..=5 => [sent, hints, moves, letters, receipts, user, anew],
+        6 | 14 => [user, anew, receipts, moves, letters, sent, hints],
+        7 => [sent, receipts, moves, letters, user, hints, anew],
+        18..=26 => [user, anew, letters, moves, receipts, sent, hints],
+        _ => [letters, moves, receipts, sent, hints, user, anew],
     }
 }

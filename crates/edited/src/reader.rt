@@ -84,7 +84,7 @@ impl<R: Read + Drop> EditedReader<R> {
 }
 
 impl<R: Read> EditedReader<R> {
-    // Whether a byte of the text is to come, and stands read ahead.
+    // Whether a byte of the text is to come, and has been read ahead.
     fn look_ahead(&mut self) -> io::Result<bool>
         ensures same { self.new.left ≡ self.old.left }
         ensures kept { Keeps (edited_remaining R.remaining self.old) (edited_remaining R.remaining self.new) }
@@ -126,7 +126,7 @@ impl<R: Read> EditedReader<R> {
         self.left.dropped = left;
     }
 
-    // Gives what comes behind all changes.
+    // Gives what comes after all changes.
     fn give_rest(&mut self, buf: &mut [u8]) -> io::Result<usize>
         requires room { 0 < length buf.old }
         requires passed { self.old.left.passed ≡ 0 }

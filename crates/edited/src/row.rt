@@ -5,11 +5,11 @@ use capture::{Entry, HintForm};
 pub struct Row {
     /// Which line of the text, counted from 1.
     pub line: u64,
-    /// What the line says beside its bytes; the hint is the true one, in either format.
+    /// What the line says beside its bytes; the hint is the true one, in each format.
     pub entry: Entry,
     /// The bytes beside it.
     pub bytes: Vec<u8>,
-    /// In which form a hint stands in this line.
+    /// In which form a hint is given in this line.
     pub form: HintForm,
     /// How many units its side sent in front of it: the number of the unit where it was sent.
     pub units: u64,
@@ -24,18 +24,18 @@ impl Row {
         }
     }
 
-    // Whether a hint stands here as a distance from the last one, as in format 2.
+    // Whether a hint is given here as a distance from the last one, as in format 2.
     pub(crate) fn is_told_by_distance(&self) -> bool {
         match self.form {
             HintForm::Distance { mark: _ } => true,
-            HintForm::Number => false,
+            HintForm::Number | HintForm::Wide => false,
         }
     }
 
     // The number of the other side's unit that came.
     pub(crate) fn received(&self) -> Option<u64> {
         match self.entry {
-            Entry::Received { kept: _, hint } => Some(hint),
+            Entry::Received { fate: _, hint } => Some(hint),
             _ => None,
         }
     }
@@ -44,15 +44,18 @@ impl Row {
 /// What a capture has near the record that its side comes to next.
 #[derive(Drop)]
 pub struct Stretch {
+    /// The addresses of its head: that of its own node, and its peer's.
+    pub own: u16,
+    pub peer: u16,
     /// The line of that record, counted from 1.
     pub line: u64,
     /// The records near it, in the order of their lines.
     pub rows: Vec<Row>,
-    /// All receipts behind it, in the order of their lines; `None` where not all are at hand.
+    /// All receipts after it, in the order of their lines; `None` where not all are at hand.
     pub later: Option<Vec<Row>>,
 }
 
-/// A line that may be missing: one of the user, or an `n` line.
+/// A line that may be missing: one that begins with `u`, or an `n` line.
 #[derive(Drop)]
 pub struct Due {
     /// In front of which line it belongs, counted from 1.
@@ -66,7 +69,7 @@ pub struct Due {
 pub enum Damage {
     /// That of its header, of 8 bytes.
     Header,
-    /// That of what stands behind the header.
+    /// That of what comes after the header.
     Body,
 }
 

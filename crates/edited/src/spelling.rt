@@ -3,7 +3,7 @@
 use crate::change::Change;
 use crate::line_changes::line_replaced;
 use crate::row::Row;
-use capture::{Entry, HintForm, MAX_MESSAGE, put_line};
+use capture::{Entry, Fate, HintForm, MAX_MESSAGE, put_line};
 use std::alloc::{AllocError, Global};
 
 // The line of this entry, with its LF; `None` where it has more bytes than a line may have.
@@ -25,22 +25,22 @@ pub(crate) fn line_of(
 pub(crate) fn receipt_line(
     alloc: Global,
     form: HintForm,
-    entry: (bool, u64),
+    entry: (Fate, u64),
     bytes: &[u8],
 ) -> Result<Option<Vec<u8>>, AllocError> {
-    let (kept, unit) = entry;
+    let (fate, unit) = entry;
     let hint = match form {
-        HintForm::Number => unit,
+        HintForm::Number | HintForm::Wide => unit,
         HintForm::Distance { mark } if mark <= unit => unit - mark,
         HintForm::Distance { mark: _ } => return Ok(None),
     };
-    line_of(alloc, Entry::Received { kept, hint }, bytes)
+    line_of(alloc, Entry::Received { fate, hint }, bytes)
 }
 
 // The line of a row as it stands; `None` where it has a negative distance.
 pub(crate) fn line_as_it_is(alloc: Global, row: &Row) -> Result<Option<Vec<u8>>, AllocError> {
     match row.entry {
-        Entry::Received { kept, hint } => receipt_line(alloc, row.form, (kept, hint), &row.bytes),
+        Entry::Received { fate, hint } => receipt_line(alloc, row.form, (fate, hint), &row.bytes),
         entry => line_of(alloc, entry, &row.bytes),
     }
 }
@@ -53,7 +53,7 @@ pub fn with_bytes(
     bytes: &[u8],
 ) -> Result<Option<Vec<Change>>, AllocError> {
     let put = match row.entry {
-        Entry::Received { kept, hint } => receipt_line(alloc, row.form, (kept, hint), bytes)?,
+        Entry::Received { fate, hint } => receipt_line(alloc, row.form, (fate, hint), bytes)?,
         entry => line_of(alloc, entry, bytes)?,
     };
     match put {

@@ -15,7 +15,7 @@ SYN = 0x96
 abbrev pub PAD : ℕ
 PAD = 0xff
 
--- bytes that may stand between units
+-- bytes that may come between units
 abbrev pub is_between : ℕ → Bool
 is_between byte = (byte == SYN) || (byte == PAD)
 
@@ -26,7 +26,7 @@ kind_of byte =
     else (if byte == SOH then Some Data
     else (if byte == DLE then Some Maintenance else None))
 
--- How many bytes a unit with this header has: a control message the eight of the header alone, the others the data and two bytes of check behind
+-- How many bytes a unit with this header has: a control message the eight of the header alone, the others the data and two bytes of check after
 -- it. COUNT has 14 bits, so they are 16,393 at most.
 abbrev pub unit_len : Kind → List ℕ → ℕ
 unit_len Control header = 8
@@ -46,7 +46,7 @@ abbrev pub front_from : Option Kind → List ℕ → Front
 front_from None bytes = Stray
 front_from (Some kind) bytes = front_of_kind kind bytes
 
--- what stands at the front of some bytes
+-- what is at the front of some bytes
 unfoldable pub front : List ℕ → Front
 front [] = Cut
 front (byte ∷ bytes) = if is_between byte then Between else front_from (kind_of byte) (byte ∷ bytes)
@@ -69,18 +69,18 @@ behind_strays strays f = record f { strays = strays + f.strays }
 abbrev pub behind_unit : List ℕ → Framing → Framing
 behind_unit unit f = record f { units = unit ∷ f.units }
 
--- one framing, and behind it the framing of what it left and what came then
+-- one framing, and after it the framing of what it left and what came then
 abbrev pub joined : Framing → Framing → Framing
 joined f g = record g { units = f.units ++ g.units; strays = f.strays + g.strays }
 
--- by what stands at the front: what is found behind the first byte, and behind so many bytes more
+-- by what is at the front: what is found after the first byte, and after so many bytes more
 abbrev pub from_front : Front → List ℕ → (ℕ → Framing) → Framing
 from_front Between bytes behind = behind 0
 from_front Stray bytes behind = behind_strays 1 (behind 0)
 from_front (Whole len) bytes behind = behind_unit (take len bytes) (behind (len - 1))
 from_front Cut bytes behind = only_left bytes
 
--- behind so many bytes, which are a unit's
+-- after so many bytes, which are a unit's
 abbrev pub framing_behind : List ℕ → ℕ → Framing
 framing_behind [] len = only_left []
 framing_behind (byte ∷ bytes) zero = from_front (front (byte ∷ bytes)) (byte ∷ bytes) (framing_behind bytes)

@@ -13,7 +13,7 @@ pub record FramerState : Type 0 where
 abbrev pub EndsWith : List ℕ → List ℕ → Type 0
 EndsWith bytes behind = (before : List ℕ) × (bytes ≡ before ++ behind)
 
--- So many stray bytes are passed over, with any SYN and pads among them, and these bytes come behind.
+-- So many stray bytes are passed over, with any SYN and pads among them, and these bytes follow.
 pub record Passes (bytes : List ℕ) (strays : ℕ) (behind : List ℕ) : Type 0 where
   pub framed : framing bytes ≡ behind_strays strays (framing behind)
   pub ends : EndsWith bytes behind
@@ -25,12 +25,12 @@ pub record IsUnitFound (bytes : List ℕ) (kind : Kind) (strays : ℕ) (unit res
   pub kind_is : kind_of (slice_index unit 0) ≡ Some kind
   pub shorter : length rest < length bytes
 
--- So many stray bytes are passed over, and what is held is left behind them.
+-- So many stray bytes are passed over, and what is held is left after them.
 pub record NoneFound (bytes : List ℕ) (strays : ℕ) (held : List ℕ) : Type 0 where
   pub passed : Passes bytes strays held
   pub left : framing held ≡ only_left held
 
--- What was found in what was held and a piece behind it: a unit, in the piece or completed, behind which nothing is held; or no whole unit.
+-- What was found in what was held and a piece after it: a unit, in the piece or completed, after which nothing is held; or no whole unit.
 abbrev pub Finds : List ℕ → FramerState → Found → Type 0
 Finds bytes state (found.Unit kind strays unit rest) = IsUnitFound bytes kind strays unit.now rest.now × (state.held ≡ [])
 Finds bytes state (found.Completed kind strays rest) = IsUnitFound bytes kind strays state.completed rest.now × (state.held ≡ [])

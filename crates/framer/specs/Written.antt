@@ -28,7 +28,7 @@ pub record IsPlaced (placed : Placed) : Type 0 where
   pub gap : IsGap placed.gap
   pub frame : IsFrame placed.unit
 
--- units one after another, and the bytes behind the last one
+-- units one after another, and the bytes after the last one
 abbrev pub line_of : List Placed → List ℕ → List ℕ
 line_of [] last = last
 line_of (placed ∷ more) last = placed.gap ++ (placed.unit ++ line_of more last)

@@ -44,7 +44,7 @@ pub(crate) fn complete_header(room: &mut Room, piece: &[u8]) -> Taken
     }
 }
 
-// Drops the bytes that stand before what may be a unit, and answers how many of them were stray.
+// Drops the bytes that come before what may be a unit, and answers how many of them were stray.
 fn settle(room: &mut Room) -> usize
     requires { length room.old.held ≤ HEADER_LEN }
     ensures passes { (more : List ℕ) → Passes (room.old.held ++ more) result (room.new.held ++ more) }

@@ -14,7 +14,7 @@ use std::alloc::{AllocError, Global};
 use std::marker::Model;
 
 /// What a framer found. `strays` counts the bytes that belong to no unit, SYN and pads not among them, since what it found before; `rest` is what
-/// the piece has behind the unit, which is to be given next.
+/// the piece has after the unit, which is to be given next.
 #[derive(Clone, Copy, Debug)]
 pub enum Found<'a> {
     /// A unit that lies whole in the piece.
@@ -69,8 +69,8 @@ impl Framer {
         Ok(Framer { room })
     }
 
-    /// The bytes that it holds: none, or the beginning of what may be a unit. Behind the last piece they are a half unit, or a start that no header
-    /// follows, and what stands behind that start is among them. Takes no memory.
+    /// The bytes that it holds: none, or the beginning of what may be a unit. After the last piece they are a half unit, or a start that no header
+    /// follows, and what comes after that start is among them. Takes no memory.
     pub fn held(&self) -> &[u8]
         ensures bytes { result.now ≡ self.now.held }
         ensures left { framing self.now.held ≡ only_left self.now.held }
@@ -87,7 +87,7 @@ impl Framer {
         self.room.completed()
     }
 
-    /// The next unit in what is held and the piece behind it. It is called with the rest of the piece until no unit is whole, and then with the next
+    /// The next unit in what is held and the piece after it. It is called with the rest of the piece until no unit is whole, and then with the next
     /// piece. Of a unit that lies whole in the piece no byte is copied. Takes no memory.
     #[inline(always)]
     pub fn next<'a>(&mut self, piece: &'a [u8]) -> Found<'a>
@@ -116,7 +116,7 @@ impl Framer {
         }
     }
 
-    // The same where nothing is held, behind so many stray bytes.
+    // The same where nothing is held, after so many stray bytes.
     #[inline(always)]
     fn next_in<'a>(&mut self, strays: usize, piece: &'a [u8]) -> Found<'a>
         requires empty { self.old.held ≡ [] }

@@ -1,4 +1,4 @@
-//! What stands at the front of some bytes.
+//! What is at the front of some bytes.
 
 ghost use Rattle.std.specs.Prelude.{◌≡◌, ◌≤◌, ◌<◌, ◌+◌, length, take, drop, slice_index, Some, None};
 ghost use Rattle.framer.specs.Framing.{front, front_of_kind, kind_of};
@@ -15,10 +15,10 @@ const SYN: u8 = 0x96;
 
 const PAD: u8 = 0xff;
 
-/// What stands at the front of some bytes of a line.
+/// What is at the front of some bytes of a line.
 #[derive(Clone, Copy, Debug, PartialEq, Eq)]
 pub enum Front {
-    /// A byte that may stand between units: SYN, or a pad.
+    /// A byte that may come between units: SYN, or a pad.
     Between,
     /// A byte that belongs to no unit.
     Stray,
@@ -28,7 +28,7 @@ pub enum Front {
     Cut,
 }
 
-/// What stands at the front of these bytes. Takes no memory.
+/// What is at the front of these bytes. Takes no memory.
 #[tactic(auto, unfolding(crate::specs::Framing::front))]
 #[inline(always)]
 pub(crate) fn front_of(bytes: &[u8]) -> Front
@@ -70,7 +70,7 @@ fn kind_front(kind: Kind, bytes: &[u8]) -> Front
     Front::Whole(len)
 }
 
-/// How many bytes stand before what may be a unit, how many of them are stray, and the length of the unit if it is whole.
+/// How many bytes come before what may be a unit, how many of them are stray, and the length of the unit if it is whole.
 #[derive(Clone, Copy)]
 pub(crate) struct Passed {
     pub(crate) at: usize,
@@ -78,7 +78,7 @@ pub(crate) struct Passed {
     pub(crate) len: Option<usize>,
 }
 
-/// Passes over the bytes that stand before the first unit, whole or cut.
+/// Passes over the bytes that come before the first unit, whole or cut.
 #[inline(always)]
 pub(crate) fn pass(bytes: &[u8]) -> Passed
     ensures passes { Passes bytes.now result.strays (drop result.at bytes.now) }
@@ -115,7 +115,7 @@ pub(crate) fn pass(bytes: &[u8]) -> Passed
     }
 }
 
-/// A whole unit and its kind, and what stands behind it.
+/// A whole unit and its kind, and what comes after it.
 #[inline(always)]
 pub(crate) fn part(bytes: &[u8], len: usize) -> (Kind, &[u8], &[u8])
     requires some { 0 < len }

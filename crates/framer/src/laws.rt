@@ -23,8 +23,8 @@ pub fn cuts_change_nothing()
     ensures { (bytes more : List ℕ) → framing (bytes ++ more) ≡ joined (framing bytes) (framing ((framing bytes).left ++ more)) }
 {}
 
-/// What was found so far, call by call: a framer begins with nothing; each unit that it finds is one more, behind as many stray bytes as it says,
-/// and the rest of the piece is to come; where no unit is whole, what it holds is to come; and a piece comes behind that. So at last all bytes are
+/// What was found so far, call by call: a framer begins with nothing; each unit that it finds is one more, after as many stray bytes as it says,
+/// and the rest of the piece is to come; where no unit is whole, what it holds is to come; and a piece comes after that. So at last all bytes are
 /// framed as what was found, and what is held is left.
 pub fn framed_on()
     ensures start { IsFramedSoFar [] nothing [] }

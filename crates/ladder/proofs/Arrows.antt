@@ -30,8 +30,9 @@ sends_gives (what.Sent unit said again) fate.Came false hint e = cc
 sends_gives (what.Sent unit said again) (fate.Here receipt) facing hint e = cc
 sends_gives (what.Sent unit said again) fate.Open facing hint e = cc
 sends_gives (what.Sent unit said again) fate.Lost facing hint e = cc
-sends_gives (what.Came came kept said sent) f facing hint e = cc
+sends_gives (what.Came came became said sent) f facing hint e = cc
 sends_gives (what.Noise said) f facing hint e = cc
+sends_gives (what.Composed content) f facing hint e = cc
 sends_gives (what.User entry bytes) f facing hint e = cc
 
 some_same : {X : Type 0} {x y : X} → Some x ≡ Some y → x ≡ y
@@ -57,11 +58,12 @@ by_test row next made receipt hint true test named line e =
 by_test row next made receipt hint false test named line e = cc
 
 pub joined_gives : (row : Row) (next : Told) (w : What) (made : Row) → next.what ≡ w → joined_by row next w ≡ Some made → IsArrow row next made
-joined_gives row next (what.Came hint kept said sent) made is e =
-    by_test row next made (record { line = next.line; kept = kept; said = said; state = next.state }) hint (sends row next.side hint) refl
+joined_gives row next (what.Came hint became said sent) made is e =
+    by_test row next made (record { line = next.line; became = became; said = said; state = next.state }) hint (sends row next.side hint) refl
     (ap hint_named is) refl e
 joined_gives row next (what.Sent unit said again) made is e = cc
 joined_gives row next (what.Noise said) made is e = cc
+joined_gives row next (what.Composed content) made is e = cc
 joined_gives row next (what.User entry bytes) made is e = cc
 
 pub is_arrow : (row : Row) (next : Told) (made : Row) → joined row next ≡ Some made → IsArrow row next made

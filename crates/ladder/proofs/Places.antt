@@ -87,8 +87,9 @@ fate_stays : (sender : Side) (w : What) (facing : Bool) (hint : ℕ) (f : Fate)
     → receipt_places sender (fate_after w facing hint f) ≡ receipt_places sender f
 fate_stays sender (what.Sent unit said again) true hint f = after_stays sender hint unit f
 fate_stays sender (what.Sent unit said again) false hint f = refl
-fate_stays sender (what.Came came kept said sent) facing hint f = refl
+fate_stays sender (what.Came came became said sent) facing hint f = refl
 fate_stays sender (what.Noise said) facing hint f = refl
+fate_stays sender (what.Composed content) facing hint f = refl
 fate_stays sender (what.User entry bytes) facing hint f = refl
 
 pub stay : (rows : List Row) (receiver : Side) (hint : ℕ) → places (map (passed receiver hint) rows) ≡ places rows

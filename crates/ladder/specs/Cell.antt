@@ -1,5 +1,7 @@
--- What stands at both sides of a row, and how its arrow ends.
+-- What is at both sides of a row, and how its arrow ends.
 use Rattle.std.specs.Prelude.{Bool, true, false, Option, Some, None, if◌then◌else◌}
+use Rattle.capture.specs.declared.fate.Fate.{Fate as Became}
+use Rattle.capture.specs.declared.fate.Fate.TheVariants as became
 use Rattle.wire_base.specs.declared.side.Side.{Side}
 use Rattle.ladder.specs.declared.cell.Cell.{Cell}
 use Rattle.ladder.specs.declared.cell.End.{End}
@@ -18,21 +20,23 @@ use Rattle.ladder.specs.Row.{is_side}
 -- ---- the cells at both sides
 
 -- data that were not kept are told to be; of all else there is nothing to keep
-abbrev pub receipt_note : Bool → Said → Note
-receipt_note true said = note.Kept
-receipt_note false (said.Data num resp content) = note.NotKept
-receipt_note false _ = note.Nothing
+abbrev pub receipt_note : Became → Said → Note
+receipt_note became.Kept said = note.Kept
+receipt_note became.Dropped said = note.Dropped
+receipt_note became.NotKept (said.Data num resp content) = note.NotKept
+receipt_note became.NotKept _ = note.Nothing
 
 -- the note of a row's first record
 abbrev pub own_note : What → Note
 own_note (what.Sent unit said again) = note.Nothing
-own_note (what.Came hint kept said sent) = receipt_note kept said
+own_note (what.Came hint became said sent) = receipt_note became said
 own_note (what.Noise said) = note.Nothing
+own_note (what.Composed content) = note.Composed
 own_note (what.User entry bytes) = note.User entry bytes
 
 -- the receipt in the row of its unit
 abbrev pub receipt_cell : Fate → Option Cell
-receipt_cell (fate.Here receipt) = Some (record { line = receipt.line; note = receipt_note receipt.kept receipt.said })
+receipt_cell (fate.Here receipt) = Some (record { line = receipt.line; note = receipt_note receipt.became receipt.said })
 receipt_cell fate.Open = None
 receipt_cell fate.Came = None
 receipt_cell fate.Lost = None
@@ -43,7 +47,7 @@ cell row side =
 
 -- ---- the end of the arrow
 
--- no record is left to come behind one that was made
+-- no record is left to come after one that was made
 abbrev pub open_end : (ended refused : Bool) → End
 open_end true false = Never
 open_end true true = Elsewhere

@@ -44,12 +44,12 @@ number_given given num =
     if was_given given num then record given { last = Neither }
     else record { highest = num; count = min (given.count + 1) 255; last = Neither }
 
--- behind a record that sent this
+-- after a record that sent this
 abbrev pub after_sending : Given → Said → Given
 after_sending given (said.Data num resp content) = number_given given num
 after_sending given other = record given { last = startup_of other }
 
--- behind a record that sent nothing: at a start no number is given
+-- after a record that sent nothing: at a start no number is given
 abbrev pub after_other : Given → Entry → Given
 after_other given entry.Start = no_number
 after_other given _ = record given { last = Neither }

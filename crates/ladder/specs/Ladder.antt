@@ -1,8 +1,9 @@
 -- What a ladder knows, and what a record that is told changes.
 use Rattle.std.specs.Prelude.{ℕ, ◌+◌, ◌-◌, ◌^◌, Bool, List, length, min}
 use Rattle.capture.specs.declared.entry.Entry.{Entry}
-use Rattle.capture.specs.declared.entry.Entry.TheVariants.{Sent, Received, Noise}
+use Rattle.capture.specs.declared.entry.Entry.TheVariants.{Sent, Received, Noise, Composed}
 use Rattle.ddcmp_msg.specs.Reading.{reading}
+use Rattle.dna_packet.specs.ReadingPacket.{packet_at}
 use Rattle.wire_base.specs.declared.side.Side.{Side}
 use Rattle.wire_base.specs.declared.side.Side.TheVariants.{A, B}
 use Rattle.ladder.specs.declared.half.Half.{Half}
@@ -11,7 +12,7 @@ use Rattle.ladder.specs.declared.told.Told.{Told}
 use Rattle.ladder.specs.declared.told.What.{What}
 use Rattle.ladder.specs.declared.told.What.TheVariants as what
 use Rattle.ladder.specs.Given.{after_other, after_sending, is_again}
-use Rattle.ladder.specs.Reading.{said_of}
+use Rattle.ladder.specs.Reading.{packet_content, said_of}
 use Rattle.ladder.specs.Rows.{Kept, passed_in, with_made, with_refused}
 use Rattle.ladder.specs.Said.{brief}
 use Rattle.ladder.specs.State.{after, after_arrival, after_user}
@@ -31,11 +32,12 @@ sent_what own said = what.Sent (sent_units own.units) said (is_again own.given s
 
 abbrev pub what_of : Half → Half → Entry → List ℕ → What
 what_of own other Sent bytes = sent_what own (said_of (reading bytes))
-what_of own other (Received kept hint) bytes = what.Came hint kept (said_of (reading bytes)) (sending_of other.units hint)
+what_of own other (Received fate hint) bytes = what.Came hint fate (said_of (reading bytes)) (sending_of other.units hint)
 what_of own other Noise bytes = what.Noise (said_of (reading bytes))
+what_of own other Composed bytes = what.Composed (packet_content (packet_at bytes))
 what_of own other entry bytes = what.User entry (length bytes)
 
--- record i stands in line i + 2
+-- record i is on line i + 2
 abbrev pub told_by : Half → Half → Side → Entry → List ℕ → Told
 told_by own other side entry bytes = record {
   side = side;
@@ -57,7 +59,7 @@ own_by own line _ entry = record own { line = next_line own; given = after_other
 abbrev pub own_after : Half → Told → Entry → Half
 own_after own told entry = record (own_by own told.line told.what entry) { state = told.state }
 
--- after a record that is not drawn, nor its unit where that comes: in which line the next one stands, the state, which data were sent before, and
+-- after a record that is not drawn, nor its unit where that comes: which line the next one is on, the state, which data were sent before, and
 -- the number of the next unit
 abbrev pub knowing : Half → Entry → List ℕ → Half
 knowing own Sent bytes = record own {
@@ -65,21 +67,21 @@ knowing own Sent bytes = record own {
   given = after_sending own.given (brief (said_of (reading bytes)));
   units = skipped own.units;
 }
-knowing own (Received kept hint) bytes = record own {
+knowing own (Received fate hint) bytes = record own {
   line = next_line own;
-  given = after_other own.given (Received kept hint);
+  given = after_other own.given (Received fate hint);
   state = after_arrival own.state (brief (said_of (reading bytes)));
 }
 knowing own entry bytes = record own { line = next_line own; given = after_other own.given entry; state = after_user own.state entry }
 
 -- the units that the other side sent are passed by a receipt
 abbrev pub other_after : Half → Entry → Half
-other_after other (Received kept hint) = record other { units = passed other.units hint }
+other_after other (Received fate hint) = record other { units = passed other.units hint }
 other_after other _ = other
 
 -- and those in the rows
 abbrev pub received : Kept → Side → Entry → Kept
-received kept side (Received came hint) = passed_in kept side hint
+received kept side (Received fate hint) = passed_in kept side hint
 received kept side _ = kept
 
 abbrev pub made_rows : Kept → Told → Entry → Kept
@@ -109,7 +111,7 @@ abbrev pub learned : LadderView → Side → Entry → List ℕ → LadderView
 learned ladder A entry bytes = record ladder { a = knowing ladder.a entry bytes }
 learned ladder B entry bytes = record ladder { b = knowing ladder.b entry bytes }
 
--- in which line the side's next record stands
+-- which line the side's next record is on
 abbrev pub line_of : LadderView → Side → ℕ
 line_of ladder A = ladder.a.line
 line_of ladder B = ladder.b.line
@@ -118,6 +120,6 @@ line_of ladder B = ladder.b.line
 abbrev pub refused : LadderView → Side → Entry → List ℕ → (changed : Bool) → LadderView
 refused ladder side entry bytes changed = record ladder { kept = refused_rows ladder.kept (told_in ladder side entry bytes) entry changed }
 
--- a record stands behind the refused one: it tells which units come still
+-- a record comes after the refused one: it tells which units come still
 abbrev pub follows : LadderView → Side → Entry → LadderView
 follows ladder side entry = record ladder { kept = received ladder.kept side entry }

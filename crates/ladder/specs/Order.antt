@@ -9,15 +9,15 @@ use Rattle.ladder.specs.Row.{is_side}
 
 -- what comes by the first record, the second one sent, if the other side made it
 abbrev pub rests_on : What → What → Bool
-rests_on (what.Came hint kept said sent) (what.Sent unit said_then again) = hint == unit
+rests_on (what.Came hint became said sent) (what.Sent unit said_then again) = hint == unit
 rests_on _ _ = false
 
--- A record may stand above one that was told before it, if the other side made that, and did not send by it what comes by this.
+-- A record may be above one that was told before it, if the other side made that, and did not send by it what comes by this.
 abbrev pub may_pass : Row → Row → Bool
 may_pass row before =
     if is_side before.told.side row.told.side then false else (if rests_on row.told.what before.told.what then false else true)
 
--- of these records, the one in this place may stand above all others
+-- of these records, the one in this place may be above all others
 abbrev pub MayBeFirst : List Row → ℕ → Row → Type 0
 MayBeFirst records place row = (slice_get records place ≡ Some row) × (list_all (may_pass row) (take place records) ≡ true)
 

@@ -1,4 +1,4 @@
--- Where records stand in the rows, and what an arrow joins.
+-- Where records are in the rows, and what an arrow joins.
 use Rattle.std.specs.Prelude.{◌≡◌, ◌⊎◌, drop, ℕ, Option, Some, None, List, [], ◌∷◌}
 use Rattle.std.specs.List.{flat_map}
 use Rattle.wire_base.specs.declared.side.Side.{Side}
@@ -25,7 +25,7 @@ receipt_places sender fate.Open = []
 receipt_places sender fate.Came = []
 receipt_places sender fate.Lost = []
 
--- the records of rows, in the order in which they stand
+-- the records of rows, in the order in which they come
 abbrev pub row_places : Row → List Place
 row_places row = place row.told ∷ receipt_places row.told.side row.fate
 
@@ -40,7 +40,7 @@ unit_sent (what.Sent unit said again) = Some unit
 unit_sent _ = None
 
 abbrev pub hint_named : What → Option ℕ
-hint_named (what.Came hint kept said sent) = Some hint
+hint_named (what.Came hint became said sent) = Some hint
 hint_named _ = None
 
 abbrev pub receipt_line : Fate → Option ℕ
@@ -59,6 +59,6 @@ pub record IsArrow (row : Row) (next : Told) (made : Row) : Type 0 where
 
 -- ---- which rows stay
 
--- the last of the next rows, or those that stood before
+-- the last of the next rows, or those that were there before
 abbrev pub IsCut : List Row → List Row → List Row → Type 0
 IsCut before next after = ((n : ℕ) × (after ≡ drop n next)) ⊎ (after ≡ before)

@@ -46,16 +46,16 @@ sends row receiver hint = sends_by row.told.what row.fate (faces row.told.side r
 abbrev pub with_receipt : Row → Receipt → Row
 with_receipt row receipt = record row { fate = fate.Here receipt }
 
--- The next record stands in the row of a sending where it is the receipt of that unit: where its hint is the unit's number.
+-- The next record is in the row of a sending where it is the receipt of that unit: where its hint is the unit's number.
 abbrev pub joined_by : Row → Told → What → Option Row
-joined_by row next (what.Came hint kept said sent) =
-    if sends row next.side hint then Some (with_receipt row (record { line = next.line; kept = kept; said = said; state = next.state })) else None
+joined_by row next (what.Came hint became said sent) =
+    if sends row next.side hint then Some (with_receipt row (record { line = next.line; became = became; said = said; state = next.state })) else None
 joined_by row next _ = None
 
 abbrev pub joined : Row → Told → Option Row
 joined row next = joined_by row next next.what
 
--- a refused record stands in a row of its own
+-- a refused record has a row of its own
 abbrev pub with_next : Row → Row → Option Row
 with_next row next = if next.refused then None else joined row next.told
 
@@ -77,7 +77,7 @@ fate_after _ facing hint before = before
 abbrev pub passed : Side → ℕ → Row → Row
 passed receiver hint row = record row { fate = fate_after row.told.what (faces row.told.side receiver) hint row.fate }
 
--- ---- the rows of records that stand one below the other
+-- ---- the rows of records that come one below the other
 
 abbrev pub last_joined : Option Row → Row → Option Row
 last_joined None next = None

@@ -46,7 +46,7 @@ shown kept = shown_by kept.phase kept.rows
 
 -- ---- which are kept of these, the last of which has this record
 
--- the record stands in this line of this side's capture, so that it begins the rows
+-- the record is on this line of this side's capture, so that it begins the rows
 abbrev pub phase_at : Keep → Told → Phase
 phase_at Last told = Before
 phase_at First told = Before

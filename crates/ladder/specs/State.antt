@@ -16,6 +16,7 @@ use Rattle.ladder.specs.declared.told.What.TheVariants as what
 abbrev pub after_user : State → Entry → State
 after_user state entry.Start = state_after Start
 after_user state entry.Halt = state_after Halt
+after_user state entry.Boot = state_after Halt
 after_user state other = state
 
 abbrev no_flags : Flags
@@ -40,5 +41,5 @@ after_arrival state said = led_to state (message_of said)
 
 abbrev pub after : State → What → State
 after state (what.User entry bytes) = after_user state entry
-after state (what.Came hint kept said sent) = after_arrival state said
+after state (what.Came hint became said sent) = after_arrival state said
 after state other = state

@@ -94,7 +94,7 @@ pub data IsWords : List ℕ → Type 0 where
   Plain : {before : List ℕ} → IsWords before → (character : ℕ) → IsPlain character → IsWords (before ++ character ∷ [])
   Referred : {before : List ℕ} → IsWords before → (reference : Reference) → IsWords (before ++ reference_text reference)
 
--- ---- attributes (3.1): none stands twice, since their places ascend
+-- ---- attributes (3.1): none occurs twice, since their places ascend
 
 abbrev pub attribute_text : Attribute → List ℕ → List ℕ
 attribute_text name words = codes " " ++ (attribute_name name ++ (codes "='" ++ (words ++ codes "'")))

@@ -1,4 +1,4 @@
-//! What stands at both sides of a row, and how its arrow ends.
+//! What is at both sides of a row, and how its arrow ends.
 
 ghost use Rattle.std.specs.Prelude.{◌≡◌};
 ghost use Rattle.ladder.specs.Cell as spec;
@@ -9,7 +9,7 @@ use crate::sides::is_side;
 use crate::told::What;
 use wire_base::Side;
 
-/// What stands at one side of a row: the line of its record, and a note beside it.
+/// What is at one side of a row: the line of its record, and a note beside it.
 #[derive(Clone, Copy)]
 pub struct Cell {
     pub line: u64,
@@ -28,7 +28,7 @@ pub enum End {
 }
 
 impl Row {
-    /// What stands at this side; `None` where the row has no record of it.
+    /// What is at this side; `None` where the row has no record of it.
     pub fn cell(&self, side: Side) -> Option<Cell>
         ensures { result ≡ spec.cell self.now side }
     {
@@ -70,7 +70,8 @@ fn own_note(what: What) -> Note
 {
     match what {
         What::Sent { .. } | What::Noise { .. } => Note::Nothing,
-        What::Came { kept, said, .. } => Note::of_receipt(kept, said),
+        What::Came { became, said, .. } => Note::of_receipt(became, said),
+        What::Composed { .. } => Note::Composed,
         What::User { entry, bytes } => Note::User { entry, bytes },
     }
 }
@@ -82,7 +83,7 @@ fn receipt_cell(fate: Fate) -> Option<Cell>
     match fate {
         Fate::Here(receipt) => Some(Cell {
             line: receipt.line,
-            note: Note::of_receipt(receipt.kept, receipt.said),
+            note: Note::of_receipt(receipt.became, receipt.said),
         }),
         Fate::Open | Fate::Came | Fate::Lost => None,
     }

@@ -50,7 +50,7 @@ impl Given {
         }
     }
 
-    /// Behind a record that sent this.
+    /// After a record that sent this.
     #[inline(always)]
     pub fn after_sending(&self, said: Said) -> Given
         ensures { result ≡ spec.after_sending self.now said }
@@ -65,7 +65,7 @@ impl Given {
         }
     }
 
-    // Behind data with this number.
+    // After data with this number.
     #[inline(always)]
     fn number_given(&self, num: u8) -> Given
         ensures { result ≡ spec.number_given self.now num }
@@ -91,7 +91,7 @@ impl Given {
         self.highest.wrapping_sub(num) < self.count
     }
 
-    /// Behind a record that sent nothing: none was given since the station was started.
+    /// After a record that sent nothing: none was given since the station was started.
     #[inline(always)]
     pub fn after_other(&self, entry: Entry) -> Given
         ensures { result ≡ spec.after_other self.now entry }

@@ -5,7 +5,7 @@ ghost use Rattle.ddcmp_msg.specs.Reading.{IsSound, reading};
 ghost use Rattle.ladder.specs.Ladder as spec;
 
 use crate::given::Given;
-use crate::reading::{said_briefly, said_by};
+use crate::reading::{packet_content, said_briefly, said_by};
 use crate::said::Said;
 use crate::state::{after, after_arrival, after_user};
 use crate::told::{Sending, Told, What};
@@ -18,7 +18,7 @@ use wire_base::Side;
 /// What is known of one side, by the records that were told of it.
 #[derive(Drop)]
 pub struct Half {
-    /// In which line of its capture its next record stands.
+    /// Which line of its capture its next record is on.
     pub line: u64,
     /// What it sent before.
     pub given: Given,
@@ -33,7 +33,7 @@ impl Half {
     ghost use Rattle.ladder.specs.Given.{no_number};
     ghost use Rattle.ladder.specs.UnderWay.{way};
 
-    /// No record yet: the first one stands in line 2, behind the head. Takes no memory.
+    /// No record yet: the first one is on line 2, after the head. Takes no memory.
     pub fn new(alloc: Global) -> Half
         ensures line { result.line ≡ 2 }
         ensures given { result.given ≡ no_number }
@@ -66,14 +66,17 @@ impl Half {
     {
         match entry {
             Entry::Sent => self.sending(said_by(bytes)),
-            Entry::Received { kept, hint } => What::Came {
+            Entry::Received { fate, hint } => What::Came {
                 hint,
-                kept,
+                became: fate,
                 said: said_by(bytes),
                 sent: other.units.unit(hint),
             },
             Entry::Noise => What::Noise {
                 said: said_by(bytes),
+            },
+            Entry::Composed => What::Composed {
+                content: packet_content(bytes),
             },
             _ => What::User {
                 entry,
@@ -117,7 +120,7 @@ impl Half {
         }
     }
 
-    /// The side's next record was made, and neither it nor its unit is ever drawn: what is drawn behind it goes by the line, the numbers and the
+    /// The side's next record was made, and neither it nor its unit is ever drawn: what is drawn after it goes by the line, the numbers and the
     /// state that it leaves. What is said to be sound is read without its checks. Takes no memory.
     #[inline(always)]
     pub fn learn(&mut self, entry: Entry, bytes: &[u8], sound: bool)

@@ -16,7 +16,7 @@ use wire_base::Side;
 /// What was told of the records of two captures.
 ///
 /// It is told each record that was made ([`Ladder::made`], or [`Ladder::learn`] of one that has no row), then perhaps the one that was refused
-/// ([`Ladder::refused`]), and those behind it ([`Ladder::follows`]), and at last that there is no more ([`Ladder::end`]); then
+/// ([`Ladder::refused`]), and those after it ([`Ladder::follows`]), and at last that there is no more ([`Ladder::end`]); then
 /// [`Ladder::drawn`] has the rows. Memory is taken for four records a row that may be drawn, and for the units that were sent and neither came nor
 /// were passed over. A record touches those that are kept and the units that it passes over.
 #[derive(Drop)]
@@ -82,7 +82,7 @@ impl Ladder {
         }
     }
 
-    /// This side's next record was made, and neither it nor its unit is ever drawn; what is drawn behind it goes by it, but for how units that
+    /// This side's next record was made, and neither it nor its unit is ever drawn; what is drawn after it goes by it, except for how units that
     /// come later were sent. What is said to be sound is read without its checks. Takes no memory.
     #[inline(always)]
     pub fn learn(&mut self, side: Side, entry: Entry, bytes: &[u8], sound: bool)
@@ -107,7 +107,7 @@ impl Ladder {
         Ok(())
     }
 
-    /// In which line of its capture this side's next record stands.
+    /// Which line of its capture this side's next record is on.
     pub fn line(&self, side: Side) -> u64
         ensures { result ≡ spec.line_of self.now side }
     {
@@ -137,7 +137,7 @@ impl Ladder {
         }
     }
 
-    /// This record stands behind the refused one. It is not drawn, and only tells which units come still. Takes no memory.
+    /// This record comes after the refused one. It is not drawn, and only tells which units come still. Takes no memory.
     pub fn follows(&mut self, side: Side, entry: Entry)
         ensures { self.new ≡ spec.follows self.old side entry }
     {

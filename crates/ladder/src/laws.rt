@@ -9,12 +9,12 @@ ghost use Rattle.ladder.specs.Places.{IsArrow, IsCut, place, places, receipt_lin
 ghost use Rattle.ladder.specs.Row.{joined, passed, with_record};
 ghost use Rattle.ladder.specs.Rows.{Kept, going_on};
 
-/// In the order in which they are drawn each record stands once, and those of a side as they were told.
+/// In the order in which they are drawn each record comes once, and those of a side as they were told.
 pub fn order_keeps_sides()
     ensures { (told order : List Row) (side : Side) → IsOrder told order → of_side side order ≡ of_side side told }
 {}
 
-/// Each record stands once in the rows that are joined, behind those that stood before; and what becomes of a unit moves none.
+/// Each record comes once in the rows that are joined, after those that were there before; and what becomes of a unit moves none.
 pub fn records_stand_once_in_order()
     ensures joined { (rows : List Row) (next : Row) → receipt_line next.fate ≡ None →
         places (with_record rows next) ≡ places rows ++ place next.told ∷ [] }
@@ -28,7 +28,7 @@ pub fn arrow_is_by_the_hint()
 {}
 
 /// Of the rows with one more record the last ones stay, so that no row is missing between two; or, where there is no room for it, those that
-/// stood before.
+/// were there before.
 pub fn rows_have_no_gap()
     ensures { (kept : Kept) (next : List Row) (told : Told) → IsCut kept.rows next (going_on kept next told).rows }
 {}

@@ -1,10 +1,10 @@
-//! What stands beside a line number of a row.
+//! What is beside a line number of a row.
 
 ghost use Rattle.std.specs.Prelude.{◌≡◌};
 ghost use Rattle.ladder.specs.Cell.{receipt_note};
 
 use crate::said::Said;
-use capture::Entry;
+use capture::{Entry, Fate as Became};
 use std::fmt;
 
 /// A note beside a line number.
@@ -14,21 +14,26 @@ pub enum Note {
     Nothing,
     /// The packet that came was kept.
     Kept,
-    /// It was not.
+    /// It was kept, and lost above.
+    Dropped,
+    /// It was not kept.
     NotKept,
-    /// The user's doing, with a message of as many bytes.
+    /// A packet was composed that is never sent.
+    Composed,
+    /// What else happened apart from the line, with a message of as many bytes.
     User { entry: Entry, bytes: usize },
 }
 
 impl Note {
     /// The note of a receipt.
-    pub fn of_receipt(kept: bool, said: Said) -> Note
-        ensures { result ≡ receipt_note kept said }
+    pub fn of_receipt(became: Became, said: Said) -> Note
+        ensures { result ≡ receipt_note became said }
     {
-        match (kept, said) {
-            (true, _) => Note::Kept,
-            (false, Said::Data { .. }) => Note::NotKept,
-            (false, _) => Note::Nothing,
+        match (became, said) {
+            (Became::Kept, _) => Note::Kept,
+            (Became::Dropped, _) => Note::Dropped,
+            (Became::NotKept, Said::Data { .. }) => Note::NotKept,
+            (Became::NotKept, _) => Note::Nothing,
         }
     }
 }
@@ -38,7 +43,9 @@ impl fmt::Display for Note {
         match *self {
             Note::Nothing => Ok(()),
             Note::Kept => f.write_str("kept"),
+            Note::Dropped => f.write_str("dropped"),
             Note::NotKept => f.write_str("not kept"),
+            Note::Composed => f.write_str("composed"),
             Note::User { entry, bytes } => match entry {
                 Entry::Start => f.write_str("start"),
                 Entry::Halt => f.write_str("halt"),
@@ -48,7 +55,15 @@ impl fmt::Display for Note {
                 Entry::In { link } => write!(f, "in {link} {bytes} {}", byte_word(bytes)),
                 Entry::Up { link } => write!(f, "up {link} {bytes} {}", byte_word(bytes)),
                 Entry::Close { link } => write!(f, "close {link}"),
-                Entry::Sent | Entry::Received { .. } | Entry::Noise => Ok(()),
+                Entry::Boot => f.write_str("boot"),
+                Entry::Abort { link } => write!(f, "abort {link}"),
+                Entry::Interrupt { link } => {
+                    write!(f, "interrupt {link} {bytes} {}", byte_word(bytes))
+                }
+                Entry::Interrupted { link } => {
+                    write!(f, "interrupted {link} {bytes} {}", byte_word(bytes))
+                }
+                Entry::Sent | Entry::Received { .. } | Entry::Noise | Entry::Composed => Ok(()),
             },
         }
     }

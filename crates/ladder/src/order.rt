@@ -139,11 +139,11 @@ fn waits_for_nothing(left: &[Row], place: usize) -> bool {
     match row.told.what {
         What::Sent { .. } => records_before_receipt(left, place).is_none(),
         What::Came { .. } => may_be_first(left, place),
-        What::Noise { .. } | What::User { .. } => true,
+        What::Noise { .. } | What::Composed { .. } | What::User { .. } => true,
     }
 }
 
-// How many records of the other side stand before the receipt of the unit that this record sends; `None` where it sends none, or no record
+// How many records of the other side come before the receipt of the unit that this record sends; `None` where it sends none, or no record
 // is its receipt.
 fn records_before_receipt(left: &[Row], place: usize) -> Option<usize> {
     let sending = left.get(place)?;

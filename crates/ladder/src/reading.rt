@@ -93,8 +93,8 @@ fn said_message(message: Message<'_>) -> Said
     }
 }
 
-// What is in a packet.
-fn packet_content(body: &[u8]) -> Content
+/// What is in the packet of these bytes. Takes no memory.
+pub fn packet_content(body: &[u8]) -> Content
     ensures { result ≡ spec.packet_content (packet_at body.now) }
 {
     match read_packet(body) {

@@ -6,6 +6,7 @@ ghost use Rattle.ladder.specs.Row as spec;
 use crate::said::Said;
 use crate::sides::faces;
 use crate::told::{Told, What};
+use capture::Fate as Became;
 use dna_station::State;
 use wire_base::Side;
 
@@ -27,7 +28,7 @@ pub struct Row {
 pub enum Fate {
     /// It may still come.
     Open,
-    /// Its receipt is the next record, and stands in the same row.
+    /// Its receipt is the next record, and is in the same row.
     Here(Receipt),
     /// Its receipt was told later.
     Came,
@@ -38,13 +39,13 @@ pub enum Fate {
 /// The receipt of a unit in the row of its sending.
 #[derive(Clone, Copy)]
 pub struct Receipt {
-    /// In which line of the receiver's capture it stands.
+    /// Which line of the receiver's capture it is on.
     pub line: u64,
-    /// Whether the packet was kept.
-    pub kept: bool,
+    /// What became of the packet.
+    pub became: Became,
     /// What the bytes say that came.
     pub said: Said,
-    /// The state of the receiver's station behind it.
+    /// The state of the receiver's station after it.
     pub state: State,
 }
 
@@ -89,7 +90,7 @@ impl Row {
     {
         let What::Came {
             hint,
-            kept,
+            became,
             said,
             ..
         } = next.what
@@ -103,7 +104,7 @@ impl Row {
             told: self.told,
             fate: Fate::Here(Receipt {
                 line: next.line,
-                kept,
+                became,
                 said,
                 state: next.state,
             }),

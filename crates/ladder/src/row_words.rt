@@ -6,7 +6,7 @@ use crate::told::Sending;
 use std::alloc::{AllocError, Global};
 use wire_base::Side;
 
-/// The longest words that stand in the middle of a row, in columns.
+/// The longest words in the middle of a row, in columns.
 pub const WORDS: usize = 30;
 
 /// The words of a unit that was sent, and of what came of it in its row, if that reads as something else. They go without those of packets where
@@ -54,7 +54,7 @@ impl Received {
     }
 }
 
-/// The words of a unit whose sending stands in another row. They go without those of its packet where they would be too long.
+/// The words of a unit whose sending is in another row. They go without those of its packet where they would be too long.
 pub fn came_words(
     alloc: Global,
     sender: Side,

@@ -11,7 +11,7 @@ use std::alloc::{AllocError, Global};
 use std::marker::Model;
 use wire_base::Side;
 
-// So many records are kept for each row that may be drawn: a row has two at most, and some more tell better how those near the end stand.
+// So many records are kept for each row that may be drawn: a row has two at most, and some more tell better how those near the end are placed.
 const RECORDS: usize = 4;
 
 /// Which rows a ladder draws.
@@ -21,7 +21,7 @@ pub enum Keep {
     Last,
     /// The first rows.
     First,
-    /// The first rows from the record on that stands in this line of this side's capture.
+    /// The first rows, starting with the record on this line of this side's capture.
     From { side: Side, line: u64 },
 }
 
@@ -32,7 +32,7 @@ pub enum Phase {
     Before,
     /// It is kept.
     Open,
-    /// It is not, nor is any behind it.
+    /// It is not, nor is any after it.
     Closed,
 }
 
@@ -109,7 +109,7 @@ impl Rows {
         self.phase = phase_at(self.keep, told);
     }
 
-    // The row stands behind the others, in the place of the first one where there is no room and the last are kept.
+    // The row comes after the others, in the place of the first one where there is no room and the last are kept.
     fn append(&mut self, row: Row)
         ensures { self.new ≡ spec.opened self.old.keep self.old (self.old.rows ++ row ∷ []) }
     {
@@ -121,7 +121,7 @@ impl Rows {
         }
     }
 
-    // The row stands behind the others, if there is room.
+    // The row comes after the others, if there is room.
     #[tactic(auto, using(crate::proofs::Keeping::fills, crate::proofs::Keeping::closes))]
     fn fill(&mut self, row: Row)
         ensures { self.new ≡ spec.filling self.old (self.old.rows ++ row ∷ []) }

@@ -17,7 +17,7 @@ pub fn after(state: State, what: What) -> State
     match what {
         What::User { entry, .. } => after_user(state, entry),
         What::Came { said, .. } => after_arrival(state, said),
-        What::Sent { .. } | What::Noise { .. } => state,
+        What::Sent { .. } | What::Noise { .. } | What::Composed { .. } => state,
     }
 }
 
@@ -28,7 +28,7 @@ pub fn after_user(state: State, entry: Entry) -> State
 {
     match entry {
         Entry::Start => State::Istrt,
-        Entry::Halt => State::Halted,
+        Entry::Halt | Entry::Boot => State::Halted,
         _ => state,
     }
 }

@@ -6,7 +6,7 @@ ghost use Rattle.ladder.specs.Xml.{IsDocument};
 use crate::drawn::Drawn;
 use crate::svg_arrows::{arrow_of, with_stroke};
 use crate::svg_columns::Columns;
-use crate::svg_key::{KEY_HEIGHT, with_key};
+use crate::svg_key::{key_height, with_key};
 use crate::svg_labels::{Label, columns_of, labels_of, with_label};
 use crate::svg_marks::{with_bands, with_caption, with_check, with_user};
 use crate::svg_parts::{MARGIN, WIDTH, with_text, y_of};
@@ -34,7 +34,7 @@ pub struct Caption<'t> {
 impl Drawn {
     /// The rows as a picture: an SVG file that needs no other file, in light and dark, with this caption.
     ///
-    /// It is well-formed XML whatever the rows and the caption are. A record stands below the one before it on its side, and below the sending of
+    /// It is well-formed XML whatever the rows and the caption are. A record is below the one before it on its side, and below the sending of
     /// what came by it. Each arrow has a `<title>`, whose first line tells both ends as `a line 5 to b line 6`, where both are known. Of the
     /// caption what is neither a line feed nor printable ASCII is written as `?`. `AllocError` where there is no memory for it.
     pub fn svg(&self, alloc: Global, caption: Caption<'_>) -> Result<Vec<u8>, AllocError>
@@ -43,7 +43,7 @@ impl Drawn {
         let places = places_of(alloc, self)?;
         let labels = labels_of(alloc, self, &places)?;
         let columns = columns_of(&labels);
-        let height = places.bottom().saturating_add(KEY_HEIGHT);
+        let height = places.bottom().saturating_add(key_height(self));
         let svg = Content::new(alloc).with_words("\n")?;
         let svg = with_style(svg, alloc, height)?;
         let svg = with_head(svg, alloc, columns, caption)?;
@@ -51,7 +51,7 @@ impl Drawn {
         let svg = with_bands(svg, alloc, self, &places, columns, Side::B)?;
         let svg = self.with_rows(svg, alloc, &places, columns, caption)?;
         let svg = with_labels(svg, alloc, columns, &labels)?;
-        let svg = with_key(svg, alloc, places.bottom())?;
+        let svg = with_key(svg, alloc, self, places.bottom())?;
         svg.document(Tag::Svg, size_of(alloc, height)?)
     }
 

@@ -6,16 +6,17 @@ use crate::said::Said;
 use crate::sides::faces;
 use crate::svg_places::Places;
 use crate::told::What;
+use capture::Fate as Became;
 use wire_base::Side;
 
-/// Where a unit came: the level of that record, its line, what came, whether its packet was kept, and whether other bytes came than were sent,
+/// Where a unit came: the level of that record, its line, what came, what became of its packet, and whether other bytes came than were sent,
 /// although they may read alike.
 #[derive(Clone, Copy)]
 pub struct Arrival {
     pub level: usize,
     pub line: u64,
     pub said: Said,
-    pub kept: bool,
+    pub became: Became,
     pub changed: bool,
 }
 
@@ -37,7 +38,7 @@ pub fn arrival_of(drawn: &Drawn, places: &Places, index: usize) -> Option<Arriva
             level: places.of(index).receipt,
             line: receipt.line,
             said: receipt.said,
-            kept: receipt.kept,
+            became: receipt.became,
             changed: false,
         }),
         Fate::Open | Fate::Came | Fate::Lost => arrival_below(drawn, places, row.told.side, unit),
@@ -49,7 +50,7 @@ fn arrival_below(drawn: &Drawn, places: &Places, sender: Side, unit: u64) -> Opt
         if let Some(row) = drawn.row(index)
             && let What::Came {
                 hint,
-                kept,
+                became,
                 said,
                 sent: Some(_),
             } = row.told.what
@@ -60,7 +61,7 @@ fn arrival_below(drawn: &Drawn, places: &Places, sender: Side, unit: u64) -> Opt
                 level: places.of(index).told,
                 line: row.told.line,
                 said,
-                kept,
+                became,
                 changed: row.changed,
             });
         }
@@ -75,7 +76,7 @@ pub enum Ending {
     Refused,
     /// It never comes.
     Lost,
-    /// It comes behind what is drawn.
+    /// It comes after what is drawn.
     Later,
     /// It may come.
     Open,
@@ -97,7 +98,7 @@ impl Ending {
         }
     }
 
-    /// What is said of it, behind the words of the unit.
+    /// What is said of it, after the words of the unit.
     pub fn note(self) -> &'static str {
         match self {
             Ending::Refused => "",

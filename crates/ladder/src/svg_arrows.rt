@@ -2,19 +2,22 @@
 
 use crate::drawn::Drawn;
 use crate::row::Row;
-use crate::said::Said;
+use crate::said::{Content as Packet, Said};
 use crate::svg_arrivals::{Arrival, Ending, arrival_of};
 use crate::svg_columns::Columns;
 use crate::svg_parts::{At, with_line, y_of};
 use crate::svg_places::{Places, row_of_unit};
-use crate::svg_words::{Detail, outside_title, sent_words};
+use crate::svg_words::{Detail, outside_title, packet_words, sent_words};
 use crate::told::What;
 use crate::xml::{Attributes, Content};
 use crate::xml_names::Tag;
+use capture::Fate as Became;
 use std::alloc::{AllocError, Global};
 
-// How far from a time line an arrow begins or ends, and how far it goes whose other end is not drawn, or that is lost.
+// How far from a time line an arrow begins or ends, and how far it goes of what is never sent, whose other end is not drawn, or that is lost.
 const GAP: usize = 5;
+
+const STUB: usize = 40;
 
 const CUT: usize = 90;
 
@@ -33,7 +36,8 @@ pub struct Arrow {
     title: String,
 }
 
-/// The arrow of the row with this number: of a sending, and of a receipt or noise whose sending is not drawn, or may not come any more.
+/// The arrow of the row with this number: of a sending, of a packet that is never sent, and of a receipt or noise whose sending is not drawn, or may
+/// not come any more.
 pub fn arrow_of(
     alloc: Global,
     drawn: &Drawn,
@@ -57,6 +61,7 @@ pub fn arrow_of(
             true => Ok(Some(from_outside(alloc, row, columns, y)?)),
             false => Ok(None),
         },
+        What::Composed { content } => Ok(Some(never_sent(alloc, row, columns, y, content)?)),
         What::User { .. } => Ok(None),
     }
 }
@@ -70,7 +75,7 @@ pub fn is_from_outside(drawn: &Drawn, row: &Row) -> bool {
             ..
         } => row_of_unit(drawn, row.told.side, hint).is_none(),
         What::Came { .. } | What::Noise { .. } => true,
-        What::Sent { .. } | What::User { .. } => false,
+        What::Sent { .. } | What::Composed { .. } | What::User { .. } => false,
     }
 }
 
@@ -91,9 +96,10 @@ fn whole(
         start: (columns.inside(side, GAP), y),
         stop: (columns.inside(to, GAP), y_of(arrival.level)),
         kind: kind_of(row, Some(arrival)),
-        end: match is_kept(arrival.said, arrival.kept) {
-            true => "",
-            false => " hollow",
+        end: match head_of(arrival.said, arrival.became) {
+            Head::Full => "",
+            Head::Hollow => " hollow",
+            Head::Dropped => " dropped",
         },
         title: format!(in alloc; "{side} line {line} to {to} line {there}\n{words}")?,
     })
@@ -127,28 +133,58 @@ fn cut(
 // To a receipt whose sending is not drawn, or to noise.
 fn from_outside(alloc: Global, row: &Row, columns: Columns, y: usize) -> Result<Arrow, AllocError> {
     let side = row.told.side;
-    let is_full = match row.told.what {
-        What::Came { said, kept, .. } => is_kept(said, kept),
-        What::Noise { .. } | What::Sent { .. } | What::User { .. } => false,
+    let head = match row.told.what {
+        What::Came { said, became, .. } => head_of(said, became),
+        _ => Head::Hollow,
     };
     Ok(Arrow {
         start: (columns.inside(side, CUT), y.saturating_sub(SLOPE)),
         stop: (columns.inside(side, GAP), y),
         kind: kind_of(row, None),
-        end: match is_full {
-            true => " outside",
-            false => " outside hollow",
+        end: match head {
+            Head::Full => " outside",
+            Head::Hollow => " outside hollow",
+            Head::Dropped => " outside dropped",
         },
         title: outside_title(alloc, row)?,
     })
 }
 
-// Of data that came: that they were kept. All else has a full head.
-fn is_kept(said: Said, kept: bool) -> bool {
-    match said {
-        Said::Data { .. } => kept,
-        Said::HeaderBad | Said::DataBad | Said::NoMessage => false,
-        Said::Ack { .. } | Said::Nak { .. } | Said::Rep { .. } | Said::Strt | Said::Stack => true,
+// A short one of a packet that is never sent.
+fn never_sent(
+    alloc: Global,
+    row: &Row,
+    columns: Columns,
+    y: usize,
+    content: Packet,
+) -> Result<Arrow, AllocError> {
+    let side = row.told.side;
+    let line = row.told.line;
+    let words = packet_words(alloc, content, Detail::Full)?;
+    Ok(Arrow {
+        start: (columns.inside(side, GAP), y),
+        stop: (columns.inside(side, STUB), y),
+        kind: kind_of(row, None),
+        end: " unsent",
+        title: format!(in alloc; "{side} line {line}\n{words} never sent")?,
+    })
+}
+
+// The head of an arrow.
+#[derive(Clone, Copy)]
+enum Head {
+    Full,
+    Hollow,
+    Dropped,
+}
+
+// That of what came: of data by what became of them; all else has a full one.
+fn head_of(said: Said, became: Became) -> Head {
+    match (said, became) {
+        (_, Became::Dropped) => Head::Dropped,
+        (Said::Data { .. }, Became::NotKept) => Head::Hollow,
+        (Said::HeaderBad | Said::DataBad | Said::NoMessage, _) => Head::Hollow,
+        _ => Head::Full,
     }
 }
 
@@ -165,6 +201,7 @@ pub fn kind_of(row: &Row, came: Option<Arrival>) -> &'static str {
         What::Came { .. } if row.changed => "bad",
         What::Came { said, .. } => said_kind(said),
         What::Noise { .. } => "bad",
+        What::Composed { .. } => "data",
         What::User { .. } => "note",
     }
 }

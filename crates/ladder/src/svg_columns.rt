@@ -1,4 +1,4 @@
-//! The columns of words at both edges of a picture, between which its arrows stand alone.
+//! The columns of words at both edges of a picture, with nothing but its arrows between them.
 
 use crate::svg_parts::{MARGIN, WIDTH};
 use wire_base::Side;

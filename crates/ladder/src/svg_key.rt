@@ -1,11 +1,17 @@
 //! The key of a picture: what its colours and signs mean.
 
+use crate::drawn::Drawn;
+use crate::row::{Fate, Row};
 use crate::svg_parts::{At, with_dot, with_line, with_rect, with_text};
+use crate::told::What;
 use crate::xml::Content;
+use capture::Fate as Became;
 use std::alloc::{AllocError, Global};
 
-/// How high the key is.
-pub const KEY_HEIGHT: usize = 57;
+// How high the key is, and how much higher with the signs of what is lost above or never sent.
+const HEIGHT: usize = 57;
+
+const MORE: usize = 20;
 
 // How far a form is from its words.
 const APART: usize = 7;
@@ -14,6 +20,8 @@ const APART: usize = 7;
 const COLOURS: usize = 19;
 
 const SIGNS: usize = 39;
+
+const MORE_SIGNS: usize = 59;
 
 const WORDS: usize = 4;
 
@@ -167,14 +175,81 @@ static SIGN_KEYS: [Key; 8] = [
     },
 ];
 
+// Those that are in the key only where one of them is drawn.
+static MORE_KEYS: [Key; 2] = [
+    Key {
+        form: Form::Line,
+        class: "sign dropped",
+        x: 16,
+        width: 24,
+        words: "arrives, kept, lost above DDCMP",
+    },
+    Key {
+        form: Form::Line,
+        class: "sign unsent",
+        x: 246,
+        width: 24,
+        words: "packet that is never sent",
+    },
+];
+
+/// How high the key of these rows is.
+pub fn key_height(drawn: &Drawn) -> usize {
+    match has_more(drawn) {
+        true => HEIGHT + MORE,
+        false => HEIGHT,
+    }
+}
+
+// Whether a packet is lost above in these rows, or never sent.
+fn has_more(drawn: &Drawn) -> bool {
+    for index in 0..drawn.len() {
+        if let Some(row) = drawn.row(index)
+            && is_more(row)
+        {
+            return true;
+        }
+    }
+    false
+}
+
+fn is_more(row: &Row) -> bool {
+    if let Fate::Here(receipt) = row.fate {
+        return is_dropped(receipt.became);
+    }
+    match row.told.what {
+        What::Came { became, .. } => is_dropped(became),
+        What::Composed { .. } => true,
+        What::Sent { .. } | What::Noise { .. } | What::User { .. } => false,
+    }
+}
+
+fn is_dropped(became: Became) -> bool {
+    match became {
+        Became::Dropped => true,
+        Became::Kept | Became::NotKept => false,
+    }
+}
+
 /// The key, below this height.
-pub fn with_key(svg: Content, alloc: Global, y: usize) -> Result<Content, AllocError> {
+pub fn with_key(
+    svg: Content,
+    alloc: Global,
+    drawn: &Drawn,
+    y: usize,
+) -> Result<Content, AllocError> {
     let mut svg = svg;
     for key in &COLOUR_KEYS {
         svg = with_meaning(svg, alloc, key, y.saturating_add(COLOURS))?;
     }
     for key in &SIGN_KEYS {
         svg = with_meaning(svg, alloc, key, y.saturating_add(SIGNS))?;
+    }
+    if !has_more(drawn) {
+        return Ok(svg);
+    }
+    for key in &MORE_KEYS {
+        svg = with_meaning(svg, alloc, key, y.saturating_add(MORE_SIGNS))?;
     }
     Ok(svg)
 }

@@ -10,7 +10,7 @@ use crate::svg_columns::{Columns, label_room};
 use crate::svg_marks::new_state;
 use crate::svg_parts::{MARGIN, WIDTH, with_text, y_of};
 use crate::svg_places::Places;
-use crate::svg_words::{Detail, outside_words, sent_words};
+use crate::svg_words::{Detail, outside_words, packet_words, sent_words};
 use crate::text::fitted;
 use crate::told::What;
 use crate::xml::Content;
@@ -117,7 +117,7 @@ fn own_words(
     fitted(alloc, noted.as_str(), room)
 }
 
-// What is sent, or received from where nothing is drawn.
+// What is sent, or never sent, or received from where nothing is drawn.
 fn unit_words(
     alloc: Global,
     drawn: &Drawn,
@@ -141,6 +141,7 @@ fn unit_words(
             true => outside_words(alloc, row, detail),
             false => Ok(String::new(alloc)),
         },
+        What::Composed { content } => packet_words(alloc, content, detail),
         What::User { .. } => Ok(String::new(alloc)),
     }
 }
@@ -156,6 +157,7 @@ fn label_kind(drawn: &Drawn, places: &Places, index: usize, row: &Row) -> &'stat
             true => kind_of(row, None),
             false => "note",
         },
+        What::Composed { .. } => kind_of(row, None),
         What::User { .. } => "note",
     }
 }

@@ -27,7 +27,7 @@ const ALLOWED: usize = 36;
 // How many letters a line of its words may have.
 const LETTERS: usize = 124;
 
-// A record of a side that was made: how far below the first one it stands, and the state of its station behind it.
+// A record of a side that was made: how far below the first one it is, and the state of its station after it.
 #[derive(Clone, Copy)]
 struct Mark {
     level: usize,
@@ -128,6 +128,7 @@ pub fn with_user(
     match row.told.what {
         What::User { .. } => with_dot(svg, alloc, "user", (columns.time_line(row.told.side), y)),
         What::Sent { .. } | What::Came { .. } | What::Noise { .. } => Ok(svg),
+        What::Composed { .. } => Ok(svg),
     }
 }
 

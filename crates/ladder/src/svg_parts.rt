@@ -7,7 +7,7 @@ use std::alloc::{AllocError, Global};
 /// How wide a picture is.
 pub const WIDTH: usize = 860;
 
-/// Where the first record is drawn, and how far the next one stands below.
+/// Where the first record is drawn, and how far below it the next one is.
 pub const TOP: usize = 70;
 
 pub const STEP: usize = 19;

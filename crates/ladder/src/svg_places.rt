@@ -1,4 +1,4 @@
-//! Where the records of a picture stand.
+//! Where the records of a picture are.
 
 use crate::drawn::Drawn;
 use crate::row::{Fate, Row};
@@ -13,14 +13,14 @@ const LINES: usize = 9;
 
 const CHECK: usize = 44;
 
-/// Where the records of one row stand, in steps below the first record: the record, and the receipt in its row, if there is one.
+/// Where the records of one row are, in steps below the first record: the record, and the receipt in its row, if there is one.
 #[derive(Clone, Copy)]
 pub struct Place {
     pub told: usize,
     pub receipt: usize,
 }
 
-/// Where the records of all rows stand, and how many steps there are.
+/// Where the records of all rows are, and how many steps there are.
 #[derive(Drop)]
 pub struct Places {
     rows: Vec<Place>,
@@ -30,7 +30,7 @@ pub struct Places {
 }
 
 impl Places {
-    /// Where the row with this number stands.
+    /// Where the row with this number is.
     pub fn of(&self, index: usize) -> Place {
         match self.rows.get(index) {
             Some(place) => *place,
@@ -59,7 +59,7 @@ impl Places {
         }
     }
 
-    // A side's next record stands here or below, and its next one below that.
+    // A side's next record goes here or below, and the one after it below that.
     fn put(&mut self, side: Side, least: usize) -> usize {
         let level = self.next(side).max(least);
         match side {
@@ -76,7 +76,7 @@ impl Places {
         }
     }
 
-    // Where a record of the row may stand at best: below the sending of what came by it; a refused one below all.
+    // Where a record of the row may be at best: below the sending of what came by it; a refused one below all.
     fn least(&self, drawn: &Drawn, row: &Row) -> usize {
         if row.refused {
             return self.next_a.max(self.next_b);
@@ -104,7 +104,7 @@ impl Places {
     }
 }
 
-/// Where the records of these rows stand: below the one before on their side, and below the sending of what came.
+/// Where the records of these rows are: below the one before on their side, and below the sending of what came.
 pub fn places_of(alloc: Global, drawn: &Drawn) -> Result<Places, AllocError> {
     let mut places = Places {
         rows: Vec::new(alloc),

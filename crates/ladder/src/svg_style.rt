@@ -6,7 +6,7 @@ use crate::xml_names::{Attribute, Tag};
 use std::alloc::{AllocError, Global};
 
 // Light, and dark where the reader's screen asks for that. What the colours tell is in words and strokes too: what came damaged is dashed, what has
-// an end that is not drawn is dotted, and what was not kept has a hollow head.
+// an end that is not drawn is dotted, what was not kept has a hollow head, what was lost above a cross after its head, and what is never sent a bar.
 const STYLE: &str = "
 text { fill: #24292f; font: 11px 'DejaVu Sans Mono', monospace; white-space: pre; }
 text.title { font-size: 13px; font-weight: bold; }
@@ -28,6 +28,8 @@ line.open, line.outside { stroke-dasharray: 2 3; }
 line.hollow { marker-end: url(#hollow); }
 line.open { marker-end: none; }
 line.lost { marker-end: url(#cross); }
+line.dropped { marker-end: url(#dropped); }
+line.unsent { marker-end: url(#bar); }
 line.key { stroke-width: 3; marker-end: none; }
 line.sign { stroke: #57606a; }
 text.data { fill: #0969da; }
@@ -44,6 +46,7 @@ rect.RUNNING { fill: #9bd4a4; }
 circle, path.head { fill: #24292f; }
 path.hollow { fill: #ffffff; stroke: #24292f; }
 path.cross { fill: none; stroke: #cf222e; stroke-width: 2; }
+path.dropped, path.bar { fill: #24292f; stroke: #24292f; }
 @media (prefers-color-scheme: dark) {
 text { fill: #e6edf3; }
 text.verdict, text.seen, text.nak, text.bad { fill: #ff7b72; }
@@ -67,6 +70,7 @@ rect.RUNNING { fill: #2f7d3b; }
 circle, path.head { fill: #e6edf3; }
 path.hollow { fill: #0d1117; stroke: #e6edf3; }
 path.cross { stroke: #ff7b72; }
+path.dropped, path.bar { fill: #e6edf3; stroke: #e6edf3; }
 }
 ";
 
@@ -79,7 +83,7 @@ struct Head {
     lines: &'static str,
 }
 
-static HEADS: [Head; 3] = [
+static HEADS: [Head; 5] = [
     Head {
         name: "head",
         view: "0 0 8 6",
@@ -100,6 +104,20 @@ static HEADS: [Head; 3] = [
         point: ("5", "5"),
         size: ("10", "10"),
         lines: "M1 1 L9 9 M1 9 L9 1",
+    },
+    Head {
+        name: "dropped",
+        view: "0 0 14 6",
+        point: ("14", "3"),
+        size: ("14", "6"),
+        lines: "M0 0.5 L7 3 L0 5.5 Z M9 1 L13 5 M9 5 L13 1",
+    },
+    Head {
+        name: "bar",
+        view: "0 0 2 10",
+        point: ("1", "5"),
+        size: ("2", "10"),
+        lines: "M1 0 L1 10",
     },
 ];
 

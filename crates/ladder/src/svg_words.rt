@@ -1,7 +1,7 @@
 //! The words of units in a picture, and the titles of its arrows.
 
 use crate::row::Row;
-use crate::said::Said;
+use crate::said::{Content, Said};
 use crate::svg_arrivals::Arrival;
 use crate::told::{Sending, What};
 use std::alloc::{AllocError, Global};
@@ -43,6 +43,14 @@ pub fn sent_words(
     }
 }
 
+/// The words of a packet that is never sent: `packet CI 1`.
+pub fn packet_words(alloc: Global, content: Content, detail: Detail) -> Result<String, AllocError> {
+    match detail {
+        Detail::Brief => String::from_str(alloc, "packet"),
+        Detail::Full => format!(in alloc; "packet{content}"),
+    }
+}
+
 /// The title of an arrow to a receipt whose sending is not drawn, or to noise.
 pub fn outside_title(alloc: Global, row: &Row) -> Result<String, AllocError> {
     let side = row.told.side;
@@ -69,7 +77,7 @@ pub fn outside_title(alloc: Global, row: &Row) -> Result<String, AllocError> {
             format!(in alloc; "{from} unit {hint} to {side} line {line}\n{mark}{said}")
         }
         What::Noise { said } => format!(in alloc; "{side} line {line}\nnoise ~ {said}"),
-        What::Sent { .. } | What::User { .. } => Ok(String::new(alloc)),
+        What::Sent { .. } | What::Composed { .. } | What::User { .. } => Ok(String::new(alloc)),
     }
 }
 
@@ -100,11 +108,11 @@ pub fn outside_words(alloc: Global, row: &Row, detail: Detail) -> Result<String,
             format!(in alloc; "{mark}{came} of {from} unit {hint}")
         }
         What::Noise { said } => format!(in alloc; "noise ~ {said}"),
-        What::Sent { .. } | What::User { .. } => Ok(String::new(alloc)),
+        What::Sent { .. } | What::Composed { .. } | What::User { .. } => Ok(String::new(alloc)),
     }
 }
 
-// What stands before bytes that are not those that were sent, where the sending is not known.
+// What comes before bytes that are not those that were sent, where the sending is not known.
 fn change_mark(row: &Row) -> &'static str {
     if row.changed { "~ " } else { "" }
 }

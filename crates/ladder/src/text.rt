@@ -4,6 +4,7 @@ use crate::cell::{Cell, End};
 use crate::note::Note;
 use crate::row::Row;
 use crate::row_words::{Received, WORDS, came_words, sent_words};
+use crate::said::Content;
 use crate::told::What;
 use std::alloc::{AllocError, Global};
 use wire_base::Side;
@@ -19,13 +20,13 @@ const BLANK: &str = "                                  ";
 
 impl Row {
     /// The text of the row, with no line feed: `LINE note |34 columns| note LINE`, a on the left and b on the right, in 80 columns, and
-    /// `  <== refused` behind it where the record was refused. With `ended`, no record was left to be told, so that a unit which has not
+    /// `  <== refused` after it where the record was refused. With `ended`, no record was left to be told, so that a unit which has not
     /// come never comes. `AllocError` where there is no memory for it. No clause tells the words; the lines and notes are those of
     /// [`Row::cell`], and the arrow ends as [`Row::end`] says.
     ///
-    /// In the middle stands what was sent, as `DATA 2/1`, with `again` before it where it was sent before, and `~` before what came in its
-    /// place; then `>` or `<` where it comes in this row, `.` where in another one, and `x` where it never comes. Words for which there is no room
-    /// are cut, and end in `..`:
+    /// In the middle is what was sent, as `DATA 2/1`, with `again` before it where it was sent before, and `~` before what came in its
+    /// place; then `>` or `<` where it comes in this row, `.` where in another one, and `x` where it never comes. A packet that is never sent has
+    /// a short one, as `- packet CI 1 -|`. Words for which there is no room are cut, and end in `..`:
     ///
     /// `    21           kept |<-------- again DATA 2/1 ---------|                21`
     pub fn text(&self, alloc: Global, ended: bool) -> Result<String, AllocError> {
@@ -42,6 +43,7 @@ impl Row {
     fn middle(&self, alloc: Global, ended: bool) -> Result<String, AllocError> {
         match self.told.what {
             What::User { .. } => String::from_str(alloc, BLANK),
+            What::Composed { content } => never_sent(alloc, self.told.side, content),
             What::Sent { said, again, .. } => {
                 let words = sent_words(alloc, said, again, self.fate)?;
                 sending(alloc, self.told.side, words.as_str(), self.end(ended))
@@ -93,6 +95,22 @@ fn receipt(alloc: Global, receiver: Side, words: &str) -> Result<String, AllocEr
     match receiver {
         Side::A => format!(in alloc; "<{body:.^33}"),
         Side::B => format!(in alloc; "{body:.^33}>"),
+    }
+}
+
+// What a packet that is never sent has for an arrow.
+fn never_sent(alloc: Global, side: Side, content: Content) -> Result<String, AllocError> {
+    let words = format!(in alloc; "packet{content}")?;
+    let body = spaced(alloc, words.as_str())?;
+    match side {
+        Side::A => {
+            let arrow = format!(in alloc; "-{body}-|")?;
+            format!(in alloc; "{arrow:<34}")
+        }
+        Side::B => {
+            let arrow = format!(in alloc; "|-{body}-")?;
+            format!(in alloc; "{arrow:>34}")
+        }
     }
 }
 

@@ -1,7 +1,7 @@
 //! A record, as a row tells it.
 
-use crate::said::Said;
-use capture::Entry;
+use crate::said::{Content, Said};
+use capture::{Entry, Fate as Became};
 use dna_station::State;
 use wire_base::Side;
 
@@ -10,11 +10,11 @@ use wire_base::Side;
 pub struct Told {
     /// Whose record it is.
     pub side: Side,
-    /// In which line of that side's capture it stands: record i stands in line i + 2.
+    /// Which line of that side's capture it is on: record i is on line i + 2.
     pub line: u64,
     /// What happened.
     pub what: What,
-    /// The state of the side's station behind it, as the records tell it.
+    /// The state of the side's station after it, as the records tell it.
     pub state: State,
 }
 
@@ -34,8 +34,8 @@ pub enum What {
     Came {
         /// The number of the unit, by the record's hint.
         hint: u64,
-        /// Whether its packet was kept.
-        kept: bool,
+        /// What became of its packet.
+        became: Became,
         /// What the bytes say that came.
         said: Said,
         /// How that unit was sent; `None` where no unit of that number may come any more, or yet.
@@ -45,7 +45,12 @@ pub enum What {
     Noise {
         said: Said,
     },
-    /// The user did something, or got something, with a message of as many bytes.
+    /// A packet was composed that is never sent.
+    Composed {
+        /// What is in it.
+        content: Content,
+    },
+    /// Something else happened apart from the line, with a message of as many bytes.
     User {
         entry: Entry,
         bytes: usize,
@@ -55,7 +60,7 @@ pub enum What {
 /// A unit that was sent.
 #[derive(Clone, Copy)]
 pub struct Sending {
-    /// In which line of its sender's capture it stands.
+    /// Which line of its sender's capture it is on.
     pub line: u64,
     /// What it says.
     pub said: Said,

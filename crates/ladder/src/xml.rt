@@ -29,7 +29,7 @@ impl Reference {
     }
 }
 
-/// Words that stand in an element or in an attribute: line feeds and printable ASCII, with `<`, `>`, `&` and `'` as references.
+/// Words in an element or in an attribute: line feeds and printable ASCII, with `<`, `>`, `&` and `'` as references.
 #[derive(Drop)]
 pub struct Words {
     text: Vec<u8>,
@@ -55,7 +55,7 @@ impl Words {
         }
     }
 
-    /// These, and a text behind them, with `?` in the place of a character that is neither a line feed nor printable ASCII. `AllocError` where
+    /// These, and a text after them, with `?` in the place of a character that is neither a line feed nor printable ASCII. `AllocError` where
     /// there is no memory for it, as of each below.
     pub fn with(self, text: &str) -> Result<Words, AllocError> {
         let mut words = self;
@@ -139,7 +139,7 @@ impl Attributes {
         }
     }
 
-    /// These, and this one with a value behind them. It is left out where it, or one behind it in the order of [`Attribute`], stands there already.
+    /// These, and this one with a value after them. It is left out where it, or one after it in the order of [`Attribute`], is there already.
     #[tactic(auto, using(crate::proofs::XmlTexts::attribute_more))]
     pub fn with(self, name: Attribute, value: &str) -> Result<Attributes, AllocError> {
         let Attributes {
@@ -184,7 +184,7 @@ impl Attributes {
     }
 }
 
-// An attribute stands behind the others.
+// An attribute goes after the others.
 fn put_attribute(text: &mut Vec<u8>, name: Attribute, words: &Words) -> Result<(), AllocError>
     ensures { OnOk result (text.new.items ≡ text.old.items ++ spec.attribute_text name words.now) }
 {
@@ -196,7 +196,7 @@ fn put_attribute(text: &mut Vec<u8>, name: Attribute, words: &Words) -> Result<(
     Ok(())
 }
 
-/// What stands in an element: elements and words, one behind the other.
+/// What is in an element: elements and words, one after the other.
 #[derive(Drop)]
 pub struct Content {
     alloc: Global,
@@ -224,7 +224,7 @@ impl Content {
         }
     }
 
-    /// This, and words behind it, as [`Words::with`] writes them.
+    /// This, and words after it, as [`Words::with`] writes them.
     #[tactic(auto, using(crate::proofs::XmlTexts::words_more))]
     pub fn with_words(self, text: &str) -> Result<Content, AllocError> {
         let Content {
@@ -236,7 +236,7 @@ impl Content {
         Ok(Content { alloc, text: all })
     }
 
-    /// This, and an element of that content behind it.
+    /// This, and an element of that content after it.
     #[tactic(auto, using(crate::proofs::XmlTexts::element_more))]
     pub fn with(
         self,
@@ -249,7 +249,7 @@ impl Content {
         Ok(Content { alloc, text })
     }
 
-    /// This, and an element without content behind it.
+    /// This, and an element without content after it.
     #[tactic(auto, using(crate::proofs::XmlTexts::empty_more))]
     pub fn with_empty(self, name: Tag, attributes: Attributes) -> Result<Content, AllocError> {
         let Content { alloc, mut text } = self;
@@ -269,7 +269,7 @@ impl Content {
     }
 }
 
-// An element stands behind what stood there.
+// An element goes after what was there.
 fn put_element(
     text: &mut Vec<u8>,
     name: Tag,

@@ -40,7 +40,7 @@ impl Tag {
     }
 }
 
-/// An attribute of SVG. Those of an element stand in this order.
+/// An attribute of SVG. Those of an element come in this order.
 #[derive(Clone, Copy)]
 pub enum Attribute {
     Xmlns,

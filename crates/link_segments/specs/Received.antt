@@ -24,7 +24,7 @@ piece_at place pieces = option_flatten (slice_get pieces place)
 abbrev pub is_missing_at : ℕ → List (Option Piece) → Bool
 is_missing_at place pieces = not (is_some (piece_at place pieces))
 
--- what stands behind these bytes at the front, if they are there
+-- what follows these bytes at the front, if they are there
 abbrev pub without_front : List ℕ → List ℕ → Option (List ℕ)
 without_front front bytes = if bytes_eq front (take (length front) bytes) then Some (drop (length front) bytes) else None
 

@@ -75,7 +75,7 @@ impl<T: Drop, W: Window<T, 4096> + Drop> Outstanding<T, W> {
         Seq::of(u64::from(self.acknowledged().value()) + self.len() as u64)
     }
 
-    /// The segment at a place, counted from the one behind the highest acknowledged.
+    /// The segment at a place, counted from the one after the highest acknowledged.
     pub fn segment(&self, place: usize) -> Option<&T>
         ensures { option_copied result ≡ slice_get self.now.items place }
     {

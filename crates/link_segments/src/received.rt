@@ -191,7 +191,7 @@ fn drop_front(pieces: &mut VecDeque<Option<Piece>>, count: usize)
     }
 }
 
-// What stands behind these bytes at the front, if they are there.
+// What follows these bytes at the front, if they are there.
 fn without_front<'a>(front: &[u8], bytes: &'a [u8]) -> Option<&'a [u8]>
     ensures { option_copied result ≡ received.without_front front.now bytes.now }
 {
@@ -215,7 +215,7 @@ fn piece_at(pieces: &VecDeque<Option<Piece>>, place: usize) -> Option<&Piece>
     }
 }
 
-// Puts so many missing pieces and this one behind the others. Where memory is refused, nothing changes.
+// Puts so many missing pieces and this one after the others. Where memory is refused, nothing changes.
 #[tactic(auto, using(crate::proofs::Arrived::arrived))]
 fn append(
     pieces: &mut VecDeque<Option<Piece>>,

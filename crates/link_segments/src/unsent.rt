@@ -18,7 +18,7 @@ use wire_base::Copied;
 /// The most data bytes of a piece that is composed here.
 const SEGSIZE: usize = 512;
 
-/// What was handed in and is in no segment yet. A contract sees the rest of the current message and the messages behind it, and
+/// What was handed in and is in no segment yet. A contract sees the rest of the current message and the messages after it, and
 /// whether a segment has begun the current one.
 #[derive(Drop)]
 pub struct Unsent {
@@ -66,7 +66,7 @@ impl Unsent {
     }
 
     /// Whether a segment carries the next bytes of the current message: it begins it exactly if nothing has begun it, ends it exactly
-    /// if nothing is left behind, and is empty only for an empty message.
+    /// if nothing is left after it, and is empty only for an empty message.
     #[inline(always)]
     pub fn is_next(&self, segment: &Segment) -> bool
         ensures { result ≡ is_next_piece (piece_of (segment_view segment.now)) self.now }

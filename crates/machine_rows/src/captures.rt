@@ -1,8 +1,8 @@
 //! A capture that is read record by record, each with bytes of its own, and written again.
 
 use capture::{
-    CaptureReader, MAX_MARK, Record, WriteFault, is_node, write_head, write_head_2, write_record,
-    write_record_2,
+    CaptureReader, Format, MAX_MARK, Record, WriteFault, is_node, write_head, write_head_2,
+    write_head_3, write_record, write_record_2, write_record_3,
 };
 use std::alloc::Global;
 use std::io::{Read, Write};
@@ -36,13 +36,14 @@ fn copy_head<W: Write>(
     if !is_node(own) || !is_node(peer) {
         return Ok(());
     }
-    if format == 1 {
-        return write_head(alloc, own, peer, writer);
+    match format {
+        1 => write_head(alloc, own, peer, writer),
+        2 => write_head_2(alloc, own, peer, writer),
+        _ => write_head_3(alloc, own, peer, writer),
     }
-    write_head_2(alloc, own, peer, writer)
 }
 
-// The mark behind the record.
+// The mark after the record.
 fn copy_record<W: Write>(
     alloc: Global,
     format: u8,
@@ -53,9 +54,11 @@ fn copy_record<W: Write>(
     if !record.in_range() || mark > MAX_MARK {
         return Ok(mark);
     }
-    if format != 1 {
-        return write_record_2(alloc, mark, record, writer);
+    match format {
+        1 if record.is_in(Format::One) => write_record(alloc, record, writer)?,
+        2 if record.is_in(Format::Two) => return write_record_2(alloc, mark, record, writer),
+        3 => write_record_3(alloc, record, writer)?,
+        _ => {}
     }
-    write_record(alloc, record, writer)?;
     Ok(mark)
 }

@@ -9,9 +9,9 @@ use Rattle.dna_links.specs.declared.queue.Queues.{Queues}
 use Rattle.dna_links.specs.declared.port.LinkTest.TheVariants.{HasAddress, LiveAt, CalledBy}
 use Rattle.dna_links.specs.LinkBook.{on_ok}
 use Rattle.dna_links.specs.Links.{LinkOf, with_link}
-use Rattle.dna_links.specs.LookUps.{is_connected, takes_messages}
+use Rattle.dna_links.specs.LookUps.{is_calling, is_connected, takes_messages}
 use Rattle.dna_links.specs.Segmentation.{Whole, next_message}
-use Rattle.dna_links.specs.User.{LinkEventValue, Open, Accept, Reject, In, Up, Close}
+use Rattle.dna_links.specs.User.{LinkEventValue, Open, Accept, Reject, In, Up, Close, Abort, Boot}
 use Rattle.dna_links.specs.WireSegments.{WireSegments, delivers_whole, delivered_as}
 use Rattle.dna_links.specs.WireLinks.{WireLinks, wire_links_user}
 use Rattle.link_segments.specs.Received.{pieces_if, pieces_of, next_length}
@@ -19,7 +19,7 @@ use Rattle.nsp_link.specs.FailedSending.{named}
 use Rattle.nsp_link.specs.FailedEvent.{failed_address, failed_answer, failed_event, is_whole, refusal_of_event}
 use Rattle.nsp_link.specs.Missing.{refusal_in}
 use Rattle.nsp_link.specs.declared.failed.FailedLinkEvent.{FailedLinkEvent}
-use Rattle.nsp_link.specs.declared.failed.FailedLinkEvent.TheVariants.{TakesMessages, IsConnected, Delivery}
+use Rattle.nsp_link.specs.declared.failed.FailedLinkEvent.TheVariants.{TakesMessages, IsConnected, IsCalling, Delivery}
 use Rattle.nsp_link.proofs.FailedSending.{check_same, linked_same, used_same}
 
 by_bytes : (b : Bool) (n : ℕ) → is_some (pieces_if b n) ≡ b
@@ -68,3 +68,7 @@ event_same queues s (Up own message) = linked_same refused refusal_in (HasAddres
 event_same queues s (Close own) = used_same refused refusal_in s _ _ (λ number link.
     check_same refusal_of_event (is_connected (in_use queues link).phase) (IsConnected number (in_use queues link).phase) None _ refl)
     queues (LiveAt own) _ _ refl
+event_same queues s (Abort own) = used_same refused refusal_in s _ _ (λ number link.
+    check_same refusal_of_event (is_calling (in_use queues link).phase) (IsCalling number (in_use queues link).phase) None _ refl)
+    queues (LiveAt own) _ _ refl
+event_same queues s Boot = refl

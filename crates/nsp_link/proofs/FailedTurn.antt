@@ -9,12 +9,12 @@ use Rattle.dna_links.specs.Links.{LinkOf, at_number, on_link}
 use Rattle.dna_links.specs.Queues.{may_send}
 use Rattle.dna_links.specs.WireSegments.{WireSegments}
 use Rattle.dna_links.specs.WireLinks.{WireLinks}
-use Rattle.nsp_link.specs.FailedEvent.{failed_close, failed_handing_in}
+use Rattle.nsp_link.specs.FailedEvent.{failed_abort, failed_close, failed_handing_in}
 use Rattle.nsp_link.specs.FailedSending.{failed_in_turn, named, out_of_turn}
 use Rattle.nsp_link.specs.Missing.{missing}
 use Rattle.nsp_link.specs.declared.failed.FailedLinkSending.{FailedLinkSending}
 use Rattle.nsp_link.specs.declared.failed.FailedLinkSending.TheVariants.{NoLink}
-use Rattle.nsp_link.specs.inner.Failed.{fails_in_turn, fails_to_close, fails_to_hand_in}
+use Rattle.nsp_link.specs.inner.Failed.{fails_in_turn, fails_to_abort, fails_to_close, fails_to_hand_in}
 use Rattle.nsp_link.specs.inner.Rows.{found_in_use, number_in_use}
 use Rattle.nsp_link.proofs.InUse.{running_keeps, seen_waiting, unseen_waiting}
 use Rattle.nsp_link.proofs.Rows.{in_use_same}
@@ -65,6 +65,9 @@ close_same queues own s = in_use_same (LiveAt own) s _ _ queues
 pub hand_same : (queues : Queues) (own : ℕ) (s : WireLinks) → fails_to_hand_in queues own s ≡ failed_handing_in queues own s
 hand_same queues own s = in_use_same (LiveAt own) s _ _ queues
 
-pub ruleset event_in_use = (close_same, hand_same)
+pub abort_same : (queues : Queues) (own : ℕ) (s : WireLinks) → fails_to_abort queues own s ≡ failed_abort queues own s
+abort_same queues own s = in_use_same (LiveAt own) s _ _ queues
+
+pub ruleset event_in_use = (close_same, hand_same, abort_same)
 
 pub ruleset uses_found = (use_found, use_none)

@@ -24,7 +24,7 @@ use Rattle.dna_links.specs.Queues.{has_waiting, in_use, is_over, may_send, port_
 use Rattle.dna_links.specs.WireSegments.{WireSegments}
 use Rattle.dna_links.specs.WireLinks.{WireLinks}
 use Rattle.nsp_link.specs.inner.Index.{IsIndexed, AreUsed, candidate, counted, passes_at, passes_in, passing, used_by, uses}
-use Rattle.nsp_link.specs.inner.Indexing.{KeepsAt, UsesAt}
+use Rattle.nsp_link.specs.inner.Indexing.{CallsAt, KeepsAt, UsesAt}
 use Rattle.nsp_link.specs.inner.Queue.{keeps}
 use Rattle.nsp_link.specs.inner.Rows.{first_of, in_turn, is_of_own, number_in_use}
 use Rattle.nsp_link.proofs.Counting.{counted_some, counted_none}
@@ -321,7 +321,11 @@ pub running_keeps_at : (queues : Queues) (test : LinkTest) (s : WireLinks) (n : 
 running_keeps_at queues test s n k of e there turn =
     at_place (λ l. keeps l.port.phase l.queue) s n k there (running_keeps queues test s n k of e there turn)
 
-pub ruleset found_in_use = (connected_keeps_at, connected_used_at, messages_keep_at, running_keeps_at)
+pub calls_at : (queues : Queues) (s : WireLinks) (n : ℕ) (k : LinkOf WireSegments) → slice_get s.links n ≡ Some k →
+    is_calling (in_use queues k).phase ≡ true → CallsAt queues n s
+calls_at queues s n k there e = at_place (λ l. is_calling (in_use queues l).phase) s n k there e
+
+pub ruleset found_in_use = (connected_keeps_at, connected_used_at, messages_keep_at, running_keeps_at, calls_at)
 
 -- what is sent in its turn
 pub turn_found : (queues : Queues) (test : LinkTest) (phase : Phase)

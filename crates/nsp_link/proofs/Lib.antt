@@ -28,3 +28,5 @@ mod Used
 mod Settled
 mod InUse
 mod Rows
+mod Booted
+mod Dead

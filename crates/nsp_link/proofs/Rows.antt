@@ -14,7 +14,7 @@ use Rattle.dna_links.specs.Links.{LinkOf, number_of, at_number, on_link}
 use Rattle.dna_links.specs.Queues.{in_use, with_in_use}
 use Rattle.dna_links.specs.Sending.{message_sent}
 use Rattle.dna_links.specs.Arriving.{PartnerRule, message_arrived}
-use Rattle.dna_links.specs.User.{LinkEventValue, Open, Accept, Reject, In, Up, Close}
+use Rattle.dna_links.specs.User.{LinkEventValue, Open, Accept, Reject, In, Up, Close, Abort, Boot}
 use Rattle.dna_links.specs.WireSegments.{WireSegments, is_new, wire_segments}
 use Rattle.dna_links.specs.WireLinks.{WireLinks, wire_links_user}
 use Rattle.nsp_link.specs.inner.Rows.{acts, first_of, found_in_use, sends, takes, takes_memory}
@@ -50,12 +50,16 @@ acts_same Without s (Reject far own) = refl
 acts_same Without s (In own message) = refl
 acts_same Without s (Up own message) = refl
 acts_same Without s (Close own) = refl
+acts_same Without s (Abort own) = refl
+acts_same Without s Boot = refl
 acts_same With s (Open own) = refl
 acts_same With s (Accept far own) = refl
 acts_same With s (Reject far own) = refl
 acts_same With s (In own message) = in_use_same (LiveAt own) s (Err NoLink) _ With
 acts_same With s (Up own message) = refl
 acts_same With s (Close own) = in_use_same (LiveAt own) s (Err NoLink) _ With
+acts_same With s (Abort own) = in_use_same (LiveAt own) s (Err NoLink) _ With
+acts_same With s Boot = refl
 
 -- ---- what is sent
 

@@ -9,9 +9,9 @@ use Rattle.dna_links.specs.declared.port.LinkTest.TheVariants.{HasAddress, LiveA
 use Rattle.dna_links.specs.declared.queue.Queues.{Queues}
 use Rattle.dna_links.specs.Links.{LinkOf, with_link}
 use Rattle.dna_links.specs.Queues.{in_use, with_in_use}
-use Rattle.dna_links.specs.LookUps.{is_connected, takes_messages}
+use Rattle.dna_links.specs.LookUps.{is_calling, is_connected, takes_messages}
 use Rattle.dna_links.specs.Segmentation.{Piece, Whole, next_message}
-use Rattle.dna_links.specs.User.{LinkEventValue, Open, Accept, Reject, In, Up, Close}
+use Rattle.dna_links.specs.User.{LinkEventValue, Open, Accept, Reject, In, Up, Close, Abort, Boot}
 use Rattle.dna_links.specs.WireSegments.{WireSegments}
 use Rattle.dna_links.specs.WireLinks.{WireLinks}
 use Rattle.link_segments.specs.Received.{next_length}
@@ -58,6 +58,10 @@ module _ (queues : Queues) where
   failed_close own s = on_link_in_use own s (λ number link.
       named (is_connected (in_use queues link).phase) (failed.IsConnected number (in_use queues link).phase) None)
 
+  abbrev pub failed_abort : (own : ℕ) → WireLinks → Option FailedLinkEvent
+  failed_abort own s = on_link_in_use own s (λ number link.
+      named (is_calling (in_use queues link).phase) (failed.IsCalling number (in_use queues link).phase) None)
+
   -- a row for each event
   abbrev pub failed_event : WireLinks → LinkEventValue → Option FailedLinkEvent
   failed_event s (Open own) = failed_address own s
@@ -66,6 +70,8 @@ module _ (queues : Queues) where
   failed_event s (In own message) = failed_handing_in own s
   failed_event s (Up own message) = failed_delivering own message s
   failed_event s (Close own) = failed_close own s
+  failed_event s (Abort own) = failed_abort own s
+  failed_event s Boot = None
 
 -- the refusal of each
 abbrev pub refusal_of_event : FailedLinkEvent → LinkRefusal
@@ -73,4 +79,5 @@ refusal_of_event (failed.NoLink link) = NoLink
 refusal_of_event (failed.AddressInUse own link) = AddressInUse
 refusal_of_event (failed.TakesMessages link seen) = LinkState
 refusal_of_event (failed.IsConnected link seen) = LinkState
+refusal_of_event (failed.IsCalling link seen) = LinkState
 refusal_of_event (failed.Delivery link seen allowed) = WrongDelivery

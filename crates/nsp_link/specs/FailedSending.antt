@@ -28,7 +28,7 @@ use Rattle.nsp_link.specs.declared.failed.Nodes.{Nodes}
 use Rattle.nsp_link.specs.declared.failed.Numbers.{Numbers}
 use Rattle.nsp_link.specs.declared.failed.PieceShape.{PieceShape}
 
--- a check that is not passed is named; behind one that is passed come the next ones
+-- a check that is not passed is named; after one that is passed come the next ones
 abbrev pub named : {F : Type 0} → Bool → F → Option F → Option F
 named true failed next = next
 named false failed next = Some failed
@@ -63,7 +63,7 @@ word_numbers again received sent = record {
   again = if again then from_below sent.last (words_back sent) else None;
 }
 
--- the word behind which there is no last one fails; else the later ones may
+-- the word after which there is no last one fails; else the later ones may
 abbrev pub failed_behind : Option LastSent → FailedLinkSending → (LastSent → Option FailedLinkSending) → Option FailedLinkSending
 failed_behind None word later = Some word
 failed_behind (Some sent) word later = later sent

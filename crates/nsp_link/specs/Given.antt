@@ -19,7 +19,7 @@ given_at own far s = with_link (ActedOn own far) s None (λ number link. Some (g
 abbrev pub is_earlier : Given → ℕ → Bool
 is_earlier g number = nat_le (distance number g.acknowledged) REACH && (g.gave_many || nat_le (distance number g.acknowledged) g.acknowledged)
 
--- what is given behind an acknowledgement of this number: one of what is outstanding, or an earlier one
+-- what is given after an acknowledgement of this number: one of what is outstanding, or an earlier one
 abbrev pub behind : Given → ℕ → Option Given
 behind g number =
     if nat_le (distance g.acknowledged number) g.outstanding

@@ -1,4 +1,4 @@
--- What a contract sees of the types of this crate; the rules stand in `dna_links`
+-- What a contract sees of the types of this crate; the rules are in `dna_links`
 pub mod Due
 pub mod FailedArrival
 pub mod FailedEvent

@@ -110,6 +110,11 @@ pub enum FailedLinkEvent {
         link: u64,
         seen: Phase,
     },
+    /// A call is given up at a link in this phase (reason 19). Allowed: Calling.
+    IsCalling {
+        link: u64,
+        seen: Phase,
+    },
     /// The message of so many bytes is not the next whole one that came at the link (reason 24). Allowed: the next whole one, of which at
     /// most `usize::MAX` bytes are counted; `None` where none is whole yet.
     Delivery {
@@ -140,7 +145,7 @@ pub struct MissingLink {
 }
 
 /// Which numbers are allowed: those from `lowest` through `highest`, and again, where that is not `None`, those from it up to `lowest`. All
-/// go around behind 4,095.
+/// wrap after 4,095.
 #[derive(Clone, Copy, Debug, PartialEq, Eq)]
 pub struct Numbers {
     pub lowest: u16,

@@ -42,7 +42,7 @@ impl Given {
         true
     }
 
-    // What is given behind an acknowledgement of this number, if one may come.
+    // What is given after an acknowledgement of this number, if one may come.
     fn behind(self, number: u16) -> Option<Given>
         requires number { number < 4096 }
         requires acknowledged { self.acknowledged < 4096 }

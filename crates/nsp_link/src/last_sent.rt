@@ -49,7 +49,7 @@ impl LastSent {
         self.last.value()
     }
 
-    /// The last one behind these words, where each may be sent: it names a number from the last one sent through the highest received,
+    /// The last one after these words, where each may be sent: it names a number from the last one sent through the highest received,
     /// or, in a segment that is sent again, an earlier one, which it leaves as it is. Words of the other subchannel are not judged.
     #[tactic(auto, using(crate::proofs::Words::words))]
     pub fn behind_all(self, again: bool, received: Seq<4096>, words: &[AckWord]) -> Option<LastSent>
@@ -68,7 +68,7 @@ impl LastSent {
         Some(sent)
     }
 
-    // The last one behind a word with this number, where it may be sent.
+    // The last one after a word with this number, where it may be sent.
     fn behind(self, again: bool, received: Seq<4096>, number: u16) -> Option<LastSent>
         requires { number < 4096 }
         ensures { result ≡ last_named again received number self }

@@ -31,7 +31,7 @@ use wire_base::Window;
 
 /// One end of a logical link (NSP 4.0, ports). What is done with it is chosen by `QUEUES`: whether its node has queues between NSP and DDCMP
 /// ([`crate::WITH_QUEUES`]) or has none. Its segments lie in memory of their own. That is given back when the link has nothing left to send and to
-/// deliver, and else when its own address is given to another link.
+/// deliver, and else when its own address is given to another link, or its node boots.
 #[derive(Drop)]
 pub struct Link<W: Window<Piece, 4096> + Drop> {
     port: Port,

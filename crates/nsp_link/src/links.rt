@@ -10,6 +10,7 @@ ghost use Rattle.nsp_link.specs.inner.Index as words;
 
 mod arriving;
 mod begin;
+mod boot;
 mod change;
 mod due;
 mod failing;
@@ -41,29 +42,34 @@ use wire_base::Window;
 ///   that is sent with SRCADDR 0 ends it.
 /// - `Close` leads from Confirming and RUN to DI.
 /// - A DI or a DC that comes ends a link in any phase but Called.
+/// - `Abort` ends a link in Calling: the call is given up.
+/// - `Boot` ends a link in any phase, and so all of them; an address is then no link's any more.
 ///
-/// Each verb is told its `QUEUES`, [`crate::WITHOUT_QUEUES`] or [`crate::WITH_QUEUES`]. With queues between NSP and DDCMP a message that came is acted on at once as
-/// well, but what had been composed before that may be sent later: a CI after the CC came, a CC after a message of RUN did, a message of RUN after
-/// `Close`, and any of them after a DI or a DC did, as long as its node sent no DC with the link's address and gave that address to no other link.
+/// Each verb is told its `QUEUES`, [`crate::WITHOUT_QUEUES`] or [`crate::WITH_QUEUES`]. With queues between NSP and DDCMP a message that came
+/// is acted on at once as well, but what had been composed before that may be sent later: a CI after the CC came, a CC after a message of RUN
+/// did, a message of RUN after `Close`, and any of them after a DI or a DC did, as long as its node sent no DC with the link's address, gave
+/// that address to no other link and did not boot, and the call was not given up.
 #[derive(Drop)]
 pub struct Links<W: Window<Piece, 4096> + Drop> {
     node: u16,
     peer: u16,
     // all that ever were, in the order in which they began
     links: Vec<Link<W>>,
+    // how many of them, from the first on, a boot has ended for good: the next one passes over these
+    booted: usize,
     index: Index,
     alloc: Global,
 }
 
 impl<W: Window<Piece, 4096> + Drop> Model for Links<W> {
     ghost use Rattle.dna_links.specs.WireLinks.{WireLinks};
-    ghost use Rattle.nsp_link.specs.inner.Indexing.{AreIndexed};
+    ghost use Rattle.nsp_link.specs.inner.Indexing.{AreKept};
 
     ghost Value = { WireLinks };
 
     ghost view = { λ l. record { node = l.node; peer = l.peer; links = l.links.items } };
 
-    ghost invariant = { λ l. AreIndexed l.links.items l.index };
+    ghost invariant = { λ l. AreKept l.links.items l.booted l.index };
 }
 
 impl<W: Window<Piece, 4096> + Drop> Links<W> {
@@ -75,6 +81,7 @@ impl<W: Window<Piece, 4096> + Drop> Links<W> {
             node: own,
             peer,
             links: Vec::new(alloc),
+            booted: 0,
             index: Index::new(alloc),
             alloc,
         }

@@ -1,5 +1,7 @@
 //! Courses of one link of a node with queues, with what its partner sends.
 
+mod boots;
+
 use crate::{LinkEvent, LinkFault, LinkRefusal, LinkTag, Links, Piece, WITH_QUEUES};
 use arrayvec::ArrayVec;
 use dna_packet::{

@@ -25,7 +25,7 @@ pub struct LinkNumbers {
     pub given: u16,
     /// The highest number that the partner acknowledged; while there is none, 0.
     pub acknowledged: u16,
-    /// How many segments are outstanding, 0 to 2,047: those from the one behind the highest acknowledged through the highest given.
+    /// How many segments are outstanding, 0 to 2,047: those from the one after the highest acknowledged through the highest given.
     pub outstanding: usize,
     /// The highest number received without a gap; while there is none, 0.
     pub received: u16,

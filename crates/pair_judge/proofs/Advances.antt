@@ -6,6 +6,7 @@ use Rattle.std.proofs.lemmas.List.{drop-append-le}
 use Rattle.two_nodes.specs.Nodes.{Outcome, Made, Waits, Refused, Answer, answered, concluded, stepped, stepped_sending, advance}
 use Rattle.two_nodes.specs.Nodes.Answer.{Goes, Sends, Refuses, Reads}
 use Rattle.two_nodes.specs.Nodes as any
+use Rattle.capture.specs.declared.fate.Fate.{Fate}
 use Rattle.capture.specs.declared.record.Record.{Record}
 use Rattle.capture.specs.declared.record.Record.TheVariants.{Sent, Received, Noise, User}
 use Rattle.capture.specs.declared.event.Event.{Event}
@@ -132,23 +133,23 @@ module _ (top : JudgeTop) where
   -- ---- a receipt
 
   -- a receipt of a unit that was sent
-  reads_unit : (mine theirs : JudgeHalf) (n : WireLayersNode) (hint : ℕ) (kept : Bool) (bytes : List ℕ) (unit : WireLayersUnit)
+  reads_unit : (mine theirs : JudgeHalf) (n : WireLayersNode) (hint : ℕ) (fate : Fate) (bytes : List ℕ) (unit : WireLayersUnit)
       (r : Result WireLayersNode StepRefusal) → mine.state ≡ n → slice_get theirs.sent hint ≡ Some unit →
-      judge_receives top n hint kept bytes unit ≡ r →
-      advance (judge_step top) mine theirs (Received hint kept bytes) ≡ concluded mine r
-  reads_unit mine theirs n hint kept bytes unit r state was_sent receives_is =
-      ap (any.read mine (judge_receives top mine.state hint kept bytes)) was_sent
-      ∙ ap (λ (s : WireLayersNode). concluded mine (judge_receives top s hint kept bytes unit)) state
+      judge_receives top n hint fate bytes unit ≡ r →
+      advance (judge_step top) mine theirs (Received hint fate bytes) ≡ concluded mine r
+  reads_unit mine theirs n hint fate bytes unit r state was_sent receives_is =
+      ap (any.read mine (judge_receives top mine.state hint fate bytes)) was_sent
+      ∙ ap (λ (s : WireLayersNode). concluded mine (judge_receives top s hint fate bytes unit)) state
       ∙ ap (concluded mine) receives_is
 
-  pub receipt_made : (old new : End) (before after : Line) (hint : ℕ) (kept : Bool) (bytes : List ℕ) (mine theirs : JudgeHalf) →
-      StandsFor old before mine → IsReceived top (layers_move old.layers new.layers before after) (came hint kept bytes) theirs.sent →
+  pub receipt_made : (old new : End) (before after : Line) (hint : ℕ) (fate : Fate) (bytes : List ℕ) (mine theirs : JudgeHalf) →
+      StandsFor old before mine → IsReceived top (layers_move old.layers new.layers before after) (came hint fate bytes) theirs.sent →
       new.line ≡ old.line →
-      new.head ≡ old.head → new.counts ≡ counted old.counts (Received hint kept bytes) → load new.layers.station ≤ load old.layers.station + 1 →
-      IsMade top (move old new before after) (Received hint kept bytes) mine theirs
-  receipt_made old new before after hint kept bytes mine theirs stands received line head counts loaded = record {
+      new.head ≡ old.head → new.counts ≡ counted old.counts (Received hint fate bytes) → load new.layers.station ≤ load old.layers.station + 1 →
+      IsMade top (move old new before after) (Received hint fate bytes) mine theirs
+  receipt_made old new before after hint fate bytes mine theirs stands received line head counts loaded = record {
     next = stepped mine (node_of old.head new.layers after);
-    step_is = reads_unit mine theirs (node_of old.head old.layers before) hint kept bytes received.unit (Ok (node_of old.head new.layers after))
+    step_is = reads_unit mine theirs (node_of old.head old.layers before) hint fate bytes received.unit (Ok (node_of old.head new.layers after))
         (state_is old before mine stands) received.was_sent (received.step old.head);
     stands = record { head = sym head; layers = refl; front = refl; sent = same_line old.line new.line mine.sent line stands.sent };
     incoming = received.shows;
@@ -158,14 +159,14 @@ module _ (top : JudgeTop) where
     load = loaded;
   }
 
-  pub receipt_refused : (old : End) (before : Line) (hint : ℕ) (kept : Bool) (bytes : List ℕ) (mine theirs : JudgeHalf) (refusal : StepRefusal) →
+  pub receipt_refused : (old : End) (before : Line) (hint : ℕ) (fate : Fate) (bytes : List ℕ) (mine theirs : JudgeHalf) (refusal : StepRefusal) →
       StandsFor old before mine → (unit : WireLayersUnit) × (slice_get theirs.sent hint ≡ Some unit) ×
-      ((head : Head) → judge_receives top (node_of head old.layers before) hint kept bytes unit ≡ Err refusal) →
-      advance (judge_step top) mine theirs (Received hint kept bytes) ≡ Refused refusal
-  receipt_refused old before hint kept bytes mine theirs refusal stands fails =
-      reads_unit mine theirs (node_of old.head old.layers before) hint kept bytes fails.0 (Err refusal) (state_is old before mine stands) fails.1
+      ((head : Head) → judge_receives top (node_of head old.layers before) hint fate bytes unit ≡ Err refusal) →
+      advance (judge_step top) mine theirs (Received hint fate bytes) ≡ Refused refusal
+  receipt_refused old before hint fate bytes mine theirs refusal stands fails =
+      reads_unit mine theirs (node_of old.head old.layers before) hint fate bytes fails.0 (Err refusal) (state_is old before mine stands) fails.1
       (fails.2 old.head)
 
-  pub receipt_waits : (hint : ℕ) (kept : Bool) (bytes : List ℕ) (mine theirs : JudgeHalf) → slice_get theirs.sent hint ≡ None →
-      advance (judge_step top) mine theirs (Received hint kept bytes) ≡ Waits
-  receipt_waits hint kept bytes mine theirs not_sent = ap (any.read mine (judge_receives top mine.state hint kept bytes)) not_sent
+  pub receipt_waits : (hint : ℕ) (fate : Fate) (bytes : List ℕ) (mine theirs : JudgeHalf) → slice_get theirs.sent hint ≡ None →
+      advance (judge_step top) mine theirs (Received hint fate bytes) ≡ Waits
+  receipt_waits hint fate bytes mine theirs not_sent = ap (any.read mine (judge_receives top mine.state hint fate bytes)) not_sent

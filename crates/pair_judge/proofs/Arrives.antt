@@ -1,6 +1,9 @@
 -- What both layers make of an arrival, by what the station made of it.
 use Rattle.std.proofs.Common.{◌≡◌, Bool, true, false, ◌&&◌, cond, Option, Some, None, List, ℕ, Result, Ok, Err, refl, sym, ap, ◌∙◌}
 use Rattle.std.specs.Prelude.{OnOk, IfErr}
+use Rattle.capture.specs.declared.fate.Fate.{Fate}
+use Rattle.capture.specs.declared.fate.Fate.TheVariants.{NotKept, Kept, Dropped}
+use Rattle.capture.specs.Fates.{is_kept, is_met}
 use Rattle.dna_station.specs.declared.tag.Tag.{Tag}
 use Rattle.dna_links.specs.declared.tag.LinkTag.{LinkTag}
 use Rattle.dna_station.specs.declared.refusal.StationRefusal.{StationRefusal}
@@ -12,7 +15,7 @@ use Rattle.dna_station.specs.Machine.{unless_refused}
 use Rattle.dna_node.specs.TagRules.{Rules}
 use Rattle.dna_station.specs.WireStation.{WireStation}
 use Rattle.dna_station.specs.WireBook.{wire_book, wire_arrival_refusal, wire_after_arrival, wire_taken}
-use Rattle.dna_node.specs.WireLayers.{WireLayers, tag_or_none, wire_keeps_packet, wire_meets_on, to_wire_station, wire_layers_machine}
+use Rattle.dna_node.specs.WireLayers.{WireLayers, tag_or_none, wire_keeps_packet, wire_keeps, wire_meets_on, to_wire_station, wire_layers_machine}
 use Rattle.pair_judge.specs.declared.step_fault.StepFault.{StepFault}
 use Rattle.pair_judge.specs.declared.step_fault.StepFault.TheVariants.{Refused, OutOfMemory}
 use Rattle.pair_judge.specs.inner.Memory.{IfNoMemory, MayKeep}
@@ -27,41 +30,47 @@ taken_kept false true body packet e = absurd (cc)
 taken_kept false false body packet e = absurd (cc)
 
 -- what the station made of it, where it did not refuse
-met_by_station : (s : WireLayers) (arrival : ArrivalValue Tag) (link : Option LinkTag) (kept : Bool) →
-    to_wire_station (with_link link arrival) ≡ arrival
-met_by_station s (Sound m tag) link kept = refl
-met_by_station s HeaderBad link kept = refl
-met_by_station s DataBad link kept = refl
+met_by_station : (s : WireLayers) (arrival : ArrivalValue Tag) (link : Option LinkTag) → to_wire_station (with_link link arrival) ≡ arrival
+met_by_station s (Sound m tag) link = refl
+met_by_station s HeaderBad link = refl
+met_by_station s DataBad link = refl
 
-module _ (rules : Rules) (s : WireLayers) (link : Option LinkTag) (kept : Bool) where
+module _ (rules : Rules) (s : WireLayers) (link : Option LinkTag) (fate : Fate) where
   -- both layers go on from what the station made of it
-  on_station : (arrival : ArrivalValue Tag) → wire_arrival_refusal rules.periods s.station arrival kept ≡ None →
-      (wire_layers_machine rules).arrives s (with_link link arrival) kept ≡ wire_meets_on rules s (with_link link arrival) kept
-      (Ok (wire_after_arrival s.station arrival kept))
+  on_station : (arrival : ArrivalValue Tag) → wire_arrival_refusal rules.periods s.station arrival (is_kept fate) ≡ None →
+      (wire_layers_machine rules).arrives s (with_link link arrival) fate ≡ wire_meets_on rules s (with_link link arrival) fate
+      (Ok (wire_after_arrival s.station arrival (is_kept fate)))
   on_station arrival free =
-      ap (λ (a : ArrivalValue Tag). wire_meets_on rules s (with_link link arrival) kept
-      (unless_refused (wire_arrival_refusal rules.periods s.station a kept) (wire_after_arrival s.station a kept)))
-      (met_by_station s arrival link kept)
-      ∙ ap (λ (o : Option StationRefusal). wire_meets_on rules s (with_link link arrival) kept
-      (unless_refused o (wire_after_arrival s.station arrival kept))) free
+      ap (λ (a : ArrivalValue Tag). wire_meets_on rules s (with_link link arrival) fate
+      (unless_refused (wire_arrival_refusal rules.periods s.station a (is_kept fate)) (wire_after_arrival s.station a (is_kept fate))))
+      (met_by_station s arrival link)
+      ∙ ap (λ (o : Option StationRefusal). wire_meets_on rules s (with_link link arrival) fate
+      (unless_refused o (wire_after_arrival s.station arrival (is_kept fate)))) free
 
   -- a packet was taken: the links meet it
   pub arrives_kept : (arrival : ArrivalValue Tag) (packet : List ℕ) (after : WireStation LinkTag) (tag : LinkTag)
-      (r : Result WireLayers StepRefusal) → wire_arrival_refusal rules.periods s.station arrival kept ≡ None →
-      wire_taken s.station arrival kept ≡ Some packet
-      → after ≡ wire_after_arrival s.station arrival kept → tag ≡ tag_or_none link → wire_keeps_packet rules (record s { station = after }) tag
-      (content packet) ≡ r → (wire_layers_machine rules).arrives s (with_link link arrival) kept ≡ r
-  arrives_kept (Sound m of_station) packet after tag r free taken after_is tag_is keeps =
-      let both = taken_kept (takes_by wire_book s.station m of_station) kept (body_of m) packet taken in
-      let next = record s { station = wire_after_arrival s.station (Sound m of_station) kept } in
+      (r : Result WireLayers StepRefusal) → is_met fate ≡ true → wire_arrival_refusal rules.periods s.station arrival (is_kept fate) ≡ None →
+      wire_taken s.station arrival (is_kept fate) ≡ Some packet
+      → after ≡ wire_after_arrival s.station arrival (is_kept fate) → tag ≡ tag_or_none link → wire_keeps_packet rules (record s { station = after }) tag
+      (content packet) ≡ r → (wire_layers_machine rules).arrives s (with_link link arrival) fate ≡ r
+  arrives_kept (Sound m of_station) packet after tag r met free taken after_is tag_is keeps =
+      let both = taken_kept (takes_by wire_book s.station m of_station) (is_kept fate) (body_of m) packet taken in
+      let next = record s { station = wire_after_arrival s.station (Sound m of_station) (is_kept fate) } in
       on_station (Sound m of_station) free
-      ∙ ap (λ (k : Bool). cond k (wire_keeps_packet rules next (tag_or_none link) (content (body_of m))) (Ok next)) both.0
+      ∙ ap (λ (k : Bool). cond k (wire_keeps_packet rules next (tag_or_none link) (content (body_of m))) (Ok next)) met
       ∙ ap (λ (bytes : List ℕ). wire_keeps_packet rules next (tag_or_none link) (content bytes)) both.1
       ∙ ap (λ (w : WireStation LinkTag). wire_keeps_packet rules (record s { station = w }) (tag_or_none link) (content packet)) (sym after_is)
       ∙ ap (λ (t : LinkTag). wire_keeps_packet rules (record s { station = after }) t (content packet)) (sym tag_is)
       ∙ keeps
-  arrives_kept HeaderBad packet after tag r free taken after_is tag_is keeps = absurd (cc)
-  arrives_kept DataBad packet after tag r free taken after_is tag_is keeps = absurd (cc)
+  arrives_kept HeaderBad packet after tag r met free taken after_is tag_is keeps = absurd (cc)
+  arrives_kept DataBad packet after tag r met free taken after_is tag_is keeps = absurd (cc)
+
+  -- what the links do not meet leaves them
+  pub arrives_unmet : (arrival : ArrivalValue Tag) → is_met fate ≡ false → wire_arrival_refusal rules.periods s.station arrival (is_kept fate) ≡ None →
+      (wire_layers_machine rules).arrives s (with_link link arrival) fate ≡ Ok (record s { station = wire_after_arrival s.station arrival (is_kept fate) })
+  arrives_unmet arrival unmet free =
+      let next = record s { station = wire_after_arrival s.station arrival (is_kept fate) } in
+      on_station arrival free ∙ ap (λ (k : Bool). cond k (wire_keeps rules next (with_link link arrival)) (Ok next)) unmet
 
 -- what is kept is taken
 kept_untaken : {P : Type 0} (met t : Bool) (body : List ℕ) → cond met (keep_refusal t true) (Some CrossedPeriod) ≡ None →
@@ -71,21 +80,22 @@ kept_untaken true false body free nothing = absurd (cc)
 kept_untaken false false body free nothing = absurd (cc)
 
 -- nothing was taken: the links stay
-pub arrives_untaken : (rules : Rules) (s : WireLayers) (link : Option LinkTag) (kept : Bool) (arrival : ArrivalValue Tag) →
-    wire_arrival_refusal rules.periods s.station arrival kept ≡ None → wire_taken s.station arrival kept ≡ None →
-    (wire_layers_machine rules).arrives s (with_link link arrival) kept ≡ Ok (record s { station = wire_after_arrival s.station arrival kept })
-arrives_untaken rules s link false arrival free nothing = on_station rules s link false arrival free
-arrives_untaken rules s link true (Sound m tag) free nothing =
+pub arrives_untaken : (rules : Rules) (s : WireLayers) (link : Option LinkTag) (fate : Fate) (arrival : ArrivalValue Tag) →
+    wire_arrival_refusal rules.periods s.station arrival (is_kept fate) ≡ None → wire_taken s.station arrival (is_kept fate) ≡ None →
+    (wire_layers_machine rules).arrives s (with_link link arrival) fate ≡ Ok (record s { station = wire_after_arrival s.station arrival (is_kept fate) })
+arrives_untaken rules s link NotKept arrival free nothing = arrives_unmet rules s link NotKept arrival refl free
+arrives_untaken rules s link Dropped arrival free nothing = arrives_unmet rules s link Dropped arrival refl free
+arrives_untaken rules s link Kept (Sound m tag) free nothing =
     kept_untaken (meets_by wire_book rules.periods s.station m tag) (takes_by wire_book s.station m tag) (body_of m) free nothing
-arrives_untaken rules s link true HeaderBad free nothing = on_station rules s link true HeaderBad free
-arrives_untaken rules s link true DataBad free nothing = on_station rules s link true DataBad free
+arrives_untaken rules s link Kept HeaderBad free nothing = on_station rules s link Kept HeaderBad free
+arrives_untaken rules s link Kept DataBad free nothing = on_station rules s link Kept DataBad free
 
--- what is taken shows no damage, and was kept
-pub taken_may_keep : (s : WireLayers) (arrival : ArrivalValue Tag) (kept : Bool) (packet : List ℕ) → wire_taken s.station arrival kept ≡ Some packet →
-    MayKeep kept (is_damage arrival)
-taken_may_keep s (Sound m tag) kept packet taken = ((taken_kept (takes_by wire_book s.station m tag) kept (body_of m) packet taken).0, refl)
-taken_may_keep s HeaderBad kept packet taken = absurd (cc)
-taken_may_keep s DataBad kept packet taken = absurd (cc)
+-- what is taken shows no damage
+pub taken_may_keep : (s : WireLayers) (arrival : ArrivalValue Tag) (fate : Fate) (packet : List ℕ) → is_met fate ≡ true →
+    wire_taken s.station arrival (is_kept fate) ≡ Some packet → MayKeep fate (is_damage arrival)
+taken_may_keep s (Sound m tag) fate packet met taken = (met, refl)
+taken_may_keep s HeaderBad fate packet met taken = absurd (cc)
+taken_may_keep s DataBad fate packet met taken = absurd (cc)
 
 -- ---- by what was answered
 

@@ -1,6 +1,7 @@
 -- What a node makes of a receipt, by the bytes that came beside the unit.
 use Rattle.std.proofs.Common.{◌≡◌, ℕ, ◌+◌, ◌<◌, ◌≤◌, Bool, List, Option, Some, Ok, Err, sym, ap, ◌∙◌, cond}
 use Rattle.std.proofs.lemmas.Bool.{lt-ltb, le-ltb}
+use Rattle.capture.specs.declared.fate.Fate.{Fate}
 use Rattle.dna_station.specs.declared.refusal.StepRefusal.{StepRefusal}
 use Rattle.dna_station.specs.declared.refusal.StepRefusal.TheVariants.{HintOrder}
 use Rattle.dna_station.specs.Book.{ArrivalValue}
@@ -13,25 +14,25 @@ use Rattle.pair_judge.specs.inner.Wire.{judge_receives, JudgeTop}
 
 module _ (top : JudgeTop) where
   -- the hint lies below the front
-  pub receives_back : (n : WireLayersNode) (hint : ℕ) (kept : Bool) (bytes : List ℕ) (unit : WireLayersUnit) → hint < n.front →
-      judge_receives top n hint kept bytes unit ≡ Err HintOrder
-  receives_back n hint kept bytes unit below =
-      ap (λ b. cond b (Err HintOrder) (comes top.machine n (hint + 1) kept (coming unit bytes))) (lt-ltb hint n.front below)
+  pub receives_back : (n : WireLayersNode) (hint : ℕ) (fate : Fate) (bytes : List ℕ) (unit : WireLayersUnit) → hint < n.front →
+      judge_receives top n hint fate bytes unit ≡ Err HintOrder
+  receives_back n hint fate bytes unit below =
+      ap (λ b. cond b (Err HintOrder) (comes top.machine n (hint + 1) fate (coming unit bytes))) (lt-ltb hint n.front below)
 
   -- at or above the front it goes by what comes
-  pub receives_at : (n : WireLayersNode) (hint : ℕ) (kept : Bool) (bytes : List ℕ) (unit : WireLayersUnit) (came : Option (ArrivalValue LayersTag)) →
-      n.front ≤ hint → came ≡ coming unit bytes → judge_receives top n hint kept bytes unit ≡ comes top.machine n (hint + 1) kept came
-  receives_at n hint kept bytes unit came at_least is =
-      ap (λ b. cond b (Err HintOrder) (comes top.machine n (hint + 1) kept (coming unit bytes))) (le-ltb hint n.front at_least)
-      ∙ ap (comes top.machine n (hint + 1) kept) (sym is)
+  pub receives_at : (n : WireLayersNode) (hint : ℕ) (fate : Fate) (bytes : List ℕ) (unit : WireLayersUnit) (came : Option (ArrivalValue LayersTag)) →
+      n.front ≤ hint → came ≡ coming unit bytes → judge_receives top n hint fate bytes unit ≡ comes top.machine n (hint + 1) fate came
+  receives_at n hint fate bytes unit came at_least is =
+      ap (λ b. cond b (Err HintOrder) (comes top.machine n (hint + 1) fate (coming unit bytes))) (le-ltb hint n.front at_least)
+      ∙ ap (comes top.machine n (hint + 1) fate) (sym is)
 
   -- both layers go by it
-  pub comes_met : (n : WireLayersNode) (hint : ℕ) (kept : Bool) (arrival : ArrivalValue LayersTag) (after : WireLayers) →
-      top.machine.arrives n.station arrival kept ≡ Ok after → comes top.machine n (hint + 1) kept (Some arrival) ≡ Ok
+  pub comes_met : (n : WireLayersNode) (hint : ℕ) (fate : Fate) (arrival : ArrivalValue LayersTag) (after : WireLayers) →
+      top.machine.arrives n.station arrival fate ≡ Ok after → comes top.machine n (hint + 1) fate (Some arrival) ≡ Ok
       (record n { station = after; front = hint + 1 })
-  comes_met n hint kept arrival after goes = ap (met n (hint + 1)) goes
+  comes_met n hint fate arrival after goes = ap (met n (hint + 1)) goes
 
   -- one of them refuses
-  pub comes_refused : (n : WireLayersNode) (hint : ℕ) (kept : Bool) (arrival : ArrivalValue LayersTag) (refusal : StepRefusal) →
-      top.machine.arrives n.station arrival kept ≡ Err refusal → comes top.machine n (hint + 1) kept (Some arrival) ≡ Err refusal
-  comes_refused n hint kept arrival refusal refuses = ap (met n (hint + 1)) refuses
+  pub comes_refused : (n : WireLayersNode) (hint : ℕ) (fate : Fate) (arrival : ArrivalValue LayersTag) (refusal : StepRefusal) →
+      top.machine.arrives n.station arrival fate ≡ Err refusal → comes top.machine n (hint + 1) fate (Some arrival) ≡ Err refusal
+  comes_refused n hint fate arrival refusal refuses = ap (met n (hint + 1)) refuses

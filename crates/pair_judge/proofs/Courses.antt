@@ -8,7 +8,7 @@ use Rattle.capture.specs.declared.entry.Entry.{Entry}
 use Rattle.capture.specs.Entries.{record_with}
 use Rattle.capture.specs.declared.hint.HintForm.{HintForm}
 use Rattle.capture.specs.Text.{form_after, record_line}
-use Rattle.capture.specs.Range.{IsRecord}
+use Rattle.capture.specs.Range.{IsInForm, IsRecord}
 use Rattle.capture.specs.Reader.{CaptureState, NextGives}
 use Rattle.capture.specs.SoFar.{ToCome, TheEnd, so_far, IsReadSoFar}
 use Rattle.dna_station.specs.declared.head.Head.{Head}
@@ -85,8 +85,8 @@ put_back text course come made entry is h =
 -- what was read of a text that is read on
 pub record GrowingLaws : Type 0 where
   pub one_more : (text before after : Option (List ℕ)) (form : HintForm) (own peer : ℕ) (rs : List Record) (r : Record) →
-      IsReadSoFar text (so_far form own peer rs (ToCome before)) → length rs < MAX_RECORDS → IsRecord r → Consumes before after (record_line form r)
-      → IsReadSoFar text (so_far (form_after form r) own peer (rs ++ r ∷ []) (ToCome after))
+      IsReadSoFar text (so_far form own peer rs (ToCome before)) → length rs < MAX_RECORDS → IsRecord r → Consumes before after (record_line form r) →
+      IsInForm form r → IsReadSoFar text (so_far (form_after form r) own peer (rs ++ r ∷ []) (ToCome after))
   pub ended : (text before : Option (List ℕ)) (form : HintForm) (own peer : ℕ) (rs : List Record) →
       IsReadSoFar text (so_far form own peer rs (ToCome before)) → IsAtEnd before → IsReadSoFar text (so_far form own peer rs TheEnd)
 
@@ -108,7 +108,7 @@ module _ (laws : GrowingLaws) (text : Option (List ℕ)) (old new : Course) (bef
       let read = read_unread text old before made unread h in
       let few = gives.1 in
       let count = read.1 in
-      let so = laws.one_more text before after old.capture.form old.capture.own old.capture.peer made r read.0 (omega arith) gives.0 gives.4 in
+      let so = laws.one_more text before after old.capture.form old.capture.own old.capture.peer made r read.0 (omega arith) gives.0 gives.4 gives.6 in
       from_unread text new after (made ++ r ∷ []) is (rw (own, peer, gives.5) so)
       (gives.2 ∙ ap (λ n. n + 1) read.1 ∙ sym (length-append made (r ∷ []))) head_on
 

@@ -1,5 +1,8 @@
 -- The check that a message, an arrival or an event does not pass is the one for which both layers refuse it.
 use Rattle.std.proofs.Common.{◌≡◌, ℕ, Bool, true, false, cond, Option, Some, None, List, Result, Ok, Err, refl, sym, ap, ◌∙◌, option_map}
+use Rattle.capture.specs.declared.fate.Fate.{Fate}
+use Rattle.capture.specs.declared.fate.Fate.TheVariants.{NotKept, Kept, Dropped}
+use Rattle.capture.specs.Fates.{is_kept, is_met}
 use Rattle.capture.specs.declared.event.Event.{Event}
 use Rattle.capture.specs.declared.event.Event.TheVariants as events
 use Rattle.ddcmp_msg.specs.Message.{MessageValue}
@@ -31,14 +34,14 @@ use Rattle.dna_station.specs.WireStation.{WireStation}
 use Rattle.dna_links.specs.declared.queue.Queues.{Queues}
 use Rattle.dna_links.specs.declared.tag.LinkTag.{LinkTag}
 use Rattle.dna_links.specs.Links.{Carried}
-use Rattle.dna_links.specs.User.{LinkEventValue, Open, Accept, Reject, In, Up, Close}
+use Rattle.dna_links.specs.User.{LinkEventValue, Open, Accept, Reject, In, Up, Close, Abort, Boot}
 use Rattle.dna_links.specs.WireLinks.{wire_links_arrived, wire_links_sent, wire_links_user}
 use Rattle.dna_node.specs.declared.finding.Cause.{Cause}
 use Rattle.dna_node.specs.declared.finding.Cause.TheVariants.{Step}
 use Rattle.dna_node.specs.Content.{content, content_of, is_returned, message_in}
 use Rattle.dna_node.specs.TagRules.{judged_by}
 use Rattle.dna_node.specs.WireLayers.{LayersTag, WireLayers, tag_or_none, to_wire_station, wire_keeps, wire_keeps_packet, wire_layers_machine}
-use Rattle.dna_node.specs.WireLayers.{wire_meets_on, wire_sends_again, wire_sends_first, wire_sends_on, with_tag, with_wire_links, with_wire_station}
+use Rattle.dna_node.specs.WireLayers.{wire_composes, wire_meets_on, with_wire_composed, wire_sends_again, wire_sends_first, wire_sends_on, with_tag, with_wire_links, with_wire_station}
 use Rattle.nsp_link.specs.FailedArrival as arrives
 use Rattle.nsp_link.specs.FailedEvent as happens
 use Rattle.nsp_link.specs.FailedSending as sends
@@ -47,7 +50,7 @@ use Rattle.nsp_link.specs.Missing.{refusal_in}
 use Rattle.nsp_link.proofs.FailedArrival.{arrival_same as link_arrival_same}
 use Rattle.nsp_link.proofs.FailedEvent.{event_same}
 use Rattle.nsp_link.proofs.FailedSending.{sending_same}
-use Rattle.pair_judge.specs.FailedCheck.{lent_of, carried, cause_in, cause_of, failed_arrival, failed_at_links, failed_first, failed_kept}
+use Rattle.pair_judge.specs.FailedCheck.{lent_of, carried, cause_in, cause_of, failed_arrival, failed_at_links, failed_composed, failed_first, failed_kept}
 use Rattle.pair_judge.specs.FailedCheck.{failed_lent, failed_message, failed_nsp, failed_packet, failed_start, failed_user}
 use Rattle.pair_judge.specs.inner.Steps.{with_link}
 use Rattle.pair_judge.specs.declared.failed_check.FailedCheck.{FailedCheck}
@@ -149,28 +152,29 @@ kept_same queues s after (Sound m known) =
 kept_same queues s after HeaderBad = refl
 kept_same queues s after DataBad = refl
 
-met_same : (queues : Queues) (s : WireLayers) (arrival : ArrivalValue LayersTag) (kept : Bool) (after : WireStation LinkTag) →
-    caused (cond kept (failed_kept s arrival) None) ≡ cause_in (wire_meets_on (judged_by queues) s arrival kept (Ok after))
-met_same queues s arrival true after = kept_same queues s after arrival
-met_same queues s arrival false after = refl
+met_same : (queues : Queues) (s : WireLayers) (arrival : ArrivalValue LayersTag) (fate : Fate) (after : WireStation LinkTag) →
+    caused (cond (is_met fate) (failed_kept s arrival) None) ≡ cause_in (wire_meets_on (judged_by queues) s arrival fate (Ok after))
+met_same queues s arrival Kept after = kept_same queues s after arrival
+met_same queues s arrival Dropped after = refl
+met_same queues s arrival NotKept after = refl
 
-arrival_by : (queues : Queues) (s : WireLayers) (arrival : ArrivalValue LayersTag) (kept : Bool) (after : WireStation LinkTag) (o : Option FailedArrival)
+arrival_by : (queues : Queues) (s : WireLayers) (arrival : ArrivalValue LayersTag) (fate : Fate) (after : WireStation LinkTag) (o : Option FailedArrival)
     (p : Option StationRefusal) → option_map of_station.refusal_of_arrival o ≡ p →
-    caused (or_next (option_map StationArrival o) (cond kept (failed_kept s arrival) None)) ≡
-    cause_in (wire_meets_on (judged_by queues) s arrival kept (unless_refused p after))
-arrival_by queues s arrival kept after (Some failed) p same =
-    ap (λ (q : Option StationRefusal). cause_in (wire_meets_on (judged_by queues) s arrival kept (unless_refused q after))) same
-arrival_by queues s arrival kept after None p same =
-    met_same queues s arrival kept after
-    ∙ ap (λ (q : Option StationRefusal). cause_in (wire_meets_on (judged_by queues) s arrival kept (unless_refused q after))) same
+    caused (or_next (option_map StationArrival o) (cond (is_met fate) (failed_kept s arrival) None)) ≡
+    cause_in (wire_meets_on (judged_by queues) s arrival fate (unless_refused p after))
+arrival_by queues s arrival fate after (Some failed) p same =
+    ap (λ (q : Option StationRefusal). cause_in (wire_meets_on (judged_by queues) s arrival fate (unless_refused q after))) same
+arrival_by queues s arrival fate after None p same =
+    met_same queues s arrival fate after
+    ∙ ap (λ (q : Option StationRefusal). cause_in (wire_meets_on (judged_by queues) s arrival fate (unless_refused q after))) same
 
-pub arrival_same : (queues : Queues) (s : WireLayers) (arrival : ArrivalValue LayersTag) (kept : Bool) →
-    caused (failed_arrival s arrival kept) ≡ cause_in ((wire_layers_machine (judged_by queues)).arrives s arrival kept)
-arrival_same queues s arrival kept =
-    arrival_by queues s arrival kept (wire_after_arrival s.station (to_wire_station arrival) kept)
-    (of_station.failed_arrival of_period s.station (to_wire_station arrival) kept)
-    (wire_arrival_refusal (judged_by queues).periods s.station (to_wire_station arrival) kept)
-    (station_arrival_same of_period s.station (to_wire_station arrival) kept)
+pub arrival_same : (queues : Queues) (s : WireLayers) (arrival : ArrivalValue LayersTag) (fate : Fate) →
+    caused (failed_arrival s arrival fate) ≡ cause_in ((wire_layers_machine (judged_by queues)).arrives s arrival fate)
+arrival_same queues s arrival fate =
+    arrival_by queues s arrival fate (wire_after_arrival s.station (to_wire_station arrival) (is_kept fate))
+    (of_station.failed_arrival of_period s.station (to_wire_station arrival) (is_kept fate))
+    (wire_arrival_refusal (judged_by queues).periods s.station (to_wire_station arrival) (is_kept fate))
+    (station_arrival_same of_period s.station (to_wire_station arrival) (is_kept fate))
 
 -- ---- the user
 
@@ -194,6 +198,20 @@ links_same queues s event =
     linked_same LinkEvent happens.refusal_of_event (with_wire_links s) (λ failed. refl) (λ made. refl) (λ refusal. refl)
     (happens.failed_event queues s.links event) (wire_links_user queues s.links event) (event_same queues s.links event)
 
+boot_same : (queues : Queues) (s : WireLayers) →
+    caused (failed_at_links queues s (Some Boot)) ≡ cause_in ((wire_layers_machine (judged_by queues)).user s events.Boot)
+boot_same queues s =
+    linked_same LinkEvent happens.refusal_of_event (with_wire_links (record s { station = wire_book.after_event s.station Halt })) (λ failed. refl)
+    (λ made. refl) (λ refusal. refl) (happens.failed_event queues s.links Boot) (wire_links_user queues s.links Boot) (event_same queues s.links Boot)
+
+composed_same : (queues : Queues) (s : WireLayers) (packet : List ℕ) →
+    caused (failed_composed queues s packet) ≡ cause_in (wire_composes (judged_by queues) s (content packet))
+composed_same queues s packet =
+    packet_same (λ packet. option_map LinkSending (sends.failed_sending queues s.links packet)) (wire_composes (judged_by queues) s) refl (λ refusal. refl)
+    (λ packet. linked_same LinkSending sends.refusal_of_sending (with_wire_composed s) (λ failed. refl) (λ made. refl) (λ refusal. refl)
+    (sends.failed_sending queues s.links packet) (wire_links_sent queues s.links packet) (sending_same queues s.links packet))
+    packet
+
 pub user_same : (queues : Queues) (s : WireLayers) (event : Event) → caused (failed_user queues s event) ≡ cause_in ((wire_layers_machine (judged_by queues)).user s event)
 user_same queues s events.Start = start_same s (wire_book.after_event s.station Start) s.station.variables.state
 user_same queues s events.Halt = halt_same s (wire_book.after_event s.station Halt) s.station.variables.state
@@ -203,3 +221,8 @@ user_same queues s (events.Reject partner link) = links_same queues s (Reject pa
 user_same queues s (events.In link message) = links_same queues s (In link message)
 user_same queues s (events.Up link message) = links_same queues s (Up link message)
 user_same queues s (events.Close link) = links_same queues s (Close link)
+user_same queues s events.Boot = boot_same queues s
+user_same queues s (events.Abort link) = links_same queues s (Abort link)
+user_same queues s (events.Composed packet) = composed_same queues s packet
+user_same queues s (events.Interrupt link message) = refl
+user_same queues s (events.Interrupted link message) = refl

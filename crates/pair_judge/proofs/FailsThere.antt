@@ -6,6 +6,8 @@ use Rattle.std.proofs.lemmas.Bool.{cases_lt, lt-ltb, le-ltb}
 use Rattle.two_nodes.specs.Nodes.{Outcome, advance, answered, concluded}
 use Rattle.two_nodes.specs.Nodes.Outcome.{Made, Waits, Refused}
 use Rattle.two_nodes.specs.Nodes as any
+use Rattle.capture.specs.declared.fate.Fate.{Fate}
+use Rattle.capture.specs.declared.fate.Fate.TheVariants.{NotKept}
 use Rattle.capture.specs.declared.record.Record.{Record}
 use Rattle.capture.specs.declared.record.Record.TheVariants.{Sent, Received, Noise, User}
 use Rattle.ddcmp_msg.specs.Message.{MessageValue}
@@ -73,44 +75,44 @@ module _ (queues : Queues) (own other : JudgeHalf) where
       cause_there (answered own other (does {K = LayersTag} own.state (noise_comes (layers_run_by queues) own.state.station o)))
   noise_same None = refl
   noise_same (Some arrival) =
-      arrival_same queues own.state.station arrival false ∙ sym (does_same ((layers_run_by queues).arrives own.state.station arrival false))
+      arrival_same queues own.state.station arrival NotKept ∙ sym (does_same ((layers_run_by queues).arrives own.state.station arrival NotKept))
 
-  comes_same : (hint : ℕ) (kept : Bool) (came : Option (ArrivalValue LayersTag)) → caused (failed_coming own.state.station hint kept came) ≡
-      cause_there (concluded {U = WireLayersUnit} own (comes (layers_run_by queues) own.state (hint + 1) kept came))
-  comes_same hint kept None = refl
-  comes_same hint kept (Some arrival) =
-      arrival_same queues own.state.station arrival kept ∙ sym (met_same (hint + 1) ((layers_run_by queues).arrives own.state.station arrival kept))
+  comes_same : (hint : ℕ) (fate : Fate) (came : Option (ArrivalValue LayersTag)) → caused (failed_coming own.state.station hint fate came) ≡
+      cause_there (concluded {U = WireLayersUnit} own (comes (layers_run_by queues) own.state (hint + 1) fate came))
+  comes_same hint fate None = refl
+  comes_same hint fate (Some arrival) =
+      arrival_same queues own.state.station arrival fate ∙ sym (met_same (hint + 1) ((layers_run_by queues).arrives own.state.station arrival fate))
 
   -- ---- a receipt
 
-  receives_by : (hint : ℕ) (kept : Bool) (bytes : List ℕ) (unit : WireLayersUnit) (back : Bool) →
-      caused (cond back (Some (failed.HintOrder hint own.state.front)) (failed_receipt own.state.station hint kept bytes (Some unit))) ≡
-      cause_there (concluded {U = WireLayersUnit} own (cond back (Err HintOrder) (comes (layers_run_by queues) own.state (hint + 1) kept (coming unit bytes))))
-  receives_by hint kept bytes unit true = refl
-  receives_by hint kept bytes unit false = comes_same hint kept (coming unit bytes)
+  receives_by : (hint : ℕ) (fate : Fate) (bytes : List ℕ) (unit : WireLayersUnit) (back : Bool) →
+      caused (cond back (Some (failed.HintOrder hint own.state.front)) (failed_receipt own.state.station hint fate bytes (Some unit))) ≡
+      cause_there (concluded {U = WireLayersUnit} own (cond back (Err HintOrder) (comes (layers_run_by queues) own.state (hint + 1) fate (coming unit bytes))))
+  receives_by hint fate bytes unit true = refl
+  receives_by hint fate bytes unit false = comes_same hint fate (coming unit bytes)
 
-  module _ (units : List WireLayersUnit) (hint : ℕ) (kept : Bool) (bytes : List ℕ) where
+  module _ (units : List WireLayersUnit) (hint : ℕ) (fate : Fate) (bytes : List ℕ) where
     abbrev at_front : Bool → Option WireLayersUnit → Option FailedCheck
-    at_front back found = cond back (Some (failed.HintOrder hint own.state.front)) (failed_receipt own.state.station hint kept bytes found)
+    at_front back found = cond back (Some (failed.HintOrder hint own.state.front)) (failed_receipt own.state.station hint fate bytes found)
 
     receipt_by : (o : Option WireLayersUnit) → (own.state.front ≤ hint → slice_get units (hint - own.state.front) ≡ o) →
         (hint < own.state.front → o ≡ None → ⊥) →
-        caused (failed_record queues own.state.station own.state.front units (Received hint kept bytes)) ≡
-        cause_there (any.read own (receives (layers_run_by queues) own.state hint kept bytes) o)
+        caused (failed_record queues own.state.station own.state.front units (Received hint fate bytes)) ≡
+        cause_there (any.read own (receives (layers_run_by queues) own.state hint fate bytes) o)
     receipt_by None there sent = elim (cases_lt hint own.state.front) [
       | inl below ↦ absurd (sent below refl)
       | inr at_least ↦
           ap (λ (back : Bool). caused (at_front back (slice_get units (hint - own.state.front)))) (le-ltb hint own.state.front at_least)
-          ∙ ap (λ (found : Option WireLayersUnit). caused (failed_receipt own.state.station hint kept bytes found)) (there at_least)
+          ∙ ap (λ (found : Option WireLayersUnit). caused (failed_receipt own.state.station hint fate bytes found)) (there at_least)
     ]
     receipt_by (Some unit) there sent = elim (cases_lt hint own.state.front) [
       | inl below ↦
           ap (λ (back : Bool). caused (at_front back (slice_get units (hint - own.state.front)))) (lt-ltb hint own.state.front below)
           ∙ sym (ap (λ (back : Bool). cause_there (concluded {U = WireLayersUnit} own (cond back (Err HintOrder)
-          (comes (layers_run_by queues) own.state (hint + 1) kept (coming unit bytes))))) (lt-ltb hint own.state.front below))
+          (comes (layers_run_by queues) own.state (hint + 1) fate (coming unit bytes))))) (lt-ltb hint own.state.front below))
       | inr at_least ↦
           ap (λ (found : Option WireLayersUnit). caused (at_front (nat_lt hint own.state.front) found)) (there at_least)
-          ∙ receives_by hint kept bytes unit (nat_lt hint own.state.front)
+          ∙ receives_by hint fate bytes unit (nat_lt hint own.state.front)
     ]
 
 -- ---- a record at an end
@@ -122,8 +124,8 @@ module _ (queues : Queues) (own : End) (incoming : Line) (mine theirs : JudgeHal
   at_state (Noise bytes) = noise_same queues mine theirs (damage (reading bytes))
   at_state (User event) =
       user_same queues mine.state.station event ∙ sym (does_same queues mine theirs ((layers_run_by queues).user mine.state.station event))
-  at_state (Received hint kept bytes) =
-      receipt_by queues mine theirs (held incoming) hint kept bytes (slice_get theirs.sent hint)
+  at_state (Received hint fate bytes) =
+      receipt_by queues mine theirs (held incoming) hint fate bytes (slice_get theirs.sent hint)
       (λ at_least.
       ap (λ (front : ℕ). slice_get (held incoming) (hint - front)) stands.front
       ∙ held_at incoming theirs.sent hint shows (subst (λ (front : ℕ). front ≤ hint) stands.front at_least))
@@ -160,7 +162,7 @@ sent_not_waits queues own other bytes (Malformed departure) waits = absurd (cc)
 
 pub waits_by_hint : (queues : Queues) (own other : JudgeHalf) (r : Record) → advance (judge_step (links_on_top_by queues)) own other r ≡ Waits →
     (hint : ℕ) × (hint_of (Some r) ≡ Some hint)
-waits_by_hint queues own other (Received hint kept bytes) waits = (hint, refl)
+waits_by_hint queues own other (Received hint fate bytes) waits = (hint, refl)
 waits_by_hint queues own other (Sent bytes) waits = absurd (sent_not_waits queues own other bytes (reading bytes) waits)
 waits_by_hint queues own other (Noise bytes) waits =
     absurd (does_not_wait own other (noise_comes (layers_run_by queues) own.state.station (damage (reading bytes))) waits)

@@ -1,6 +1,7 @@
 pub mod Runs
 pub mod Sent
 pub mod Comes
+pub mod Composes
 pub mod Packets
 pub mod FailedAsRefused
 pub mod Arrives

@@ -4,6 +4,9 @@ use Rattle.std.proofs.Common.{subst}
 use Rattle.std.specs.Prelude.{nat_lt}
 use Rattle.ddcmp_msg.specs.Reading.{ReadingValue, reading}
 use Rattle.ddcmp_msg.specs.Reading as read
+use Rattle.capture.specs.declared.fate.Fate.{Fate}
+use Rattle.capture.specs.declared.fate.Fate.TheVariants.{NotKept}
+use Rattle.capture.specs.Fates.{is_met}
 use Rattle.capture.specs.declared.record.Record.{Record}
 use Rattle.capture.specs.declared.record.Record.TheVariants.{Sent, Received, Noise, User}
 use Rattle.dna_station.specs.declared.head.Head.{Head}
@@ -17,7 +20,7 @@ use Rattle.dna_station.specs.Machine.{noise_comes}
 use Rattle.dna_station.specs.WireNode.{WireNode, new_wire_node}
 use Rattle.dna_station.specs.WireStation.{WireStation}
 use Rattle.dna_node.specs.WireLayers.{WireLayers, WireLayersNode, with_wire_station}
-use Rattle.dna_node.specs.Alone.{Accused, StepAlone, Makes, Refuses, ThisEnd, does, sends, meets, unless_wrong, then_unless_wrong, if_kept}
+use Rattle.dna_node.specs.Alone.{Accused, StepAlone, Makes, Refuses, ThisEnd, does, sends, meets, unless_wrong, then_unless_wrong, if_met}
 use Rattle.dna_node.specs.Alone.{comes_alone, ends_from, goes_on, sent_alone, step_alone, station_end}
 use Rattle.pair_judge.specs.EndKind.{station_alone}
 use Rattle.pair_judge.specs.inner.Tops as tops
@@ -68,35 +71,35 @@ module _ (m : StationNode) where
   sent_so read.DataBad = refl
   sent_so (read.Malformed departure) = refl
 
-  comes_so : (front : ℕ) (kept : Bool) (r : ReadingValue) →
-      comes_alone line_end (line_node m) front kept r ≡ line_step (comes_alone station_end m front kept r)
-  comes_so front kept (read.Sound message) =
+  comes_so : (front : ℕ) (fate : Fate) (r : ReadingValue) →
+      comes_alone line_end (line_node m) front fate r ≡ line_step (comes_alone station_end m front fate r)
+  comes_so front fate (read.Sound message) =
       let wrong = station_end.wrong_unit m.station message in
-      let taken = if_kept kept (station_end.wrong_taken m.station message) in
-      let met = station_end.machine.arrives m.station (Sound message station_end.unknown) kept in
+      let taken = if_met (is_met fate) (station_end.wrong_taken m.station message) in
+      let met = station_end.machine.arrives m.station (Sound message station_end.unknown) fate in
       ap (λ (s : StepAlone WireLayers). unless_wrong wrong (then_unless_wrong taken s)) (meets_so m front met)
       ∙ ap (unless_wrong wrong) (then_unless_so taken (meets m front met))
       ∙ unless_so wrong (then_unless_wrong taken (meets m front met))
-  comes_so front kept read.HeaderBad = meets_so m front (station_end.machine.arrives m.station HeaderBad kept)
-  comes_so front kept read.DataBad = meets_so m front (station_end.machine.arrives m.station DataBad kept)
-  comes_so front kept (read.Malformed departure) = refl
+  comes_so front fate read.HeaderBad = meets_so m front (station_end.machine.arrives m.station HeaderBad fate)
+  comes_so front fate read.DataBad = meets_so m front (station_end.machine.arrives m.station DataBad fate)
+  comes_so front fate (read.Malformed departure) = refl
 
-  by_front : (b : Bool) (front : ℕ) (kept : Bool) (r : ReadingValue) →
-      cond b (Refuses ThisEnd HintOrder) (comes_alone line_end (line_node m) front kept r)
-      ≡ line_step (cond b (Refuses ThisEnd HintOrder) (comes_alone station_end m front kept r))
-  by_front true front kept r = refl
-  by_front false front kept r = comes_so front kept r
+  by_front : (b : Bool) (front : ℕ) (fate : Fate) (r : ReadingValue) →
+      cond b (Refuses ThisEnd HintOrder) (comes_alone line_end (line_node m) front fate r)
+      ≡ line_step (cond b (Refuses ThisEnd HintOrder) (comes_alone station_end m front fate r))
+  by_front true front fate r = refl
+  by_front false front fate r = comes_so front fate r
 
   noise_so : (r : ReadingValue) → does (line_node m) (noise_comes line_end.machine (station_alone.layers m) (damage r))
       ≡ line_step (does m (noise_comes station_end.machine m.station (damage r)))
   noise_so (read.Sound message) = refl
-  noise_so read.HeaderBad = does_so m (station_end.machine.arrives m.station HeaderBad false)
-  noise_so read.DataBad = does_so m (station_end.machine.arrives m.station DataBad false)
+  noise_so read.HeaderBad = does_so m (station_end.machine.arrives m.station HeaderBad NotKept)
+  noise_so read.DataBad = does_so m (station_end.machine.arrives m.station DataBad NotKept)
   noise_so (read.Malformed departure) = refl
 
   step_so : (r : Record) → step_alone line_end (line_node m) r ≡ line_step (step_alone station_end m r)
   step_so (Sent bytes) = sent_so (reading bytes)
-  step_so (Received hint kept bytes) = by_front (nat_lt hint m.front) (hint + 1) kept (reading bytes)
+  step_so (Received hint fate bytes) = by_front (nat_lt hint m.front) (hint + 1) fate (reading bytes)
   step_so (Noise bytes) = noise_so (reading bytes)
   step_so (User event) = does_so m (station_end.machine.user m.station event)
 

@@ -4,28 +4,30 @@ use Rattle.std.specs.Prelude.{IsOk}
 use Rattle.dna_station.specs.declared.link_refusal.LinkRefusal.{LinkRefusal}
 use Rattle.dna_station.specs.declared.refusal.StepRefusal.{StepRefusal}
 use Rattle.dna_links.specs.declared.queue.Queues.{Queues}
-use Rattle.dna_links.specs.User.{LinkEventValue, Open, Accept, Reject, In, Up, Close}
+use Rattle.dna_links.specs.User.{LinkEventValue, Open, Accept, Reject, In, Up, Close, Abort, Boot}
 use Rattle.dna_links.specs.WireLinks.{WireLinks, wire_links_user}
 use Rattle.dna_node.specs.WireLayers.{WireLayers, with_wire_links}
-use Rattle.pair_judge.specs.Events.{event_of_links}
+use Rattle.pair_judge.specs.Events.{IsOfOneLink, event_of_links}
 use Rattle.pair_judge.specs.inner.Tops.{layers_run_by}
 
-pub made_by_links : (queues : Queues) (s : WireLayers) (event : LinkEventValue) →
+pub made_by_links : (queues : Queues) (s : WireLayers) (event : LinkEventValue) → IsOfOneLink event →
     (layers_run_by queues).user s (event_of_links event) ≡ with_wire_links s (wire_links_user queues s.links event)
-made_by_links queues s (Open link) = refl
-made_by_links queues s (Accept partner link) = refl
-made_by_links queues s (Reject partner link) = refl
-made_by_links queues s (In link message) = refl
-made_by_links queues s (Up link message) = refl
-made_by_links queues s (Close link) = refl
+made_by_links queues s (Open link) one = refl
+made_by_links queues s (Accept partner link) one = refl
+made_by_links queues s (Reject partner link) one = refl
+made_by_links queues s (In link message) one = refl
+made_by_links queues s (Up link message) one = refl
+made_by_links queues s (Close link) one = refl
+made_by_links queues s (Abort link) one = refl
+made_by_links queues s Boot one = absurd one
 
 -- what the links allow both layers do
 allowed_by : (s : WireLayers) (r : Result WireLinks LinkRefusal) → IsOk r → IsOk (with_wire_links s r)
 allowed_by s (Ok links) h = refl
 allowed_by s (Err refusal) h = absurd (cc)
 
-pub entered : (queues : Queues) (s : WireLayers) (event : LinkEventValue) → IsOk (wire_links_user queues s.links event) →
+pub entered : (queues : Queues) (s : WireLayers) (event : LinkEventValue) → IsOfOneLink event → IsOk (wire_links_user queues s.links event) →
     IsOk ((layers_run_by queues).user s (event_of_links event))
-entered queues s event h =
-    subst (λ (r : Result WireLayers StepRefusal). IsOk r) (sym (made_by_links queues s event))
+entered queues s event one h =
+    subst (λ (r : Result WireLayers StepRefusal). IsOk r) (sym (made_by_links queues s event one))
     (allowed_by s (wire_links_user queues s.links event) h)

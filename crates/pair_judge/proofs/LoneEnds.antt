@@ -2,12 +2,14 @@
 use Rattle.std.proofs.Common.{◌≡◌, ℕ, Bool, Option, Some, None, Result, Ok, Err, refl, sym, ap, ◌∙◌}
 use Rattle.std.specs.Prelude.{OnOk, IfOk, IfErr}
 use Rattle.std.specs.Result.{IsOk}
+use Rattle.capture.specs.declared.fate.Fate.{Fate}
+use Rattle.capture.specs.Fates.{is_met}
 use Rattle.ddcmp_msg.specs.Message.{MessageValue}
 use Rattle.dna_station.specs.declared.head.Head.{Head}
 use Rattle.dna_station.specs.declared.refusal.StepRefusal.{StepRefusal}
 use Rattle.dna_station.specs.Book.{Sound}
 use Rattle.dna_node.specs.WireLayers.{WireLayers, WireLayersNode}
-use Rattle.dna_node.specs.Alone.{sound_comes, if_kept, unless_wrong, then_unless_wrong, meets, accused_by}
+use Rattle.dna_node.specs.Alone.{sound_comes, if_met, unless_wrong, then_unless_wrong, meets, accused_by}
 use Rattle.dna_node.specs.Alone.{StepAlone, Makes, Refuses}
 use Rattle.dna_node.specs.Alone as alone
 use Rattle.pair_judge.specs.declared.end_verdict.Accused.TheVariants.{OtherEnd}
@@ -45,21 +47,21 @@ module _ (step : (n : WireLayersNode) (front : ℕ) → StepAlone WireLayers) (s
 
 -- ---- a sound message
 
-module _ (top : JudgeTop) (s : WireLayers) (kept : Bool) (m : MessageValue) where
+module _ (top : JudgeTop) (s : WireLayers) (fate : Fate) (m : MessageValue) where
   abbrev arrives : Result WireLayers StepRefusal
-  arrives = top.alone.machine.arrives s (Sound m top.alone.unknown) kept
+  arrives = top.alone.machine.arrives s (Sound m top.alone.unknown) fate
 
-  sound_by : (o w : Option StepRefusal) → top.alone.wrong_unit s m ≡ o → if_kept kept (top.alone.wrong_taken s m) ≡ w →
-      (head : Head) (before front : ℕ) → sound_comes top.alone (node_at head s before) front kept m
+  sound_by : (o w : Option StepRefusal) → top.alone.wrong_unit s m ≡ o → if_met (is_met fate) (top.alone.wrong_taken s m) ≡ w →
+      (head : Head) (before front : ℕ) → sound_comes top.alone (node_at head s before) front fate m
       ≡ unless_wrong o (then_unless_wrong w (meets (node_at head s before) front arrives))
   sound_by o w unit taken head before front =
       ap (λ (x : Option StepRefusal). unless_wrong x
-      (then_unless_wrong (if_kept kept (top.alone.wrong_taken s m)) (meets (node_at head s before) front arrives))) unit
+      (then_unless_wrong (if_met (is_met fate) (top.alone.wrong_taken s m)) (meets (node_at head s before) front arrives))) unit
       ∙ ap (λ (x : Option StepRefusal). unless_wrong o (then_unless_wrong x (meets (node_at head s before) front arrives))) taken
 
   -- no right other end sends it
   pub accused_first : (s' : WireLayers) (refusal : StepRefusal) → top.alone.wrong_unit s m ≡ Some refusal →
-      SoundIs top (Fails OtherEnd refusal) s s' kept m
+      SoundIs top (Fails OtherEnd refusal) s s' fate m
   accused_first s' refusal unit = (λ head before front. sound_by (Some refusal) _ unit refl head before front, tt)
 
   -- none is accused: it is as the layers meet it
@@ -68,13 +70,13 @@ module _ (top : JudgeTop) (s : WireLayers) (kept : Bool) (m : MessageValue) wher
   free (Ok next) head before front = refl
   free (Err refusal) head before front = refl
 
-  pub none_accused : (head : Head) (before front : ℕ) → top.alone.wrong_unit s m ≡ None → if_kept kept (top.alone.wrong_taken s m) ≡ None →
-      sound_comes top.alone (node_at head s before) front kept m ≡ meets (node_at head s before) front arrives
+  pub none_accused : (head : Head) (before front : ℕ) → top.alone.wrong_unit s m ≡ None → if_met (is_met fate) (top.alone.wrong_taken s m) ≡ None →
+      sound_comes top.alone (node_at head s before) front fate m ≡ meets (node_at head s before) front arrives
   none_accused head before front unit taken = sound_by None None unit taken head before front ∙ free arrives head before front
 
   -- a packet that is taken is no right one
   pub accused_behind : (s' : WireLayers) (refusal : StepRefusal) → top.alone.wrong_unit s m ≡ None →
-      if_kept kept (top.alone.wrong_taken s m) ≡ Some refusal → arrives ≡ Ok s' → SoundIs top (Fails OtherEnd refusal) s s' kept m
+      if_met (is_met fate) (top.alone.wrong_taken s m) ≡ Some refusal → arrives ≡ Ok s' → SoundIs top (Fails OtherEnd refusal) s s' fate m
   accused_behind s' refusal unit taken met = (
     λ head before front. sound_by None (Some refusal) unit taken head before front
         ∙ ap (λ (r : Result WireLayers StepRefusal). then_unless_wrong (Some refusal) (meets (node_at head s before) front r)) met,
@@ -82,7 +84,7 @@ module _ (top : JudgeTop) (s : WireLayers) (kept : Bool) (m : MessageValue) wher
   )
 
   pub accused_met : (s' : WireLayers) (refusal : StepRefusal) → top.alone.wrong_unit s m ≡ None →
-      if_kept kept (top.alone.wrong_taken s m) ≡ Some refusal → IsOk arrives → SoundIs top (Fails OtherEnd refusal) s s' kept m
+      if_met (is_met fate) (top.alone.wrong_taken s m) ≡ Some refusal → IsOk arrives → SoundIs top (Fails OtherEnd refusal) s s' fate m
   accused_met s' refusal unit taken ok = (
     λ head before front. sound_by None (Some refusal) unit taken head before front ∙ stays head before front arrives ok,
     tt,
@@ -95,8 +97,8 @@ module _ (top : JudgeTop) (s : WireLayers) (kept : Bool) (m : MessageValue) wher
 
   -- and the layers refuse it first
   pub refused_first : (w : Option StepRefusal) (refusal : StepRefusal) (head : Head) (before front : ℕ) → top.alone.wrong_unit s m ≡ None →
-      if_kept kept (top.alone.wrong_taken s m) ≡ w → arrives ≡ Err refusal →
-      sound_comes top.alone (node_at head s before) front kept m ≡ meets (node_at head s before) front (Err refusal)
+      if_met (is_met fate) (top.alone.wrong_taken s m) ≡ w → arrives ≡ Err refusal →
+      sound_comes top.alone (node_at head s before) front fate m ≡ meets (node_at head s before) front (Err refusal)
   refused_first w refusal head before front unit taken met =
       sound_by None w unit taken head before front
       ∙ ap (λ (r : Result WireLayers StepRefusal). then_unless_wrong w (meets (node_at head s before) front r)) met

@@ -14,7 +14,7 @@ use Rattle.capture.specs.declared.entry.Entry.{Entry}
 use Rattle.capture.specs.declared.hint.HintForm.{HintForm}
 use Rattle.capture.specs.Entries.{record_with}
 use Rattle.capture.specs.Text.{form_after, record_line}
-use Rattle.capture.specs.Range.{IsRecord}
+use Rattle.capture.specs.Range.{IsInForm, IsRecord}
 use Rattle.capture.specs.Departing.{HeadDeparts, RecordDeparts}
 use Rattle.capture.specs.Lines.{to_come}
 use Rattle.capture.specs.Reader.{CaptureState, FaultShows, Opens, NextGives}
@@ -48,8 +48,8 @@ pub record GrowingLaws : Type 0 where
   pub opened : (text left : Option (List ℕ)) (state : CaptureState) → Opens text left (Ok state) →
       IsReadSoFar text (so_far state.form state.own state.peer [] (ToCome (to_come state.unread left)))
   pub one_more : (text before after : Option (List ℕ)) (form : HintForm) (own peer : ℕ) (rs : List Record) (r : Record) →
-      IsReadSoFar text (so_far form own peer rs (ToCome before)) → length rs < MAX_RECORDS → IsRecord r → Consumes before after (record_line form r)
-      → IsReadSoFar text (so_far (form_after form r) own peer (rs ++ r ∷ []) (ToCome after))
+      IsReadSoFar text (so_far form own peer rs (ToCome before)) → length rs < MAX_RECORDS → IsRecord r → Consumes before after (record_line form r) →
+      IsInForm form r → IsReadSoFar text (so_far (form_after form r) own peer (rs ++ r ∷ []) (ToCome after))
   pub ended : (text before : Option (List ℕ)) (form : HintForm) (own peer : ℕ) (rs : List Record) →
       IsReadSoFar text (so_far form own peer rs (ToCome before)) → IsAtEnd before → IsReadSoFar text (so_far form own peer rs TheEnd)
 
@@ -112,7 +112,7 @@ module _ (top : JudgeTop) where
     few = omega (arith, h.count, h.counted_there, gives.1)
 
     pub read_on : IsReadSoFar text (so_far new.form new.own new.peer (h.records ++ r ∷ []) (ToCome after))
-    read_on = rw (own, peer, gives.5) (laws.one_more text before after old.form old.own old.peer h.records r h.read few gives.0 gives.4)
+    read_on = rw (own, peer, gives.5) (laws.one_more text before after old.form old.own old.peer h.records r h.read few gives.0 gives.4 gives.6)
 
     same_head : head_in new ≡ head_in old
     same_head = ap₂ (λ (o p : ℕ). record { own = o; peer = p }) own peer

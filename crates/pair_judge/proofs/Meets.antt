@@ -1,6 +1,8 @@
 -- What both layers make of an arrival whose packet the links meet before the station does.
-use Rattle.std.proofs.Common.{◌≡◌, Bool, Option, Some, None, List, ℕ, Result, Ok, Err, refl, sym, ap, subst, ◌∙◌}
+use Rattle.std.proofs.Common.{◌≡◌, Bool, true, Option, Some, None, List, ℕ, Result, Ok, Err, refl, sym, ap, subst, ◌∙◌}
 use Rattle.std.specs.Result.{IsOk}
+use Rattle.capture.specs.declared.fate.Fate.{Fate}
+use Rattle.capture.specs.Fates.{is_kept, is_met}
 use Rattle.dna_station.specs.declared.tag.Tag.{Tag}
 use Rattle.dna_links.specs.declared.tag.LinkTag.{LinkTag}
 use Rattle.dna_links.specs.Links.{Carried}
@@ -37,32 +39,33 @@ module _ (rules : Rules) (s : WireLayers) (after : WireStation LinkTag) where
   keeps_under tag (Ok None) = refl
   keeps_under tag (Err refusal) = refl
 
-module _ (rules : Rules) (s : WireLayers) (link : Option LinkTag) (kept : Bool) (arrival : ArrivalValue Tag) (packet : List ℕ) (tag : LinkTag)
-    (free : wire_arrival_refusal rules.periods s.station arrival kept ≡ None) (taken : wire_taken s.station arrival kept ≡ Some packet)
+module _ (rules : Rules) (s : WireLayers) (link : Option LinkTag) (fate : Fate) (arrival : ArrivalValue Tag) (packet : List ℕ) (tag : LinkTag)
+    (met_is : is_met fate ≡ true) (free : wire_arrival_refusal rules.periods s.station arrival (is_kept fate) ≡ None)
+    (taken : wire_taken s.station arrival (is_kept fate) ≡ Some packet)
     (tag_is : tag ≡ tag_or_none link) where
   -- the links took it
   pub meets_kept : (met : WireLayers) → wire_keeps_packet rules s tag (content packet) ≡ Ok met → met.station ≡ s.station →
-      (wire_layers_machine rules).arrives s (with_link link arrival) kept ≡ Ok (record met { station = wire_after_arrival met.station arrival kept })
+      (wire_layers_machine rules).arrives s (with_link link arrival) fate ≡ Ok (record met { station = wire_after_arrival met.station arrival (is_kept fate) })
   meets_kept met keeps same =
-      let after = wire_after_arrival s.station arrival kept in
-      arrives_kept rules s link kept arrival packet after tag (Ok (record met { station = after })) free taken refl tag_is
+      let after = wire_after_arrival s.station arrival (is_kept fate) in
+      arrives_kept rules s link fate arrival packet after tag (Ok (record met { station = after })) met_is free taken refl tag_is
       (keeps_under rules s after tag (content packet) ∙ ap (under after) keeps)
-      ∙ ap (λ (w : WireStation LinkTag). Ok (record met { station = wire_after_arrival w arrival kept })) (sym same)
+      ∙ ap (λ (w : WireStation LinkTag). Ok (record met { station = wire_after_arrival w arrival (is_kept fate) })) (sym same)
 
   -- or would take it
-  pub meets_ok : IsOk (wire_keeps_packet rules s tag (content packet)) → IsOk ((wire_layers_machine rules).arrives s (with_link link arrival) kept)
+  pub meets_ok : IsOk (wire_keeps_packet rules s tag (content packet)) → IsOk ((wire_layers_machine rules).arrives s (with_link link arrival) fate)
   meets_ok ok =
-      let after = wire_after_arrival s.station arrival kept in
+      let after = wire_after_arrival s.station arrival (is_kept fate) in
       let keeps = wire_keeps_packet rules s tag (content packet) in
       subst IsOk
-      (sym (arrives_kept rules s link kept arrival packet after tag (under after keeps) free taken refl tag_is
+      (sym (arrives_kept rules s link fate arrival packet after tag (under after keeps) met_is free taken refl tag_is
       (keeps_under rules s after tag (content packet))))
       (under_ok after keeps ok)
 
   -- the links refused it
   pub meets_refused : (refusal : StepRefusal) → wire_keeps_packet rules s tag (content packet) ≡ Err refusal →
-      (wire_layers_machine rules).arrives s (with_link link arrival) kept ≡ Err refusal
+      (wire_layers_machine rules).arrives s (with_link link arrival) fate ≡ Err refusal
   meets_refused refusal refuses =
-      let after = wire_after_arrival s.station arrival kept in
-      arrives_kept rules s link kept arrival packet after tag (Err refusal) free taken refl tag_is
+      let after = wire_after_arrival s.station arrival (is_kept fate) in
+      arrives_kept rules s link fate arrival packet after tag (Err refusal) met_is free taken refl tag_is
       (keeps_under rules s after tag (content packet) ∙ ap (under after) refuses)

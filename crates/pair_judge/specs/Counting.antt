@@ -1,6 +1,7 @@
 -- Which records a summary counts where.
 use Rattle.std.specs.Prelude.{ℕ, ◌+◌, Bool, true, false}
 use Rattle.ddcmp_msg.specs.Reading.{ReadingValue, reading, Sound, HeaderBad, DataBad, Malformed}
+use Rattle.capture.specs.Fates as fates
 use Rattle.capture.specs.declared.record.Record.{Record}
 use Rattle.capture.specs.declared.record.Record.TheVariants.{Sent, Received, Noise, User}
 use Rattle.capture.specs.declared.event.Event.{Event}
@@ -8,7 +9,7 @@ use Rattle.capture.specs.declared.event.Event.TheVariants.{Start, Up}
 
 abbrev pub is_received : Record → Bool
 is_received (Sent bytes) = false
-is_received (Received hint kept bytes) = true
+is_received (Received hint fate bytes) = true
 is_received (Noise bytes) = true
 is_received (User event) = false
 
@@ -22,13 +23,13 @@ shows_damage (Malformed departure) = false
 -- noise is damage, or it is not made
 abbrev pub is_damaged : Record → Bool
 is_damaged (Sent bytes) = false
-is_damaged (Received hint kept bytes) = shows_damage (reading bytes)
+is_damaged (Received hint fate bytes) = shows_damage (reading bytes)
 is_damaged (Noise bytes) = true
 is_damaged (User event) = false
 
 abbrev pub is_kept : Record → Bool
 is_kept (Sent bytes) = false
-is_kept (Received hint kept bytes) = kept
+is_kept (Received hint fate bytes) = fates.is_kept fate
 is_kept (Noise bytes) = false
 is_kept (User event) = false
 
@@ -38,7 +39,7 @@ starts event = false
 
 abbrev pub is_start : Record → Bool
 is_start (Sent bytes) = false
-is_start (Received hint kept bytes) = false
+is_start (Received hint fate bytes) = false
 is_start (Noise bytes) = false
 is_start (User event) = starts event
 
@@ -49,7 +50,7 @@ delivers event = false
 
 abbrev pub is_delivery : Record → Bool
 is_delivery (Sent bytes) = false
-is_delivery (Received hint kept bytes) = false
+is_delivery (Received hint fate bytes) = false
 is_delivery (Noise bytes) = false
 is_delivery (User event) = delivers event
 

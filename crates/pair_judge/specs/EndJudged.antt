@@ -47,7 +47,7 @@ module _ (end : EndKind) where
     pub passes : end.judged (head_of read) read.records ≡ alone.Passed node
     pub counts : summary ≡ summary_with (end.links node.station) read.records
 
-  -- So much was read of the text. The named record is among it, and however the capture goes on behind it this record is the first that can't be
+  -- So much was read of the text. The named record is among it, and however the capture goes on after it, this record is the first that can't be
   -- made, by whom the answer names, for a refusal of the printed reason.
   pub record IsRefusedAlone (text : Option (List ℕ)) (place : ℕ) (accused : Accused) (reason : Reason) : Type 0 where
     pub read : ReadSoFar
@@ -57,7 +57,7 @@ module _ (end : EndKind) where
     pub is_reason : reason ≡ reason_of_step refusal
     pub refused : (all : List Record) → GoesOn read all → end.judged (head_of read) all ≡ alone.Refused place (accused_view accused) refusal
 
-  -- So much was read of the text, the line behind it departs, and all records before it were made.
+  -- So much was read of the text, the line after it departs, and all records before it were made.
   pub record IsFaultyAlone (text : Option (List ℕ)) (kind : Departure) (line : ℕ) : Type 0 where
     pub read : ReadSoFar
     pub from : IsReadSoFar text read
@@ -69,7 +69,7 @@ module _ (end : EndKind) where
   abbrev pub IsEndAnswer : Option (List ℕ) → EndAnswer → Type 0
   IsEndAnswer text (Ok (Passed summary)) = HasPassed text summary
   IsEndAnswer text (Ok (Refused place accused reason)) = IsRefusedAlone text place accused reason
-  -- the head's line departs, before any record; or the line behind the records that were read does
+  -- the head's line departs, before any record; or the line after the records that were read does
   IsEndAnswer text (Err (Departs kind line)) = HeadDepartsAt text kind line ⊎ IsFaultyAlone text kind line
   -- of a failed read the reader's count tells
   IsEndAnswer text (Err Read) = Unit {0}

@@ -37,7 +37,7 @@ layers_alone_by queues = record {
 abbrev pub layers_alone : EndKind
 layers_alone = layers_alone_by Without
 
--- there are no links, and what is shown of them is what stands before any record
+-- there are no links, and what is shown of them is what there is before any record
 abbrev pub station_alone : EndKind
 station_alone = record {
   Keeps = WireStation LinkTag;

@@ -4,6 +4,9 @@
 use Rattle.std.specs.Prelude.{ℕ, ◌-◌, slice_get, Bool, false, if◌then◌else◌, nat_lt, Option, Some, None, option_map, List, Result, Ok, Err}
 use Rattle.capture.specs.declared.event.Event.{Event}
 use Rattle.capture.specs.declared.event.Event.TheVariants as user
+use Rattle.capture.specs.declared.fate.Fate.{Fate}
+use Rattle.capture.specs.declared.fate.Fate.TheVariants.{NotKept}
+use Rattle.capture.specs.Fates.{is_kept, is_met}
 use Rattle.capture.specs.declared.record.Record.{Record}
 use Rattle.capture.specs.declared.record.Record.TheVariants.{Sent, Received, Noise, User}
 use Rattle.ddcmp_msg.specs.Message.{MessageValue}
@@ -95,10 +98,10 @@ failed_kept s (arriving.Sound m known) =
 failed_kept s HeaderBad = None
 failed_kept s DataBad = None
 
-abbrev pub failed_arrival : WireLayers → ArrivalValue LayersTag → (kept : Bool) → Option FailedCheck
-failed_arrival s arrival kept =
-    or_next (option_map failed.StationArrival (of_station.failed_arrival of_period s.station (to_wire_station arrival) kept))
-    (if kept then failed_kept s arrival else None)
+abbrev pub failed_arrival : WireLayers → ArrivalValue LayersTag → Fate → Option FailedCheck
+failed_arrival s arrival fate =
+    or_next (option_map failed.StationArrival (of_station.failed_arrival of_period s.station (to_wire_station arrival) (is_kept fate)))
+    (if is_met fate then failed_kept s arrival else None)
 
 abbrev pub failed_start : State → Option StationRefusal → Option FailedCheck
 failed_start state None = None
@@ -109,8 +112,13 @@ module _ (queues : Queues) where
   failed_at_links s None = None
   failed_at_links s (Some event) = option_map failed.LinkEvent (events.failed_event queues s.links event)
 
+  -- what is composed and never sent is to the links as if it were first sent
+  abbrev pub failed_composed : WireLayers → List ℕ → Option FailedCheck
+  failed_composed s packet = failed_packet (λ packet. option_map failed.LinkSending (sends.failed_sending queues s.links packet)) packet
+
   -- a start may be refused, and a halt is not
   abbrev pub failed_user : WireLayers → Event → Option FailedCheck
+  failed_user s (user.Composed packet) = failed_composed s packet
   failed_user s user.Start = failed_start s.station.variables.state (user_refusal s.station.variables.state Start)
   failed_user s event = failed_at_links s (link_event event)
 
@@ -124,24 +132,24 @@ module _ (queues : Queues) where
 
 abbrev pub failed_noise : WireLayers → Option (ArrivalValue LayersTag) → Option FailedCheck
 failed_noise s None = Some failed.Noise
-failed_noise s (Some arrival) = failed_arrival s arrival false
+failed_noise s (Some arrival) = failed_arrival s arrival NotKept
 
-abbrev pub failed_coming : WireLayers → (hint : ℕ) → (kept : Bool) → Option (ArrivalValue LayersTag) → Option FailedCheck
-failed_coming s hint kept None = Some (failed.Undetected hint)
-failed_coming s hint kept (Some arrival) = failed_arrival s arrival kept
+abbrev pub failed_coming : WireLayers → (hint : ℕ) → Fate → Option (ArrivalValue LayersTag) → Option FailedCheck
+failed_coming s hint fate None = Some (failed.Undetected hint)
+failed_coming s hint fate (Some arrival) = failed_arrival s arrival fate
 
 -- a record whose unit is not sent yet waits
-abbrev pub failed_receipt : WireLayers → (hint : ℕ) → (kept : Bool) → List ℕ → Option WireLayersUnit → Option FailedCheck
-failed_receipt s hint kept bytes None = None
-failed_receipt s hint kept bytes (Some unit) = failed_coming s hint kept (coming unit bytes)
+abbrev pub failed_receipt : WireLayers → (hint : ℕ) → Fate → List ℕ → Option WireLayersUnit → Option FailedCheck
+failed_receipt s hint fate bytes None = None
+failed_receipt s hint fate bytes (Some unit) = failed_coming s hint fate (coming unit bytes)
 
 -- of a node at this front, to which the line leads that holds these units from there on
 abbrev pub failed_record : Queues → WireLayers → (front : ℕ) → List WireLayersUnit → Record → Option FailedCheck
 failed_record queues s front units (Sent bytes) = failed_sent queues s (reading bytes)
-failed_record queues s front units (Received hint kept bytes) =
+failed_record queues s front units (Received hint fate bytes) =
     if nat_lt hint front
     then Some (failed.HintOrder hint front)
-    else failed_receipt s hint kept bytes (slice_get units (hint - front))
+    else failed_receipt s hint fate bytes (slice_get units (hint - front))
 failed_record queues s front units (Noise bytes) = failed_noise s (damage (reading bytes))
 failed_record queues s front units (User event) = failed_user queues s event
 

@@ -37,7 +37,7 @@ IsFirstOf reason (check ∷ checks) named = (IsOf reason check × (named ≡ che
 -- ---- of a pair
 
 abbrev pub hint_of : Option Record → Option ℕ
-hint_of (Some (Received hint kept bytes)) = Some hint
+hint_of (Some (Received hint fate bytes)) = Some hint
 hint_of (Some (Sent bytes)) = None
 hint_of (Some (Noise bytes)) = None
 hint_of (Some (User event)) = None
@@ -97,7 +97,7 @@ failed_bytes read = None
 
 -- Of a receipt its hint, a packet that is not taken, and its bytes; of another record those of a pair, for which nothing is asked of the line
 abbrev pub checks_alone : Queues → WireLayers → (front : ℕ) → Option Record → List (Option FailedCheck)
-checks_alone queues s front (Some (Received hint kept bytes)) =
+checks_alone queues s front (Some (Received hint fate bytes)) =
     Some (failed.HintOrder hint front) ∷ Some (failed.StationArrival Keep) ∷ failed_bytes (reading bytes) ∷ []
 checks_alone queues s front (Some (Sent bytes)) = failed_record queues s front [] (Sent bytes) ∷ []
 checks_alone queues s front (Some (Noise bytes)) = failed_record queues s front [] (Noise bytes) ∷ []

@@ -20,8 +20,8 @@ abbrev pub Begins : List Record → ReadSoFar → Type 0
 Begins made read = (rest : List Record) × (read.records ≡ made ++ rest)
 
 module _ (nodes : NodeKind) where
-  -- So much was read of the two texts, and the line behind it departs in that of this side; all records of that side that
-  -- stand before it, with those of the other side that were made, are a run.
+  -- So much was read of the two texts, and the line after it departs in that of this side; all records of that side that
+  -- come before it, with those of the other side that were made, are a run.
   pub record IsFaultyBehind (text_a text_b : Option (List ℕ)) (side : Side) (kind : Departure) (line : ℕ) : Type 0 where
     pub read_a : ReadSoFar
     pub read_b : ReadSoFar
@@ -35,7 +35,7 @@ module _ (nodes : NodeKind) where
     pub all_before : of_side side made_a made_b ≡ (of_side side read_a read_b).records
     pub run : IsRunOf nodes (head_of read_a) (head_of read_b) made_a made_b
 
-  -- the head's line departs, before any record; or the line behind the records that were read does
+  -- the head's line departs, before any record; or the line after the records that were read does
   abbrev pub IsFaultyText : Option (List ℕ) → Option (List ℕ) → Side → Departure → ℕ → Type 0
   IsFaultyText text_a text_b side kind line = HeadDepartsAt (of_side side text_a text_b) kind line ⊎ IsFaultyBehind text_a text_b side kind line
 

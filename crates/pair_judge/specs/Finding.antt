@@ -1,4 +1,4 @@
--- What was found of two texts: the finding of all captures that go on behind what was read of them.
+-- What was found of two texts: the finding of all captures that go on after what was read of them.
 use Rattle.std.specs.Prelude.{◌≡◌, ℕ, List, Option}
 use Rattle.wire_base.specs.declared.side.Side.{Side}
 use Rattle.wire_base.specs.declared.side.Side.TheVariants.{A, B}
@@ -47,7 +47,7 @@ module _ (kind : NodeKind) where
     pub verdict : IsVerdict kind head_a head_b of_a of_b finding
     pub first : IsFirst head_a head_b of_a of_b finding
 
-  -- however the captures go on behind what was read
+  -- however the captures go on after what was read
   abbrev pub IsFindingBehind : ReadSoFar → ReadSoFar → Finding → Type 0
   IsFindingBehind read_a read_b finding =
       (all_a all_b : List Record) → GoesOn read_a all_a → GoesOn read_b all_b → IsFinding (head_of read_a) (head_of read_b) all_a all_b finding
@@ -58,7 +58,7 @@ module _ (kind : NodeKind) where
     pub counts_a : summary.a ≡ summary_of kind run.0.a.state of_a
     pub counts_b : summary.b ≡ summary_of kind run.0.b.state of_b
 
-  -- So much was read of the two texts, and of whatever goes on behind it this is the finding; an acceptance comes with the
+  -- So much was read of the two texts, and this is the finding of whatever goes on after it; an acceptance comes with the
   -- counts of all records.
   pub record IsFoundIn (text_a text_b : Option (List ℕ)) (found : Found) : Type 0 where
     pub read_a : ReadSoFar

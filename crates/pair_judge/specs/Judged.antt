@@ -98,7 +98,7 @@ module _ (nodes : NodeKind) where
   IsFaultyWhere text_a text_b (Err (Capture side Read)) = Unit {0}
   IsFaultyWhere text_a text_b (Err OutOfMemory) = Unit {0}
 
-  -- All that is said of an answer but for the readers' counts
+  -- All that is said of an answer except the readers' counts
   pub record IsAnswer (text_a text_b : Option (List ℕ)) (answer : Answer) : Type 0 where
     pub exact : IfTold text_a text_b (λ bytes_a bytes_b. IsExact bytes_a bytes_b answer)
     pub accepted : IfTold text_a text_b (λ bytes_a bytes_b. IsAcceptance bytes_a bytes_b answer)

@@ -19,7 +19,7 @@ use Rattle.pair_judge.specs.Finding.{EndsFor, IsFindingBehind, IsFirst, of_side}
 use Rattle.pair_judge.specs.Reason.{reason_of}
 
 module _ (kind : NodeKind) where
-  -- So much was read of the two texts, which may be faulty, endless or untold behind it. The named record is among what was read,
+  -- So much was read of the two texts, which may be faulty, endless or untold after it. The named record is among what was read,
   -- and the printed reason is that of a cause which is the verdict however the captures go on: they are no run, and
   --   the record offends: all that it rests on can be made, and then it can't, for this reason; or
   --   it names a unit that the other side, whose text was read to its end, never sends, though all records of that side and the
@@ -44,7 +44,7 @@ pub record WholeCapture : Type 0 where
   pub head : Head
   pub records : List Record
 
--- these bytes are their texts, each in either format
+-- these bytes are their texts, each in any format
 pub record AreTexts (a b : WholeCapture) (bytes_a bytes_b : List ℕ) : Type 0 where
   pub of_a : IsText a.head.own a.head.peer a.records bytes_a
   pub of_b : IsText b.head.own b.head.peer b.records bytes_b
@@ -57,8 +57,8 @@ module _ (kind : NodeKind) where
     pub offends : Offends (kind_pair kind) (kind_start kind (of_side side a.head b.head) (of_side side b.head a.head))
         (of_side side a.records b.records) (of_side side b.records a.records) place refusal
 
-  -- the captures are no run; a cause of this reason is the verdict; a record of b is named only where none of a offends; and but
-  -- for two reasons the named record offends
+  -- the captures are no run; a cause of this reason is the verdict; a record of b is named only where none of a offends; and,
+  -- except for two reasons, the named record offends
   pub record AreRefused (a b : WholeCapture) (side : Side) (place : ℕ) (reason : Reason) : Type 0 where
     pub no_run : ¬ IsRunOf kind a.head b.head a.records b.records
     pub cause : Cause

@@ -106,7 +106,7 @@ impl Course {
         let Ahead::Waits(entry) = self.ahead else {
             return false;
         };
-        let Entry::Received { kept: _, hint } = entry else {
+        let Entry::Received { fate: _, hint } = entry else {
             return false;
         };
         if hint < incoming.gone {

@@ -19,7 +19,7 @@ pub enum EndVerdict {
     Passed(SideSummary),
     /// One can't be made, whatever the other capture may be.
     Refused {
-        /// Its number, from 0 on; it stands on line `place + 2`.
+        /// Its number, from 0 on; it is on line `place + 2`.
         place: u64,
         /// Who broke the rule.
         accused: Accused,

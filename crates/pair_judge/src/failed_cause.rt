@@ -44,7 +44,7 @@ impl FailedCheck {
     }
 }
 
-/// This check, if there is one of this reason, and else what was found of those behind it.
+/// This check, if there is one of this reason, and otherwise what was found of those after it.
 pub fn of_reason(
     reason: Reason,
     check: Option<FailedCheck>,
@@ -109,6 +109,7 @@ fn link_event(failed: FailedLinkEvent) -> LinkRefusal
         FailedLinkEvent::AddressInUse { .. } => LinkRefusal::AddressInUse,
         FailedLinkEvent::TakesMessages { .. } => LinkRefusal::LinkState,
         FailedLinkEvent::IsConnected { .. } => LinkRefusal::LinkState,
+        FailedLinkEvent::IsCalling { .. } => LinkRefusal::LinkState,
         FailedLinkEvent::Delivery { .. } => LinkRefusal::WrongDelivery,
     }
 }

@@ -16,7 +16,7 @@ use crate::held_link::HeldLink;
 use crate::layers::Layers;
 use crate::line::Line;
 use crate::receipt::coming;
-use capture::Entry;
+use capture::{Entry, Fate};
 use ddcmp_msg::{Reading, read_unit};
 use ddcmp_station::Arrival;
 use nsp_link::LinkEvent;
@@ -33,8 +33,8 @@ pub fn failed_record<const QUEUES: u8>(
     ensures { result ≡ spec.failed_record (queues_of QUEUES) layers.now incoming.now.gone (held incoming.now) (record_with entry bytes.now) }
 {
     match entry {
-        Entry::Received { kept, hint } => failed_receipt::<QUEUES>(
-            layers, incoming, hint, kept, bytes,
+        Entry::Received { fate, hint } => failed_receipt::<QUEUES>(
+            layers, incoming, hint, fate, bytes,
         ),
         _ => failed_own::<QUEUES>(layers, entry, bytes),
     }
@@ -75,6 +75,10 @@ pub fn failed_own<const QUEUES: u8>(
             })
         }
         Entry::Close { link } => layers.failed_link_event::<QUEUES>(LinkEvent::Close { link }),
+        Entry::Boot => layers.failed_link_event::<QUEUES>(LinkEvent::Boot),
+        Entry::Abort { link } => layers.failed_link_event::<QUEUES>(LinkEvent::Abort { link }),
+        Entry::Composed => layers.failed_composed::<QUEUES>(bytes),
+        Entry::Interrupt { .. } | Entry::Interrupted { .. } => None,
     }
 }
 
@@ -97,10 +101,10 @@ fn failed_receipt<const QUEUES: u8>(
     layers: &Layers,
     incoming: &Line,
     hint: u64,
-    kept: bool,
+    fate: Fate,
     bytes: &[u8],
 ) -> Option<FailedCheck>
-    ensures { result ≡ spec.failed_record (queues_of QUEUES) layers.now incoming.now.gone (held incoming.now) (Record.Received hint kept bytes.now) }
+    ensures { result ≡ spec.failed_record (queues_of QUEUES) layers.now incoming.now.gone (held incoming.now) (Record.Received hint fate bytes.now) }
 {
     if hint < incoming.gone {
         return Some(FailedCheck::HintOrder {
@@ -114,7 +118,7 @@ fn failed_receipt<const QUEUES: u8>(
     let Some(arrival) = coming(&unit, bytes) else {
         return Some(FailedCheck::Undetected { unit: hint });
     };
-    layers.failed_arrival(arrival, unit.link(), kept)
+    layers.failed_arrival(arrival, unit.link(), fate)
 }
 
 // Bytes that nobody sent.
@@ -123,8 +127,8 @@ fn failed_noise(layers: &Layers, bytes: &[u8]) -> Option<FailedCheck>
 {
     let no_tag = HeldLink::new(&None);
     match read_unit(bytes) {
-        Reading::HeaderBad => layers.failed_arrival(Arrival::HeaderBad, &no_tag, false),
-        Reading::DataBad => layers.failed_arrival(Arrival::DataBad, &no_tag, false),
+        Reading::HeaderBad => layers.failed_arrival(Arrival::HeaderBad, &no_tag, Fate::NotKept),
+        Reading::DataBad => layers.failed_arrival(Arrival::DataBad, &no_tag, Fate::NotKept),
         Reading::Sound(_) => Some(FailedCheck::Noise),
         Reading::Malformed(_) => Some(FailedCheck::Noise),
     }

@@ -35,9 +35,9 @@ pub fn judged_in_any_format()
     whole_text();
 }
 
-/// What is judged of the nodes and what is judged of the line alone, of the same two texts. Where `judge` accepts them, `judge_line` does, but
-/// for want of memory and a failed read; so what `judge_line` refuses, `judge` never accepts, and of the texts of two captures it
-/// refuses them too, but for such a fault.
+/// What is judged of the nodes and what is judged of the line alone, of the same two texts. Where `judge` accepts them, `judge_line` does too,
+/// unless memory runs out or a read fails; so what `judge_line` refuses, `judge` never accepts, and of the texts of two captures it
+/// refuses them too, except for such a fault.
 pub fn line_is_judged_too()
     ensures accepted { (bytes_a bytes_b : List ℕ) (summary : Summary) (line : Answer) →
         IsAnswer both_layers (Some bytes_a) (Some bytes_b) (Ok (Accepted summary)) → IsAnswer stations_alone (Some bytes_a) (Some bytes_b) line →
@@ -51,7 +51,7 @@ pub fn line_is_judged_too()
 }
 
 /// What is judged of nodes without queues and of nodes with them, of the same two texts. Where `judge` accepts them, `judge_queued` does, with the
-/// same counts, but for want of memory and a failed read.
+/// same counts, unless memory runs out or a read fails.
 pub fn judged_with_queues_too()
     ensures { (bytes_a bytes_b : List ℕ) (summary : Summary) (queued : Answer) →
         IsAnswer both_layers (Some bytes_a) (Some bytes_b) (Ok (Accepted summary)) →

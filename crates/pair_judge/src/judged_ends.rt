@@ -18,9 +18,9 @@ use nsp_link::LinkView;
 use std::marker::Model;
 use wire_base::Side;
 
-/// The judge's verdict on two captures, with both ends as they are where it is given. Where a record is refused, they stand where it
-/// comes next: nothing of it is in their numbers, also where the station alone would allow it. Where a record waits for a unit that is
-/// never sent, or both sides wait, they stand where they wait. A contract sees what is shown of both.
+/// The judge's verdict on two captures, with both ends as they are where it is given. Where a record is refused, they are where it
+/// comes next: nothing of it is in their numbers, even where the station alone would allow it. Where a record waits for a unit that is
+/// never sent, or both sides wait, they are where they wait. A contract sees what is shown of both.
 #[derive(Drop)]
 pub struct JudgedEnds {
     verdict: Verdict,

@@ -59,22 +59,22 @@ pub struct Found {
 ///
 /// Both texts are opened, a's first. Then a record is read only when its turn comes: side a's next one as long as a is
 /// neither blocked nor at its end, and otherwise one of b; a side is blocked where its next record is the receipt of a unit not
-/// yet sent. So a fault that stands behind the record of a refusal is not met. Of each direction only the units above the last
+/// yet sent. So a fault that comes after the record of a refusal is not met. Of each direction only the units above the last
 /// hint received are held.
 ///
 /// `Accepted`: both texts are texts of captures, all records of both are one run of two nodes whose numbers have no bound, what
 /// was delivered to each side is, in order, of what the other was offered, and on each link of what its partner was handed, and the
-/// summary is the counts of the records and of the links. Of two texts of captures that are a run nothing else is answered, but for
+/// summary is the counts of the records and of the links. Of two texts of captures that are a run nothing else is answered, apart from
 /// want of memory and a failed read.
 ///
-/// `Refused`: however the texts go on behind what was read of them by then, they are no run, and the named record is the place:
+/// `Refused`: however the texts go on after what was read of them by then, they are no run, and the named record is the place:
 /// it can't be made for this reason though all that it rests on can; or it waits for a unit that is never sent (`NoSuchUnit`); or
 /// neither side can go on (`NoOrder`). Where a record of each side can't be made, that of a is named; so the records alone tell what is
 /// answered, in whichever format they are spelled (`judged_in_any_format`).
 ///
 /// `Capture`: the line of that side departs from the format as named, and all records before it, with those of the other side that
 /// were made, are a run; or a read of that side failed. `OutOfMemory`: an allocation was refused. At every answer but a failed read of a
-/// side the count of its reader's failed calls stands as it stood. After any answer the readers have given what was read ahead,
+/// side the count of its reader's failed calls stays as it was. After any answer the readers have given what was read ahead,
 /// and nothing is said of the rest.
 ///
 /// The contract says nothing of when `OutOfMemory` is answered, nor of the order of reading.
@@ -100,7 +100,7 @@ pub fn judge<R: Read, S: Read>(
 
 /// Decides the same of two stations alone: whether the two texts are captures that together are a run of two DDCMP stations over such a
 /// line. A packet is any bytes and is not read, so that it may be one of another layer or of a third node; and the events of the links,
-/// `u open` to `u up`, may stand anywhere and are not judged. The reasons are those of stations and line.
+/// `u open` to `u up`, may come anywhere and are not judged. The reasons are those of stations and line.
 ///
 /// All that is said of `judge` holds, with "DDCMP stations" for "nodes": the same texts are read in the same order, and refused, faulty
 /// and want of memory mean the same. `Accepted`: what was delivered to each side is, in every period and in order, of the packets that

@@ -34,15 +34,15 @@ use wire_base::{Side, Tally};
 /// Decides of the text that a reader gives up to its end whether it is a capture whose records a node of a pair can make, whatever the capture
 /// of the other end may be: what came is taken as what the other end sent, and of hints it is only asked that they rise.
 ///
-/// `Passed`: the text is a capture, and all of its records were made; their counts. Of such a text nothing else is answered, but for want of
+/// `Passed`: the text is a capture, and all of its records were made; their counts. Of such a text nothing else is answered, apart from want of
 /// memory and a failed read.
 ///
-/// `Refused`: however the text goes on behind what was read of it by then, the named record is the first that can't be made: this end breaks the
+/// `Refused`: however the text goes on after what was read of it by then, the named record is the first that can't be made: this end breaks the
 /// rule in it, or the other end did in what came. No such capture is a side of a run, whatever the other one is (`refused_alone_is_final`).
 ///
 /// `Departs`: the line departs from the format as named, and all records before it were made. `Read`: a read failed; at any other answer
-/// the count of the reader's failed calls stands. `OutOfMemory`: an allocation was refused, for a reader's block or its room for bytes, the station's
-/// window, a packet, a link, a message that was handed in, or a segment that is held.
+/// the count of the reader's failed calls stays as it was. `OutOfMemory`: an allocation was refused, for a reader's block or its room for bytes, the
+/// station's window, a packet, a link, a message that was handed in, or a segment that is held.
 pub fn judge_end<R: Read>(alloc: Global, a: &mut Tally<R>) -> Result<EndVerdict, CaptureFault>
     ensures judged { IsJudgedAlone layers_alone (R.remaining (tally_lent a.old)) result }
     ensures first { IfErr result (λ fault. fault ≢ CaptureFault.Failed) }
@@ -52,7 +52,7 @@ pub fn judge_end<R: Read>(alloc: Global, a: &mut Tally<R>) -> Result<EndVerdict,
 }
 
 /// Decides the same of a station alone: a packet is any bytes and is not read, so that it may be one of another layer or of a third node; and the
-/// events of the links, `u open` to `u up`, may stand anywhere and are not judged. The reasons are those of stations and line, and the other end
+/// events of the links, `u open` to `u up`, may come anywhere and are not judged. The reasons are those of stations and line, and the other end
 /// is accused of `NotAMessage` and `WrongResponse` alone.
 ///
 /// All that is said of `judge_end` holds, with "DDCMP station" for "node"; in the summary `links` is 0, and `up` counts lines that were not judged.

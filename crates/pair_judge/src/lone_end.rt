@@ -1,6 +1,7 @@
 //! One end whose other side is not known, as far as the judge has gone along its capture.
 
 ghost use Rattle.std.specs.Prelude.{◌≡◌, ◌+◌, ◌≤◌, [], IfOk};
+ghost use Rattle.capture.specs.declared.event.Event.TheVariants as Event;
 ghost use Rattle.capture.specs.declared.record.Record.TheVariants as Record;
 ghost use Rattle.capture.specs.Entries.{record_with};
 ghost use Rattle.capture.specs.Range.{NumbersFit};
@@ -8,10 +9,10 @@ ghost use Rattle.capture.specs.declared.limit.TheConstants.{MAX_HINT};
 ghost use Rattle.dna_links.specs.User.{view};
 ghost use Rattle.dna_node.specs.WireLayers.{new_wire_layers_node};
 ghost use Rattle.pair_judge.specs.Counting.{delivers};
-ghost use Rattle.pair_judge.specs.Events.{event_of_station, event_of_links};
+ghost use Rattle.pair_judge.specs.Events.{IsOfOneLink, event_of_station, event_of_links};
 ghost use Rattle.pair_judge.specs.Summary.{counts_of};
 ghost use Rattle.pair_judge.specs.inner.LoneEnd.{HasRoomAlone, IfFailsAlone, MadeAloneIs, node_of_end, summary_of_end};
-ghost use Rattle.pair_judge.specs.inner.Making.{IsEvent};
+ghost use Rattle.pair_judge.specs.inner.Making.{IsCarriedEntry, IsEvent};
 
 mod receiving;
 
@@ -22,7 +23,7 @@ use crate::noise::hear;
 use crate::step_fault::StepFault;
 use crate::summary::SideSummary;
 use crate::top::Top;
-use capture::Entry;
+use capture::{Entry, Fate};
 use ddcmp_msg::{Reading, read_unit};
 use ddcmp_station::StationEvent;
 use dna_station::{Head, StepRefusal};
@@ -87,7 +88,7 @@ impl LoneEnd {
     {
         match entry {
             Entry::Sent => self.make_sent::<T>(bytes),
-            Entry::Received { kept, hint } => self.make_received::<T>(hint, kept, bytes),
+            Entry::Received { fate, hint } => self.make_received::<T>(hint, fate, bytes),
             Entry::Noise => Ok(self.make_noise::<T>(bytes)),
             _ => self.make_event::<T>(entry, bytes),
         }
@@ -117,21 +118,21 @@ impl LoneEnd {
     fn make_received<T: Top>(
         &mut self,
         hint: u64,
-        kept: bool,
+        fate: Fate,
         bytes: &[u8],
     ) -> Result<MadeAlone, AllocError>
         requires room { HasRoomAlone self.old }
         requires hint { hint ≤ MAX_HINT }
-        ensures made { IfOk result (λ made. MadeAloneIs T.top made self.old self.new (Record.Received hint kept bytes.now)) }
+        ensures made { IfOk result (λ made. MadeAloneIs T.top made self.old self.new (Record.Received hint fate bytes.now)) }
         ensures still { IfOk result (λ made. IfFailsAlone made (self.new ≡ self.old)) }
     {
         if hint < self.front {
             return Ok(by_this_end(StepRefusal::HintOrder));
         }
-        match receive::<T>(&mut self.layers, kept, bytes) {
+        match receive::<T>(&mut self.layers, fate, bytes) {
             Ok(Came::Done { damaged }) => {
                 self.front = hint + 1;
-                self.counts = self.counts.with_receipt(damaged, kept);
+                self.counts = self.counts.with_receipt(damaged, fate.is_kept());
                 Ok(MadeAlone::Done)
             }
             Ok(Came::Fails { accused, refusal }) => Ok(MadeAlone::Fails { accused, refusal }),
@@ -181,6 +182,12 @@ impl LoneEnd {
                 self.make_link_event::<T>(LinkEvent::Up { link, message })
             }
             Entry::Close { link } => self.make_link_event::<T>(LinkEvent::Close { link }),
+            Entry::Boot => Ok(self.make_boot::<T>()),
+            Entry::Abort { link } => self.make_link_event::<T>(LinkEvent::Abort { link }),
+            Entry::Composed => self.make_composed::<T>(bytes),
+            Entry::Interrupt { .. } | Entry::Interrupted { .. } => {
+                Ok(self.make_carried::<T>(entry, bytes))
+            }
             Entry::Sent | Entry::Received { .. } | Entry::Noise => unreachable!(),
         }
     }
@@ -200,8 +207,48 @@ impl LoneEnd {
         }
     }
 
-    fn make_link_event<T: Top>(&mut self, event: LinkEvent) -> Result<MadeAlone, AllocError>
+    fn make_boot<T: Top>(&mut self) -> MadeAlone
         requires { HasRoomAlone self.old }
+        ensures made { MadeAloneIs T.top result self.old self.new (Record.User Event.Boot) }
+        ensures still { IfFailsAlone result (self.new ≡ self.old) }
+    {
+        T::shows_alone();
+        T::boot(&mut self.layers);
+        self.counts = self.counts.with_link_event(false);
+        MadeAlone::Done
+    }
+
+    fn make_composed<T: Top>(&mut self, packet: &[u8]) -> Result<MadeAlone, AllocError>
+        requires { HasRoomAlone self.old }
+        ensures made { IfOk result (λ made. MadeAloneIs T.top made self.old self.new (Record.User (Event.Composed packet.now))) }
+        ensures still { IfOk result (λ made. IfFailsAlone made (self.new ≡ self.old)) }
+    {
+        T::shows_alone();
+        match T::composed(&mut self.layers, packet) {
+            Ok(()) => {
+                self.counts = self.counts.with_link_event(false);
+                Ok(MadeAlone::Done)
+            }
+            Err(StepFault::Refused(refusal)) => Ok(by_this_end(refusal)),
+            Err(StepFault::OutOfMemory) => Err(AllocError),
+        }
+    }
+
+    fn make_carried<T: Top>(&mut self, entry: Entry, bytes: &[u8]) -> MadeAlone
+        requires room { HasRoomAlone self.old }
+        requires carried { IsCarriedEntry entry }
+        ensures made { MadeAloneIs T.top result self.old self.new (record_with entry bytes.now) }
+        ensures still { IfFailsAlone result (self.new ≡ self.old) }
+    {
+        T::shows_alone();
+        T::carries();
+        self.counts = self.counts.with_link_event(false);
+        MadeAlone::Done
+    }
+
+    fn make_link_event<T: Top>(&mut self, event: LinkEvent) -> Result<MadeAlone, AllocError>
+        requires room { HasRoomAlone self.old }
+        requires one { IsOfOneLink (view event) }
         ensures made { IfOk result (λ made. MadeAloneIs T.top made self.old self.new (Record.User (event_of_links (view event.entry)))) }
         ensures still { IfOk result (λ made. IfFailsAlone made (self.new ≡ self.old)) }
     {

@@ -2,18 +2,19 @@
 
 ghost use Rattle.std.specs.Prelude.{◌≡◌, ◌≤◌, Some, IfOk, IfErr};
 ghost use Rattle.ddcmp_msg.specs.Reading.{IsSound, reading};
+ghost use Rattle.capture.specs.declared.event.Event.TheVariants as Event;
 ghost use Rattle.capture.specs.declared.record.Record.TheVariants as Record;
 ghost use Rattle.capture.specs.Entries.{record_with};
 ghost use Rattle.capture.specs.Range.{NumbersFit};
 ghost use Rattle.capture.specs.declared.limit.TheConstants.{MAX_HINT};
 ghost use Rattle.dna_links.specs.User.{view};
 ghost use Rattle.pair_judge.specs.Counting.{delivers, shows_damage};
-ghost use Rattle.pair_judge.specs.Events.{event_of_station, event_of_links};
+ghost use Rattle.pair_judge.specs.Events.{IsOfOneLink, event_of_station, event_of_links};
 ghost use Rattle.pair_judge.specs.inner.Lines.{Shows};
 ghost use Rattle.pair_judge.specs.Summary.{HasRoom};
 ghost use Rattle.pair_judge.specs.declared.line.Line.{Line};
 ghost use Rattle.pair_judge.specs.inner.Memory.{MayEnter, MayKeep, MaySend, MayTakeMemory};
-ghost use Rattle.pair_judge.specs.inner.Making.{IfFails, IfSound, IsEvent, LeavesWaiting, MadeIs, NeverWaits, StandsFor, move};
+ghost use Rattle.pair_judge.specs.inner.Making.{IfFails, IfSound, IsCarriedEntry, IsEvent, LeavesWaiting, MadeIs, NeverWaits, StandsFor, move};
 ghost use Rattle.pair_judge.specs.inner.Wire.{JudgeHalf};
 
 use crate::end::End;
@@ -23,7 +24,7 @@ use crate::receipt::{Receipt, receive};
 use crate::sending::send;
 use crate::step_fault::StepFault;
 use crate::top::Top;
-use capture::Entry;
+use capture::{Entry, Fate};
 use ddcmp_station::StationEvent;
 use dna_station::StepRefusal;
 use nsp_link::LinkEvent;
@@ -67,7 +68,7 @@ pub fn make<T: Top>(
 {
     match entry {
         Entry::Sent => make_sent::<T>(alloc, own, bytes),
-        Entry::Received { kept, hint } => make_received::<T>(own, incoming, hint, kept, bytes),
+        Entry::Received { fate, hint } => make_received::<T>(own, incoming, hint, fate, bytes),
         Entry::Noise => Ok(make_noise::<T>(own, bytes)),
         _ => make_event_copied::<T>(own, entry, bytes),
     }
@@ -128,6 +129,12 @@ fn make_event<T: Top>(own: &mut End, entry: Entry, bytes: &[u8]) -> Result<Made,
             make_link_event::<T>(own, LinkEvent::Up { link, message })
         }
         Entry::Close { link } => make_link_event::<T>(own, LinkEvent::Close { link }),
+        Entry::Boot => Ok(make_boot::<T>(own)),
+        Entry::Abort { link } => make_link_event::<T>(own, LinkEvent::Abort { link }),
+        Entry::Composed => make_composed::<T>(own, bytes),
+        Entry::Interrupt { .. } | Entry::Interrupted { .. } => Ok(make_carried::<T>(
+            own, entry, bytes,
+        )),
         Entry::Sent | Entry::Received { .. } | Entry::Noise => unreachable!(),
     }
 }
@@ -162,24 +169,25 @@ fn make_received<T: Top>(
     own: &mut End,
     incoming: &mut Line,
     hint: u64,
-    kept: bool,
+    fate: Fate,
     bytes: &[u8],
 ) -> Result<Made, AllocError>
     requires room { HasRoom own.old }
     requires hint { hint ≤ MAX_HINT }
     ensures made { IfOk result (λ made. (mine theirs : JudgeHalf) →
         StandsFor own.old incoming.old mine → Shows incoming.old theirs.sent →
-        MadeIs T.top made (move own.old own.new incoming.old incoming.new) (Record.Received hint kept bytes.now) mine theirs) }
+        MadeIs T.top made (move own.old own.new incoming.old incoming.new) (Record.Received hint fate bytes.now) mine theirs) }
     ensures sound { IfOk result (λ made. IfSound made (IsSound (reading bytes.now))) }
     ensures waits { IfOk result (λ made. LeavesWaiting made (move own.old own.new incoming.old incoming.new)) }
     ensures counts { IfOk result (λ made. IfFails made (own.new.counts ≡ own.old.counts)) }
     ensures still { IfOk result (λ made. IfFails made (own.new ≡ own.old)) }
     ensures same_line { IfOk result (λ made. IfFails made (incoming.new ≡ incoming.old)) }
-    ensures memory { IfErr result (λ _. MayKeep kept (shows_damage (reading bytes.now))) }
+    ensures memory { IfErr result (λ _. MayKeep fate (shows_damage (reading bytes.now))) }
     ensures head { own.new.head ≡ own.old.head }
 {
-    match receive::<T>(&mut own.layers, incoming, hint, kept, bytes) {
+    match receive::<T>(&mut own.layers, incoming, hint, fate, bytes) {
         Ok(Receipt::Done { damaged }) => {
+            let kept = fate.is_kept();
             own.counts = own.counts.with_receipt(damaged, kept);
             Ok(Made::Done { sound: !damaged })
         }
@@ -234,7 +242,8 @@ fn make_station_event<T: Top>(own: &mut End, event: StationEvent) -> Made
 
 #[inline(always)]
 fn make_link_event<T: Top>(own: &mut End, event: LinkEvent) -> Result<Made, AllocError>
-    requires { HasRoom own.old }
+    requires room { HasRoom own.old }
+    requires one { IsOfOneLink (view event) }
     ensures made { IfOk result (λ made. (incoming : Line) (mine theirs : JudgeHalf) →
         StandsFor own.old incoming mine → Shows incoming theirs.sent →
         MadeIs T.top made (move own.old own.new incoming incoming) (Record.User (event_of_links (view event.entry))) mine theirs) }
@@ -255,6 +264,66 @@ fn make_link_event<T: Top>(own: &mut End, event: LinkEvent) -> Result<Made, Allo
         Err(StepFault::Refused(refusal)) => Ok(Made::Fails(refusal)),
         Err(StepFault::OutOfMemory) => Err(AllocError),
     }
+}
+
+// The node starts anew.
+#[inline(always)]
+fn make_boot<T: Top>(own: &mut End) -> Made
+    requires { HasRoom own.old }
+    ensures made { (incoming : Line) (mine theirs : JudgeHalf) →
+        StandsFor own.old incoming mine → Shows incoming theirs.sent →
+        MadeIs T.top result (move own.old own.new incoming incoming) (Record.User Event.Boot) mine theirs }
+    ensures sound { IfSound result ⊥ }
+    ensures waits { NeverWaits result }
+    ensures counts { IfFails result (own.new.counts ≡ own.old.counts) }
+    ensures still { IfFails result (own.new ≡ own.old) }
+    ensures head { own.new.head ≡ own.old.head }
+{
+    T::boot(&mut own.layers);
+    own.counts = own.counts.with_link_event(false);
+    Made::Done { sound: false }
+}
+
+// A packet is composed that will never be sent.
+#[inline(always)]
+fn make_composed<T: Top>(own: &mut End, packet: &[u8]) -> Result<Made, AllocError>
+    requires { HasRoom own.old }
+    ensures made { IfOk result (λ made. (incoming : Line) (mine theirs : JudgeHalf) →
+        StandsFor own.old incoming mine → Shows incoming theirs.sent →
+        MadeIs T.top made (move own.old own.new incoming incoming) (Record.User (Event.Composed packet.now)) mine theirs) }
+    ensures sound { IfOk result (λ made. IfSound made ⊥) }
+    ensures waits { IfOk result NeverWaits }
+    ensures counts { IfOk result (λ made. IfFails made (own.new.counts ≡ own.old.counts)) }
+    ensures still { IfOk result (λ made. IfFails made (own.new ≡ own.old)) }
+    ensures head { own.new.head ≡ own.old.head }
+{
+    match T::composed(&mut own.layers, packet) {
+        Ok(()) => {
+            own.counts = own.counts.with_link_event(false);
+            Ok(Made::Done { sound: false })
+        }
+        Err(StepFault::Refused(refusal)) => Ok(Made::Fails(refusal)),
+        Err(StepFault::OutOfMemory) => Err(AllocError),
+    }
+}
+
+// An event that is carried, and not judged.
+#[inline(always)]
+fn make_carried<T: Top>(own: &mut End, entry: Entry, bytes: &[u8]) -> Made
+    requires room { HasRoom own.old }
+    requires carried { IsCarriedEntry entry }
+    ensures made { (incoming : Line) (mine theirs : JudgeHalf) →
+        StandsFor own.old incoming mine → Shows incoming theirs.sent →
+        MadeIs T.top result (move own.old own.new incoming incoming) (record_with entry bytes.now) mine theirs }
+    ensures sound { IfSound result ⊥ }
+    ensures waits { NeverWaits result }
+    ensures counts { IfFails result (own.new.counts ≡ own.old.counts) }
+    ensures still { IfFails result (own.new ≡ own.old) }
+    ensures head { own.new.head ≡ own.old.head }
+{
+    T::carries();
+    own.counts = own.counts.with_link_event(false);
+    Made::Done { sound: false }
 }
 
 // Whether a message is delivered.

@@ -9,6 +9,7 @@ use crate::held_link::HeldLink;
 use crate::layers::Layers;
 use crate::step_fault::StepFault;
 use crate::top::Top;
+use capture::Fate;
 use ddcmp_msg::{Reading, read_unit};
 use ddcmp_station::Arrival;
 use dna_station::StepRefusal;
@@ -26,8 +27,8 @@ pub fn hear<T: Top>(layers: &mut Layers, bytes: &[u8]) -> Result<(), StepRefusal
 {
     let no_tag = HeldLink::new(&None);
     let heard = match read_unit(bytes) {
-        Reading::HeaderBad => T::arrived(layers, Arrival::HeaderBad, &no_tag, false),
-        Reading::DataBad => T::arrived(layers, Arrival::DataBad, &no_tag, false),
+        Reading::HeaderBad => T::arrived(layers, Arrival::HeaderBad, &no_tag, Fate::NotKept),
+        Reading::DataBad => T::arrived(layers, Arrival::DataBad, &no_tag, Fate::NotKept),
         Reading::Sound(_) => return Err(StepRefusal::NotNoise),
         Reading::Malformed(_) => return Err(StepRefusal::NotNoise),
     };

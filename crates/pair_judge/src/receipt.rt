@@ -18,6 +18,7 @@ use crate::line::Line;
 use crate::line_unit::LineUnit;
 use crate::step_fault::StepFault;
 use crate::top::Top;
+use capture::Fate;
 use ddcmp_msg::{Reading, read_sound, read_unit};
 use ddcmp_station::Arrival;
 use dna_station::StepRefusal;
@@ -45,18 +46,18 @@ pub fn receive<T: Top>(
     layers: &mut Layers,
     line: &mut Line,
     hint: u64,
-    kept: bool,
+    fate: Fate,
     bytes: &[u8],
 ) -> Result<Receipt, AllocError>
     requires hint { hint < 2 ^ 63 }
     requires load { load layers.old.station < 2 ^ 63 }
     ensures receipt { IfOk result (λ receipt. (sent : List WireLayersUnit) → Shows line.old sent →
-        ReceiptIs T.top receipt (layers_move layers.old layers.new line.old line.new) (came hint kept bytes.now) sent) }
+        ReceiptIs T.top receipt (layers_move layers.old layers.new line.old line.new) (came hint fate bytes.now) sent) }
     ensures sound { IfOk result (λ receipt. IfSound receipt (IsSound (reading bytes.now))) }
     ensures waits { result ≡ Ok Receipt.Waits → (layers.new ≡ layers.old) × (line.new ≡ line.old) }
     ensures still { IfOk result (λ receipt. IfFails receipt (layers.new ≡ layers.old)) }
     ensures same_line { IfOk result (λ receipt. IfFails receipt (line.new ≡ line.old)) }
-    ensures memory { IfErr result (λ _. MayKeep kept (shows_damage (reading bytes.now))) }
+    ensures memory { IfErr result (λ _. MayKeep fate (shows_damage (reading bytes.now))) }
     ensures load { load layers.new.station ≤ load layers.old.station + 1 }
 {
     if hint < line.gone {
@@ -68,7 +69,7 @@ pub fn receive<T: Top>(
             None => Ok(Receipt::Fails(StepRefusal::Undetected)),
             Some(arrival) => {
                 let damaged = is_damaged(&arrival);
-                match T::arrived(layers, arrival, unit.link(), kept) {
+                match T::arrived(layers, arrival, unit.link(), fate) {
                     Ok(()) => {
                         line.release(hint);
                         Ok(Receipt::Done { damaged })

@@ -9,7 +9,7 @@ use std::collections::VecDeque;
 /// Units that were sent one after another with the same tag.
 #[derive(Clone, Copy, Debug, PartialEq, Eq)]
 pub struct TagRun {
-    /// The number of the first unit behind them.
+    /// The number of the first unit after them.
     pub end: u64,
     /// The tag of each of them.
     pub tag: Tag,
@@ -19,9 +19,9 @@ pub struct TagRun {
 /// another with one tag cost no more than one of them; it changes where the station starts or learns its partner's period.
 #[derive(Drop)]
 pub struct Tags {
-    /// The runs behind which another began, oldest first.
+    /// The runs after which another began, oldest first.
     pub older: VecDeque<TagRun>,
-    /// The tag of all units behind those.
+    /// The tag of all units after those.
     pub newest: Tag,
 }
 

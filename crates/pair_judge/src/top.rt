@@ -1,4 +1,4 @@
-//! What stands on top of the stations that the judge runs: their links (`layers/linked`), or nothing (`layers/alone`).
+//! What is on top of the stations that the judge runs: their links (`layers/linked`), or nothing (`layers/alone`).
 
 ghost use Rattle.std.specs.Prelude.{◌≡◌, ◌+◌, ◌^◌, ◌<◌, ◌≤◌, Ok, Err, List, None, Some, IsOk, OnOk, OnErr, IfOk, IfErr};
 ghost use Rattle.two_nodes.specs.Nodes.{Run};
@@ -6,6 +6,7 @@ ghost use Rattle.ddcmp_msg.specs.Message.{MessageValue, view};
 ghost use Rattle.ddcmp_msg.specs.Reading.{ReadingValue};
 ghost use Rattle.ddcmp_station.specs.Arrival.{arrival_view};
 ghost use Rattle.capture.specs.declared.event.Event.{Event};
+ghost use Rattle.capture.specs.declared.event.Event.TheVariants as events;
 ghost use Rattle.capture.specs.declared.record.Record.{Record};
 ghost use Rattle.dna_station.specs.declared.head.Head.{Head};
 ghost use Rattle.dna_station.specs.Line.{damage};
@@ -15,7 +16,7 @@ ghost use Rattle.dna_station.specs.WireStation.{load};
 ghost use Rattle.dna_links.specs.User.{view as link_view};
 ghost use Rattle.dna_node.specs.Alone.{unknown_tag};
 ghost use Rattle.dna_node.specs.WireLayers.{WireLayers, of_no_link, wire_layers_start};
-ghost use Rattle.pair_judge.specs.Events.{event_of_station, event_of_links};
+ghost use Rattle.pair_judge.specs.Events.{IsCarried, IsOfOneLink, event_of_station, event_of_links};
 ghost use Rattle.pair_judge.specs.inner.Delivering.{DeliversInOrder};
 ghost use Rattle.pair_judge.specs.inner.Memory.{IfNoMemory, MayEnter, MayKeep};
 ghost use Rattle.pair_judge.specs.inner.Reached.{IsShown};
@@ -28,6 +29,7 @@ use crate::held_link::HeldLink;
 use crate::layers::Layers;
 use crate::step_fault::StepFault;
 use crate::unit_tag::UnitTag;
+use capture::Fate;
 use ddcmp_msg::Message;
 use ddcmp_station::{Arrival, StationEvent};
 use dna_station::StepRefusal;
@@ -46,8 +48,26 @@ pub trait Top {
         ensures still { OnErr result (layers.new ≡ layers.old) }
         ensures load { load layers.new.station ≤ load layers.old.station + 1 };
 
-    /// An event of the links.
+    /// The node starts anew: its station is halted, and its links are over. Takes no memory.
+    fn boot(layers: &mut Layers)
+        requires { load layers.old.station < 2 ^ 63 }
+        ensures boot { top.machine.user layers.old events.Boot ≡ Ok layers.new }
+        ensures load { load layers.new.station ≤ load layers.old.station + 1 };
+
+    /// A packet was composed that will never be sent.
+    fn composed(layers: &mut Layers, packet: &[u8]) -> Result<(), StepFault>
+        ensures ok { OnOk result (top.machine.user layers.old (events.Composed packet.now) ≡ Ok layers.new) }
+        ensures refused { IfErr result (IfRefused (λ refusal. top.machine.user layers.old (events.Composed packet.now) ≡ Err refusal)) }
+        ensures still { IfErr result (IfRefused (λ refusal. layers.new ≡ layers.old)) }
+        ensures station { layers.new.station ≡ layers.old.station };
+
+    /// What is carried and not judged changes nothing, as a function that does nothing.
+    fn carries()
+        ensures { (s : WireLayers) (event : Event) → IsCarried event → top.machine.user s event ≡ Ok s };
+
+    /// An event of one of the links.
     fn at_links(layers: &mut Layers, event: LinkEvent) -> Result<(), StepFault>
+        requires { IsOfOneLink (link_view event) }
         ensures ok { OnOk result (top.machine.user layers.old (event_of_links (link_view event.entry)) ≡ Ok layers.new) }
         ensures refused { IfErr result (IfRefused (λ refusal. top.machine.user layers.old (event_of_links (link_view event.entry)) ≡ Err refusal)) }
         ensures still { IfErr result (IfRefused (λ refusal. layers.new ≡ layers.old)) }
@@ -69,32 +89,32 @@ pub trait Top {
         layers: &mut Layers,
         arrival: Arrival,
         link: &HeldLink,
-        kept: bool,
+        fate: Fate,
     ) -> Result<(), StepFault>
         requires { load layers.old.station < 2 ^ 63 }
-        ensures ok { OnOk result (top.machine.arrives layers.old (with_link link.now (arrival_view arrival.entry)) kept ≡ Ok layers.new) }
+        ensures ok { OnOk result (top.machine.arrives layers.old (with_link link.now (arrival_view arrival.entry)) fate ≡ Ok layers.new) }
         ensures refused { IfErr result (IfRefused (λ refusal.
-            top.machine.arrives layers.old (with_link link.now (arrival_view arrival.entry)) kept ≡ Err refusal)) }
+            top.machine.arrives layers.old (with_link link.now (arrival_view arrival.entry)) fate ≡ Err refusal)) }
         ensures still { IfErr result (IfRefused (λ refusal. layers.new ≡ layers.old)) }
-        ensures memory { IfErr result (IfNoMemory (MayKeep kept (is_damage (arrival_view arrival.entry)))) }
+        ensures memory { IfErr result (IfNoMemory (MayKeep fate (is_damage (arrival_view arrival.entry)))) }
         ensures load { load layers.new.station ≤ load layers.old.station + 1 };
 
     /// This came of an end whose capture nobody has, and the node kept the packet or did not: as in `arrived`, but of what came no period and no
     /// link is known, so neither rule on those is asked.
-    fn arrived_unknown(layers: &mut Layers, arrival: Arrival, kept: bool) -> Result<(), StepFault>
+    fn arrived_unknown(layers: &mut Layers, arrival: Arrival, fate: Fate) -> Result<(), StepFault>
         requires { load layers.old.station < 2 ^ 63 }
-        ensures ok { OnOk result (top.alone.machine.arrives layers.old (with_link (Some of_no_link) (arrival_view arrival.entry)) kept
+        ensures ok { OnOk result (top.alone.machine.arrives layers.old (with_link (Some of_no_link) (arrival_view arrival.entry)) fate
             ≡ Ok layers.new) }
         ensures refused { IfErr result (IfRefused (λ refusal.
-            top.alone.machine.arrives layers.old (with_link (Some of_no_link) (arrival_view arrival.entry)) kept ≡ Err refusal)) }
+            top.alone.machine.arrives layers.old (with_link (Some of_no_link) (arrival_view arrival.entry)) fate ≡ Err refusal)) }
         ensures still { IfErr result (IfRefused (λ refusal. layers.new ≡ layers.old)) }
         ensures load { load layers.new.station ≤ load layers.old.station + 1 };
 
     /// What `arrived_unknown` would refuse of this, asked without any change. Takes no memory.
-    fn may_arrive_unknown(layers: &Layers, arrival: Arrival, kept: bool) -> Result<(), StepRefusal>
-        ensures ok { OnOk result (IsOk (top.alone.machine.arrives layers.now (with_link (Some of_no_link) (arrival_view arrival.entry)) kept)) }
+    fn may_arrive_unknown(layers: &Layers, arrival: Arrival, fate: Fate) -> Result<(), StepRefusal>
+        ensures ok { OnOk result (IsOk (top.alone.machine.arrives layers.now (with_link (Some of_no_link) (arrival_view arrival.entry)) fate)) }
         ensures refused { IfErr result (λ refusal.
-            top.alone.machine.arrives layers.now (with_link (Some of_no_link) (arrival_view arrival.entry)) kept ≡ Err refusal) };
+            top.alone.machine.arrives layers.now (with_link (Some of_no_link) (arrival_view arrival.entry)) fate ≡ Err refusal) };
 
     /// Why no right other end sends this message now, whether its packet is taken or not. Takes no memory.
     fn wrong_unit(layers: &Layers, message: &Message) -> Option<StepRefusal>

@@ -13,7 +13,7 @@ pub enum Verdict {
     Refused {
         /// The side of the record that is named.
         side: Side,
-        /// Its number on that side, from 0 on; it stands on line `place + 2`.
+        /// Its number on that side, from 0 on; it is on line `place + 2`.
         place: u64,
         /// What is wrong with it.
         reason: Reason,

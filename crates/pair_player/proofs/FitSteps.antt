@@ -11,6 +11,9 @@ use Rattle.ddcmp_msg.specs.Spelling.{spelling}
 use Rattle.capture.specs.declared.limit.TheConstants.{MAX_HINT, MAX_LINK, MAX_UNIT, MAX_MESSAGE}
 use Rattle.capture.specs.declared.event.Event.{Event}
 use Rattle.capture.specs.declared.event.Event.TheVariants as events
+use Rattle.capture.specs.declared.fate.Fate.{Fate}
+use Rattle.capture.specs.declared.fate.Fate.TheVariants.{Dropped}
+use Rattle.capture.specs.Fates.{is_kept, is_met}
 use Rattle.capture.specs.declared.record.Record.TheVariants.{Sent, Received, User}
 use Rattle.capture.specs.declared.record.Record.TheVariants as recorded
 use Rattle.capture.specs.Range.{IsLink, IsRecord}
@@ -19,8 +22,9 @@ use Rattle.dna_links.specs.declared.port.LinkTest.TheVariants.{CalledBy, LiveAt}
 use Rattle.dna_links.specs.declared.port.Phase.TheVariants.{Confirming, Disconnecting}
 use Rattle.dna_station.specs.Table.{user_refusal}
 use Rattle.dna_play.specs.HasLine.{are_bytes}
-use Rattle.dna_links.specs.LookUps.{is_connected, takes_messages}
-use Rattle.dna_play.specs.Script.{StepValue, Start, Halt, Timer, Send, Deliver, Refuse, Lose, Damage, Noise, Open, Accept, Reject, In, Close, Retry}
+use Rattle.dna_links.specs.LookUps.{is_calling, is_connected, takes_messages}
+use Rattle.dna_play.specs.Script.{StepValue, Start, Halt, Boot, Timer, Send, Deliver, Refuse, Drop, Lose, Damage, Noise, Open, Accept, Reject, In}
+use Rattle.dna_play.specs.Script.{Close, Abort, Retry}
 use Rattle.dna_play.specs.ScriptText.{NumbersFit, most_bytes, step_bytes}
 use Rattle.dna_play.specs.Owed.{Debt, OwesStrt, timer_debt}
 use Rattle.dna_play.specs.LinkOwed.{LinkOwed, ConfirmDuty, DisconnectDuty, retried}
@@ -28,12 +32,13 @@ use Rattle.dna_play.specs.NextSent.{Choice, LinkEnd, choice, link_choice}
 use Rattle.dna_play.specs.Compose.{message_of}
 use Rattle.dna_play.specs.Receipt.{carried, damaged, is_damage}
 use Rattle.dna_play.specs.Stop.{Stop, BadStep, Full}
-use Rattle.dna_play.specs.StoredEnd.{StoredEnd, StoredLinks, StoredStation}
-use Rattle.dna_play.specs.StoredLinks.{answered, begun, changed, closed, handed, opened}
+use Rattle.dna_play.specs.StoredEnd.{StoredEnd, StoredLinks, StoredStation, no_stored_links}
+use Rattle.dna_play.specs.StoredLinks.{answered, begun, changed, closed, ended, handed, opened}
 use Rattle.dna_play.specs.StoredStation as stations
-use Rattle.dna_play.specs.StoredPlay.{StoredStepped, all_short, answers, arrived, comes, comes_damaged, closes, giving, hands_in, heard, hears_as}
-use Rattle.dna_play.specs.StoredPlay.{stored_plays, loses, made, receives, retrying, sends_choice, sends_message, silent, timed, up_address}
-use Rattle.dna_play.specs.StoredPlay.{with_links, with_next}
+use Rattle.dna_play.specs.StoredPlay.{StoredStepped, aborts, all_short, answers, arrived, comes, comes_damaged, closes, drops, giving, hands_in}
+use Rattle.dna_play.specs.StoredPlay.{heard, hears_as, kept_or_not, stored_plays, loses, made, receives, retrying, sends_choice, sends_message}
+use Rattle.dna_play.specs.StoredPlay.{silent, timed, up_address, with_links, with_next}
+use Rattle.dna_play.proofs.EachElement.{without_all}
 use Rattle.dna_play.proofs.Ends.UnitLines.{IsOfBytes, unit_line}
 use Rattle.dna_play.proofs.Links.Looked.{looked}
 use Rattle.dna_play.proofs.Played.Walk.{IfMade, so_case, test_case, unless_case}
@@ -94,6 +99,12 @@ module _ (e : StoredEnd) (h : EndFits e) where
       (by_change (events.Close own) place (closed found) (lined (User (events.Close own)) link no_bytes)
       (fits_at e.links h.links place found at)))
 
+  aborts_fits : (own : ℕ) → IsLink own → Fits (aborts e own)
+  aborts_fits own link = looked Fits (LiveAt own) e.links (Err BadStep) _ tt (λ place found at passed.
+      so_case StepFits (is_calling found.port.phase) _
+      (by_user (events.Abort own) e.station (ended place e.links) e.addresses (lined (User (events.Abort own)) link no_bytes) h.station
+      (without_all LinkFits e.links.links place h.links)))
+
   -- ---- timers
 
   timed_fits : (o : Option Debt) → Fits (timed e o)
@@ -131,22 +142,27 @@ module _ (e : StoredEnd) (h : EndFits e) where
 
   -- ---- what comes
 
-  received_fits : (unit : List ℕ) (read : ReadingValue) (kept : Bool) → UnitFits unit → reading unit ≡ read → Fits (receives e unit read kept)
-  received_fits unit read kept fits is = test_case StepFits (nat_le e.passed MAX_HINT) _ BadStep (λ hint.
-      test_case StepFits (all_short (arrived (carried kept read) e.links).messages) _ BadStep (λ short.
-      let got = gets e.links h.links (carried kept read)
-      (subst (λ (r : ReadingValue). IfSome (carried kept r) SegmentBytes) is (carried_bytes kept unit fits.are)) in
+  received_fits : (unit : List ℕ) (read : ReadingValue) (fate : Fate) → UnitFits unit → reading unit ≡ read → Fits (receives e unit read fate)
+  received_fits unit read fate fits is = test_case StepFits (nat_le e.passed MAX_HINT) _ BadStep (λ hint.
+      let message = carried (is_met fate) read in
+      test_case StepFits (all_short (arrived message e.links).messages) _ BadStep (λ short.
+      let got = gets e.links h.links message
+      (subst (λ (r : ReadingValue). IfSome (carried (is_met fate) r) SegmentBytes) is (carried_bytes (is_met fate) unit fits.are)) in
       record {
-        end = record { station = after_reading read kept e.station.variables h.station; links = got.fits };
+        end = record { station = after_reading read (is_kept fate) e.station.variables h.station; links = got.fits };
         sent = tt;
         records = (
-          lined (Received e.passed kept unit) (leb-true e.passed MAX_HINT hint) fits,
-          ups_lined (up_address (carried kept read)) _ short got.messages,
+          lined (Received e.passed fate unit) (leb-true e.passed MAX_HINT hint) fits,
+          ups_lined (up_address message) _ short got.messages,
         );
       }))
 
   comes_fits : (buffer : Bool) (unit : List ℕ) → UnitFits unit → Fits (comes e buffer unit)
-  comes_fits buffer unit fits = received_fits unit (reading unit) (stations.keeps buffer (reading unit) e.station) fits refl
+  comes_fits buffer unit fits = received_fits unit (reading unit) (kept_or_not (stations.keeps buffer (reading unit) e.station)) fits refl
+
+  drops_fits : (unit : List ℕ) → UnitFits unit → Fits (drops e unit)
+  drops_fits unit fits =
+      so_case StepFits (stations.can_keep (reading unit) e.station) _ (received_fits unit (reading unit) Dropped fits refl)
 
   hurt_fits : (place value : ℕ) (unit : List ℕ) → UnitFits unit → Fits (comes_damaged e place value unit)
   hurt_fits place value unit fits = test_case StepFits (is_damage place value unit) _ BadStep (λ is.
@@ -183,10 +199,13 @@ module _ (e : StoredEnd) (h : EndFits e) where
         (lined (User events.Start) tt no_bytes) (after_user station_events.Start e.station.variables h.station) h.links)
     plays_fit Halt numbers bytes = by_user events.Halt (stations.after_event station_events.Halt e.station) e.links e.addresses
         (lined (User events.Halt) tt no_bytes) (after_user station_events.Halt e.station.variables h.station) h.links
+    plays_fit Boot numbers bytes = by_user events.Boot (stations.after_event station_events.Halt e.station) no_stored_links 0
+        (lined (User events.Boot) tt no_bytes) (after_user station_events.Halt e.station.variables h.station) tt
     plays_fit Timer numbers bytes = timed_fits (timer_debt e.station.variables.state e.station.variables)
     plays_fit Send numbers bytes = chosen_sent (choice e.station.variables e.station.owed (link_choice e.links.confirms e.links.links))
     plays_fit Deliver numbers bytes = next_fits coming (comes e true) units (comes_fits true)
     plays_fit Refuse numbers bytes = next_fits coming (comes e false) units (comes_fits false)
+    plays_fit Drop numbers bytes = next_fits coming (drops e) units drops_fits
     plays_fit Lose numbers bytes = next_fits coming (λ unit. loses e) units (λ unit fits.
         test_case StepFits (nat_le e.passed MAX_HINT) _ BadStep (λ hint. by_none e.station e.links (e.passed + 1) h.station h.links))
     plays_fit (Damage place value) numbers bytes = next_fits coming (comes_damaged e place value) units (hurt_fits place value)
@@ -205,5 +224,6 @@ module _ (e : StoredEnd) (h : EndFits e) where
         (λ given_link. lined (User (events.Reject partner (e.addresses + 1))) (numbers, given_link) no_bytes)
     plays_fit (In link message) numbers bytes = handed_fits link message numbers bytes
     plays_fit (Close link) numbers bytes = closes_fits link numbers
+    plays_fit (Abort link) numbers bytes = aborts_fits link numbers
     plays_fit (Retry link) numbers bytes = looked Fits (LiveAt link) e.links (Err BadStep) _ tt
         (λ place found at passed. retried_fits place found (retried found.port.phase) at)

@@ -12,8 +12,8 @@ use Rattle.capture.proofs.NumberLaws.{decimal_lacks}
 use Rattle.capture.proofs.BytesLaws.{bytes_lack}
 use Rattle.capture.proofs.LackLaws.{lacks, spaced_lacks, link_lacks, link_short, bytes_short, spaced_short}
 use Rattle.capture.proofs.SidedLaws.{letter_lacks, letter_short}
-use Rattle.dna_play.specs.Script.{StepValue, ScriptStep, Start, Halt, Timer, Send, Deliver, Refuse, Lose, Damage, Noise, Open, Accept, Reject, In}
-use Rattle.dna_play.specs.Script.{Close, Retry}
+use Rattle.dna_play.specs.Script.{StepValue, ScriptStep, Start, Halt, Boot, Timer, Send, Deliver, Refuse, Drop, Lose, Damage, Noise, Open, Accept}
+use Rattle.dna_play.specs.Script.{Reject, In, Close, Abort, Retry}
 use Rattle.dna_play.specs.ScriptText.{step_text, line_text, NumbersFit, step_bytes, most_bytes, HasSpelling, IsStep}
 
 -- ---- no LF
@@ -24,10 +24,12 @@ number_lacks n small = decimal_lacks 10 n (lit< tt) (omega arith)
 step_lacks : (step : StepValue) → NumbersFit step → IsBytes (step_bytes step) → HasNo 10 (step_text step)
 step_lacks Start h fits = lacks 10 (codes "start") refl
 step_lacks Halt h fits = lacks 10 (codes "halt") refl
+step_lacks Boot h fits = lacks 10 (codes "boot") refl
 step_lacks Timer h fits = lacks 10 (codes "timer") refl
 step_lacks Send h fits = lacks 10 (codes "send") refl
 step_lacks Deliver h fits = lacks 10 (codes "deliver") refl
 step_lacks Refuse h fits = lacks 10 (codes "refuse") refl
+step_lacks Drop h fits = lacks 10 (codes "drop") refl
 step_lacks Lose h fits = lacks 10 (codes "lose") refl
 step_lacks (Damage place value) h fits = HasNo-append 10 (codes "damage ") (spaced (decimal place) (decimal value)) (lacks 10 (codes "damage ") refl)
     (spaced_lacks (decimal place) (decimal value) (number_lacks place h.0) (number_lacks value h.1))
@@ -39,6 +41,7 @@ step_lacks (Reject partner) h fits = HasNo-append 10 (codes "reject ") (decimal 
 step_lacks (In link message) h fits = HasNo-append 10 (codes "in ") (spaced (decimal link) (bytes_text message)) (lacks 10 (codes "in ") refl)
     (spaced_lacks (decimal link) (bytes_text message) (link_lacks link h) (bytes_lack 10 message (lit< tt) fits))
 step_lacks (Close link) h fits = HasNo-append 10 (codes "close ") (decimal link) (lacks 10 (codes "close ") refl) (link_lacks link h)
+step_lacks (Abort link) h fits = HasNo-append 10 (codes "abort ") (decimal link) (lacks 10 (codes "abort ") refl) (link_lacks link h)
 step_lacks (Retry link) h fits = HasNo-append 10 (codes "retry ") (decimal link) (lacks 10 (codes "retry ") refl) (link_lacks link h)
 
 pub line_lacks : (line : ScriptStep) → HasSpelling line → HasNo 10 (line_text line)
@@ -59,6 +62,7 @@ step_short (In link message) h short =
     let n = spaced_short (decimal link) (bytes_text message) 5 131070 (link_short link h) (bytes_short MAX_MESSAGE message (omega arith) short) in
     omega arith
 step_short (Close link) h short = let n = link_short link h in omega arith
+step_short (Abort link) h short = let n = link_short link h in omega arith
 step_short (Retry link) h short = let n = link_short link h in omega arith
 step_short step h short = omega arith
 

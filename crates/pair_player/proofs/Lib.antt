@@ -2,7 +2,9 @@ pub mod StepLaws
 pub mod LineWords
 pub mod LackLaws
 pub mod TextLaws
+pub mod Headed
 pub mod PlayLaws
+pub mod EndLaws
 pub mod CutLaws
 pub mod WholeLaws
 pub mod RunLaws
@@ -15,6 +17,7 @@ mod FitLinks
 mod FitStation
 mod FitMessages
 mod FitRecords
+mod FitFormats
 mod FitSteps
 mod FitPlays
 mod LimitRows

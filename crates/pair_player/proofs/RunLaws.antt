@@ -1,14 +1,14 @@
 -- What was played of a script has texts; and of one that starts each side at most once it is played by ends with their nodes too, and is a run.
 use Rattle.std.proofs.Common.{◌≡◌, ℕ, ◌≤◌, List, [], length, Option, Some, None, Result, Ok, Err, refl, sym, ap, subst, ◌∙◌}
 use Rattle.std.specs.List.{AllByRecursion}
-use Rattle.capture.specs.declared.format.Format.TheVariants.{One}
+use Rattle.capture.specs.declared.format.Format.{Format}
 use Rattle.capture.specs.declared.limit.TheConstants.{MAX_RECORDS}
 use Rattle.capture.specs.declared.record.Record.{Record}
-use Rattle.capture.specs.Range.{IsNode, IsRecord, IsText}
+use Rattle.capture.specs.Range.{IsInFormat, IsNode, IsRecord, IsText}
 use Rattle.capture.specs.Text.{capture_text}
 use Rattle.capture.proofs.ListedSoFar.{goes_on}
 use Rattle.dna_node.specs.LayersPair.{IsLayersRun}
-use Rattle.dna_play.specs.Script.{Script}
+use Rattle.dna_play.specs.Script.{Script, format_of}
 use Rattle.dna_play.specs.ScriptText.{IsScriptText, script_form, listed}
 use Rattle.dna_play.specs.Stop.{Stopped}
 use Rattle.dna_play.specs.Played.{Played, head_a, head_b, play, ends_of}
@@ -59,11 +59,11 @@ whole_of_truth bytes script played old new answer is_text once e h =
 
 -- ---- the captures
 
-its_text : (own peer : ℕ) (records : List Record) → IsNode own → IsNode peer → AllByRecursion IsRecord records → length records ≤ MAX_RECORDS →
-    IsText own peer records (capture_text One own peer records)
-its_text own peer records own_fits peer_fits each few = record {
-  format = One;
-  is_text = record { fits = record { own_fits = own_fits; peer_fits = peer_fits; each = each; few = few }; spelled = refl };
+its_text : (format : Format) (own peer : ℕ) (records : List Record) → IsNode own → IsNode peer → AllByRecursion IsRecord records →
+    AllByRecursion (IsInFormat format) records → length records ≤ MAX_RECORDS → IsText own peer records (capture_text format own peer records)
+its_text format own peer records own_fits peer_fits each lines few = record {
+  format = format;
+  is_text = record { fits = record { own_fits = own_fits; peer_fits = peer_fits; each = each; few = few }; lines = lines; spelled = refl };
 }
 
 -- of every script
@@ -72,8 +72,10 @@ all_texts text r h =
     let fits = h.read.fits in
     let lines = played_lines r.script r.played fits h.made in
     record {
-      is_text_a = its_text r.script.node_a r.script.node_b r.played.of_a fits.node_a fits.node_b lines.lines_a lines.few_a;
-      is_text_b = its_text r.script.node_b r.script.node_a r.played.of_b fits.node_b fits.node_a lines.lines_b lines.few_b;
+      is_text_a = its_text (format_of r.script.steps) r.script.node_a r.script.node_b r.played.of_a fits.node_a fits.node_b lines.lines_a
+          lines.formats_a lines.few_a;
+      is_text_b = its_text (format_of r.script.steps) r.script.node_b r.script.node_a r.played.of_b fits.node_b fits.node_a lines.lines_b
+          lines.formats_b lines.few_b;
     }
 
 pub a_run : (text : Option (List ℕ)) (r : Reached) → HasPlayed text r → StartsOnce r.script.steps → AreARun r

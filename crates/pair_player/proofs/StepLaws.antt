@@ -16,7 +16,7 @@ use Rattle.capture.proofs.NumberLaws.{number_takes, number_again, decimal_lacks}
 use Rattle.capture.proofs.BytesLaws.{IsBytesOf, IsLongOf, bytes_shows, bytes_again, limited, limited_then}
 use Rattle.capture.proofs.EventLaws.{link_takes, link_again, IsMessageOf, IsLongMessageOf, message_shows, message_again, no_bytes}
 use Rattle.capture.proofs.Shown.{Shows, shows_map, shows_must, shows_or_else}
-use Rattle.dna_play.specs.Script.{StepValue, Damage, Noise, Accept, Reject, In, Close, Retry}
+use Rattle.dna_play.specs.Script.{StepValue, Damage, Noise, Accept, Reject, In, Close, Abort, Retry}
 use Rattle.dna_play.specs.ScriptText.{step_text, NumbersFit, step_bytes, most_bytes}
 use Rattle.pair_player.specs.inner.Reading.{plain_at, damage_at, link_step_at, step_at}
 
@@ -37,14 +37,16 @@ unfolding plain_at
 plain_shows text =
     cond_both (bytes_eq text (codes "start")) _ _ (Tells text) (λ t. ((bytes_eq-Decides text (codes "start")).0 t, tt, no_bytes, omega arith)) (λ _.
     cond_both (bytes_eq text (codes "halt")) _ _ (Tells text) (λ t. ((bytes_eq-Decides text (codes "halt")).0 t, tt, no_bytes, omega arith)) (λ _.
+    cond_both (bytes_eq text (codes "boot")) _ _ (Tells text) (λ t. ((bytes_eq-Decides text (codes "boot")).0 t, tt, no_bytes, omega arith)) (λ _.
     cond_both (bytes_eq text (codes "timer")) _ _ (Tells text) (λ t. ((bytes_eq-Decides text (codes "timer")).0 t, tt, no_bytes, omega arith)) (λ _.
     cond_both (bytes_eq text (codes "send")) _ _ (Tells text) (λ t. ((bytes_eq-Decides text (codes "send")).0 t, tt, no_bytes, omega arith)) (λ _.
     cond_both (bytes_eq text (codes "deliver")) _ _ (Tells text) (λ t. ((bytes_eq-Decides text (codes "deliver")).0 t, tt, no_bytes, omega arith))
     (λ _.
     cond_both (bytes_eq text (codes "refuse")) _ _ (Tells text) (λ t. ((bytes_eq-Decides text (codes "refuse")).0 t, tt, no_bytes, omega arith)) (λ _.
+    cond_both (bytes_eq text (codes "drop")) _ _ (Tells text) (λ t. ((bytes_eq-Decides text (codes "drop")).0 t, tt, no_bytes, omega arith)) (λ _.
     cond_both (bytes_eq text (codes "lose")) _ _ (Tells text) (λ t. ((bytes_eq-Decides text (codes "lose")).0 t, tt, no_bytes, omega arith)) (λ _.
     cond_both (bytes_eq text (codes "open")) _ _ (Tells text) (λ t. ((bytes_eq-Decides text (codes "open")).0 t, tt, no_bytes, omega arith))
-    (λ _. tt))))))))
+    (λ _. tt))))))))))
 
 -- ---- the numbers of a changed byte
 
@@ -92,7 +94,8 @@ link_step_shows text =
     word_shows text (codes "accept ") Accept _ (λ link is fits. (is, fits, no_bytes, omega arith))
     (word_shows text (codes "reject ") Reject _ (λ link is fits. (is, fits, no_bytes, omega arith))
     (word_shows text (codes "close ") Close _ (λ link is fits. (is, fits, no_bytes, omega arith))
-    (word_shows text (codes "retry ") Retry _ (λ link is fits. (is, fits, no_bytes, omega arith)) tt)))
+    (word_shows text (codes "abort ") Abort _ (λ link is fits. (is, fits, no_bytes, omega arith))
+    (word_shows text (codes "retry ") Retry _ (λ link is fits. (is, fits, no_bytes, omega arith)) tt))))
 
 -- ---- steps
 
@@ -128,5 +131,6 @@ step_again (Accept partner) h fits = rw (link_again partner h) refl
 step_again (Reject partner) h fits = rw (link_again partner h) refl
 step_again (In link message) h fits = rw (message_again link message h fits) (limited_then MAX_MESSAGE message (link, message) (λ m. In m.0 m.1))
 step_again (Close link) h fits = rw (link_again link h) refl
+step_again (Abort link) h fits = rw (link_again link h) refl
 step_again (Retry link) h fits = rw (link_again link h) refl
 step_again step h fits = refl

@@ -6,10 +6,9 @@ use Rattle.wire_base.specs.declared.side.Side.{Side}
 use Rattle.wire_base.specs.declared.side.Side.TheVariants.{A, B}
 use Rattle.capture.specs.Passing.{AppendsSome}
 use Rattle.capture.specs.declared.fault.Departure.{Departure}
-use Rattle.capture.specs.declared.format.Format.TheVariants.{One}
 use Rattle.capture.specs.Lines.{IsCutBehind}
 use Rattle.capture.specs.Text.{capture_text}
-use Rattle.dna_play.specs.Script.{ScriptStep, Script}
+use Rattle.dna_play.specs.Script.{ScriptStep, Script, format_of}
 use Rattle.dna_play.specs.ScriptText.{IsStep, ScriptHeadDeparts, StepDeparts, script_line, MAX_STEPS}
 use Rattle.dna_play.specs.Stop.{Stop, BadStep, Full}
 use Rattle.dna_play.specs.StoredPlayed.{StoredPlayed, stored_plays_step, stored_play}
@@ -47,12 +46,12 @@ pub record HasPlayed (text : Option (List ℕ)) (r : Reached) : Type 0 where
 
 -- ---- what is written
 
--- the texts of both captures, in format 1
+-- the texts of both captures, in format 1 where it has a line for each record of the steps, else in format 3
 abbrev pub text_a : Reached → List ℕ
-text_a r = capture_text One r.script.node_a r.script.node_b r.played.of_a
+text_a r = capture_text (format_of r.script.steps) r.script.node_a r.script.node_b r.played.of_a
 
 abbrev pub text_b : Reached → List ℕ
-text_b r = capture_text One r.script.node_b r.script.node_a r.played.of_b
+text_b r = capture_text (format_of r.script.steps) r.script.node_b r.script.node_a r.played.of_b
 
 -- each writer took the text of its capture
 pub record HasWritten (old new : Held) (r : Reached) : Type 0 where
@@ -99,7 +98,7 @@ pub record RefusedBehind (r : Reached) : Type 0 where
   pub later : Option (List ℕ)
   pub spelled : Consumes r.come later (script_line step)
 
--- steps were made and written, and this holds behind them
+-- steps were made and written, and this holds after them
 abbrev pub PlaysTo : Option (List ℕ) → Held → Held → (Reached → Type 0) → Type 0
 PlaysTo text old new Behind = (r : Reached) × HasPlayed text r × HasWritten old new r × Behind r
 
@@ -120,7 +119,7 @@ Plays text old new (Err (faults.Write side)) = (r : Reached) × HasPlayed text r
 Plays text old new (Err faults.OutOfMemory) = TakesNothing old new ⊎ PlaysTo text old new RefusedBehind
 
 -- Where a read failed: each whole line that the reader had given until then was read, its step made, and its records written. `left` is what it
--- has left. Behind the steps, or where no head was read, it had given a piece of a line.
+-- has left. After the steps, or where no head was read, it had given a piece of a line.
 abbrev pub PlaysWholeLines : (text left : Option (List ℕ)) → Held → Held → Result Played PlayFault → Type 0
 PlaysWholeLines text left old new (Err faults.Read) =
     (TakesNothing old new × IsCutBehind text left) ⊎ PlaysTo text old new (λ r. IsCutBehind r.come left)

@@ -33,7 +33,7 @@ pub record IsOfTruth (r : Reached) (so_far : Played) : Type 0 where
   pub makes : play r.script ≡ Ok so_far
   pub keeps : so_far.ends ≡ r.played
 
--- behind what they made, the next step stops them too, and its rule is why
+-- after what they made, the next step stops them too, and its rule is why
 pub record StopsByRule (r : Reached) (step : ScriptStep) (stop : Stop) : Type 0 where
   pub so_far : Played
   pub of_truth : IsOfTruth r so_far

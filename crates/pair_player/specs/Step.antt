@@ -1,7 +1,7 @@
 -- What a step of the code says with the bytes beside it, without where these lie in memory.
 use Rattle.std.specs.Prelude.{ℕ, List, []}
-use Rattle.dna_play.specs.Script.{StepValue, ScriptStep, Start, Halt, Timer, Send, Deliver, Refuse, Lose, Damage, Noise, Open, Accept, Reject, In}
-use Rattle.dna_play.specs.Script.{Close, Retry}
+use Rattle.dna_play.specs.Script.{StepValue, ScriptStep, Start, Halt, Boot, Timer, Send, Deliver, Refuse, Drop, Lose, Damage, Noise, Open, Accept}
+use Rattle.dna_play.specs.Script.{Reject, In, Close, Abort, Retry}
 use Rattle.pair_player.specs.declared.step.LineEntry.{LineEntry}
 use Rattle.pair_player.specs.declared.step.Step.{Step}
 use Rattle.pair_player.specs.declared.step.Step.TheVariants as steps
@@ -10,10 +10,12 @@ use Rattle.pair_player.specs.declared.step.ScriptStep as lines
 abbrev pub step_with : Step → List ℕ → StepValue
 step_with steps.Start bytes = Start
 step_with steps.Halt bytes = Halt
+step_with steps.Boot bytes = Boot
 step_with steps.Timer bytes = Timer
 step_with steps.Send bytes = Send
 step_with steps.Deliver bytes = Deliver
 step_with steps.Refuse bytes = Refuse
+step_with steps.Drop bytes = Drop
 step_with steps.Lose bytes = Lose
 step_with (steps.Damage place value) bytes = Damage place value
 step_with steps.Noise bytes = Noise bytes
@@ -22,6 +24,7 @@ step_with (steps.Accept partner) bytes = Accept partner
 step_with (steps.Reject partner) bytes = Reject partner
 step_with (steps.In link) bytes = In link bytes
 step_with (steps.Close link) bytes = Close link
+step_with (steps.Abort link) bytes = Abort link
 step_with (steps.Retry link) bytes = Retry link
 
 -- with no bytes

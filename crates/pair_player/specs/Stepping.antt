@@ -10,7 +10,7 @@ use Rattle.dna_play.specs.Receipt.{is_damage}
 use Rattle.dna_play.specs.Script.{StepValue, ScriptStep, Timer, Send, Deliver, Refuse, Lose, Damage, Retry}
 use Rattle.player_end.specs.Stepping.{HasUnit}
 
--- the end after a step, the units on the line from it, and a text with the lines of the step's records behind it
+-- the end after a step, the units on the line from it, and a text with the lines of the step's records after it
 abbrev pub sends : (going : List (List ℕ)) → List ℕ → Result StoredStepped Stop → Result (StoredEnd × List (List ℕ) × List ℕ) Stop
 sends going text (Ok made) = Ok (made.end, going ++ made.sent, text ++ record_lines Number made.records)
 sends going text (Err stop) = Err stop
@@ -36,8 +36,8 @@ CanCome e coming = IsOk (with_next coming (λ bytes. loses e))
 abbrev pub CanBeHurt : StoredEnd → (coming : List (List ℕ)) → (place value : ℕ) → Type 0
 CanBeHurt e coming place value = IsOk (with_next coming (λ bytes. if_so (is_damage place value bytes) (silent e)))
 
--- A timer and a loss never do. What comes does where it can come: whether a message that becomes whole has a line shows behind. `send` does where the
--- end has something to send, and every other step where it can be made
+-- A timer and a loss never do. What comes does where it can come: whether a message that becomes whole has a line shows only afterwards. `send`
+-- does where the end has something to send, and every other step where it can be made
 abbrev pub AsksMemory : StoredEnd → (coming : List (List ℕ)) → StepValue → Type 0
 AsksMemory e coming Timer = ⊥
 AsksMemory e coming Lose = ⊥

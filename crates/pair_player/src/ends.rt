@@ -1,6 +1,6 @@
 //! Both ends, and the line between them.
 
-ghost use Rattle.std.specs.Prelude.{◌≡◌, [], true, false, Ok, Err, drop, OnOk, IfOk, IfErr};
+ghost use Rattle.std.specs.Prelude.{◌≡◌, [], true, false, Ok, Err, drop, OnOk, IsOk, IfOk, IfErr};
 ghost use Rattle.dna_play.specs.Receipt.{damaged, is_damage};
 ghost use Rattle.dna_play.specs.StoredPlay.{stored_plays};
 ghost use Rattle.dna_play.specs.StoredPlay as stored;
@@ -21,7 +21,7 @@ use wire_base::{RingWindow, Side};
 type RingEnd = End<RingWindow<HeldPacket, 256>, RingWindow<GivenPiece, 4096>>;
 
 /// The two ends of a script, and the units on the lines between them. It makes one step a call, and writes nothing: the lines that a step
-/// adds to the capture of its end are put behind a text.
+/// adds to the capture of its end are put at the end of a text.
 #[derive(Drop)]
 pub struct Ends {
     a: RingEnd,
@@ -65,11 +65,11 @@ impl Ends {
         })
     }
 
-    /// Makes a step, and puts the lines of its records behind the text, each with its LF.
+    /// Makes a step, and puts the lines of its records at the end of the text, each with its LF.
     ///
     /// `BadStep`: the step breaks its rule (the table of docs/SCRIPTS.md). `Full`: it needs a link address, and all 65,535 of its end are
     /// given; whether it is bad is asked first. `OutOfMemory`: memory was refused, for which a timer and a loss never ask, nor does a step
-    /// that breaks its rule, but where a message that becomes whole is too long. After any of them neither the ends nor what stands behind
+    /// that breaks its rule, except where a message that becomes whole is too long. After any of them neither the ends nor what was put after
     /// the text is of any use.
     #[tactic(auto, using(crate::proofs::Sides::both_sides), unfolding(dna_play::specs::StoredPlayed::stored_plays_step))]
     pub fn play_step(&mut self, step: ScriptStep<'_>, text: &mut Vec<u8>) -> Result<(), StepFault>
@@ -121,10 +121,12 @@ fn step_of(
     match step {
         Step::Start => end.start(text),
         Step::Halt => end.halt(text),
+        Step::Boot => end.boot(text),
         Step::Timer => end.time_out(),
         Step::Send => send(end, going, text),
         Step::Deliver => deliver(end, coming, true, text),
         Step::Refuse => deliver(end, coming, false, text),
+        Step::Drop => lose_above(end, coming, text),
         Step::Lose => lose(end, coming),
         Step::Damage { place, value } => deliver_damaged(alloc, end, coming, place, value, text),
         Step::Noise => end.hear(bytes, text),
@@ -133,6 +135,7 @@ fn step_of(
         Step::Reject { partner } => end.reject(partner, text),
         Step::In { link } => end.hand_in(link, bytes, text),
         Step::Close { link } => end.close(link, text),
+        Step::Abort { link } => end.abort(link, text),
         Step::Retry { link } => end.retry(link),
     }
 }
@@ -169,6 +172,21 @@ fn deliver(
         return Err(StepFault::BadStep);
     };
     end.come(buffer, unit.as_slice(), text)
+}
+
+// The next unit on the line comes, and its packet is kept, and lost before the links.
+#[tactic(auto, using(crate::proofs::NextUnit::next_units))]
+fn lose_above(end: &mut RingEnd, coming: &mut Line, text: &mut Vec<u8>) -> Result<(), StepFault>
+    ensures ok { OnOk result (with_lines text.old.items (stored.with_next coming.old (stored.drops end.old))
+        ≡ Ok (end.new, [], text.new.items)) }
+    ensures left { coming.new ≡ drop 1 coming.old }
+    ensures stop { IfErr result (λ fault. StopMeans (stored.with_next coming.old (stored.drops end.old)) fault) }
+    ensures memory { result ≡ Err StepFault.OutOfMemory → IsOk (stored.with_next coming.old (stored.drops end.old)) }
+{
+    let Some(unit) = coming.pop() else {
+        return Err(StepFault::BadStep);
+    };
+    end.lose_above(unit.as_slice(), text)
 }
 
 // The next unit on the line is lost.

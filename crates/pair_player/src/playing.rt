@@ -33,7 +33,8 @@ struct Begun {
     texts: Texts,
 }
 
-/// Reads a script to its end, makes its steps, and writes the captures of both sides, in format 1. The answer counts the steps.
+/// Reads a script to its end, makes its steps, and writes the captures of both sides, in format 1 where it has a line for each record of the
+/// steps that were made, else in format 3. The answer counts the steps.
 ///
 /// A fault of a line names the first one that has any, counted from 1: `Departs` where it departs from the format, as `ScriptReader::open` and
 /// `advance` say; `BadStep` where its step breaks its rule (the table of docs/SCRIPTS.md); `Full` where it needs a link address, and all
@@ -63,7 +64,7 @@ pub fn play<R: Read, A: Write, B: Write>(
     }
 }
 
-// Makes the steps behind the head, and writes what they make behind the heads of the captures.
+// Makes the steps after the head, and writes what they make after the heads of the captures.
 fn play_steps<R: Read, A: Write, B: Write>(
     begun: &mut Begun,
     script: &mut Tally<R>,
@@ -72,11 +73,11 @@ fn play_steps<R: Read, A: Write, B: Write>(
 ) -> Result<Played, PlayFault>
     requires { (begun.now.lines.phase ≡ Phase.Reading) × (begun.now.lines.items ≡ 0) }
     ensures plays { (text : Option (List ℕ)) → IsBegun text (R.remaining (tally_lent script.old)) begun.old.lines
-        (standing begun.old.ends begun.old.texts.a.items begun.old.texts.b.items)
+        (standing begun.old.ends begun.old.texts.a.items begun.old.texts.b.items begun.old.texts.three)
         → Plays text (held (A.contents (tally_lent a.old)) (B.contents (tally_lent b.old)))
         (held (A.contents (tally_lent a.new)) (B.contents (tally_lent b.new))) result }
     ensures lines { (text : Option (List ℕ)) → IsBegun text (R.remaining (tally_lent script.old)) begun.old.lines
-        (standing begun.old.ends begun.old.texts.a.items begun.old.texts.b.items)
+        (standing begun.old.ends begun.old.texts.a.items begun.old.texts.b.items begun.old.texts.three)
         → PlaysWholeLines text (R.remaining (tally_lent script.new))
         (held (A.contents (tally_lent a.old)) (B.contents (tally_lent b.old))) (held (A.contents (tally_lent a.new)) (B.contents (tally_lent b.new)))
         result }
@@ -84,9 +85,6 @@ fn play_steps<R: Read, A: Write, B: Write>(
     ensures writes_a { CountsWritesOf of_side.A result (tally_faults a.old) (tally_faults a.new) }
     ensures writes_b { CountsWritesOf of_side.B result (tally_faults b.old) (tally_faults b.new) }
 {
-    if let Err(side) = begun.texts.write_out(a, b) {
-        return Err(PlayFault::Write { side });
-    }
     for steps in 0..MAX_STEPS + 1 {
         match begun.lines.advance(script) {
             Ok(Some(line)) => match make_step(
@@ -112,7 +110,7 @@ fn play_steps<R: Read, A: Write, B: Write>(
 // Reads the head, and takes the memory for both ends and for the heads of both captures.
 fn begin<R: Read>(alloc: Global, script: &mut Tally<R>) -> Result<Begun, PlayFault>
     ensures begins { IfOk result (λ begun. IsBegun (R.remaining (tally_lent script.old)) (R.remaining (tally_lent script.new)) begun.lines
-        (standing begun.ends begun.texts.a.items begun.texts.b.items)) }
+        (standing begun.ends begun.texts.a.items begun.texts.b.items begun.texts.three)) }
     ensures fault { IfErr result (HeadFault (R.remaining (tally_lent script.old)) (R.remaining (tally_lent script.new))) }
     ensures reads { CountsReads (is_failed_read result) (tally_faults script.old) (tally_faults script.new) }
 {
@@ -132,7 +130,7 @@ fn begin<R: Read>(alloc: Global, script: &mut Tally<R>) -> Result<Begun, PlayFau
     Ok(Begun { lines, ends, texts })
 }
 
-// Makes the step that was read last, which is of this line: the lines of its records stand behind those of its side.
+// Makes the step that was read last, which is of this line: the lines of its records come after those of its side.
 fn make_step(
     line: LineEntry,
     lines: &ScriptReader,
@@ -140,13 +138,17 @@ fn make_step(
     texts: &mut Texts,
 ) -> Result<(), StepFault>
     ensures { StepsOrStops (line_with line lines.now.bytes)
-        (standing ends.old texts.old.a.items texts.old.b.items) (standing ends.new texts.new.a.items texts.new.b.items) result }
+        (standing ends.old texts.old.a.items texts.old.b.items texts.old.three)
+        (standing ends.new texts.new.a.items texts.new.b.items texts.new.three) result }
 {
     let step = line.with(lines.bytes());
     texts.step.clear();
     match ends.play_step(step, &mut texts.step) {
         Ok(()) => match texts.put_step(step.side) {
-            Ok(()) => Ok(()),
+            Ok(()) => {
+                texts.go_by(step.step);
+                Ok(())
+            }
             Err(_) => Err(StepFault::OutOfMemory),
         },
         Err(fault) => Err(fault),

@@ -6,8 +6,8 @@ use crate::words::line_into;
 use capture::{Departure, ListItem, ListReader, MAX_MESSAGE};
 
 /// What a script lists: steps. What is read of one beside its message or noise is a [`LineEntry`]. A script may have 100,000,000 of them; a line
-/// departs with `Syntax` where it is no step's, and with `TooLong` where it is one but for a message of more than 65,535 bytes, or noise of more
-/// than 16,393.
+/// departs with `Syntax` where it is no step's, and with `TooLong` where it is one except that it has a message of more than 65,535 bytes, or
+/// noise of more than 16,393.
 pub struct Steps;
 
 impl ListItem for Steps {

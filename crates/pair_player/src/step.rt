@@ -1,15 +1,16 @@
 //! One step of a script: what one end of the line does.
 
-ghost use Rattle.std.specs.Prelude.{◌≡◌, ◌≤◌};
+ghost use Rattle.std.specs.Prelude.{◌≡◌, ◌≤◌, ℕ, List};
 ghost use Rattle.capture.specs.declared.limit.TheConstants.{MAX_MESSAGE as MOST};
+ghost use Rattle.dna_play.specs.Script.{is_of_three};
 ghost use Rattle.dna_play.specs.ScriptText.{most_bytes};
-ghost use Rattle.pair_player.specs.Step.{line_with, plain, view_of_line};
+ghost use Rattle.pair_player.specs.Step.{line_with, plain, step_with, view_of_line};
 
 use capture::{MAX_MESSAGE, MAX_UNIT};
 use wire_base::Side;
 
-/// What an end does, or what becomes of the next unit that is on the line to it, but for its message or noise, which stands beside it. It is
-/// small and lends nothing.
+/// What an end does, or what becomes of the next unit that is on the line to it, except for its message or noise, which is kept beside it.
+/// It is small and lends nothing.
 ///
 /// Addresses of links are from 1 to 65,535: `link` is one of this end, `partner` one of the other end.
 #[derive(Clone, Copy, Debug, PartialEq, Eq)]
@@ -18,6 +19,8 @@ pub enum Step {
     Start,
     /// The user halts the station.
     Halt,
+    /// The node starts anew.
+    Boot,
     /// The station's timer runs out.
     Timer,
     /// The end sends one unit.
@@ -26,6 +29,8 @@ pub enum Step {
     Deliver,
     /// The next unit comes, and there is no buffer for its packet.
     Refuse,
+    /// The next unit comes, and its packet is kept, and lost before the links meet it.
+    Drop,
     /// The next unit is lost.
     Lose,
     /// The next unit comes with one byte changed.
@@ -55,6 +60,10 @@ pub enum Step {
     Close {
         link: u16,
     },
+    /// The user gives up the call of a link.
+    Abort {
+        link: u16,
+    },
     /// The link's timer runs out.
     Retry {
         link: u16,
@@ -62,7 +71,7 @@ pub enum Step {
 }
 
 impl Step {
-    /// How many bytes may stand beside it.
+    /// How many bytes may be kept beside it.
     pub fn most(self) -> usize
         ensures most { result ≡ most_bytes (plain self) }
         ensures room { result ≤ MOST }
@@ -71,10 +80,12 @@ impl Step {
             Step::Noise => MAX_UNIT,
             Step::Start
             | Step::Halt
+            | Step::Boot
             | Step::Timer
             | Step::Send
             | Step::Deliver
             | Step::Refuse
+            | Step::Drop
             | Step::Lose
             | Step::Damage { .. }
             | Step::Open
@@ -82,12 +93,26 @@ impl Step {
             | Step::Reject { .. }
             | Step::In { .. }
             | Step::Close { .. }
+            | Step::Abort { .. }
             | Step::Retry { .. } => MAX_MESSAGE,
+        }
+    }
+
+    /// Whether formats 1 and 2 have no line for its record.
+    pub fn is_of_three(self) -> bool
+        ensures { (bytes : List ℕ) → result ≡ is_of_three (step_with self bytes) }
+    {
+        match self {
+            Step::Boot | Step::Drop | Step::Abort { .. } => true,
+            Step::Start | Step::Halt | Step::Timer | Step::Send | Step::Deliver => false,
+            Step::Refuse | Step::Lose | Step::Damage { .. } | Step::Noise | Step::Open => false,
+            Step::Accept { .. } | Step::Reject { .. } | Step::In { .. } => false,
+            Step::Close { .. } | Step::Retry { .. } => false,
         }
     }
 }
 
-/// One line of a script behind its head. Its message or noise is lent by the reader.
+/// One line of a script after its head. Its message or noise is lent by the reader.
 #[derive(Clone, Copy, Debug, PartialEq, Eq)]
 pub struct ScriptStep<'a> {
     /// The end that the step is of.
@@ -97,7 +122,7 @@ pub struct ScriptStep<'a> {
     pub bytes: &'a [u8],
 }
 
-/// A line of a script but for its message or noise.
+/// A line of a script except for its message or noise.
 #[derive(Clone, Copy, Debug, PartialEq, Eq)]
 pub struct LineEntry {
     pub side: Side,

@@ -1,12 +1,15 @@
 //! The texts of both captures on the way to their writers.
 
-ghost use Rattle.std.specs.Prelude.{◌≡◌, ◌<◌, [], ◌++◌, length, IfOk, OnOk, OnErr};
+ghost use Rattle.std.specs.Prelude.{◌≡◌, ◌<◌, [], ◌++◌, ◌||◌, ◌&&◌, not, ℕ, List, true, false, length, IfOk, OnOk, OnErr};
 ghost use Rattle.wire_base.specs.Tally.{tally_faults, tally_lent};
 ghost use Rattle.capture.specs.declared.format.Format.TheVariants as Layout;
 ghost use Rattle.capture.specs.Text.{head_line};
-ghost use Rattle.pair_player.specs.inner.Making.{PutsLines};
+ghost use Rattle.dna_play.specs.Script.{is_of_three};
+ghost use Rattle.pair_player.specs.Step.{step_with};
+ghost use Rattle.pair_player.specs.inner.Making.{HasHead, PutsLines};
 ghost use Rattle.capture.specs.inner.Outlets.{Fails, PassBoth, Passes, outlet};
 
+use crate::step::Step;
 use capture::{Format, put_head_line};
 use std::alloc::{AllocError, Global};
 use std::io::Write;
@@ -18,45 +21,75 @@ const FULL: usize = 65_536;
 // What is asked for at first: a step's lines are mostly shorter than the rest.
 const ROOM: usize = 131_072;
 
-/// The lines of both captures that are not written yet.
+// The place of a format's number in a head.
+const NUMBER: usize = 6;
+
+/// The lines of both captures that are not written yet. All wait until it is known that format 1 has no line for one of the records, or
+/// the script ends: only then is the format of their heads known.
 #[derive(Drop)]
 pub struct Texts {
     pub a: Vec<u8>,
     pub b: Vec<u8>,
     // The lines of the step at hand.
     pub step: Vec<u8>,
+    // Whether they are in format 3.
+    pub three: bool,
 }
 
 impl Texts {
     /// No lines. `AllocError` where there is no memory for them.
     pub fn new(alloc: Global) -> Result<Texts, AllocError>
-        ensures { IfOk result (λ texts. (texts.a.items ≡ []) × (texts.b.items ≡ [])) }
+        ensures { IfOk result (λ texts. (texts.a.items ≡ []) × (texts.b.items ≡ []) × (texts.three ≡ false)) }
     {
         let a = Vec::with_capacity(alloc, ROOM)?;
         let b = Vec::with_capacity(alloc, ROOM)?;
         let step = Vec::new(alloc);
-        Ok(Texts { a, b, step })
+        Ok(Texts {
+            a,
+            b,
+            step,
+            three: false,
+        })
     }
 
-    /// Appends the heads of both captures. `AllocError` where there is no memory for them.
+    /// Appends the heads of both captures, in format 1. `AllocError` where there is no memory for them.
     pub fn put_heads(&mut self, node_a: u16, node_b: u16) -> Result<(), AllocError>
         ensures a { OnOk result (self.new.a.items ≡ self.old.a.items ++ head_line Layout.One node_a node_b) }
         ensures b { OnOk result (self.new.b.items ≡ self.old.b.items ++ head_line Layout.One node_b node_a) }
+        ensures three { self.new.three ≡ self.old.three }
     {
         put_head_line(&mut self.a, Format::One, node_a, node_b)?;
         put_head_line(&mut self.b, Format::One, node_b, node_a)
     }
 
-    /// Puts the lines of the step at hand behind those of its side. `AllocError` where there is no memory for them; then no line is put.
+    /// Puts the lines of the step at hand after those of its side. `AllocError` where there is no memory for them; then no line is put.
     pub fn put_step(&mut self, side: Side) -> Result<(), AllocError>
         ensures ok { OnOk result (PutsLines side (self.old.a.items, self.old.b.items) (self.new.a.items, self.new.b.items) self.old.step.items) }
         ensures err_a { OnErr result (self.new.a.items ≡ self.old.a.items) }
         ensures err_b { OnErr result (self.new.b.items ≡ self.old.b.items) }
+        ensures three { self.new.three ≡ self.old.three }
     {
         match side {
             Side::A => self.a.extend_from_slice(self.step.as_slice()),
             Side::B => self.b.extend_from_slice(self.step.as_slice()),
         }
+    }
+
+    /// After a step was made: where it is the first for whose record format 1 has no line, the captures are in format 3.
+    pub fn go_by(&mut self, step: Step)
+        ensures three { (bytes : List ℕ) → self.new.three ≡ (self.old.three || is_of_three (step_with step bytes)) }
+        ensures a { (bytes : List ℕ) → HasHead (not self.old.three && is_of_three (step_with step bytes)) self.old.a.items self.new.a.items }
+        ensures b { (bytes : List ℕ) → HasHead (not self.old.three && is_of_three (step_with step bytes)) self.old.b.items self.new.b.items }
+    {
+        if self.three {
+            return;
+        }
+        if !step.is_of_three() {
+            return;
+        }
+        self.three = true;
+        head_anew(&mut self.a);
+        head_anew(&mut self.b);
     }
 
     /// Writes all lines, those of a first. `Err`: the writer of this side failed in this call.
@@ -86,14 +119,17 @@ impl Texts {
         Ok(())
     }
 
-    /// Writes the lines of each side that has many, so that few wait. `Err`: the writer of this side failed in this call.
+    /// In format 3 it writes the lines of each side that has many, so that few wait. `Err`: the writer of this side failed in this call.
     pub fn write_full<A: Write, B: Write>(
         &mut self,
         a: &mut Tally<A>,
         b: &mut Tally<B>,
     ) -> Result<(), Side>
-        ensures few_a { OnOk result (length self.new.a.items < 65536) }
-        ensures few_b { OnOk result (length self.new.b.items < 65536) }
+        ensures few_a { self.old.three ≡ true → OnOk result (length self.new.a.items < 65536) }
+        ensures few_b { self.old.three ≡ true → OnOk result (length self.new.b.items < 65536) }
+        ensures waits_a { self.old.three ≡ false → self.new.a.items ≡ self.old.a.items }
+        ensures waits_b { self.old.three ≡ false → self.new.b.items ≡ self.old.b.items }
+        ensures three { self.new.three ≡ self.old.three }
         ensures writes { PassBoth (
           outlet self.old.a.items (A.contents (tally_lent a.old)) (tally_faults a.old),
           outlet self.old.b.items (B.contents (tally_lent b.old))
@@ -104,6 +140,9 @@ impl Texts {
               (tally_faults b.new),
         ) result }
     {
+        if !self.three {
+            return Ok(());
+        }
         let Ok(()) = write_if_full(&mut self.a, a) else {
             return Err(Side::A);
         };
@@ -111,6 +150,16 @@ impl Texts {
             return Err(Side::B);
         };
         Ok(())
+    }
+}
+
+// A text with a head of format 1 has it in format 3 then.
+#[tactic(auto, using(crate::proofs::Headed::headed))]
+fn head_anew(text: &mut Vec<u8>)
+    ensures { HasHead true text.old.items text.new.items }
+{
+    if text.len() > NUMBER {
+        text[NUMBER] = b'3';
     }
 }
 

@@ -24,6 +24,9 @@ fn plain_of(text: &[u8]) -> Option<Step>
     if text == b"halt".as_slice() {
         return Some(Step::Halt);
     }
+    if text == b"boot".as_slice() {
+        return Some(Step::Boot);
+    }
     if text == b"timer".as_slice() {
         return Some(Step::Timer);
     }
@@ -35,6 +38,9 @@ fn plain_of(text: &[u8]) -> Option<Step>
     }
     if text == b"refuse".as_slice() {
         return Some(Step::Refuse);
+    }
+    if text == b"drop".as_slice() {
+        return Some(Step::Drop);
     }
     if text == b"lose".as_slice() {
         return Some(Step::Lose);
@@ -72,6 +78,10 @@ fn link_step_of(text: &[u8]) -> Option<Step>
         let link = link_of(rest)?;
         return Some(Step::Close { link });
     }
+    if let Some(rest) = after(text, b"abort ") {
+        let link = link_of(rest)?;
+        return Some(Step::Abort { link });
+    }
     if let Some(rest) = after(text, b"retry ") {
         let link = link_of(rest)?;
         return Some(Step::Retry { link });
@@ -79,7 +89,7 @@ fn link_step_of(text: &[u8]) -> Option<Step>
     None
 }
 
-// What the line says behind the letter of its side, with the text of its BYTES, where it has any; `None` where it can be no step's.
+// What the line says after the letter of its side, with the text of its BYTES, where it has any; `None` where it can be no step's.
 #[tactic(auto, unfolding(crate::specs::inner::Reading::step_at))]
 fn entry_of(text: &[u8]) -> Option<(Step, Option<&[u8]>)>
     ensures { step_at text.now ≡ told (option_map (λ parts. (parts.0, option_map (λ digits. digits.now) parts.1)) result) }
@@ -105,7 +115,7 @@ fn entry_of(text: &[u8]) -> Option<(Step, Option<&[u8]>)>
 /// Reads the line's step in two parts: its entry, and its message or noise, which is written to the front of the room, with how many
 /// bytes it has. The line is given without its LF.
 ///
-/// `Syntax` where it spells no step; `TooLong` where it would but for too many bytes. Takes no memory.
+/// `Syntax` where it spells no step; `TooLong` where it would spell one if there were not too many bytes. Takes no memory.
 #[tactic(auto, unfolding(crate::specs::inner::Reading::line_at))]
 pub fn line_into(line: &[u8], room: &mut [u8]) -> Result<(LineEntry, usize), Departure>
     requires { length room.old ≡ MAX_MESSAGE }

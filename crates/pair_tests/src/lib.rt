@@ -1,4 +1,4 @@
-//! Laws of `pair_judge`, `pair_player` and the definitions as a caller applies them, each to a case of its own. They stand in a crate of their
+//! Laws of `pair_judge`, `pair_player` and the definitions as a caller applies them, each to a case of its own. They are in a crate of their
 //! own, which is proved in its tests alone.
 #![tactic(auto)]
 

@@ -2,6 +2,7 @@
 use Rattle.std.proofs.Common.{◌≡◌, ℕ, ◌+◌, Bool, Option, Some, None, List, [], ◌∷◌, ◌++◌, refl, sym, ap, subst, ◌∙◌}
 use Rattle.std.proofs.lemmas.List.{append_assoc, append-nil}
 use Rattle.capture.specs.declared.record.Record.{Record}
+use Rattle.capture.specs.declared.fate.Fate.{Fate}
 use Rattle.capture.specs.declared.record.Record.TheVariants.{Sent, Received, Noise, User}
 use Rattle.capture.specs.declared.event.Event.{Event}
 use Rattle.capture.specs.declared.hint.HintForm.TheVariants.{Number}
@@ -62,15 +63,15 @@ puts_sent old mid new bytes own other gone same units text =
     }
 
 -- the same of the other side's
-pub puts_came : (old mid new : Waiting) (hint : ℕ) (kept : Bool) (bytes : List ℕ) → hint ≡ old.units.gone → mid.units.own ≡ old.units.own →
+pub puts_came : (old mid new : Waiting) (hint : ℕ) (fate : Fate) (bytes : List ℕ) → hint ≡ old.units.gone → mid.units.own ≡ old.units.own →
     old.units.other ≡ bytes ∷ mid.units.other → mid.units.gone ≡ old.units.gone + 1 → mid.text ≡ old.text → new.units ≡ mid.units →
-    new.text ≡ mid.text ++ record_line Number (Received hint kept bytes) → Puts old new
-puts_came old mid new hint kept bytes named own other gone same units text =
+    new.text ≡ mid.text ++ record_line Number (Received hint fate bytes) → Puts old new
+puts_came old mid new hint fate bytes named own other gone same units text =
     record {
-      acts = Some (Received hint kept bytes) ∷ [];
+      acts = Some (Received hint fate bytes) ∷ [];
       follow = (mid.units, (named, record { own = own; other = other; gone = gone }), units);
-      text = one_line (Received hint kept bytes) old.text new.text
-          (text ∙ ap (λ (t : List ℕ). t ++ record_line Number (Received hint kept bytes)) same);
+      text = one_line (Received hint fate bytes) old.text new.text
+          (text ∙ ap (λ (t : List ℕ). t ++ record_line Number (Received hint fate bytes)) same);
     }
 
 pub puts_lost : (old new : Waiting) (bytes : List ℕ) → new.units.own ≡ old.units.own → old.units.other ≡ bytes ∷ new.units.other →
@@ -93,7 +94,7 @@ puts_noise old new bytes units text =
 pub puts_aside : (old new : Waiting) (entry : Entry) (bytes : List ℕ) → IsOfNoUnit entry → new.units ≡ old.units →
     new.text ≡ old.text ++ record_line Number (record_with entry bytes) → Puts old new
 puts_aside old new entries.Sent bytes aside units text = absurd aside
-puts_aside old new (entries.Received kept hint) bytes aside units text = absurd aside
+puts_aside old new (entries.Received fate hint) bytes aside units text = absurd aside
 puts_aside old new entries.Noise bytes aside units text = puts_noise old new bytes units text
 puts_aside old new entries.Start bytes aside units text = puts_event old new events.Start units text
 puts_aside old new entries.Halt bytes aside units text = puts_event old new events.Halt units text
@@ -103,6 +104,11 @@ puts_aside old new (entries.Reject partner link) bytes aside units text = puts_e
 puts_aside old new (entries.In link) bytes aside units text = puts_event old new (events.In link bytes) units text
 puts_aside old new (entries.Up link) bytes aside units text = puts_event old new (events.Up link bytes) units text
 puts_aside old new (entries.Close link) bytes aside units text = puts_event old new (events.Close link) units text
+puts_aside old new entries.Boot bytes aside units text = puts_event old new events.Boot units text
+puts_aside old new (entries.Abort link) bytes aside units text = puts_event old new (events.Abort link) units text
+puts_aside old new entries.Composed bytes aside units text = puts_event old new (events.Composed bytes) units text
+puts_aside old new (entries.Interrupt link) bytes aside units text = puts_event old new (events.Interrupt link bytes) units text
+puts_aside old new (entries.Interrupted link) bytes aside units text = puts_event old new (events.Interrupted link bytes) units text
 
 -- ---- what is written are the units that wait no more
 
@@ -111,7 +117,7 @@ sent-follow old new [] e = ap (λ (u : Units). u.own) e
 sent-follow old new (None ∷ acts) (between, (bytes, n), rest) = sent-follow between new acts rest ∙ n.own
 sent-follow old new (Some (Sent bytes) ∷ acts) (between, n, rest) =
     ap (λ (units : List (List ℕ)). bytes ∷ units) (sent-follow between new acts rest) ∙ sym n.own
-sent-follow old new (Some (Received hint kept bytes) ∷ acts) (between, (e, n), rest) = sent-follow between new acts rest ∙ n.own
+sent-follow old new (Some (Received hint fate bytes) ∷ acts) (between, (e, n), rest) = sent-follow between new acts rest ∙ n.own
 sent-follow old new (Some (Noise bytes) ∷ acts) (between, e, rest) = sent-follow between new acts rest ∙ ap (λ (u : Units). u.own) e
 sent-follow old new (Some (User event) ∷ acts) (between, e, rest) = sent-follow between new acts rest ∙ ap (λ (u : Units). u.own) e
 

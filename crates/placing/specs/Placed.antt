@@ -1,5 +1,5 @@
 -- What is written of one side: its units, each once and in order, and between them what came to it and what its user did.
-use Rattle.std.specs.Prelude.{◌≡◌, ℕ, ◌+◌, List, [], ◌∷◌, ◌++◌, Option, Some, None}
+use Rattle.std.specs.Prelude.{◌≡◌, ℕ, ◌+◌, List, [], ◌∷◌, ◌++◌, length, Option, Some, None}
 use Rattle.capture.specs.declared.record.Record.{Record}
 use Rattle.capture.specs.declared.record.Record.TheVariants.{Sent, Received, Noise, User}
 use Rattle.capture.specs.declared.hint.HintForm.TheVariants.{Number}
@@ -43,7 +43,7 @@ pub record NextIsPast (bytes : List ℕ) (old new : Units) : Type 0 where
 abbrev pub Follows : Units → Option Record → Units → Type 0
 Follows old None new = (bytes : List ℕ) × NextIsPast bytes old new
 Follows old (Some (Sent bytes)) new = NextIsSent bytes old new
-Follows old (Some (Received hint kept bytes)) new = (hint ≡ old.gone) × NextIsPast bytes old new
+Follows old (Some (Received hint fate bytes)) new = (hint ≡ old.gone) × NextIsPast bytes old new
 Follows old (Some (Noise bytes)) new = new ≡ old
 Follows old (Some (User event)) new = new ≡ old
 
@@ -58,7 +58,7 @@ records_of [] = []
 records_of (None ∷ acts) = records_of acts
 records_of (Some r ∷ acts) = r ∷ records_of acts
 
--- Their lines are put behind those that stood.
+-- Their lines are put after those that were there.
 pub record Puts (old new : Waiting) : Type 0 where
   pub acts : List (Option Record)
   pub follow : AllFollow old.units acts new.units
@@ -68,6 +68,29 @@ pub record Puts (old new : Waiting) : Type 0 where
 abbrev pub units_sent : List Record → List (List ℕ)
 units_sent [] = []
 units_sent (Sent bytes ∷ rs) = bytes ∷ units_sent rs
-units_sent (Received hint kept bytes ∷ rs) = units_sent rs
+units_sent (Received hint fate bytes ∷ rs) = units_sent rs
 units_sent (Noise bytes ∷ rs) = units_sent rs
 units_sent (User event ∷ rs) = units_sent rs
+
+-- ---- which units came
+
+-- Of all these units that passed on the other side, the first can't come any more, and the others still may.
+pub record HavePassed (all : List (List ℕ)) (units : Units) : Type 0 where
+  pub past : List (List ℕ)
+  pub all_are : all ≡ past ++ units.other
+  pub count : length past ≡ units.gone
+
+-- the one with this number, counted from 0, has these bytes
+pub record IsUnit (all : List (List ℕ)) (number : ℕ) (bytes : List ℕ) : Type 0 where
+  pub before : List (List ℕ)
+  pub after : List (List ℕ)
+  pub are : all ≡ before ++ bytes ∷ after
+  pub number_is : length before ≡ number
+
+-- each receipt is of the unit that its hint numbers
+abbrev pub NameUnits : List (List ℕ) → List Record → Type 0
+NameUnits all [] = Unit {0}
+NameUnits all (Sent bytes ∷ rs) = NameUnits all rs
+NameUnits all (Received hint kept bytes ∷ rs) = IsUnit all hint bytes × NameUnits all rs
+NameUnits all (Noise bytes ∷ rs) = NameUnits all rs
+NameUnits all (User event ∷ rs) = NameUnits all rs

@@ -2,16 +2,30 @@
 
 use dna_packet::{Nsp, Packet, read_nsp, read_packet};
 
-// The first byte of a data message; and how many bytes its header has, with the check, and the check behind its body (DDCMP 4.1, message formats).
+// The first byte of a data message; and how many bytes its header has, with the check, and the check after its body (DDCMP 4.1, message formats).
 const DATA: u8 = 0x81;
 
 const HEADER_LEN: usize = 8;
 
 const CHECK_LEN: usize = 2;
 
-/// The number of the segment behind the one with this number.
+/// The number of the segment after the one with this number.
 pub(crate) fn next_number(number: u16) -> u16 {
     number.wrapping_add(1) % 4096
+}
+
+/// Whether a unit has a message by which a link begins or ends.
+///
+/// ```text
+/// a CI, CC, DI or DC      true
+/// a segment, an ACK       false
+/// ```
+pub fn turns_a_link(unit: &[u8]) -> bool {
+    match message_of(unit) {
+        Some(Nsp::ConnectInitiate(_)) | Some(Nsp::ConnectConfirm(_)) => true,
+        Some(Nsp::DisconnectInitiate(_)) | Some(Nsp::DisconnectConfirm(_)) => true,
+        _ => false,
+    }
 }
 
 /// The message of the links in a unit, if it has one. Its checks are not asked: what has no message that says so is no packet.

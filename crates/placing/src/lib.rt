@@ -6,6 +6,7 @@
 #![tactic(auto)]
 
 mod carried;
+mod explained;
 mod laws;
 mod limit;
 mod movement;
@@ -16,10 +17,15 @@ mod placing;
 mod said;
 mod search;
 mod station;
+mod turn;
+mod user_link;
 mod user_links;
 mod waiting;
 
-pub use laws::put_units_were_sent;
+pub use carried::turns_a_link;
+pub use explained::Explained;
+pub use laws::{put_receipts_name_units, put_units_were_sent};
 pub use limit::MOST_STATES;
 pub use placing::Placing;
 pub use search::{Reached, Search};
+pub use turn::Turn;

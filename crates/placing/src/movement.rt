@@ -32,7 +32,7 @@ pub(crate) enum Made {
     Halt,
 }
 
-/// Where a side may stand: its station, how many of the other side's units came or were lost, how many packets it kept, and the last step of the
+/// Where a side may be: its station, how many of the other side's units came or were lost, how many packets it kept, and the last step of the
 /// way that leads there.
 #[derive(Clone, Copy, Debug, PartialEq, Eq)]
 pub(crate) struct Standing {
@@ -53,7 +53,7 @@ impl Standing {
         }
     }
 
-    /// Whether a side that stands here can do all that it could there: what may still come it can always lose. A node with queues that kept more
+    /// Whether a side that is here can do all that it could there: what may still come it can always lose. A node with queues that kept more
     /// packets may send no less.
     pub(crate) fn covers(&self, other: &Standing) -> bool {
         if self.come > other.come {

@@ -17,8 +17,8 @@ struct Given {
     begun: Option<(u64, usize)>,
 }
 
-/// The messages of a side that are not whole, by the units that began them. What is said of a link ends where its own end is sent, since behind what
-/// came for that its node may still send what waits in a queue; or where its address is given again.
+/// The messages of a side that are not whole, by the units that began them. What is said of a link ends where its own end is sent, since after what
+/// came for that, its node may still send what waits in a queue; or where its address is given again.
 #[derive(Drop)]
 pub(crate) struct OpenMessages {
     given: BTreeMap<u16, Given>,
@@ -38,7 +38,7 @@ impl OpenMessages {
         }
     }
 
-    /// Whether the side's unit that has so many behind it begins a message whose last segment has not passed.
+    /// Whether the side's unit that has so many after it begins a message whose last segment has not passed.
     pub(crate) fn begins_one(&self, behind: u64) -> bool {
         if behind >= self.units {
             return false;
@@ -94,7 +94,7 @@ impl OpenMessages {
         }
     }
 
-    // The unit that began the message of this segment, if that is under way behind it. One that is too long is not waited for.
+    // The unit that began the message of this segment, if that is still under way after it. One that is too long is not waited for.
     fn under_way(
         &mut self,
         begun: Option<(u64, usize)>,

@@ -99,14 +99,6 @@ impl Said {
         }
     }
 
-    /// Whether it is a REP.
-    pub(crate) fn is_rep(self) -> bool {
-        match self {
-            Said::Rep { num: _ } => true,
-            _ => false,
-        }
-    }
-
     /// Whether it is a STRT.
     pub(crate) fn is_strt(self) -> bool {
         match self {

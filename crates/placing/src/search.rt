@@ -3,100 +3,51 @@
 mod advance;
 mod hypothesis;
 mod restarting;
+mod sent;
 mod walk;
 mod way;
 
+use crate::explained::Explained;
 use crate::limit::MOST_STATES;
 use crate::movement::Move;
 use crate::said::Said;
+use crate::turn::Turn;
 use hypothesis::Hypothesis;
+use sent::Sent;
 use std::alloc::{AllocError, Global};
 use std::collections::VecDeque;
-use walk::Room;
-use way::Way;
+use walk::{Room, Wanted};
 use wire_base::Side;
-
-// How many numbers data may have.
-const NUMBERS: usize = 256;
 
 /// What became of a unit.
 #[derive(Clone, Copy, Debug, PartialEq, Eq)]
 pub enum Reached {
     /// Its side may have sent it.
     Way,
-    /// No way was found on which both sides may have sent all that passed.
+    /// No way was found on which both sides may have sent all that passed; or, where each is explained by itself, this side.
     NoWay,
     /// There were more than 10,000 states.
     TooMany,
 }
 
-// What a side sent, as far as it may still come to the other one, and its ways.
-#[derive(Drop)]
-struct Sent {
-    units: VecDeque<Said>,
-    gone: u64,
-    last_data: Vec<u64>,
-    // how many units of the other side had passed before the last of these
-    seen: u64,
-    way: Way,
-}
-
-impl Sent {
-    fn new(alloc: Global) -> Result<Sent, AllocError> {
-        Ok(Sent {
-            units: VecDeque::new(alloc),
-            gone: 0,
-            last_data: vec![in alloc; 0u64; NUMBERS]?,
-            seen: 0,
-            way: Way::new(alloc),
-        })
-    }
-
-    fn count(&self) -> u64 {
-        self.gone.saturating_add(self.units.len() as u64)
-    }
-
-    // One more passed.
-    fn pass(&mut self, said: Said, seen: u64) -> Result<(), AllocError> {
-        self.units.reserve(1)?;
-        self.units.push_back_reserved(said);
-        self.seen = seen;
-        let count = self.count();
-        if let Said::Data { resp: _, num } = said {
-            if let Some(last) = self.last_data.get_mut(usize::from(num)) {
-                *last = count;
-            }
-        }
-        Ok(())
-    }
-
-    // Those before this one can't come any more.
-    fn let_go(&mut self, number: u64) {
-        for _ in self.gone..number {
-            if self.units.pop_front().is_some() {
-                self.gone = self.gone.saturating_add(1);
-            }
-        }
-    }
-}
-
-/// Where both sides of a line may stand behind the units that passed: all states that lead there, but those that others cover.
+/// Where both sides of a line may be after the units that passed: all states that lead there, except those that others cover.
 #[derive(Drop)]
 pub struct Search {
     a: Sent,
     b: Sent,
     hypotheses: VecDeque<Hypothesis>,
-    // those that go on behind the unit at hand, and those that do not
+    // those that go on after the unit at hand, and those that do not
     born: VecDeque<Hypothesis>,
     dead: VecDeque<Hypothesis>,
     room: Room,
     ends: Vec<u64>,
+    explained: Explained,
     alloc: Global,
 }
 
 impl Search {
     /// Nothing passed yet. `AllocError` where there is no memory for it.
-    pub fn new(alloc: Global) -> Result<Search, AllocError> {
+    pub fn new(alloc: Global, explained: Explained) -> Result<Search, AllocError> {
         let mut hypotheses = VecDeque::new(alloc);
         let first = Hypothesis::new(alloc)?;
         hypotheses.reserve(1)?;
@@ -109,27 +60,42 @@ impl Search {
             dead: VecDeque::new(alloc),
             room: Room::new(alloc),
             ends: Vec::new(alloc),
+            explained,
             alloc,
         })
+    }
+
+    /// A start of a side is turned. `AllocError` as there.
+    pub fn turn(&mut self, turn: Turn) -> Result<(), AllocError> {
+        match turn.side {
+            Side::A => self.a.turn(turn),
+            Side::B => self.b.turn(turn),
+        }
     }
 
     /// A unit of this side passed. `NoWay` and `TooMany`: it is the last one. `AllocError` where there is no memory; then no other call is right.
     pub fn sent(&mut self, side: Side, unit: &[u8]) -> Result<Reached, AllocError> {
         let said = Said::of(unit);
-        let number = match side {
-            Side::A => self.a.count(),
-            Side::B => self.b.count(),
+        let (number, is_again) = match side {
+            Side::A => (self.a.count(), self.a.has_again(said, unit)),
+            Side::B => (self.b.count(), self.b.has_again(said, unit)),
+        };
+        let wanted = Wanted {
+            said,
+            is_again,
+            but: None,
+            explained: self.explained,
         };
         let mut states: usize = 0;
         for _ in 0..self.hypotheses.len() {
             if let Some(hypothesis) = self.hypotheses.pop_front() {
-                self.find(&hypothesis, side, said, None)?;
+                self.find(&hypothesis, side, wanted)?;
                 states = states.saturating_add(self.room.found.len());
                 self.go_on(hypothesis, side, number)?;
             }
         }
         if states == 0 {
-            self.give_up(side, said)?;
+            self.give_up(side, wanted)?;
             return Ok(Reached::NoWay);
         }
         std::mem::swap(&mut self.hypotheses, &mut self.born);
@@ -137,20 +103,20 @@ impl Search {
         if states > MOST_STATES {
             return Ok(Reached::TooMany);
         }
-        self.pass(side, said)?;
+        self.pass(side, said, unit)?;
         Ok(Reached::Way)
     }
 
-    // The unit stands behind all others of its side.
-    fn pass(&mut self, side: Side, said: Said) -> Result<(), AllocError> {
+    // The unit comes after all others of its side.
+    fn pass(&mut self, side: Side, said: Said, unit: &[u8]) -> Result<(), AllocError> {
         match side {
             Side::A => {
                 let seen = self.b.count();
-                self.a.pass(said, seen)?;
+                self.a.pass(said, unit, seen)?;
             }
             Side::B => {
                 let seen = self.a.count();
-                self.b.pass(said, seen)?;
+                self.b.pass(said, unit, seen)?;
             }
         }
         let is_due = match side {
@@ -213,12 +179,12 @@ impl Search {
         let Some(hypothesis) = self.hypotheses.front() else {
             return Ok(());
         };
-        let Some(state) = hypothesis.front(side).states.first() else {
+        let Some(last) = hypothesis.front(side).last_of_best() else {
             return Ok(());
         };
         match side {
-            Side::A => self.a.way.settle(state.last),
-            Side::B => self.b.way.settle(state.last),
+            Side::A => self.a.way.settle(last),
+            Side::B => self.b.way.settle(last),
         }
     }
 }

@@ -6,7 +6,7 @@ mod sending;
 use dna_station::{State, Tag};
 pub(crate) use sending::But;
 
-/// What a station keeps but for its packets (DDCMP 4.1, station variables). All numbers of messages are those of the line, modulo 256.
+/// What a station keeps except its packets (DDCMP 4.1, station variables). All numbers of messages are those of the line, modulo 256.
 #[derive(Clone, Copy, Debug, PartialEq, Eq)]
 pub(crate) struct Station {
     pub(crate) state: State,
@@ -78,8 +78,8 @@ impl Station {
         }
     }
 
-    /// Whether it can do all that the other can, but for the other side's units that may still come. A higher number acknowledged covers a lower one,
-    /// but where none is left to ask for.
+    /// Whether it can do all that the other can, apart from the other side's units that may still come. A higher number acknowledged covers a lower
+    /// one, except where none is left to ask for.
     pub(crate) fn covers(&self, other: &Station) -> bool {
         if self.state != other.state || self.tag() != other.tag() {
             return false;

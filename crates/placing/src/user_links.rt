@@ -1,50 +1,10 @@
 //! What the user of a side did with its links, read off its packets.
 
 use crate::carried::{message_of, next_number};
+use crate::user_link::{Phase, Sent, UserAct, UserLink};
 use dna_packet::Nsp;
 use std::alloc::{AllocError, Global};
 use std::collections::{BTreeMap, BTreeSet};
-
-/// What a user does with a link (NSP 4.0, session control interface), before a packet that tells of it is sent.
-#[derive(Clone, Copy, Debug, PartialEq, Eq)]
-pub(crate) enum UserAct {
-    Open { link: u16 },
-    Accept { partner: u16, link: u16 },
-    Reject { partner: u16, link: u16 },
-    Close { link: u16 },
-    /// A message is handed in on this link, whose first segment has this number.
-    HandIn { link: u16, far: u16, number: u16 },
-}
-
-// The phases of a link that has an own address (NSP 4.0, port states).
-#[derive(Clone, Copy, Debug, PartialEq, Eq)]
-enum Phase {
-    Calling,
-    Confirming,
-    Running,
-    Disconnecting,
-}
-
-// What was sent of a link.
-#[derive(Clone, Copy, Debug, PartialEq, Eq, PartialOrd, Ord)]
-enum Sent {
-    Nothing,
-    OfRun,
-    Disconnect,
-}
-
-// The link that got an own address last, while something of it may still be sent: its far address, 0 while it calls; whether what came ended it,
-// behind which what waits in the queues of its node is still sent; of the segments the last number that was given, and whether a message is handed
-// in whose last segment is not sent yet.
-#[derive(Clone, Copy, Debug, PartialEq, Eq)]
-struct UserLink {
-    far: u16,
-    phase: Phase,
-    is_over: bool,
-    sent: Sent,
-    given: u16,
-    in_message: bool,
-}
 
 /// The links of a side, as those of a node with queues: by their own addresses; by the far address, where they are called and not answered yet; and
 /// the own address by the far one, of those that live and know both.

@@ -21,7 +21,7 @@ use std::collections::VecDeque;
 use std::marker::Model;
 
 /// The units of a side that are not written yet, those of the other side that may still come, and the lines that wait to be written. It writes the
-/// units of the side as they were given, each once and in order; what stands between them, it is told.
+/// units of the side as they were given, each once and in order; what comes between them, it is told.
 #[derive(Drop)]
 pub(crate) struct Waiting {
     own: VecDeque<PassedUnit>,
@@ -107,7 +107,7 @@ impl Waiting {
         }
     }
 
-    /// The other side sent this unit. `AllocError` as there, and where it would be the one behind number 999,999,999,999,999,999.
+    /// The other side sent this unit. `AllocError` as there, and where it would be the one after number 999,999,999,999,999,999.
     pub(crate) fn push_other(&mut self, unit: &[u8]) -> Result<(), AllocError>
         requires { length unit.now ≤ MAX_UNIT }
         ensures ok { OnOk result (self.new ≡ with_other unit.now self.old) }

@@ -12,12 +12,12 @@ use Rattle.capture.specs.Text.{record_line}
 use Rattle.dna_station.specs.declared.head.Head.{Head}
 use Rattle.dna_links.specs.declared.port.LinkTest.{LinkTest}
 use Rattle.dna_links.specs.declared.port.LinkTest.TheVariants.{LiveAt, CalledBy}
-use Rattle.dna_links.specs.LookUps.{is_connected, takes_messages}
+use Rattle.dna_links.specs.LookUps.{is_calling, is_connected, takes_messages}
 use Rattle.dna_play.specs.NextSent.{LinkEnd}
 use Rattle.dna_play.specs.Stop.{Stop, BadStep, Full}
 use Rattle.dna_play.specs.StoredEnd.{StoredStation, StoredLinks, StoredEnd}
-use Rattle.dna_play.specs.StoredLinks.{changed, closed, handed, place_of, with_end}
-use Rattle.dna_play.specs.StoredPlay.{StoredStepped, answers, closes, giving, hands_in, if_so, made, with_links}
+use Rattle.dna_play.specs.StoredLinks.{changed, closed, ended, handed, place_of, with_end}
+use Rattle.dna_play.specs.StoredPlay.{StoredStepped, aborts, answers, closes, giving, hands_in, if_so, made, with_links}
 use Rattle.player_end.specs.inner.Index.{live_of, needs_life, place_among}
 use Rattle.player_end.specs.inner.Sending.{end_with}
 use Rattle.player_end.specs.Stepping.{with_lines}
@@ -55,23 +55,41 @@ pub ruleset answered = (answer_full)
 
 module _ {head : Head} {station : StoredStation} {addresses passed : ℕ} {end : StoredEnd} (s : StoredLinks)
     (shown : end_with head station s addresses passed ≡ end) where
-  -- the first link that passes changes so, where it fits so; the event has a line, and so many addresses are given then
-  abbrev IsStep : LinkTest → (Fits : LinkEnd → Type 0) → Event → (LinkEnd → LinkEnd) → (given : ℕ) → Result StoredStepped Stop → Type 0
-  IsStep test Fits event change given step = (n : ℕ) (link : LinkEnd) → place_of test s.links ≡ Some n → slice_get s.links n ≡ Some link →
-      Fits link → (after : StoredLinks) (text t : List ℕ) → live_of after ≡ changed (place_among n s.links) (change link) (live_of s) →
+  -- the first link that passes leaves these links, where it fits so; the event has a line, and so many addresses are given then
+  abbrev Leaves : LinkTest → (Fits : LinkEnd → Type 0) → Event → ((place : ℕ) → LinkEnd → StoredLinks → StoredLinks) → (given : ℕ) →
+      Result StoredStepped Stop → Type 0
+  Leaves test Fits event left given step = (n : ℕ) (link : LinkEnd) → place_of test s.links ≡ Some n → slice_get s.links n ≡ Some link →
+      Fits link → (after : StoredLinks) (text t : List ℕ) → live_of after ≡ left (place_among n s.links) link (live_of s) →
       t ≡ text ++ record_line Number (User event) → with_lines text step ≡ Ok (end_with head station after given passed, [], t)
+
+  -- it changes so
+  abbrev IsStep : LinkTest → (Fits : LinkEnd → Type 0) → Event → (LinkEnd → LinkEnd) → (given : ℕ) → Result StoredStepped Stop → Type 0
+  IsStep test Fits event change given step = Leaves test Fits event (λ place link. changed place (change link)) given step
+
+  leaves : (test : LinkTest) (Fits : LinkEnd → Type 0) (event : Event) (left : (place : ℕ) → LinkEnd → StoredLinks → StoredLinks) (given : ℕ)
+      (next : StoredEnd → ℕ → LinkEnd → Result StoredStepped Stop) → needs_life test ≡ true →
+      ((place : ℕ) (link : LinkEnd) → Fits link → next (end_with head station s addresses passed) place link
+      ≡ made event (with_links (left place link (live_of s)) (end_with head station s given passed))) →
+      Leaves test Fits event left given (with_end test end.links (Err BadStep) (next end))
+  leaves test Fits event left given next needs makes n link found at fits after text t is line =
+      ap (λ (e : StoredEnd). with_lines text (with_end test e.links (Err BadStep) (next e))) (sym shown)
+      ∙ ap (with_lines text) (with_passed test s (Err BadStep) (next (end_with head station s addresses passed)) n link needs found at
+      ∙ makes (place_among n s.links) link fits)
+      ∙ ap₂ (λ (l : StoredLinks) (x : List ℕ). Ok (with_links l (end_with head station s given passed), [], x)) (sym is)
+      (ap (λ (x : List ℕ). text ++ x) (append-nil (record_line Number (User event))) ∙ sym line)
 
   is_step : (test : LinkTest) (Fits : LinkEnd → Type 0) (event : Event) (change : LinkEnd → LinkEnd) (given : ℕ)
       (next : StoredEnd → ℕ → LinkEnd → Result StoredStepped Stop) → needs_life test ≡ true →
       ((place : ℕ) (link : LinkEnd) → Fits link → next (end_with head station s addresses passed) place link
       ≡ made event (with_links (changed place (change link) (live_of s)) (end_with head station s given passed))) →
       IsStep test Fits event change given (with_end test end.links (Err BadStep) (next end))
-  is_step test Fits event change given next needs makes n link found at fits after text t is line =
-      ap (λ (e : StoredEnd). with_lines text (with_end test e.links (Err BadStep) (next e))) (sym shown)
-      ∙ ap (with_lines text) (with_passed test s (Err BadStep) (next (end_with head station s addresses passed)) n link needs found at
-      ∙ makes (place_among n s.links) link fits)
-      ∙ ap₂ (λ (l : StoredLinks) (x : List ℕ). Ok (with_links l (end_with head station s given passed), [], x)) (sym is)
-      (ap (λ (x : List ℕ). text ++ x) (append-nil (record_line Number (User event))) ∙ sym line)
+  is_step test Fits event change given next needs makes = leaves test Fits event (λ place link. changed place (change link)) given next needs makes
+
+  pub aborts_lines : (own : ℕ) →
+      Leaves (LiveAt own) (λ l. is_calling l.port.phase ≡ true) (events.Abort own) (λ place link. ended place) addresses (aborts end own)
+  aborts_lines own = leaves (LiveAt own) (λ l. is_calling l.port.phase ≡ true) (events.Abort own) (λ place link. ended place) addresses
+      (λ e place l. if_so (is_calling l.port.phase) (made (events.Abort own) (with_links (ended place e.links) e))) refl
+      (λ place l h. if_true _ h)
 
   pub closes_lines : (own : ℕ) →
       IsStep (LiveAt own) (λ l. is_connected l.port.phase ≡ true) (events.Close own) closed addresses (closes end own)

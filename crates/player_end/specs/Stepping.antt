@@ -10,7 +10,7 @@ use Rattle.dna_play.specs.StoredPlay.{StoredStepped}
 use Rattle.player_end.specs.declared.fault.StepFault.{StepFault}
 use Rattle.player_end.specs.declared.fault.StepFault.TheVariants.{BadStep, Full, OutOfMemory}
 
--- the end after a step, the units that it sends, and a text with the lines of its records behind it
+-- the end after a step, the units that it sends, and a text with the lines of its records after it
 abbrev pub with_lines : List ℕ → Result StoredStepped Stop → Result (StoredEnd × List (List ℕ) × List ℕ) Stop
 with_lines text (Ok made) = Ok (made.end, made.sent, text ++ record_lines Number made.records)
 with_lines text (Err stop) = Err stop

@@ -6,7 +6,7 @@ ghost use Rattle.player_end.specs.inner.Addresses.{has};
 use std::alloc::{AllocError, Global};
 use std::collections::BTreeSet;
 
-/// The addresses that live links have, each with the number of its link. Links with the same address stand beside each other, the
+/// The addresses that live links have, each with the number of its link. Links with the same address are next to each other, the
 /// first one first.
 #[derive(Drop)]
 pub struct Addresses {

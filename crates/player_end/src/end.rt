@@ -23,10 +23,10 @@ use wire_base::Window;
 /// One end of the line, as its node keeps it: its station and its links, each with what it owes; how many link addresses it has given, and how
 /// many units of the other end came or were lost.
 ///
-/// A step answers `BadStep` where it breaks its rule, which stands at each, or where its record would have no line in a capture; `Full`
+/// A step answers `BadStep` where it breaks its rule, which is given at each, or where its record would have no line in a capture; `Full`
 /// where it needs a link address and all 65,535 are given, which is asked after that; and `OutOfMemory` where memory was refused. Memory
-/// is asked for after both, but for a message that becomes whole and is too long: that shows behind. After any of them neither the end
-/// nor what stands behind the text is of any use.
+/// is asked for after both, except for a message that becomes whole and is too long: that shows only afterwards. After any of them
+/// neither the end nor what was put after the text is of any use.
 #[derive(Drop)]
 pub struct End<W: Window<HeldPacket, 256> + Drop, V: Window<GivenPiece, 4096> + Drop> {
     head: Head,

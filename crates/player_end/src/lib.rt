@@ -2,8 +2,8 @@
 //! wrapped numbers.
 //!
 //! The crate decides what each step of a script makes of its end: the records that the end adds to its capture, the units that it sends, and
-//! what it owes behind that. It knows nothing of a script's text, of the other end, or of the line between them.
-//! Its tests are `pair_tests`' `one_end`: there they need no second proof of what stands here.
+//! what it owes after that. It knows nothing of a script's text, of the other end, or of the line between them.
+//! Its tests are `pair_tests`' `one_end`: there they need no second proof of what is stated here.
 #![tactic(auto)]
 
 mod addresses;

@@ -128,8 +128,8 @@ impl<V: Window<GivenPiece, 4096> + Drop> LinkEnds<V> {
         Ok(())
     }
 
-    // The link with this number ends, and gives its memory back.
-    fn end_at(&mut self, number: usize)
+    /// The link with this number ends, and gives its memory back.
+    pub fn end_at(&mut self, number: usize)
         requires within { number < length self.old.links }
         requires lives { LivesAt number self.old }
         ensures { live_of self.new ≡ stored.ended (place_among number self.old.links) (live_of self.old) }

@@ -10,7 +10,7 @@ use std::alloc::{AllocError, Global};
 // A link that may have something to send.
 const MARKED: u8 = 1;
 
-/// A mark for each link, by its number: 1 where it may have something to send. Behind a change a link is marked; a mark goes where a
+/// A mark for each link, by its number: 1 where it may have something to send. After a change a link is marked; a mark goes where a
 /// look at its link finds nothing to send.
 #[derive(Drop)]
 pub struct Marks {

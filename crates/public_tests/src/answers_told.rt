@@ -1,4 +1,4 @@
-use capture::Entry;
+use capture::{Entry, Fate};
 use ddcmp_msg::{Flags, Message, Reading, read_unit};
 use ddcmp_station::{DataByte, FailedSending, OpenCauses, State, StationView};
 use dna_links::{LinkQueue, Phase, Port, Said};
@@ -100,7 +100,7 @@ fn records_are_told_layer_by_layer(rt: HostRuntime) -> Result<(), AllocError> {
     );
     let stack = bytes_of(alloc, "0507c00000014855");
     let entry = Entry::Received {
-        kept: false,
+        fate: Fate::NotKept,
         hint: 1,
     };
     let told = record_text(alloc, ("pdp.b", 8), entry, stack.as_slice(), false)?;
@@ -379,7 +379,7 @@ fn a_record_names_a_link(rt: HostRuntime) -> Result<(), AllocError> {
     let sent = addresses_of(Entry::Sent, segment.as_slice());
     assert_eq!(rt; (sent.own, sent.far), (Some(1), Some(2)));
     let entry = Entry::Received {
-        kept: true,
+        fate: Fate::Kept,
         hint: 1,
     };
     let came = addresses_of(entry, segment.as_slice());

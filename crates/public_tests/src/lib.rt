@@ -1,4 +1,4 @@
-//! What a caller sees of `coverage`, `edited`, `framer`, `ladder`, `why` and `wire_text`, on cases of its own. These stand in a crate of their own,
+//! What a caller sees of `coverage`, `edited`, `framer`, `ladder`, `why` and `wire_text`, on cases of its own. These are in a crate of their own,
 //! since one with tests is proved twice.
 #![tactic(auto)]
 

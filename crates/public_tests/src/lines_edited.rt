@@ -1,6 +1,6 @@
 //! A text with changes, and the likeliest edit of a small pair.
 
-use capture::{Entry, HintForm};
+use capture::{Entry, Fate, HintForm};
 use edited::{Change, Edit, EditedReader, Refused, Row, Stretch, candidates};
 use std::alloc::{AllocError, Global};
 use std::io::{self, Read};
@@ -55,6 +55,8 @@ fn first_put(edits: &[Edit]) -> &[u8] {
 
 fn stretch(line: u64, rows: Vec<Row>) -> Stretch {
     Stretch {
+        own: 1026,
+        peer: 1025,
         line,
         rows,
         later: None,
@@ -70,7 +72,7 @@ fn a_receipt_before_a_wrong_response_was_kept(rt: HostRuntime) -> Result<(), All
         alloc,
         2,
         Entry::Received {
-            kept: false,
+            fate: Fate::NotKept,
             hint: 4,
         },
         &[0x81],
@@ -86,5 +88,71 @@ fn a_receipt_before_a_wrong_response_was_kept(rt: HostRuntime) -> Result<(), All
     let words = first_words(alloc, edits.as_slice())?;
     assert_eq!(rt; words.as_str(), "line 2 of b is `k`, not `r`");
     assert_eq!(rt; first_put(edits.as_slice()), b"k 4 81\n".as_slice());
+    Ok(())
+}
+
+// The text under the edit with these words; empty where there is none.
+fn text_under(alloc: Global, edits: Vec<Edit>, wanted: &str, text: &[u8]) -> io::Result<Vec<u8>> {
+    let mut edited = Vec::new(alloc);
+    for edit in edits {
+        let words = format!(in alloc; "{}", edit.of)?;
+        if words.as_str() == wanted {
+            EditedReader::new(alloc, edit.changes, text)?.read_to_end(&mut edited)?;
+            return Ok(edited);
+        }
+    }
+    Ok(edited)
+}
+
+// The edits near a refused `u open 3`, after a halt and what was kept.
+fn edits_of_open(alloc: Global) -> Result<Vec<Edit>, AllocError> {
+    let kept = Entry::Received {
+        fate: Fate::Kept,
+        hint: 0,
+    };
+    let mut own = Vec::new(alloc);
+    own.push(row(alloc, 2, Entry::Halt, &[])?)?;
+    own.push(row(alloc, 3, Entry::Start, &[])?)?;
+    own.push(row(alloc, 4, kept, &[0x81])?)?;
+    own.push(row(alloc, 5, Entry::Open { link: 3 }, &[])?)?;
+    let refused = Refused {
+        reason: 26,
+        due: Vec::new(alloc),
+        damage: None,
+    };
+    let (own, other) = (stretch(5, own), stretch(2, Vec::new(alloc)));
+    Ok(candidates(alloc, Side::B, &refused, &own, &other)?.into_vec())
+}
+
+// Where an edit puts a line in that format 3 alone has, the text becomes one of format 3.
+#[test]
+fn a_line_of_format_3_brings_its_head(rt: HostRuntime) -> io::Result<()> {
+    let alloc = rt.alloc();
+    let text = b"ddcap 1 1.2 1.1\nu halt\nu start\nk 0 81\nu open 3\n".as_slice();
+    for (words, wanted) in [
+        (
+            "line 2 of b is `u boot`, not `u halt`",
+            b"ddcap 3 1.2 1.1\nu boot\nu start\nk 0 81\nu open 3\n".as_slice(),
+        ),
+        (
+            "`u boot` is missing before line 5 of b",
+            b"ddcap 3 1.2 1.1\nu halt\nu start\nk 0 81\nu boot\nu open 3\n".as_slice(),
+        ),
+        (
+            "`u abort 3` is missing before line 5 of b",
+            b"ddcap 3 1.2 1.1\nu halt\nu start\nk 0 81\nu abort 3\nu open 3\n".as_slice(),
+        ),
+        (
+            "line 4 of b is `d`, not `k`",
+            b"ddcap 3 1.2 1.1\nu halt\nu start\nd 0 81\nu open 3\n".as_slice(),
+        ),
+        (
+            "line 4 of b is `r`, not `k`",
+            b"ddcap 1 1.2 1.1\nu halt\nu start\nr 0 81\nu open 3\n".as_slice(),
+        ),
+    ] {
+        let edited = text_under(alloc, edits_of_open(alloc)?, words, text)?;
+        assert_eq!(rt; edited.as_slice(), wanted);
+    }
     Ok(())
 }

@@ -8,7 +8,7 @@ const TEXT: &str = "ddwire 1 1.1 63.1023\na 9605\nb 81\na ff\n";
 // A piece without a byte is on line 3.
 const FAULTY: &str = "ddwire 1 1.1 1.2\na 05\nb -\n";
 
-// A text's addresses, its pieces, each behind the letter of its side, and what is answered behind them.
+// A text's addresses, its pieces, each after the letter of its side, and what is answered after them.
 fn read(
     alloc: Global,
     text: &str,

@@ -1,4 +1,4 @@
-use capture::Entry;
+use capture::{Entry, Fate};
 use ladder::{Drawn, Keep, Ladder};
 use std::alloc::{AllocError, Global};
 use wire_base::Side;
@@ -16,7 +16,7 @@ fn told(ladder: &mut Ladder) -> Result<(), AllocError> {
     ladder.made(
         Side::B,
         Entry::Received {
-            kept: false,
+            fate: Fate::NotKept,
             hint: 1,
         },
         &STRT,
@@ -25,7 +25,7 @@ fn told(ladder: &mut Ladder) -> Result<(), AllocError> {
     ladder.made(
         Side::A,
         Entry::Received {
-            kept: false,
+            fate: Fate::NotKept,
             hint: 0,
         },
         &STACK,
@@ -89,7 +89,7 @@ fn no_row_is_drawn_where_the_named_record_is_not_told(rt: HostRuntime) -> Result
     Ok(())
 }
 
-// Unit 0 is sent before the first row, and unit 1 behind it.
+// Unit 0 is sent before the first row, and unit 1 after it.
 #[test]
 fn a_receipt_stands_beside_no_later_unit(rt: HostRuntime) -> Result<(), AllocError> {
     let from = Keep::From {
@@ -101,7 +101,14 @@ fn a_receipt_stands_beside_no_later_unit(rt: HostRuntime) -> Result<(), AllocErr
     ladder.made(Side::A, Entry::Sent, &STRT)?;
     ladder.made(Side::B, Entry::Start, &[])?;
     for hint in 0..2 {
-        ladder.made(Side::B, Entry::Received { kept: false, hint }, &STRT)?;
+        ladder.made(
+            Side::B,
+            Entry::Received {
+                fate: Fate::NotKept,
+                hint,
+            },
+            &STRT,
+        )?;
         ladder.made(Side::A, Entry::Sent, &STRT)?;
     }
     let lines = [

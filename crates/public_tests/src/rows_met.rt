@@ -9,8 +9,8 @@ const TEXT_B: &str =
     "ddcap 1 1.2 1.1\nu start\nr 0 0506c00000017595\ns 0507c00000014855\nr 1 050100000001fc55\n";
 
 const TABLE: &str = "\
-a went through 4 of 80 rows
-b went through 4 of 80 rows
+a went through 4 of 88 rows
+b went through 4 of 88 rows
 row                                     a      b
 HALTED user start                       1      1
 ISTRT sends STRT                        1      .

@@ -35,7 +35,7 @@ counting_begins text left state opens = record {
 sent_push : (rs : List Record) (r : Record) → length (units_sent (rs ++ r ∷ [])) ≡ length (units_sent rs) + length (units_sent (r ∷ []))
 sent_push [] r = omega arith
 sent_push (Sent bytes ∷ rs) r = let more = sent_push rs r in omega arith
-sent_push (Received hint kept bytes ∷ rs) r = sent_push rs r
+sent_push (Received hint fate bytes ∷ rs) r = sent_push rs r
 sent_push (Noise bytes ∷ rs) r = sent_push rs r
 sent_push (User event ∷ rs) r = sent_push rs r
 
@@ -44,7 +44,8 @@ module _ (text come after : Option (List ℕ)) (state new : CaptureState) (place
       new.own ≡ state.own → new.peer ≡ state.peer → IsCounting text after new (place + 1) (units + more)
   counting_on r more sent gives own peer = record {
     records = h.records ++ r ∷ [];
-    read = rw (gives.5, own, peer) (one_more text come after state.form state.own state.peer h.records r h.read (rw h.place_is few) gives.0 gives.4);
+    read = rw (gives.5, own, peer) (one_more text come after state.form state.own state.peer h.records r h.read (rw h.place_is few) gives.0 gives.4
+        gives.6);
     place_is = omega (arith, length-append h.records (r ∷ []), h.place_is);
     units_are = omega (arith, sent_push h.records r, h.units_are, sent);
     counted = omega (arith, gives.2, h.counted);

@@ -15,10 +15,13 @@ abbrev pub unit_words : Passed → List ℕ
 unit_words passed =
     side_letter passed.side ++ (codes " unit " ++ (decimal passed.unit ++ (codes " line " ++ decimal passed.line)))
 
--- `7 WrongNumber` and, on a line of its own, that no placing was found
+-- `7 WrongNumber`
+abbrev pub numbered_words : Reason → List ℕ
+numbered_words reason = decimal (reason_number reason) ++ (codes " " ++ reason_name reason)
+
+-- the same and, on a line of its own, that no placing was found
 abbrev pub reason_words : Reason → List ℕ
-reason_words reason =
-    decimal (reason_number reason) ++ (codes " " ++ (reason_name reason ++ codes "\nno consistent explanation was found; this alone accuses neither node"))
+reason_words reason = numbered_words reason ++ codes "\nno consistent explanation was found; this alone accuses neither node"
 
 -- what the answer of `why` rests on
 abbrev pub rests_words : List ℕ
@@ -28,6 +31,12 @@ rests_words = codes "ddcap why shows the unit, but whom it accuses depends on wh
 abbrev pub unexplained_words : Passed → Reason → List ℕ
 unexplained_words passed reason =
     codes "unexplained " ++ (unit_words passed ++ (codes ": " ++ (reason_words reason ++ (codes "\n" ++ (rests_words ++ codes "\n")))))
+
+-- `apart: a unit 7 line 16: 7 WrongNumber`, and that each side is explained
+abbrev pub apart_words : Passed → Reason → List ℕ
+apart_words passed reason =
+    codes "apart: " ++ (unit_words passed ++ (codes ": " ++ (numbered_words reason
+    ++ codes "\neach side is explained by itself; this accuses neither node\n")))
 
 -- `unexplained after the last unit: 14 WrongUserEvent`
 abbrev pub unexplained_end_words : Reason → List ℕ

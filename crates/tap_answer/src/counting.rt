@@ -42,5 +42,7 @@ fn units_of(entry: Entry) -> u64
         Entry::Received { .. } | Entry::Noise => 0,
         Entry::Start | Entry::Halt | Entry::Open { .. } | Entry::Accept { .. } => 0,
         Entry::Reject { .. } | Entry::In { .. } | Entry::Up { .. } | Entry::Close { .. } => 0,
+        Entry::Boot | Entry::Abort { .. } | Entry::Composed => 0,
+        Entry::Interrupt { .. } | Entry::Interrupted { .. } => 0,
     }
 }

@@ -7,7 +7,11 @@
 mod counting;
 mod told;
 mod told_text;
+mod turning;
 
 pub use counting::units_before;
 pub use told::{Told, said_of};
-pub use told_text::{premise_text, too_wide_text, unexplained_end_text, unexplained_text};
+pub use told_text::{
+    apart_text, premise_text, too_wide_text, unexplained_end_text, unexplained_text,
+};
+pub use turning::{MOST_TURNS, turns_of};

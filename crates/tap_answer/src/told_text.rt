@@ -1,7 +1,7 @@
 //! The texts of what is said.
 
 ghost use Rattle.std.specs.Prelude.{◌≡◌, IfOk, string_bytes};
-ghost use Rattle.tap_answer.specs.Words.{premise_words, too_wide_words, unexplained_end_words, unexplained_words};
+ghost use Rattle.tap_answer.specs.Words.{apart_words, premise_words, too_wide_words, unexplained_end_words, unexplained_words};
 
 use pair_judge::Reason;
 use std::alloc::{AllocError, Global};
@@ -27,7 +27,26 @@ impl fmt::Display for UnitWords {
     }
 }
 
-// A reason with its number and, after it, that no placing was found.
+// A reason with its number.
+#[derive(Clone, Copy)]
+struct NumberedWords {
+    reason: Reason,
+}
+
+impl fmt::Display for NumberedWords {
+    ghost use Rattle.std.specs.Prelude.{Some};
+    ghost use Rattle.tap_answer.specs.Words.{numbered_words};
+
+    ghost output = { λ words. Some (numbered_words words.reason) };
+
+    fn fmt<W: fmt::Write>(&self, f: &mut fmt::Formatter<W>) -> fmt::Result {
+        let reason = self.reason;
+        let number = reason.number();
+        write!(f, "{number} {reason}")
+    }
+}
+
+// The same and, after it, that no placing was found.
 #[derive(Clone, Copy)]
 struct ReasonWords {
     reason: Reason,
@@ -40,11 +59,12 @@ impl fmt::Display for ReasonWords {
     ghost output = { λ words. Some (reason_words words.reason) };
 
     fn fmt<W: fmt::Write>(&self, f: &mut fmt::Formatter<W>) -> fmt::Result {
-        let reason = self.reason;
-        let number = reason.number();
+        let numbered = NumberedWords {
+            reason: self.reason,
+        };
         write!(
             f,
-            "{number} {reason}\nno consistent explanation was found; this alone accuses neither node"
+            "{numbered}\nno consistent explanation was found; this alone accuses neither node"
         )
     }
 }
@@ -118,6 +138,17 @@ pub fn unexplained_text(alloc: Global, passed: Passed, reason: Reason) -> Result
     let why = ReasonWords { reason };
     let rests = RestsWords {};
     format!(in alloc; "unexplained {unit}: {why}\n{rests}\n")
+}
+
+/// `apart: a unit 7 line 16: 7 WrongNumber`, and a line that each side is explained by itself, each with its LF. Fails for want of memory alone.
+pub fn apart_text(alloc: Global, passed: Passed, reason: Reason) -> Result<String, AllocError>
+    ensures { IfOk result (λ text. string_bytes text ≡ apart_words passed reason) }
+{
+    let unit = UnitWords { passed };
+    let numbered = NumberedWords { reason };
+    format!(in alloc;
+        "apart: {unit}: {numbered}\neach side is explained by itself; this accuses neither node\n"
+    )
 }
 
 /// `unexplained after the last unit: 14 WrongUserEvent`, and the same lines after it: captures of all that passed are refused there. Fails for want

@@ -2,10 +2,11 @@
 
 use capture::CaptureFault;
 use pair_judge::{Reason, Verdict};
+use placing::Turn;
 use std::alloc::AllocError;
 use tap_answer::{
-    Told, premise_text, said_of, too_wide_text, unexplained_end_text, unexplained_text,
-    units_before,
+    Told, apart_text, premise_text, said_of, too_wide_text, turns_of, unexplained_end_text,
+    unexplained_text, units_before,
 };
 use wire_base::{Side, Tally};
 use wire_tap::{Ending, Passed, Skipped, Tapped, Units};
@@ -31,8 +32,19 @@ fn an_unplaced_unit_is_named_with_the_reason(rt: HostRuntime) -> Result<(), Allo
     };
     let reason = Reason::WrongNumber;
     assert_eq!(rt;
-        said_of(Ending::Unplaced(passed), verdict),
+        said_of(Ending::Unplaced(passed), verdict, false),
         Told::Unexplained { passed, reason }
+    );
+    assert_eq!(rt;
+        said_of(Ending::Unplaced(passed), verdict, true),
+        Told::Apart { passed, reason }
+    );
+    let text = apart_text(rt.alloc(), passed, reason)?;
+    assert_eq!(rt;
+        text.as_str(),
+        "apart: a unit 7 line 16: 7 WrongNumber
+each side is explained by itself; this accuses neither node
+"
     );
     let text = unexplained_text(rt.alloc(), passed, reason)?;
     assert_eq!(rt;
@@ -99,4 +111,31 @@ fn the_units_before_a_record_are_counted(rt: HostRuntime) {
         units_before(rt.alloc(), &mut capture, 9),
         Err(CaptureFault::Read)
     );
+}
+
+// A DC comes after the second unit, and then the user starts the station anew.
+const RESTARTED: &str = "ddcap 1 1.1 1.2
+u start
+s 0506c00000017595
+r 0 0507c00000014855
+s 050100000001fc55
+k 1 810d00000101f38002010402040048010002002a00abb6
+u halt
+u start
+s 0506c00000017595
+";
+
+#[test]
+fn a_start_after_a_disconnect_confirm_may_be_turned(rt: HostRuntime) -> Result<(), CaptureFault> {
+    let text = RESTARTED;
+    let mut capture = Tally::new(text.as_bytes());
+    let mut turns = turns_of(rt.alloc(), &mut capture, Side::A)?;
+    let turn = Turn {
+        side: Side::A,
+        unit: 2,
+        kept: 0,
+    };
+    assert_eq!(rt; turns.pop_front(), Some(turn));
+    assert_eq!(rt; turns.pop_front(), None);
+    Ok(())
 }

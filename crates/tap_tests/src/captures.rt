@@ -1,8 +1,9 @@
 //! Both captures of what passed on a line.
 
+use placing::Explained;
 use std::alloc::Global;
 use wire_base::Tally;
-use wire_tap::{Ending, Skipped, TapFault, Tapped, Units, tap};
+use wire_tap::{Asked, Ending, Skipped, TapFault, Tapped, Units, tap};
 
 const STARTUP: &str = "ddwire 1 1.1 1.2
 a 96960506c00000
@@ -28,7 +29,12 @@ fn tapped(alloc: Global, text: &str) -> Result<(Tapped, Vec<u8>, Vec<u8>), TapFa
     let mut wire = Tally::new(text.as_bytes());
     let mut a = Tally::new(Vec::new(alloc));
     let mut b = Tally::new(Vec::new(alloc));
-    let tapped = tap(alloc, &mut wire, &mut a, &mut b, false, None)?;
+    let asked = Asked {
+        line_alone: false,
+        explained: Explained::Together,
+        last: None,
+    };
+    let tapped = tap(alloc, &mut wire, &mut a, &mut b, asked, &[])?;
     Ok((tapped, a.into_inner(), b.into_inner()))
 }
 

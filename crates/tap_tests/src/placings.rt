@@ -1,7 +1,7 @@
 //! One side of a line, as a tap places its units.
 
 use ddcmp_msg::{Reading, read_unit};
-use placing::{Placing, Reached, Search};
+use placing::{Explained, Placing, Reached, Search, Turn, turns_a_link};
 use std::alloc::{AllocError, Global};
 use wire_base::Side;
 
@@ -20,9 +20,13 @@ struct Line {
 
 impl Line {
     fn new(alloc: Global) -> Result<Line, AllocError> {
+        Line::of(alloc, Explained::Together)
+    }
+
+    fn of(alloc: Global, explained: Explained) -> Result<Line, AllocError> {
         Ok(Line {
             b: Placing::new(alloc, false),
-            search: Search::new(alloc)?,
+            search: Search::new(alloc, explained)?,
         })
     }
 
@@ -57,6 +61,55 @@ fn what_lets_a_side_send_is_put_between_its_units(rt: HostRuntime) -> Result<(),
 fn a_unit_without_a_way_is_told(rt: HostRuntime) -> Result<(), AllocError> {
     let mut line = Line::new(rt.alloc())?;
     assert_eq!(rt; line.from_b(&STACK)?, Reached::NoWay);
+    Ok(())
+}
+
+// A data message with a packet that no link reads.
+const HELLO: [u8; 11] = [
+    0x81, 0x01, 0x00, 0x00, 0x01, 0x01, 0xe3, 0x81, 0x05, 0xc0, 0x03,
+];
+
+// The same with another packet.
+const OTHER: [u8; 11] = [
+    0x81, 0x01, 0x00, 0x00, 0x01, 0x01, 0xe3, 0x81, 0x07, 0x41, 0xc2,
+];
+
+// Side b starts anew, of which it sends nothing, takes the STACK of its earlier start, and gives another packet the number 1: only by itself it may.
+#[test]
+fn a_side_by_itself_asks_no_period(rt: HostRuntime) -> Result<(), AllocError> {
+    for explained in [Explained::Together, Explained::Apart] {
+        let mut line = Line::of(rt.alloc(), explained)?;
+        line.from_b(&STRT)?;
+        line.from_a(&STACK)?;
+        line.from_a(&STACK)?;
+        assert_eq!(rt; line.search.sent(Side::B, &HELLO)?, Reached::Way);
+        let reached = line.search.sent(Side::B, &OTHER)?;
+        assert_eq!(rt; reached == Reached::Way, explained == Explained::Apart);
+    }
+    Ok(())
+}
+
+#[test]
+fn a_start_that_is_turned_keeps_fewer_packets(rt: HostRuntime) -> Result<(), AllocError> {
+    for (kept, wanted) in [(1, true), (0, false)] {
+        let mut line = Line::new(rt.alloc())?;
+        line.search.turn(Turn {
+            side: Side::B,
+            unit: 1,
+            kept,
+        })?;
+        line.from_a(&STRT)?;
+        line.from_b(&STACK)?;
+        line.b.sent_by_other(&HELLO)?;
+        line.search.sent(Side::A, &HELLO)?;
+        line.from_b(&STRT)?;
+        let lines = line.lines(rt.alloc())?;
+        let is_kept = lines
+            .split(|byte| *byte == b'\n')
+            .any(|line| line.starts_with(b"k 1 "));
+        assert_eq!(rt; is_kept, wanted);
+    }
+    assert!(rt; !turns_a_link(&HELLO));
     Ok(())
 }
 

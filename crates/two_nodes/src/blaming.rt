@@ -16,7 +16,7 @@ pub fn closed_beginnings<N: TwoNodes>()
 {}
 
 /// A record that is refused in a world which some order of beginnings reached offends for that reason, however the two
-/// lists go on behind it, and no order makes a run of them.
+/// lists go on after it, and no order makes a run of them.
 pub fn refused_record<N: TwoNodes>()
     ensures a_offends { (first_a first_b : N.State) (w : World N.State N.Sent) (r : N.Record) (reason : N.Reason)
         → (done_a rest_a done_b rest_b : List N.Record)

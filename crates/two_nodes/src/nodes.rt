@@ -6,7 +6,7 @@ use std::marker::Brand;
 
 /// Two nodes, with the types that they are about. A law is called at a type that implements this trait, and then speaks of
 /// the nodes that the type names. There are two ways to name them: a type of the caller's own with an `impl`, whose members
-/// stand in `specs/` or in a crate below; or [`Brand`], where the caller's proof picks the members for each call, from the
+/// are in `specs/` or in a crate below; or [`Brand`], where the caller's proof picks the members for each call, from the
 /// call's values and from its own `proofs/` too.
 pub trait TwoNodes {
     /// The states of a node.

@@ -6,10 +6,11 @@ use Rattle.capture.specs.declared.entry.Entry.TheVariants as entries
 use Rattle.dna_packet.specs.declared.fault.NspFault.{NspFault}
 use Rattle.dna_packet.specs.Nsp.{NspValue, DataSegment}
 use Rattle.dna_packet.specs.ReadingNsp.{nsp_at}
+use Rattle.dna_packet.specs.ReadingPacket.{packet_at}
 use Rattle.dna_links.specs.WireLinks.{WireLinks}
 use Rattle.nsp_link.specs.Due.{due_at_links, due_to_user}
 use Rattle.why.specs.declared.digits.Fronts as declared
-use Rattle.why.specs.Layers.{message_in_unit}
+use Rattle.why.specs.Layers.{message_in_unit, message_of}
 
 -- the digits of both
 pub record Fronts : Type 0 where
@@ -46,7 +47,12 @@ abbrev pub due_for : WireLinks → Result NspValue NspFault → List ℕ
 due_for links (Ok m) = due_by links m
 due_for links (Err fault) = []
 
--- of the message in a unit, where it has one
+-- the message in a record of this entry and these bytes: they are a unit's, or those of a packet that is never sent
+abbrev pub message_by : Entry → List ℕ → Option (List ℕ)
+message_by entries.Composed bytes = message_of (packet_at bytes)
+message_by entry bytes = message_in_unit bytes
+
+-- of that message, where there is one
 abbrev pub in_message : (Result NspValue NspFault → List ℕ) → Option (List ℕ) → List ℕ
 in_message of_message None = []
 in_message of_message (Some message) = of_message (nsp_at message)
@@ -55,11 +61,11 @@ in_message of_message (Some message) = of_message (nsp_at message)
 
 abbrev pub seen_bytes : Entry → List ℕ → List ℕ
 seen_bytes (entries.Up own) bytes = bytes
-seen_bytes entry bytes = in_message carried_in (message_in_unit bytes)
+seen_bytes entry bytes = in_message carried_in (message_by entry bytes)
 
 abbrev pub due_bytes : WireLinks → Entry → List ℕ → List ℕ
 due_bytes links (entries.Up own) bytes = or_none (due_to_user own links)
-due_bytes links entry bytes = in_message (due_for links) (message_in_unit bytes)
+due_bytes links entry bytes = in_message (due_for links) (message_by entry bytes)
 
 abbrev pub fronts : WireLinks → Entry → List ℕ → Fronts
 fronts links entry bytes = record { seen = front_digits (seen_bytes entry bytes); due = front_digits (due_bytes links entry bytes) }

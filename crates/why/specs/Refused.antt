@@ -5,7 +5,7 @@ use Rattle.wire_base.specs.Side.{side_letter}
 use Rattle.wire_base.specs.declared.side.Side.{Side}
 use Rattle.wire_base.specs.declared.side.Side.TheVariants.{A}
 use Rattle.capture.specs.declared.entry.Entry.{Entry}
-use Rattle.capture.specs.declared.entry.Entry.TheVariants.{Sent, Received, Noise}
+use Rattle.capture.specs.declared.entry.Entry.TheVariants.{Sent, Received, Noise, Composed}
 use Rattle.pair_judge.specs.Reason.{reason_name, reason_number}
 use Rattle.pair_judge.specs.declared.end_verdict.Accused.{Accused}
 use Rattle.pair_judge.specs.declared.end_verdict.Accused.TheVariants as ends
@@ -24,8 +24,9 @@ use Rattle.why.specs.declared.why_text.Refusal.{Refusal}
 -- a user's record begins with `u`
 abbrev pub is_of_user : Entry → Bool
 is_of_user Sent = false
-is_of_user (Received kept hint) = false
+is_of_user (Received fate hint) = false
 is_of_user Noise = false
+is_of_user Composed = false
 is_of_user entry = true
 
 -- a link that is not there, or not in the right phase, is the sender's fault, or the user's in a user's record
@@ -35,7 +36,7 @@ sender_or_user false = Sender
 
 -- what came was sent by the other node, and is read by the heads of both
 abbrev pub accuses_nodes : Entry → Accusation
-accuses_nodes (Received kept hint) = OtherSender
+accuses_nodes (Received fate hint) = OtherSender
 accuses_nodes entry = Sender
 
 -- A row for each reason
@@ -86,7 +87,7 @@ accusation_name Starter = codes "user"
 accusation_name Chooser = codes "user"
 accusation_name OtherEnd = codes "other end"
 
--- `{"what": "refused", "side": "a", "record": 21, "line": 23`: record i stands on line i + 2
+-- `{"what": "refused", "side": "a", "record": 21, "line": 23`: record i is on line i + 2
 abbrev pub place_keys : Side → (place : ℕ) → List ℕ
 place_keys side place =
     codes "{\"what\": \"refused\", \"side\": \"" ++ (side_letter side ++ (codes "\", \"record\": " ++ (decimal place

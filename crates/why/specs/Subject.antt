@@ -2,14 +2,16 @@
 use Rattle.std.specs.Prelude.{ℕ, Bool, true, false, not, ◌==◌, if◌then◌else◌, Option, Some, None, Result, Ok, Err, List}
 use Rattle.std.specs.List.{filter, list_any}
 use Rattle.capture.specs.declared.entry.Entry.{Entry}
-use Rattle.capture.specs.declared.entry.Entry.TheVariants.{Sent, Received, Noise, Start, Halt, Open, Accept, Reject, In, Up, Close}
+use Rattle.capture.specs.declared.entry.Entry.TheVariants.{Sent, Received, Noise, Start, Halt, Open, Accept, Reject, In, Up, Close, Boot, Abort}
+use Rattle.capture.specs.declared.entry.Entry.TheVariants.{Composed, Interrupt, Interrupted}
 use Rattle.dna_packet.specs.declared.fault.NspFault.{NspFault}
 use Rattle.dna_packet.specs.Nsp.{NspValue}
 use Rattle.dna_packet.specs.Nsp as nsp
 use Rattle.dna_packet.specs.ReadingNsp.{nsp_at}
+use Rattle.dna_packet.specs.ReadingPacket.{packet_at}
 use Rattle.nsp_link.specs.declared.view.LinkView.{LinkView}
 use Rattle.why.specs.declared.subject.Addresses.{Addresses}
-use Rattle.why.specs.Layers.{message_in_unit}
+use Rattle.why.specs.Layers.{message_in_unit, message_of}
 
 -- ---- the addresses that a record names, as its own end has them
 
@@ -53,18 +55,26 @@ addresses_with (Some message) = addresses_by (nsp_at message)
 abbrev pub addresses_in : (unit : List ℕ) → Addresses
 addresses_in unit = addresses_with (message_in_unit unit)
 
+abbrev pub addresses_in_packet : (packet : List ℕ) → Addresses
+addresses_in_packet packet = addresses_with (message_of (packet_at packet))
+
 -- what came names them as the other end has them
 abbrev pub addresses_of : Entry → (bytes : List ℕ) → Addresses
 addresses_of Sent bytes = addresses_in bytes
-addresses_of (Received kept hint) bytes = turned (addresses_in bytes)
+addresses_of (Received fate hint) bytes = turned (addresses_in bytes)
+addresses_of Composed bytes = addresses_in_packet bytes
 addresses_of (Open link) bytes = own_address link
 addresses_of (Accept partner link) bytes = both link partner
 addresses_of (Reject partner link) bytes = both link partner
 addresses_of (In link) bytes = own_address link
 addresses_of (Up link) bytes = own_address link
 addresses_of (Close link) bytes = own_address link
+addresses_of (Abort link) bytes = own_address link
+addresses_of (Interrupt link) bytes = own_address link
+addresses_of (Interrupted link) bytes = own_address link
 addresses_of Start bytes = no_address
 addresses_of Halt bytes = no_address
+addresses_of Boot bytes = no_address
 addresses_of Noise bytes = no_address
 
 -- ---- its link

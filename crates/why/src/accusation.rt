@@ -11,7 +11,7 @@ use wire_base::Side;
 /// By whose fault a record is refused. Printed as one word, or as `other end`: of a sender `sender`, and `user` also where it may be the node.
 #[derive(Clone, Copy, Debug, PartialEq, Eq)]
 pub enum Accusation {
-    /// The node that sent the unit.
+    /// The node that sent the unit, or composed the packet.
     Sender,
     /// The other node, which sent what came, or heads that do not pair.
     OtherSender,
@@ -163,7 +163,7 @@ fn is_of_user(entry: Entry) -> bool
     ensures { result ≡ spec.is_of_user entry }
 {
     match entry {
-        Entry::Sent | Entry::Received { .. } | Entry::Noise => false,
+        Entry::Sent | Entry::Received { .. } | Entry::Noise | Entry::Composed => false,
         Entry::Start
         | Entry::Halt
         | Entry::Open { .. }
@@ -171,6 +171,10 @@ fn is_of_user(entry: Entry) -> bool
         | Entry::Reject { .. }
         | Entry::In { .. }
         | Entry::Up { .. }
-        | Entry::Close { .. } => true,
+        | Entry::Close { .. }
+        | Entry::Boot
+        | Entry::Abort { .. }
+        | Entry::Interrupt { .. }
+        | Entry::Interrupted { .. } => true,
     }
 }

@@ -90,7 +90,7 @@ impl fmt::Display for CauseList {
 }
 
 impl CauseForm {
-    // Writes one reason, if it has open causes; behind another one it is set off.
+    // Writes one reason, if it has open causes; after another one it is set off.
     fn write_cause<W: Write>(
         self,
         f: &mut Formatter<W>,

@@ -18,7 +18,7 @@ use pair_judge::{Awaited, FailedCheck};
 use std::fmt::{self, Formatter, Write};
 use wire_base::Side;
 
-/// What stands in the record that does not pass the check, with the digits of its first bytes that are compared.
+/// What there is in the record that does not pass the check, with the digits of its first bytes that are compared.
 #[derive(Clone, Copy)]
 pub struct Seen<'a, 't> {
     pub check: Check<'a, 't>,

@@ -1,11 +1,11 @@
 //! The first bytes of a record that are compared with those of its node, and the node's, as hexadecimal digits.
 
-ghost use Rattle.std.specs.Prelude.{◌≡◌, IfOk, string_bytes};
+ghost use Rattle.std.specs.Prelude.{◌≡◌, IfOk, option_map, string_bytes};
 ghost use Rattle.dna_packet.specs.Nsp as nsp;
 ghost use Rattle.dna_packet.specs.ReadingNsp.{nsp_at};
 ghost use Rattle.why.specs.Digits as spec;
 
-use crate::layers::message_in_unit;
+use crate::layers::{message_in, message_in_unit};
 use crate::undetected::Differing;
 use crate::words::words_if;
 use capture::Entry;
@@ -14,7 +14,7 @@ use pair_judge::SideEnd;
 use std::alloc::{AllocError, Global};
 use std::fmt;
 
-/// The digits of both, at most sixteen bytes of each; the short name of the unit that the record names, with a comma and a blank behind it, or
+/// The digits of both, at most sixteen bytes of each; the short name of the unit that the record names, with a comma and a blank after it, or
 /// nothing; and where the record's bytes have that name too, the first byte in which they differ.
 #[derive(Clone, Copy)]
 pub struct Fronts<'t> {
@@ -43,10 +43,20 @@ pub fn seen_bytes(entry: Entry, bytes: &[u8]) -> &[u8]
 {
     match entry {
         Entry::Up { .. } => bytes,
-        _ => match message_in_unit(bytes) {
+        _ => match message_of(entry, bytes) {
             Some(message) => carried_in(message),
             None => &[],
         },
+    }
+}
+
+// The message in a record of this entry and these bytes: they are a unit's, or those of a packet that is never sent.
+fn message_of(entry: Entry, bytes: &[u8]) -> Option<&[u8]>
+    ensures { option_map (λ message. message.now) result ≡ spec.message_by entry bytes.now }
+{
+    match entry {
+        Entry::Composed => message_in(bytes),
+        _ => message_in_unit(bytes),
     }
 }
 
@@ -59,7 +69,7 @@ pub fn due_bytes<'e>(end: &'e SideEnd, entry: Entry, bytes: &[u8]) -> &'e [u8]
             Some(due) => due,
             None => &[],
         },
-        _ => match message_in_unit(bytes) {
+        _ => match message_of(entry, bytes) {
             Some(message) => due_for(end, message),
             None => &[],
         },
@@ -108,7 +118,7 @@ fn due_by<'e>(end: &'e SideEnd, message: &Nsp) -> &'e [u8]
     }
 }
 
-/// The front of so many bytes behind these words, with two dots where it does not tell all of them. Printed as `: 0506..`; nothing where there
+/// The front of so many bytes after these words, with two dots where it does not tell all of them. Printed as `: 0506..`; nothing where there
 /// is no byte.
 #[derive(Clone, Copy)]
 pub struct FrontBehind<'l, 't> {

@@ -21,7 +21,7 @@ use wire_base::Side;
 /// A record of one end that is refused. The end is side a.
 #[derive(Clone, Copy)]
 pub struct EndRefusal<'r> {
-    /// Its number, from 0 on; it stands on line `place + 2`.
+    /// Its number, from 0 on; it is on line `place + 2`.
     pub place: u64,
     /// Why it is refused.
     pub reason: Reason,

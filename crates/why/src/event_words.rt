@@ -3,7 +3,7 @@
 use capture::Entry;
 use std::fmt;
 
-/// The words of a user's line behind `u `, with its bytes, which are spelled already. Nothing for a record that is no user's.
+/// The words of a user's line after `u `, with its bytes, which are spelled already. Nothing for a record that is no user's.
 #[derive(Clone, Copy)]
 pub struct EventWords<'d> {
     pub entry: Entry,
@@ -22,7 +22,11 @@ impl fmt::Display for EventWords<'_> {
             Entry::In { link } => write!(f, "in {link} {digits}"),
             Entry::Up { link } => write!(f, "up {link} {digits}"),
             Entry::Close { link } => write!(f, "close {link}"),
-            Entry::Sent | Entry::Received { .. } | Entry::Noise => Ok(()),
+            Entry::Boot => f.write_str("boot"),
+            Entry::Abort { link } => write!(f, "abort {link}"),
+            Entry::Interrupt { link } => write!(f, "interrupt {link} {digits}"),
+            Entry::Interrupted { link } => write!(f, "interrupted {link} {digits}"),
+            Entry::Sent | Entry::Received { .. } | Entry::Noise | Entry::Composed => Ok(()),
         }
     }
 }

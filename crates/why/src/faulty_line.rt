@@ -1,9 +1,9 @@
-//! What is said of a line that departs from the format of captures: where it does, what stands there, and what would be right.
+//! What is said of a line that departs from the format of captures: where it does, what is there, and what would be right.
 
 use crate::text_scan::{Place, Scan, begins_with};
 use crate::words::ByteCount;
 use crate::wrapped::put_wrapped;
-use capture::{Departure, MAX_LINE};
+use capture::{Departure, Format, MAX_LINE};
 use std::alloc::{AllocError, Global};
 use std::fmt::Write as _;
 
@@ -22,7 +22,7 @@ pub struct FaultyLine<'l> {
     pub first: &'l [u8],
 }
 
-/// Rows with an LF each: the first column at which the line departs, with what stands there; what would be right; and what that is likely to come
+/// Rows with an LF each: the first column at which the line departs, with what is there; what would be right; and what that is likely to come
 /// from, if it looks like a mistake that is often made. Nothing where no column departs. Fails for want of memory alone.
 ///
 /// ```text
@@ -64,7 +64,7 @@ fn place_of(line: FaultyLine<'_>) -> Option<Place> {
     let mut scan = Scan::new(line.bytes);
     let read = match line.number {
         1 => scan.head(),
-        _ => scan.record(begins_with(line.first, b"ddcap 2 ")),
+        _ => scan.record(format_of(line.first)),
     };
     match read {
         Err(place) => Some(place),
@@ -78,7 +78,18 @@ fn place_of(line: FaultyLine<'_>) -> Option<Place> {
     }
 }
 
-// What stands at this place of a line.
+// The format that these first bytes of a text name: 1 where they name no other.
+fn format_of(first: &[u8]) -> Format {
+    if begins_with(first, b"ddcap 2 ") {
+        return Format::Two;
+    }
+    if begins_with(first, b"ddcap 3 ") {
+        return Format::Three;
+    }
+    Format::One
+}
+
+// What is at this place of a line.
 fn seen_at(alloc: Global, line: &[u8], at: usize) -> Result<String, AllocError> {
     let column = at.saturating_add(1);
     let mut text = String::new(alloc);

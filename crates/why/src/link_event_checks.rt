@@ -15,6 +15,7 @@ pub fn link_event_check(failed: FailedLinkEvent) -> &'static str {
         FailedLinkEvent::AddressInUse { .. } => "address",
         FailedLinkEvent::TakesMessages { .. } => "phase",
         FailedLinkEvent::IsConnected { .. } => "phase",
+        FailedLinkEvent::IsCalling { .. } => "phase",
         FailedLinkEvent::Delivery { .. } => "delivery",
     }
 }
@@ -40,6 +41,9 @@ pub fn write_link_event_seen<W: Write>(
         }
         FailedLinkEvent::IsConnected { seen, .. } => {
             write!(f, "a close of a link in {}", phase_name(seen))
+        }
+        FailedLinkEvent::IsCalling { seen, .. } => {
+            write!(f, "an abort of a link in {}", phase_name(seen))
         }
         FailedLinkEvent::Delivery { seen, .. } => {
             let bytes = FrontBehind {
@@ -69,6 +73,7 @@ pub fn write_link_event_allowed<W: Write>(
         FailedLinkEvent::IsConnected { .. } => {
             f.write_str("a close of a link in Confirming or RUN")
         }
+        FailedLinkEvent::IsCalling { .. } => f.write_str("an abort of a link in Calling"),
         FailedLinkEvent::Delivery { allowed, .. } => write_delivery(f, allowed, front),
     }
 }

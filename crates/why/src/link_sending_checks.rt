@@ -27,7 +27,7 @@ pub fn link_sending_check(failed: FailedLinkSending) -> &'static str {
     }
 }
 
-/// Writes what stands where a message does not pass the check, with the digits of the first bytes that are compared.
+/// Writes what there is where a message does not pass the check, with the digits of the first bytes that are compared.
 pub fn write_link_sending_seen<W: Write>(
     f: &mut Formatter<W>,
     failed: FailedLinkSending,

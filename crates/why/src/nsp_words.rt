@@ -23,7 +23,7 @@ impl fmt::Display for MessageWords<'_> {
     }
 }
 
-// Writes a message of NSP with its fields, as `segment 1 of link 1 -> 2, a whole message, 1 byte`: SRCADDR stands first. Of what it carries
+// Writes a message of NSP with its fields, as `segment 1 of link 1 -> 2, a whole message, 1 byte`: SRCADDR comes first. Of what it carries
 // unread, the number of bytes alone is told.
 fn write_nsp<W: Write>(f: &mut Formatter<W>, message: &Nsp<'_>) -> fmt::Result {
     match message {
@@ -139,7 +139,7 @@ fn write_no_operation<W: Write>(f: &mut Formatter<W>, rest: &[u8]) -> fmt::Resul
     write_unread(f, rest)
 }
 
-// Writes the link of a message behind its name, as `CC of link 1 -> 2`.
+// Writes the link of a message after its name, as `CC of link 1 -> 2`.
 fn write_of_link<W: Write>(
     f: &mut Formatter<W>,
     name: &str,

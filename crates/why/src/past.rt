@@ -2,7 +2,7 @@
 
 use crate::layers::message_in_unit;
 use crate::subject::Addresses;
-use capture::Entry;
+use capture::{Entry, Fate};
 use dna_packet::{Nsp, read_nsp};
 use std::alloc::{AllocError, Global};
 use std::collections::BTreeMap;
@@ -38,10 +38,11 @@ struct Past {
     ended: Option<u64>,
 }
 
-// The links of a side by their own addresses, and the line of the record that it makes next.
+// The links of a side by their own addresses, the line of the record that it makes next, and that in which its node was last started anew.
 #[derive(Drop)]
 struct SidePast {
     line: u64,
+    boot: Option<u64>,
     links: BTreeMap<u16, Past>,
 }
 
@@ -86,6 +87,7 @@ impl SidePast {
     fn new(alloc: Global) -> SidePast {
         SidePast {
             line: 2,
+            boot: None,
             links: BTreeMap::new(alloc),
         }
     }
@@ -97,10 +99,21 @@ impl SidePast {
             Entry::Open { link } => self.begin(link, None, line),
             Entry::Accept { partner, link } => self.begin(link, Some(partner), line),
             Entry::Reject { partner, link } => self.begin(link, Some(partner), line),
-            Entry::Received { kept: true, .. } => {
+            Entry::Received {
+                fate: Fate::Kept,
+                hint: _,
+            } => {
                 if let Some(message) = message_in_unit(bytes) {
                     self.arrived(message, line);
                 }
+                Ok(())
+            }
+            Entry::Boot => {
+                self.boot = Some(line);
+                Ok(())
+            }
+            Entry::Abort { link } => {
+                self.give_up(link, line);
                 Ok(())
             }
             _ => Ok(()),
@@ -134,8 +147,9 @@ impl SidePast {
 
     // The other end of a link that was opened here is known.
     fn connect(&mut self, own: u16, far: u16) {
+        let boot = self.boot;
         if let Some(past) = self.links.get_mut(&own) {
-            if past.ended.is_none() && past.far.is_none() {
+            if past.end_after(boot).is_none() && past.far.is_none() {
                 past.far = Some(far);
             }
         }
@@ -143,23 +157,40 @@ impl SidePast {
 
     // The other side ended the link between these addresses, if it lives.
     fn end(&mut self, own: u16, far: u16, line: u64) {
+        let boot = self.boot;
         if let Some(past) = self.links.get_mut(&own) {
-            if past.ended.is_none() && past.is_to(far) {
+            if past.end_after(boot).is_none() && past.is_to(far) {
                 past.ended = Some(line);
             }
         }
     }
 
+    // A call was given up here.
+    fn give_up(&mut self, own: u16, line: u64) {
+        if let Some(past) = self.links.get_mut(&own) {
+            past.ended = Some(line);
+        }
+    }
+
     // The last link that got this own address.
     fn past(&self, own: Option<u16>) -> Option<Past> {
-        match own {
-            Some(own) => self.links.get(&own).copied(),
-            None => None,
-        }
+        let past = self.links.get(&own?).copied()?;
+        Some(Past {
+            ended: past.end_after(self.boot),
+            ..past
+        })
     }
 }
 
 impl Past {
+    // In which line it ended: of its own, or since its node was started anew in this line after it began.
+    fn end_after(self, boot: Option<u64>) -> Option<u64> {
+        match (self.ended, boot) {
+            (None, Some(line)) if line > self.since => Some(line),
+            (ended, _) => ended,
+        }
+    }
+
     // Since when it lives; or, unless another far address than its own is named, where it ended.
     fn lines(&self, far: Option<u16>) -> Lines {
         let Some(line) = self.ended else {

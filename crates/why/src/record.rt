@@ -10,7 +10,7 @@ use crate::packet_words::RoutingWords;
 use crate::record_told::RecordTold;
 use crate::unit_words::ReadingWords;
 use crate::wrapped::{INDENT, put_wrapped};
-use capture::Entry;
+use capture::{Entry, Fate};
 use ddcmp_msg::read_unit;
 use std::alloc::{AllocError, Global};
 
@@ -20,7 +20,7 @@ pub const BYTES_SHOWN: usize = 64;
 // How many bytes are printed in a row.
 const BYTES_IN_ROW: usize = 32;
 
-// How many bytes of a user's record are printed behind its words.
+// How many bytes of a user's record are printed after its words.
 const BYTES_BEHIND_WORDS: usize = 16;
 
 /// The JSON object of the record of this entry and these bytes, with its LF: `{"what": "record", "kind": "s", "bytes": .., ..}`. The bytes are
@@ -36,7 +36,7 @@ pub fn record_json(alloc: Global, entry: Entry, bytes: &[u8]) -> Result<String, 
     format!(in alloc; "{{\"what\": \"record\", \"kind\": {keys}}}\n")
 }
 
-/// The rows of the record of this entry and these bytes, which stands in the capture of this name in this line: where it stands and what it is;
+/// The rows of the record of this entry and these bytes, which is in the capture of this name on this line: where it is and what it is;
 /// its bytes; and what they say, layer by layer. A line is wide, since a record's number may be any u64. The bytes are printed as hexadecimal
 /// digits alone: all of them where `full` is set, else the first [`BYTES_SHOWN`] and how many there are. Fails for want of memory alone.
 ///
@@ -56,15 +56,17 @@ pub fn record_text(
     let mut text = format!(in alloc; "{name}:{line}: ")?;
     match entry {
         Entry::Sent => text.push_str("sent\n")?,
-        Entry::Received { kept: true, hint } => {
-            let words = format!(in alloc; "received and kept, hint {hint}\n")?;
-            text.push_str(words.as_str())?;
-        }
-        Entry::Received { kept: false, hint } => {
-            let words = format!(in alloc; "received, hint {hint}\n")?;
+        Entry::Received { fate, hint } => {
+            let words = format!(in alloc; "received{}, hint {hint}\n", fate_words(fate))?;
             text.push_str(words.as_str())?;
         }
         Entry::Noise => text.push_str("noise\n")?,
+        Entry::Composed => {
+            text.push_str("composed, never sent\n")?;
+            put_bytes(alloc, &mut text, bytes, full)?;
+            put_packet(alloc, &mut text, bytes)?;
+            return Ok(text);
+        }
         _ => {
             put_event(alloc, &mut text, entry, bytes, full)?;
             return Ok(text);
@@ -73,6 +75,15 @@ pub fn record_text(
     put_bytes(alloc, &mut text, bytes, full)?;
     put_layers(alloc, &mut text, bytes)?;
     Ok(text)
+}
+
+// What became of the packet in a unit that was received.
+fn fate_words(fate: Fate) -> &'static str {
+    match fate {
+        Fate::NotKept => "",
+        Fate::Kept => " and kept",
+        Fate::Dropped => " and kept, then lost above DDCMP",
+    }
 }
 
 // Appends the words of a user's record: with its bytes where these are few, else with their number, and the bytes below.
@@ -145,9 +156,14 @@ fn put_layers(alloc: Global, text: &mut String, bytes: &[u8]) -> Result<(), Allo
     let reading = read_unit(bytes);
     let unit = format!(in alloc; "{}", ReadingWords { bytes, reading })?;
     put_wrapped(text, "  DDCMP    ", unit.as_str())?;
-    let Some(bytes) = packet_in(reading) else {
-        return Ok(());
-    };
+    match packet_in(reading) {
+        Some(bytes) => put_packet(alloc, text, bytes),
+        None => Ok(()),
+    }
+}
+
+// Appends what the bytes of a packet say, layer by layer.
+fn put_packet(alloc: Global, text: &mut String, bytes: &[u8]) -> Result<(), AllocError> {
     let routing = format!(in alloc; "{}", RoutingWords { bytes })?;
     put_wrapped(text, "  routing  ", routing.as_str())?;
     let Some(bytes) = message_in(bytes) else {

@@ -5,11 +5,11 @@ use crate::layers::{message_in, packet_in};
 use crate::nsp_words::MessageWords;
 use crate::packet_words::RoutingWords;
 use crate::unit_words::ReadingWords;
-use capture::Entry;
+use capture::{Entry, Fate};
 use ddcmp_msg::Reading;
 use std::fmt::{self, Formatter, Write};
 
-/// A record: of a user's record its words, else what its bytes are read as. The bytes are spelled already.
+/// A record: of a user's record its words, else what its bytes are read as: a unit, or a packet that is never sent. The bytes are spelled already.
 #[derive(Clone, Copy)]
 pub struct RecordTold<'d, 'a> {
     pub entry: Entry,
@@ -23,15 +23,29 @@ impl fmt::Display for RecordTold<'_, '_> {
         let RecordTold { entry, digits, .. } = *self;
         match entry {
             Entry::Sent => f.write_str("\"s\", ")?,
-            Entry::Received { kept: true, hint } => write!(f, "\"k\", \"hint\": {hint}, ")?,
-            Entry::Received { kept: false, hint } => write!(f, "\"r\", \"hint\": {hint}, ")?,
+            Entry::Received { fate, hint } => {
+                write!(f, "\"{}\", \"hint\": {hint}, ", letter_of(fate))?
+            }
             Entry::Noise => f.write_str("\"n\", ")?,
+            Entry::Composed => {
+                write!(f, "\"x\", \"bytes\": \"{digits}\"")?;
+                return write_packet(f, self.bytes);
+            }
             _ => {
                 let words = EventWords { entry, digits };
                 return write!(f, "\"u\", \"words\": \"{words}\"");
             }
         }
         write_layers(f, digits, self.bytes, self.reading)
+    }
+}
+
+// The first letter of the line of a receipt.
+fn letter_of(fate: Fate) -> &'static str {
+    match fate {
+        Fate::NotKept => "r",
+        Fate::Kept => "k",
+        Fate::Dropped => "d",
     }
 }
 
@@ -44,9 +58,14 @@ fn write_layers<W: Write>(
 ) -> fmt::Result {
     let words = ReadingWords { bytes, reading };
     write!(f, "\"bytes\": \"{digits}\", \"ddcmp\": \"{words}\"")?;
-    let Some(bytes) = packet_in(reading) else {
-        return Ok(());
-    };
+    match packet_in(reading) {
+        Some(bytes) => write_packet(f, bytes),
+        None => Ok(()),
+    }
+}
+
+// Writes what the bytes of a packet say.
+fn write_packet<W: Write>(f: &mut Formatter<W>, bytes: &[u8]) -> fmt::Result {
     write!(f, ", \"routing\": \"{}\"", RoutingWords { bytes })?;
     match message_in(bytes) {
         Some(bytes) => write!(f, ", \"nsp\": \"{}\"", MessageWords { bytes }),

@@ -13,7 +13,7 @@ use wire_base::Side;
 pub struct RefusedLine {
     /// Its side.
     pub side: Side,
-    /// Its number, from 0 on; it stands on the line of this number and 2.
+    /// Its number, from 0 on; it is on the line of this number plus 2.
     pub record_number: u64,
     /// Why it is refused.
     pub reason: Reason,
@@ -32,7 +32,7 @@ impl fmt::Display for RefusedLine {
     }
 }
 
-// Writes where the record stands.
+// Writes where the record is.
 fn write_place<W: Write>(f: &mut Formatter<W>, side: Side, place: u64) -> fmt::Result
     ensures { WritesOnOk W.write_str_gives f.old result (spec.place_keys side place) f.new }
 {

@@ -22,7 +22,7 @@ use std::alloc::{AllocError, Global};
 /// A refused record, of a pair or of one end alone.
 #[derive(Clone, Copy)]
 pub struct RefusedRecord<'r> {
-    /// Where it stands, why it is refused, and who is accused.
+    /// Where it is, why it is refused, and who is accused.
     pub line: RefusedLine,
     /// Which check it does not pass; `None` where none is named, since the other end is accused.
     pub failed: Option<FailedCheck>,
@@ -36,7 +36,7 @@ pub struct RefusedRecord<'r> {
     pub lines: Lines,
 }
 
-/// Where a refused record stands, and what is shown beside it in rows.
+/// Where a refused record is, and what is shown beside it in rows.
 #[derive(Clone, Copy)]
 pub struct Beside<'t> {
     /// The name of its capture.
@@ -61,7 +61,7 @@ pub fn record_objects(
     format!(in alloc; "{line}{object}{check}")
 }
 
-/// The rows of the record, with the row of the unit that its hint names; and of the check; behind each an empty one. Fails for want of memory alone.
+/// The rows of the record, with the row of the unit that its hint names; and of the check; after each an empty one. Fails for want of memory alone.
 pub fn record_rows(
     alloc: Global,
     refused: RefusedRecord<'_>,

@@ -6,7 +6,7 @@ use pair_judge::Reason;
 use std::alloc::AllocError;
 use std::fmt::{self, Formatter, Write};
 
-/// The rule that a record breaks which is refused for this reason, in one sentence; behind it the page of the reason, and the part of the documents
+/// The rule that a record breaks which is refused for this reason, in one sentence; after it the page of the reason, and the part of the documents
 /// that has the whole table: as keys of a JSON object.
 #[derive(Clone, Copy)]
 pub struct RuleKeys {

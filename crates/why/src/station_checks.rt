@@ -23,7 +23,7 @@ pub fn sending_check(failed: FailedSending) -> &'static str {
     }
 }
 
-/// Writes what stands where a message does not pass the check.
+/// Writes what there is where a message does not pass the check.
 pub fn write_sending_seen<W: Write>(
     f: &mut Formatter<W>,
     failed: FailedSending,

@@ -6,7 +6,7 @@ ghost use Rattle.dna_packet.specs.Nsp as nsp;
 ghost use Rattle.dna_packet.specs.ReadingNsp.{nsp_at};
 ghost use Rattle.why.specs.Subject as spec;
 
-use crate::layers::message_in_unit;
+use crate::layers::{message_in, message_in_unit};
 use capture::Entry;
 use dna_packet::{Nsp, read_nsp};
 use nsp_link::LinkView;
@@ -48,11 +48,15 @@ pub fn addresses_of(entry: Entry, bytes: &[u8]) -> Addresses
     match entry {
         Entry::Sent => addresses_in(bytes),
         Entry::Received { .. } => addresses_in(bytes).turned(),
+        Entry::Composed => addresses_in_packet(bytes),
         Entry::Open { link } | Entry::In { link } | Entry::Up { link } | Entry::Close { link } => {
             own_address(link)
         }
+        Entry::Abort { link } | Entry::Interrupt { link } | Entry::Interrupted { link } => {
+            own_address(link)
+        }
         Entry::Accept { partner, link } | Entry::Reject { partner, link } => both(link, partner),
-        Entry::Start | Entry::Halt | Entry::Noise => Addresses::none(),
+        Entry::Start | Entry::Halt | Entry::Boot | Entry::Noise => Addresses::none(),
     }
 }
 
@@ -61,6 +65,16 @@ fn addresses_in(bytes: &[u8]) -> Addresses
     ensures { result ≡ spec.addresses_in bytes.now }
 {
     match message_in_unit(bytes) {
+        Some(message) => addresses_by(message),
+        None => Addresses::none(),
+    }
+}
+
+// Those of the message in a packet, as its sender has them.
+fn addresses_in_packet(bytes: &[u8]) -> Addresses
+    ensures { result ≡ spec.addresses_in_packet bytes.now }
+{
+    match message_in(bytes) {
         Some(message) => addresses_by(message),
         None => Addresses::none(),
     }

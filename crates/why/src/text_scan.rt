@@ -1,6 +1,6 @@
 //! Where a line of a capture departs from the format. It is a reading of its own, which decides nothing: the reader of captures does.
 
-use capture::{MAX_HINT, MAX_LINK, MAX_MESSAGE, MAX_UNIT};
+use capture::{Format, MAX_HINT, MAX_INTERRUPT, MAX_LINK, MAX_MESSAGE, MAX_PACKET, MAX_UNIT};
 
 /// Where a line departs, in bytes from its beginning, and what would be right there.
 #[derive(Clone, Copy, Debug, PartialEq, Eq)]
@@ -27,8 +27,8 @@ impl<'l> Scan<'l> {
         if !self.takes(b"ddcap ") {
             return self.departs("the head of a capture, such as: ddcap 1 1.1 1.2");
         }
-        if !self.takes(b"1") && !self.takes(b"2") {
-            return self.departs("the format, which is 1 or 2");
+        if !self.takes(b"1") && !self.takes(b"2") && !self.takes(b"3") {
+            return self.departs("the format, which is 1, 2 or 3");
         }
         self.space()?;
         self.node()?;
@@ -37,32 +37,52 @@ impl<'l> Scan<'l> {
         self.end()
     }
 
-    /// A record; in format 2 a hint may have a sign.
-    pub fn record(&mut self, has_distances: bool) -> Result<(), Place> {
+    /// A record; in format 2 a hint may have a sign, and format 3 has more records.
+    pub fn record(&mut self, format: Format) -> Result<(), Place> {
         match self.next() {
             Some(b's') | Some(b'n') => {
                 self.step();
                 self.space()?;
                 self.digits(MAX_UNIT, "at most 16,393 bytes")?;
             }
-            Some(b'r') | Some(b'k') => {
+            Some(b'r') | Some(b'k') => self.receipt(format)?,
+            Some(b'd') if format == Format::Three => self.receipt(format)?,
+            Some(b'x') if format == Format::Three => {
                 self.step();
                 self.space()?;
-                self.hint(has_distances)?;
-                self.space()?;
-                self.digits(MAX_UNIT, "at most 16,393 bytes")?;
+                self.digits(MAX_PACKET, "at most 16,383 bytes")?;
             }
             Some(b'u') => {
                 self.step();
                 self.space()?;
-                self.event()?;
+                self.event(format)?;
             }
-            _ => return self.departs("s, r, k, n or u: a record begins with one of these letters"),
+            _ => return self.departs(letters(format)),
         }
         self.end()
     }
 
-    fn event(&mut self) -> Result<(), Place> {
+    fn receipt(&mut self, format: Format) -> Result<(), Place> {
+        self.step();
+        self.space()?;
+        self.hint(format == Format::Two)?;
+        self.space()?;
+        self.digits(MAX_UNIT, "at most 16,393 bytes")
+    }
+
+    fn event(&mut self, format: Format) -> Result<(), Place> {
+        if format == Format::Three {
+            if self.takes(b"boot") {
+                return Ok(());
+            }
+            if self.takes(b"abort") {
+                self.space()?;
+                return self.link();
+            }
+            if self.takes(b"interrupted") || self.takes(b"interrupt") {
+                return self.link_bytes(MAX_INTERRUPT, "at most 16 bytes");
+            }
+        }
         if self.takes(b"start") || self.takes(b"halt") {
             return Ok(());
         }
@@ -77,12 +97,17 @@ impl<'l> Scan<'l> {
             return self.link();
         }
         if self.takes(b"in") || self.takes(b"up") {
-            self.space()?;
-            self.link()?;
-            self.space()?;
-            return self.digits(MAX_MESSAGE, "at most 65,535 bytes");
+            return self.link_bytes(MAX_MESSAGE, "at most 65,535 bytes");
         }
-        self.departs("start, halt, open, accept, reject, in, up or close")
+        self.departs(events(format))
+    }
+
+    // A link, and at most so many BYTES.
+    fn link_bytes(&mut self, most: usize, too_many: &'static str) -> Result<(), Place> {
+        self.space()?;
+        self.link()?;
+        self.space()?;
+        self.digits(most, too_many)
     }
 
     // A node's address.
@@ -206,7 +231,7 @@ impl<'l> Scan<'l> {
         }
     }
 
-    // Goes on behind these bytes, if they come next.
+    // Goes on past these bytes, if they come next.
     fn takes(&mut self, bytes: &[u8]) -> bool {
         if !begins_with(self.rest(), bytes) {
             return false;
@@ -220,6 +245,25 @@ impl<'l> Scan<'l> {
             at: self.at,
             allowed,
         })
+    }
+}
+
+// How a record begins.
+fn letters(format: Format) -> &'static str {
+    match format {
+        Format::One | Format::Two => {
+            "s, r, k, n or u: a record begins with one of these letters"
+        }
+        Format::Three => "s, r, k, d, x, n or u: a record begins with one of these letters",
+    }
+}
+
+// What a user's record tells.
+fn events(format: Format) -> &'static str {
+    match format {
+        Format::One | Format::Two => "start, halt, open, accept, reject, in, up or close",
+        Format::Three =>
+            "start, halt, boot, open, accept, reject, abort, in, up, close, interrupt or interrupted",
     }
 }
 

@@ -67,7 +67,7 @@ fn first_place(bytes: &[u8], unit: &[u8]) -> usize
     shorter
 }
 
-/// The short name of a unit that is known, with a comma and a blank behind it; nothing of one that is not. Fails for want of memory alone.
+/// The short name of a unit that is known, with a comma and a blank after it; nothing of one that is not. Fails for want of memory alone.
 pub fn name_before(alloc: Global, unit: Option<&[u8]>) -> Result<String, AllocError> {
     match unit {
         Some(unit) => named(alloc, unit),
@@ -113,7 +113,7 @@ pub fn sent_byte(differs: Option<Differing>) -> Option<DataByte> {
     }
 }
 
-/// Writes a byte in which units differ behind the name of its unit, as `, of which byte 2 is 80, and it has 8 bytes`; nothing where none is told.
+/// Writes, after the name of its unit, a byte in which units differ, as `, of which byte 2 is 80, and it has 8 bytes`; nothing where none is told.
 pub fn write_byte<W: Write>(f: &mut Formatter<W>, byte: Option<DataByte>) -> fmt::Result {
     let Some(
         DataByte {

@@ -22,7 +22,7 @@ use wire_base::Side;
 pub struct Refusal<'r> {
     /// Its side.
     pub side: Side,
-    /// Its number, from 0 on; it stands on line `place + 2`.
+    /// Its number, from 0 on; it is on line `place + 2`.
     pub place: u64,
     /// Why it is refused.
     pub reason: Reason,
@@ -43,7 +43,7 @@ pub struct Refusal<'r> {
 /// What is shown beside it, put together already: rows with their LF.
 #[derive(Clone, Copy)]
 pub struct Shown<'t> {
-    /// The name of the capture that it stands in.
+    /// The name of the capture that it is in.
     pub name: &'t str,
     /// The row of the unit that its hint names; nothing where it names none that was sent.
     pub unit: &'t str,
@@ -94,7 +94,7 @@ fn last_objects(
     format!(in alloc; "{queued}{edits}{tried}")
 }
 
-/// All rows of a refused record behind the line of the verdict: the record and the unit that its hint names; the check; both sides, that of the
+/// All rows of a refused record after the line of the verdict: the record and the unit that its hint names; the check; both sides, that of the
 /// record first, with their live links, the one that the record is about first; the rows before it; who is accused, and what small edits tell.
 /// Fails for want of memory alone.
 pub fn why_rows(

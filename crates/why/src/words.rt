@@ -1,4 +1,4 @@
-//! What stands in several phrases.
+//! What occurs in several phrases.
 
 use std::fmt::{self, Formatter, Write};
 use wire_base::Side;
@@ -36,7 +36,7 @@ pub fn short_number_or(word: &str, number: Option<u16>) -> NumberOr<'_> {
     NumberOr { word, number }
 }
 
-/// Writes a start of a side behind what is said of it, as `, goes with start 1 of b`; nothing where the start is not known.
+/// Writes a start of a side after what is said of it, as `, goes with start 1 of b`; nothing where the start is not known.
 pub fn write_known_start<W: Write>(
     f: &mut Formatter<W>,
     verb: &str,

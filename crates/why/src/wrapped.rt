@@ -2,13 +2,13 @@
 
 use std::alloc::AllocError;
 
-/// How many columns of a row are left for its words, behind what stands in front of them.
+/// How many columns of a row are left for its words, after what is in front of them.
 const COLUMNS: usize = 68;
 
-/// What stands in front of the words of a further row.
+/// What is in front of the words of a further row.
 pub const INDENT: &str = "           ";
 
-/// Appends these words in rows that end with an LF: the first behind `lead`, which has eleven columns, and as many further ones as they take. A word
+/// Appends these words in rows that end with an LF: the first after `lead`, which has eleven columns, and as many further ones as they take. A word
 /// that is longer than a row stays whole.
 pub fn put_wrapped(text: &mut String, lead: &str, words: &str) -> Result<(), AllocError> {
     text.push_str(lead)?;

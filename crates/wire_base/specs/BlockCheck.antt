@@ -1,4 +1,4 @@
--- The block check of DDCMP (CRC-16; DDCMP 4.1, block check fields): which bytes are a field with its right check behind
+-- The block check of DDCMP (CRC-16; DDCMP 4.1, block check fields): which bytes are a field with its right check after
 -- it, as the standard says it in bits, and the check of a field as a function, with the laws that join the two in
 -- `src/check_laws.rt`.
 --
@@ -27,7 +27,7 @@ sum_of_copies (begins ∷ places) = bit_xor (if begins then generator else 0) (2
 abbrev pub IsSumOfCopies : ℕ → Type 0
 IsSumOfCopies row = (places : List Bool) × (row ≡ sum_of_copies places)
 
--- these bytes are a field and behind it the two bytes of its right check, the low byte first
+-- these bytes are a field and after it the two bytes of its right check, the low byte first
 pub record HasGoodCheck (bytes : List ℕ) : Type 0 where
   pub two_bytes : 2 ≤ length bytes
   pub copies : IsSumOfCopies (row_of bytes)

@@ -21,7 +21,7 @@ abbrev pub write_failed : {E : Type 0} → Result ℕ E → List ℕ → Bool
 write_failed (Ok taken) piece = taken == 0 && nat_lt 0 (length piece)
 write_failed (Err e) piece = true
 
--- a call failed in between: the count rose, or stood at its last value
+-- a call failed in between: the count rose, or was already at its last value
 abbrev pub CountedFault : ℕ → ℕ → Type 0
 CountedFault old new = (old < new) ⊎ (old ≡ 2 ^ 64 - 1)
 

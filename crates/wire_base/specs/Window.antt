@@ -15,7 +15,7 @@ module _ {T : Type 0} where
   abbrev pub empty_from : ℕ → ℕ → WindowView T
   empty_from capacity first = window_view first [] capacity
 
-  -- one more item behind the others
+  -- one more item after the others
   abbrev pub pushed : WindowView T → T → WindowView T
   pushed window item = record window { items = window.items ++ item ∷ [] }
 

@@ -12,7 +12,7 @@ fn after_byte(register: u16, byte: u8) -> u16
 }
 
 /// The register after eight more bytes of the field. The first two meet the register's own bytes, and of each byte and of
-/// its number's worth of zeros behind it the table tells what is left.
+/// its number's worth of zeros after it the table tells what is left.
 fn after_eight(register: u16, eight: &[u8]) -> u16
     requires { length eight.now ≡ 8 }
     ensures { result ≡ fold after_byte register eight.now }
@@ -42,7 +42,7 @@ fn check_of_eights(field: &[u8]) -> u16
 }
 
 /// The block check of a field (DDCMP 4.1, CRC-16 with the generator x^16 + x^15 + x^2 + 1, started at 0, each byte low
-/// bit first). It is sent behind the field, its low byte first, and of all words it is the one that makes the check good
+/// bit first). It is sent after the field, its low byte first, and of all words it is the one that makes the check good
 /// there. The field may be empty. Takes no memory.
 pub fn block_check(field: &[u8]) -> u16
     ensures value { result ≡ check_of field.now }
@@ -57,7 +57,7 @@ pub fn block_check(field: &[u8]) -> u16
     register
 }
 
-/// Whether these bytes are a field with its right block check behind it: at least two bytes, of which the last two, the
+/// Whether these bytes are a field with its right block check after it: at least two bytes, of which the last two, the
 /// low byte first, are the check of the rest. Takes no memory.
 pub fn checks(bytes: &[u8]) -> bool
     ensures good { IsTrue result ↔ HasGoodCheck bytes.now }

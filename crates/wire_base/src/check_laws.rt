@@ -1,7 +1,7 @@
 ghost use Rattle.std.specs.Prelude.{◌≡◌, ◌↔◌, ◌^◌, ◌<◌, [], ◌∷◌, ◌++◌, IsTrue};
 ghost use Rattle.wire_base.specs.BlockCheck.{HasGoodCheck, check_bytes, check_of, is_good};
 
-/// A law of the block check, for proofs to call: behind a field its check is good, and no other two bytes are
+/// A law of the block check, for proofs to call: after a field its check is good, and no other two bytes are
 /// (DDCMP 4.1, CRC-16).
 pub fn good_with_its_check_alone(field: &[u8], low: u8, high: u8)
     ensures { HasGoodCheck (field.now ++ low ∷ high ∷ []) ↔ (low ∷ high ∷ [] ≡ check_bytes field.now) }

@@ -1,4 +1,4 @@
-//! What every layer of the line stands on: numbers that wrap and windows of items that are not yet acknowledged, the block
+//! What every layer of the line is built on: numbers that wrap and windows of items that are not yet acknowledged, the block
 //! check of DDCMP, readers and writers whose failed calls are counted, copies of bytes, and the two sides of a line. It decides no rule of a
 //! protocol but the block check, and it touches no file, clock or thread.
 #![tactic(auto)]

@@ -18,7 +18,7 @@ use Rattle.wire_tap.specs.inner.Side.{MovesOn, PassUnits, UnitsState, counted}
 pub sent-append : (rs more : List Record) → units_sent (rs ++ more) ≡ units_sent rs ++ units_sent more
 sent-append [] more = refl
 sent-append (Sent bytes ∷ rs) more = ap (λ (units : List (List ℕ)). bytes ∷ units) (sent-append rs more)
-sent-append (Received hint kept bytes ∷ rs) more = sent-append rs more
+sent-append (Received hint fate bytes ∷ rs) more = sent-append rs more
 sent-append (Noise bytes ∷ rs) more = sent-append rs more
 sent-append (User event ∷ rs) more = sent-append rs more
 

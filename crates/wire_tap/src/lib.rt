@@ -12,5 +12,5 @@ mod tapped;
 mod tapping;
 
 pub use fault::TapFault;
-pub use tapped::{Ending, Passed, Skipped, Tapped, Units};
+pub use tapped::{Asked, Ending, Passed, Skipped, Tapped, Units};
 pub use tapping::tap;

@@ -29,7 +29,7 @@ pub(crate) struct SideUnits {
     pub(crate) skipped: Skipped,
 }
 
-/// Where a piece stands, and with which unit the captures are to end.
+/// Where a piece is, and with which unit the captures are to end.
 #[derive(Clone, Copy)]
 pub(crate) struct At {
     pub(crate) side: Side,
@@ -37,7 +37,7 @@ pub(crate) struct At {
     pub(crate) last: Option<(Side, u64)>,
 }
 
-/// What comes behind a unit.
+/// What comes after a unit.
 #[derive(Clone, Copy)]
 pub(crate) enum Next<'a> {
     /// These bytes.

@@ -1,8 +1,20 @@
-//! What a tap found.
+//! What a tap is asked for, and what it found.
 
+use placing::Explained;
 use wire_base::Side;
 
-/// A unit of a side, counted from 0, and the line of the text on which its first byte stands.
+/// What a tap is asked for.
+#[derive(Clone, Copy, Debug, PartialEq, Eq)]
+pub struct Asked {
+    /// Whether no packet is read.
+    pub line_alone: bool,
+    /// Whether both sides are explained together.
+    pub explained: Explained,
+    /// The unit with which both captures are to end, if one is named.
+    pub last: Option<(Side, u64)>,
+}
+
+/// A unit of a side, counted from 0, and the line of the text on which its first byte is.
 #[derive(Clone, Copy, Debug, PartialEq, Eq)]
 pub struct Passed {
     pub side: Side,

@@ -20,9 +20,9 @@ use crate::fault::{TapFault, reading_fault};
 use crate::outlet::{write_both, write_full, write_heads};
 use crate::side_tap::{At, SideTap};
 use crate::stop::Stop;
-use crate::tapped::{Ending, Tapped};
+use crate::tapped::{Asked, Ending, Tapped};
 use capture::{Format, put_head_line};
-use placing::Search;
+use placing::{Explained, Search, Turn};
 use std::alloc::{AllocError, Global};
 use std::io::{Read, Write};
 use wire_base::{Side, Tally};
@@ -36,11 +36,12 @@ struct Sides {
     search: Search,
 }
 
-/// Reads the text of what passed to its end, places the units of both sides, and writes both captures, in format 1. With `last` they end with that
-/// unit of that side, and with `line_alone` no packet is read.
+/// Reads the text of what passed to its end, places the units of both sides, and writes both captures, in format 1. With a `last` unit they end with
+/// it, and with `line_alone` no packet is read.
 ///
 /// Each unit that was sent has passed here, and before the first of them neither side was started. Where a unit has no placing, or there are too
-/// many states to try, both captures end with it: the side's own has it as its last unit, and the other's what passed before it.
+/// many states to try, both captures end with it: the side's own has it as its last unit, and the other's what passed before it. Where each side is
+/// explained by itself, each capture is one of a node alone, and both need not go together. At starts that are turned fewer packets were kept.
 ///
 /// Faults: `Departs` at the first line that departs from the format (`WireReader::open` and `advance` say how), and `Read` where a call of the text's
 /// reader failed: both writers then took the captures of all lines before, and nothing where there was no head. `Write`, a call of the writer of that
@@ -50,10 +51,10 @@ pub fn tap<W: Read, A: Write, B: Write>(
     wire: &mut Tally<W>,
     a: &mut Tally<A>,
     b: &mut Tally<B>,
-    line_alone: bool,
-    last: Option<(Side, u64)>,
+    asked: Asked,
+    turns: &[Turn],
 ) -> Result<Tapped, TapFault>
-    ensures taps { Taps last (W.remaining (tally_lent wire.old)) (held (A.contents (tally_lent a.old)) (B.contents (tally_lent b.old)))
+    ensures taps { Taps asked.last (W.remaining (tally_lent wire.old)) (held (A.contents (tally_lent a.old)) (B.contents (tally_lent b.old)))
         (held (A.contents (tally_lent a.new)) (B.contents (tally_lent b.new))) result }
     ensures reads { CountsReadsOf result (tally_faults wire.old) (tally_faults wire.new) }
     ensures writes_a { CountsWritesOf of_side.A result (tally_faults a.old) (tally_faults a.new) }
@@ -63,7 +64,7 @@ pub fn tap<W: Read, A: Write, B: Write>(
         Ok(reader) => reader,
         Err(fault) => return Err(reading_fault(fault)),
     };
-    let Ok(mut sides) = Sides::new(alloc, line_alone) else {
+    let Ok(mut sides) = Sides::new(alloc, asked, turns) else {
         return Err(TapFault::OutOfMemory);
     };
     let Ok((head_a, head_b)) = heads(alloc, reader.node_a(), reader.node_b()) else {
@@ -72,7 +73,16 @@ pub fn tap<W: Read, A: Write, B: Write>(
     if let Err(side) = write_heads(head_a.as_slice(), head_b.as_slice(), a, b) {
         return Err(TapFault::Write { side });
     }
-    tap_rest(&mut reader, wire, &mut sides, last, a, b)
+    tap_rest(&mut reader, wire, &mut sides, asked.last, a, b)
+}
+
+// A search to which nothing passed yet.
+fn search_with(alloc: Global, explained: Explained, turns: &[Turn]) -> Result<Search, AllocError> {
+    let mut search = Search::new(alloc, explained)?;
+    for turn in turns {
+        search.turn(*turn)?;
+    }
+    Ok(search)
 }
 
 // The heads of both captures.
@@ -88,13 +98,13 @@ fn heads(alloc: Global, node_a: u16, node_b: u16) -> Result<(Vec<u8>, Vec<u8>), 
 
 impl Sides {
     // Nothing passed yet.
-    fn new(alloc: Global, line_alone: bool) -> Result<Sides, AllocError>
+    fn new(alloc: Global, asked: Asked, turns: &[Turn]) -> Result<Sides, AllocError>
         ensures a { IfOk result (λ sides. IsNew sides.a) }
         ensures b { IfOk result (λ sides. IsNew sides.b) }
     {
-        let a = SideTap::new(alloc, line_alone)?;
-        let b = SideTap::new(alloc, line_alone)?;
-        let search = Search::new(alloc)?;
+        let a = SideTap::new(alloc, asked.line_alone)?;
+        let b = SideTap::new(alloc, asked.line_alone)?;
+        let search = search_with(alloc, asked.explained, turns)?;
         Ok(Sides { a, b, search })
     }
 

@@ -1,6 +1,8 @@
 -- What a record makes of what is kept of its side.
-use Rattle.std.specs.Prelude.{ℕ, ◌+◌, Bool, min, Option, Some, None, List, slice_index, slice_set}
+use Rattle.std.specs.Prelude.{ℕ, ◌+◌, min, Option, Some, None, List, slice_index, slice_set}
 use Rattle.ddcmp_msg.specs.Reading.{ReadingValue, reading, Sound, HeaderBad, DataBad, Malformed}
+use Rattle.capture.specs.Fates.{is_kept}
+use Rattle.capture.specs.declared.fate.Fate.{Fate}
 use Rattle.capture.specs.declared.record.Record.{Record}
 use Rattle.capture.specs.declared.record.Record.TheVariants.{Sent, Received, Noise, User}
 use Rattle.capture.specs.declared.event.Event.{Event}
@@ -10,11 +12,12 @@ use Rattle.coverage.specs.declared.counts.Counts.{Counts}
 use Rattle.coverage.specs.declared.half.Half.{Half}
 use Rattle.coverage.specs.declared.row.LinkAct.{LinkAct}
 use Rattle.coverage.specs.declared.row.Row.{Row}
-use Rattle.coverage.specs.declared.row.Row.TheVariants.{LinkUser}
+use Rattle.coverage.specs.declared.row.Loss.TheVariants.{Unsent}
+use Rattle.coverage.specs.declared.row.Row.TheVariants.{LinkUser, Lost}
 use Rattle.coverage.specs.declared.tracker.Tracker.{Tracker}
 use Rattle.coverage.specs.Counts.{MOST}
 use Rattle.coverage.specs.Row.{place}
-use Rattle.coverage.specs.Rows.{user_row, sent_row, arrival_row, damage_row, link_sends, link_gets}
+use Rattle.coverage.specs.Rows.{user_row, link_row, sent_row, arrival_row, damage_row, link_sends, link_gets}
 use Rattle.coverage.specs.inner.Tracked.{after_arrival, after_event, after_sending, is_new}
 
 -- ---- counts
@@ -43,34 +46,35 @@ met_sent half (Malformed departure) = half
 abbrev pub met_damage : Half → ReadingValue → Half
 met_damage half read = record half { counts = counted_in half.counts (damage_row half.tracker.state read) }
 
-abbrev pub met_receipt : Half → (kept : Bool) → ReadingValue → Half
-met_receipt half kept (Sound m) = record {
-  tracker = after_arrival half.tracker m kept;
-  counts = counted_in (counted_in half.counts (Some (arrival_row half.tracker.state half.tracker.received kept m))) (link_gets kept m);
+abbrev pub met_receipt : Half → Fate → ReadingValue → Half
+met_receipt half fate (Sound m) = record {
+  tracker = after_arrival half.tracker m (is_kept fate);
+  counts = counted_in (counted_in half.counts (Some (arrival_row half.tracker.state half.tracker.received (is_kept fate) m))) (link_gets fate m);
 }
-met_receipt half kept HeaderBad = met_damage half HeaderBad
-met_receipt half kept DataBad = met_damage half DataBad
-met_receipt half kept (Malformed departure) = half
+met_receipt half fate HeaderBad = met_damage half HeaderBad
+met_receipt half fate DataBad = met_damage half DataBad
+met_receipt half fate (Malformed departure) = half
 
 abbrev pub tracked_event : Tracker → Event → Tracker
 tracked_event t events.Start = after_event t user.Start
 tracked_event t events.Halt = after_event t user.Halt
-tracked_event t (events.Open link) = t
-tracked_event t (events.Accept partner link) = t
-tracked_event t (events.Reject partner link) = t
-tracked_event t (events.In link bytes) = t
-tracked_event t (events.Up link bytes) = t
-tracked_event t (events.Close link) = t
+tracked_event t events.Boot = after_event t user.Halt
+tracked_event t event = t
 
 abbrev pub met_event : Half → Event → Half
-met_event half event =
-    record { tracker = tracked_event half.tracker event; counts = counted_in half.counts (user_row half.tracker.state event) }
+met_event half event = record {
+  tracker = tracked_event half.tracker event;
+  counts = counted_in (counted_in half.counts (user_row half.tracker.state event)) (link_row event);
+}
 
 abbrev pub met_link : Half → LinkAct → Half
 met_link half act = record half { counts = counted_in half.counts (Some (LinkUser act)) }
 
+abbrev pub met_unsent : Half → Half
+met_unsent half = record half { counts = counted_in half.counts (Some (Lost Unsent)) }
+
 abbrev pub met : Half → Record → Half
 met half (Sent bytes) = met_sent half (reading bytes)
-met half (Received hint kept bytes) = met_receipt half kept (reading bytes)
+met half (Received hint fate bytes) = met_receipt half fate (reading bytes)
 met half (Noise bytes) = met_damage half (reading bytes)
 met half (User event) = met_event half event

@@ -1,4 +1,4 @@
--- What the last rows of the ladder are behind the records that a judge told.
+-- What the last rows of the ladder are after the records that a judge told.
 use Rattle.std.specs.Prelude.{◌≡◌, List, map}
 use Rattle.ladder.specs.Ladder.{LadderView}
 use Rattle.ladder.specs.Rows.{no_rows}

@@ -21,7 +21,7 @@ name_of named.OutB = codes "out b"
 abbrev pub told_byte : ℕ → ℕ
 told_byte byte = if nat_lt byte 32 then 63 else if nat_eq byte 127 then 63 else byte
 
--- a path stands in its line
+-- a path, as it is told in its line
 abbrev pub told_path : List ℕ → List ℕ
 told_path path = map told_byte path
 
@@ -39,7 +39,7 @@ IsPathNotOpened err file path _ status =
 abbrev pub same_file_text : Named → (other : Named) → List ℕ
 same_file_text file other = name_of file ++ (codes ": same file as " ++ (name_of other ++ codes "\n"))
 
--- `pair 2: A B`, behind what is told of a pair where there are more
+-- `pair 2: A B`, after what is told of a pair where there are more
 abbrev pub pair_text : (number : ℕ) (path_a path_b : List ℕ) → List ℕ
 pair_text number path_a path_b =
     codes "pair " ++ (decimal number ++ (codes ": " ++ (told_path path_a ++ (codes " " ++ (told_path path_b ++ codes "\n")))))

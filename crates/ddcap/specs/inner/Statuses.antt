@@ -5,7 +5,7 @@ use Rattle.pair_judge.specs.Judged.{Answer, IsAnswer}
 use Rattle.tap_answer.specs.Telling.{telling}
 use Rattle.tap_answer.specs.declared.told.Told.{Told}
 use Rattle.tap_answer.specs.declared.told.Told.TheVariants as says
-use Rattle.wire_tap.specs.declared.tapped.Tapped.{Tapped}
+use Rattle.ddcap.specs.declared.tap.Captured.{Captured}
 use Rattle.ddcap.specs.Printed.{fault_status, verdict_status}
 
 -- it is the one that was meant; or 3, where a write failed or there was no memory for the text
@@ -27,14 +27,15 @@ pub record EndsAsJudged (nodes : NodeKind) (text_a text_b : Option (List ℕ)) (
 abbrev pub told_status : Told → ℕ
 told_status says.Accepted = 0
 told_status (says.Unexplained passed reason) = 1
+told_status (says.Apart passed reason) = 1
 told_status (says.UnexplainedEnd reason) = 1
 told_status (says.TooWide passed) = 2
 
-abbrev pub tap_status : Tapped → Answer → ℕ
-tap_status tapped (Ok verdict) = told_status (telling tapped.ending verdict)
-tap_status tapped (Err fault) = fault_status fault
+abbrev pub tap_status : Captured → Answer → ℕ
+tap_status captured (Ok verdict) = told_status (telling captured.is_apart captured.tapped.ending verdict)
+tap_status captured (Err fault) = fault_status fault
 
-pub record EndsAsTapped (nodes : NodeKind) (tapped : Tapped) (text_a text_b : Option (List ℕ)) (status : ℕ) : Type 0 where
+pub record EndsAsTapped (nodes : NodeKind) (captured : Captured) (text_a text_b : Option (List ℕ)) (status : ℕ) : Type 0 where
   pub answer : Answer
   pub judged : IsAnswer nodes text_a text_b answer
-  pub ends : EndsWith (tap_status tapped answer) status
+  pub ends : EndsWith (tap_status captured answer) status

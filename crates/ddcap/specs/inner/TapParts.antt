@@ -15,7 +15,7 @@ both_streams out err = record { a = out; b = out; out = out; err = err }
 abbrev pub TellsNoMemory : (out err : Moved) → ℕ → Type 0
 TellsNoMemory out err status = Writes err.old err.new (fault_text judge.OutOfMemory) 3 status × (out.new ≡ out.old)
 
--- this text is written with what it rests on behind it, or there was no memory for it
+-- this text is written with what it rests on after it, or there was no memory for it
 abbrev pub WritesBehind : List ℕ → Tapped → (out err : Moved) → (meant status : ℕ) → Type 0
 WritesBehind text tapped out err meant status =
     (Writes out.old out.new (text ++ premise_words tapped) meant status × (err.new ≡ err.old)) ⊎ TellsNoMemory out err status

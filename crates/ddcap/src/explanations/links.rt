@@ -29,7 +29,7 @@ segments again, unchanged.",
   last piece; a message that is sent again is cut elsewhere; a segment that is
   sent again has different data
 - node, not a bug: a restart empties a queue, and a segment in it is lost
-  before its first sending",
+  before its first sending (an `x` line in format 3)",
     first: "\
 see in `ddcap why` what differs: the number, the bits or the bytes.",
 };
@@ -136,6 +136,7 @@ a message of the link that goes with this one.",
     look_for: "\
 - a hint that points to an earlier unit with the same bytes
 - a missing CI
+- a `k` line that should be `d`: the packet was lost above DDCMP
 - node, not a bug: an address is used again while a message of its last link is
   under way",
     first: "\
@@ -157,6 +158,7 @@ another address; the same one once its link is over.",
 - a missing `k` line of a DI or DC, so that the earlier link never ended here
 - a recorder that mixes up the two ends of a link: in `u accept M L` the
   address of the other end comes first
+- a missing `u boot`, where the node started anew
 - node: an address is reused before the DC has arrived; addresses of opened and
   of called links are counted separately",
     first: "\

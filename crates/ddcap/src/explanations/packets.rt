@@ -76,12 +76,12 @@ pub const NO_LINK: Explanation = Explanation {
     seen: "\
 a message or an event names a link that does not exist.",
     rule: "\
-the link must exist. For `u in` and `u close`: a live link with this
-local address. For `u up`: a link that was given it, live or not. For `u
-accept` and `u reject`: an unanswered call from the other node's address. For a
-CI: a live link opened here with SRCADDR. For a connect acknowledgement: a live
-link begun by a CI from DSTADDR. For anything else, except DC and no operation:
-the live link with local address SRCADDR and far address DSTADDR.",
+the link must exist. For `u in`, `u close` and `u abort`: a live link
+with this local address. For `u up`: a link that was given it, live or not. For
+`u accept` and `u reject`: an unanswered call from the other node's address.
+For a CI: a live link opened here with SRCADDR. For a connect acknowledgement:
+a live link begun by a CI from DSTADDR. For anything else, except DC and no
+operation: the live link with local address SRCADDR and far address DSTADDR.",
     allowed: "\
 the same, once the link exists.",
     fault: "the sender, or the user",
@@ -90,6 +90,7 @@ the same, once the link exists.",
 - a `k` line that is missing or written as `r`, so that the CI or CC in it was
   never seen
 - a link that existed before the capture began
+- a missing `u boot`, where the node started anew
 - node: the addresses of a CC are exchanged; the addresses of a segment are
   exchanged; data is sent before the CC has arrived; a connect acknowledgement
   names the sender's own address; data is sent after a DI has arrived; a DI is
@@ -106,8 +107,9 @@ pub const LINK_STATE: Explanation = Explanation {
 a message or an event does not fit the phase of its link.",
     rule: "\
 a CI needs Calling, a CC Confirming, a DI the phase DI. Segments and all
-that goes with them need RUN. `u in` needs Calling, Confirming or RUN, and `u
-close` Confirming or RUN. A DC is refused while its link is live.",
+that goes with them need RUN. `u in` needs Calling, Confirming or RUN, `u
+close` Confirming or RUN, and `u abort` Calling. A DC is refused while its link
+is live.",
     allowed: "\
 the same in one of these phases.",
     fault: "the sender, or the user",
@@ -119,7 +121,8 @@ the same in one of these phases.",
   a DI; data is sent after the user closed the link
 - node, not a bug: a message waits in a queue while the user closes its link
   (see check --queued)
-- node, not a bug: a user gives up a call before it is answered",
+- node, not a bug: a user gives up a call before it is answered (`u abort` in
+  format 3)",
     first: "\
 compare the phase in `ddcap why` with what the node did last on this
 link.",

@@ -120,7 +120,7 @@ impl<T: Copy, W: Window<HeldPacket<T>, 256>> Station<T, W> {
     /// This came, for which the station gave a permit with this row, and the node kept its packet or did not. The counts that the station keeps are
     /// together below 2^63. Takes no memory.
     ///
-    /// What it does; where nothing stands, and in HALTED, nothing:
+    /// What it does; where the table has nothing, and in HALTED, nothing:
     ///
     /// ```text
     ///          ISTRT         ASTRT                       RUNNING

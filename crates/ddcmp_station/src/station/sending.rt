@@ -23,7 +23,7 @@ impl<T: Copy, W: Window<HeldPacket<T>, 256>> Station<T, W> {
     /// answer is a permit for [`Station::send`], or else the first check that the message does not pass, by its name
     /// ([`Station::tell_sending`] tells more).
     ///
-    /// What is tested, in this order; where nothing stands, and in HALTED, the message may not be sent:
+    /// What is tested, in this order; where the table has nothing, and in HALTED, the message may not be sent:
     ///
     /// ```text
     ///          ISTRT      ASTRT      RUNNING

@@ -22,7 +22,7 @@ use Rattle.dna_links.specs.SegmentBook.{Sending, Late, wider}
 use Rattle.dna_links.specs.Links.{LinkOf, LinksOf, Carried, LinkTruth, check, with_link, with_seen, begun, changed, with_segments}
 use Rattle.dna_links.specs.Queues.{is_over, has_waiting, in_use, with_in_use, may_send, keeps_numbers, requeued, goes_on, ends_by_message, drops, forgotten, freed}
 use Rattle.dna_links.specs.Queues.{shows, settled, is_in_turn}
-use Rattle.dna_links.specs.User.{LinkEventValue, Open, Accept, Reject, In, Up, Close}
+use Rattle.dna_links.specs.User.{LinkEventValue, Open, Accept, Reject, In, Up, Close, Abort, Boot}
 use Rattle.dna_links.specs.inner.Forms.{opened, delivered, of_no_link, truth_of, unchanged, called}
 use Rattle.dna_links.specs.LinkBook.{on_ok}
 use Rattle.dna_links.specs.Sending.{Sent, message_sent}
@@ -39,7 +39,7 @@ use Rattle.dna_links.proofs.Cut.SegmentsSending.{sends_acks_same}
 use Rattle.dna_links.proofs.Cut.SegmentsArriving.{takes_acks_same, takes_segment_same}
 use Rattle.dna_links.proofs.Cut.LateWords.{cut_late, sends_late_same, acks_went}
 use Rattle.dna_links.proofs.Cut.LookUps.{NoneFor, with_link_same, changed_same, begun_same}
-use Rattle.dna_links.proofs.Cut.User.{live_if, delivers_at}
+use Rattle.dna_links.proofs.Cut.User.{live_if, delivers_at, booted_same}
 use Rattle.dna_links.proofs.Cut.LateLinks.{with_seen_same, IsInUse, with_in_use_same, own_in_use, has_own, kept_before, kept_silent, kept_segments, segments_kept, live_changed}
 use Rattle.dna_links.proofs.Cut.LateLinks.{or_left, forgotten_late, ends_same, drops_same, shows_same, settled_same, closes_late, goes_same}
 
@@ -169,6 +169,14 @@ module _ (s : Links) where
           cut_link With (goes_on true_segments b Disconnecting l) ≡ goes_on wire_segments b Disconnecting (cut_link With l)
       go l own kept true live = goes_same l live l.port Disconnecting refl true refl
       go l own kept false dead = closes_late l own dead kept
+  user_late (Abort own) =
+      with_in_use_same (cut_result With) (LiveAt own) s (Err NoLink) (Err NoLink) _ _ refl
+      (λ n l there here.
+      let p = live_at own l here in
+      result_check (is_calling (in_use With l).phase) LinkState (Ok (changed n (drops true_segments With l) s))
+      (Ok (changed n (drops wire_segments With (cut_link With l)) (cut_links With s)))
+      (λ calling. ap Ok (one_changed n _ _ (drops_same l (λ none. absurd (p.1 none)) (keeps_before l p.0 is_calling refl calling)))))
+  user_late Boot = ap (λ (links : List (LinkOf WireSegments)). Ok (record (cut_links With s) { links = links })) (booted_same With s.links)
 
 -- ---- what is sent
 
@@ -238,7 +246,8 @@ module _ (s : Links) (ordered : AreOrdered s)
           with_link_same With (cut_sent With) (CalledBy dst) s (Ok (of_no_link true_segments s)) (Ok (of_no_link wire_segments (cut_links With s))) _ _
           (λ none. refl) (λ n l there here.
           let live = live_if is_called refl l.port.phase (and_parts (is_called l.port.phase) (is_at l.port.far dst) here).0 in
-          left_same n l (drops true_segments With l) _ (segments.sends_other l.segments) (drops_same l ((ordered n l there).fresh live) live))
+          left_same n l (drops true_segments With l) _ (segments.sends_other l.segments)
+          (drops_same l ((ordered n l there).fresh live) (or_left (is_live l.port.phase) (has_waiting l.queue.waits l.queue.said) live)))
       by_address false =
           ap (λ (all : WireLinks). let r : Result (Sent WireSegments (Unit {0})) LinkRefusal =
           Ok (record (of_no_link wire_segments (cut_links With s)) { links = all }) in r)

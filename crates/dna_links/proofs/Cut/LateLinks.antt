@@ -180,15 +180,15 @@ module _ (l : LinkOf TrueSegments) where
         (let_same (keeps_numbers l) (has_waiting (Some l.port.phase) l.queue.said) l.port.own l.segments
         (λ e. let k = or_left (is_live l.port.phase) (has_waiting l.queue.waits l.queue.said) live in absurd cc) own)
 
-    pub drops_same : is_live l.port.phase ≡ true → cut_link With (drops true_segments With l) ≡ drops wire_segments With (cut_link With l)
-    drops_same live =
+    pub drops_same : keeps_numbers l ≡ true → cut_link With (drops true_segments With l) ≡ drops wire_segments With (cut_link With l)
+    drops_same kept =
         ap (λ (w : WireSegments). record (cut_link With l) {
           port = record l.port { phase = Ended };
           segments = w;
           queue = record l.queue { waits = None };
         })
         (let_same true false l.port.own l.segments (λ e. absurd cc) own
-        ∙ ap ends (sym (kept_segments l (or_left (is_live l.port.phase) (has_waiting l.queue.waits l.queue.said) live))))
+        ∙ ap ends (sym (kept_segments l kept)))
 
     -- what was sent goes on, and what waits does not
     pub shows_same : (said : Said) → cut_link With (shows true_segments said l) ≡ shows wire_segments said (cut_link With l)

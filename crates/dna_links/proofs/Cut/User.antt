@@ -1,17 +1,18 @@
 -- Cutting the links of a node to what it keeps of them commutes with what the user does.
-use Rattle.std.proofs.Common.{◌≡◌, ℕ, Bool, true, false, Option, Some, None, List, Ok, Err, refl, sym, ap, ap₂, ◌∙◌, option_map}
+use Rattle.std.proofs.Common.{◌≡◌, ℕ, Bool, true, false, Option, Some, None, List, [], ◌∷◌, Ok, Err, map, refl, sym, ap, ap₂, ◌∙◌, option_map}
 use Rattle.std.specs.Prelude.{slice_get}
 use Rattle.std.proofs.lemmas.Bool.{and_parts}
 use Rattle.dna_station.specs.declared.link_refusal.LinkRefusal.{LinkRefusal}
 use Rattle.dna_station.specs.declared.link_refusal.LinkRefusal.TheVariants.{NoLink, LinkState, AddressInUse}
-use Rattle.dna_links.specs.Queues.{forgotten, freed}
-use Rattle.dna_links.specs.declared.queue.Queues.TheVariants.{Without}
+use Rattle.dna_links.specs.Queues.{ended, forgotten, freed, booted_link}
+use Rattle.dna_links.specs.declared.queue.Queues.{Queues}
+use Rattle.dna_links.specs.declared.queue.Queues.TheVariants.{Without, With}
 use Rattle.dna_links.specs.declared.port.Phase.{Phase}
 use Rattle.dna_links.specs.declared.port.Phase.TheVariants.{Confirming, Disconnecting, Ended}
 use Rattle.dna_links.specs.declared.port.LinkTest.TheVariants.{HasAddress, LiveAt, CalledBy}
-use Rattle.dna_links.specs.LookUps.{is_live, is_called, is_connected, is_at, takes_messages, passes}
+use Rattle.dna_links.specs.LookUps.{is_live, is_calling, is_called, is_connected, is_at, takes_messages, passes}
 use Rattle.dna_links.specs.Links.{LinkOf, LinksOf, check, begun, changed, in_phase, with_segments}
-use Rattle.dna_links.specs.User.{LinkEventValue, Open, Accept, Reject, In, Up, Close}
+use Rattle.dna_links.specs.User.{LinkEventValue, Open, Accept, Reject, In, Up, Close, Abort, Boot}
 use Rattle.dna_links.specs.inner.Forms.{opened, answered, gives, answers, delivered}
 use Rattle.dna_links.specs.TrueSegments.{TrueSegments, hands_in, delivers, true_segments}
 use Rattle.dna_links.specs.WireSegments.{WireSegments, wire_segments}
@@ -52,10 +53,31 @@ module _ (l : LinkOf TrueSegments) where
         ap (λ (w : WireSegments). with_segments w (answered wire_segments phase own (cut_link Without l)))
         (ap (λ (b : Bool). cut_as b (Some own) l.segments) to ∙ sym live_segments)
 
+    -- a call that is given up has an own address
+    given_up : (address : ℕ) → is_at l.port.own address ≡ true → cut_link Without (ended true_segments l) ≡ ended wire_segments (cut_link Without l)
+    given_up address at =
+        ap (λ (w : WireSegments). with_segments w (in_phase Ended (cut_link Without l))) (go l.port.own at ∙ ap wire.ends (sym live_segments))
+      where
+        go : (own : Option ℕ) → is_at own address ≡ true → cut_as false own l.segments ≡ wire.ends (cut l.segments)
+        go (Some number) e = refl
+        go None e = absurd cc
+
   -- an ended link that loses its address keeps nothing
   forgotten_same : is_live l.port.phase ≡ false → cut_link Without (forgotten true_segments Without l) ≡ forgotten wire_segments Without (cut_link Without l)
   forgotten_same dead =
       ap (λ (w : WireSegments). with_segments w (forgotten wire_segments Without (cut_link Without l))) (ap (λ (b : Bool). cut_as b None l.segments) dead)
+
+-- a boot leaves nothing of any link
+booted_one : (queues : Queues) (l : LinkOf TrueSegments) → cut_link queues (booted_link true_segments queues l) ≡
+    booted_link wire_segments queues (cut_link queues l)
+booted_one Without l = refl
+booted_one With l = refl
+
+pub booted_same : (queues : Queues) (links : List (LinkOf TrueSegments)) → map (cut_link queues) (map (booted_link true_segments queues) links) ≡
+    map (booted_link wire_segments queues) (map (cut_link queues) links)
+booted_same queues [] = refl
+booted_same queues (l ∷ links) = ap₂ (λ (w : LinkOf WireSegments) (all : List (LinkOf WireSegments)). w ∷ all) (booted_one queues l)
+    (booted_same queues links)
 
 -- the messages that are delivered, of a live link and of one that has ended
 pub delivers_at : (b : Bool) (own : Option ℕ) (address : ℕ) (f : TrueSegments) (message : List ℕ) → is_at own address ≡ true
@@ -159,3 +181,11 @@ module _ (s : Links) where
       let live = (and_parts (is_live l.port.phase) (is_at l.port.own own) here).0 in
       changes n l (in_phase Disconnecting l) (in_phase Disconnecting (cut_link Without l)) (is_connected l.port.phase)
       (phase_changed l live Disconnecting refl))
+  user_same (Abort own) =
+      with_link_same Without (cut_result Without) (LiveAt own) s (Err NoLink) (Err NoLink)
+      (λ n l. check (is_calling l.port.phase) LinkState (Ok (changed n (ended true_segments l) s)))
+      (λ n l. check (is_calling l.port.phase) LinkState (Ok (changed n (ended wire_segments l) (cut_links Without s))))
+      (λ none. refl) (λ n l there here.
+      let p = and_parts (is_live l.port.phase) (is_at l.port.own own) here in
+      changes n l (ended true_segments l) (ended wire_segments (cut_link Without l)) (is_calling l.port.phase) (given_up l p.0 own p.1))
+  user_same Boot = ap (λ (links : List (LinkOf WireSegments)). Ok (record (cut_links Without s) { links = links })) (booted_same Without s.links)

@@ -18,7 +18,7 @@ use Rattle.dna_links.specs.TrueSegments.{TrueSegments, highest_given, highest_re
 use Rattle.dna_links.specs.CutSegments.{IsOrdered, IsAnswered, data_numbers, Spells, AcksAreNear}
 use Rattle.dna_links.specs.CutLinks.{ComesNear, IsActedOn}
 use Rattle.dna_links.specs.Runs.{SentMessage, LinkSide, LinkWorld, Reached, new_side, new_world}
-use Rattle.dna_links.proofs.Runs.Loose.{LooseStep, ByUser, Sends, SendsNone, Keeps, KeepsNone, LooselyReached, without_loose}
+use Rattle.dna_links.proofs.Runs.Loose.{LooseStep, ByUser, Sends, SendsNone, Composes, Keeps, Passes, LooselyReached, without_loose}
 use Rattle.dna_links.specs.declared.queue.Queues.TheVariants.{Without}
 use Rattle.dna_links.specs.Bounds.{AreLinksBounded, AreCutInStep}
 use Rattle.dna_links.specs.Delivery.{whole, HeldFrom, UpFrom, DeliversLinks}
@@ -218,7 +218,10 @@ step_owned own other left events made h o (Keeps place unit links ahead there do
     subst (λ (x : List LinkEventValue). AreOwned x links.links) (sym (append-nil events))
     (arrived_owned events own.links o unit.packet.message unit.truth links
     does)
-step_owned own other left events made h o (KeepsNone place ahead there) =
+step_owned own other left events made h o (Composes packet sent does) =
+    subst (λ (x : List LinkEventValue). AreOwned x sent.links.links) (sym (append-nil events))
+    (sent_owned events own.links o packet.message sent (λ number link there. (h.ends number link there).segments) does)
+step_owned own other left events made h o (Passes place ahead less) =
     subst (λ (x : List LinkEventValue). AreOwned x own.links.links) (sym (append-nil events)) o
 
 step_counted : (own other left : LinkSide) (events made : List LinkEventValue) → IsSoundSide own other → deliveries own.links.links ≡ ups events →
@@ -235,7 +238,9 @@ step_counted own other left events made h e (Keeps place unit links ahead there 
     arrived_count own.links unit.packet.message unit.truth links does
     ∙ e ∙
     ap ups (sym (append-nil events))
-step_counted own other left events made h e (KeepsNone place ahead there) = e ∙ ap ups (sym (append-nil events))
+step_counted own other left events made h e (Composes packet sent does) =
+    sent_count own.links packet.message sent (λ number link there. (h.ends number link there).segments) does ∙ e ∙ ap ups (sym (append-nil events))
+step_counted own other left events made h e (Passes place ahead less) = e ∙ ap ups (sym (append-nil events))
 
 known_kept : IsKeptByStep KnownSide
 known_kept own other left events further made own_known theirs step =

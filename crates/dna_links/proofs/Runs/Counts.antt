@@ -1,11 +1,11 @@
 -- As many messages were delivered as the user's events say, at any time.
-use Rattle.std.proofs.Common.{◌≡◌, ℕ, zero, suc, ◌+◌, ◌⊎◌, inl, inr, Some, List, [], ◌∷◌, ◌++◌, length, refl, sym, ap, ◌∙◌, subst, arith}
+use Rattle.std.proofs.Common.{◌≡◌, ℕ, zero, suc, ◌+◌, ◌⊎◌, inl, inr, Some, List, [], ◌∷◌, ◌++◌, length, map, refl, sym, ap, ◌∙◌, subst, arith}
 use Rattle.std.proofs.Common.{length-append}
 use Rattle.std.specs.Prelude.{slice_get, slice_set}
 use Rattle.std.proofs.lemmas.Bool.{cases_eq}
 use Rattle.std.proofs.lemmas.Option.{same_Some}
 use Rattle.dna_packet.specs.Nsp.{NspValue}
-use Rattle.dna_links.specs.Queues.{ended, forgotten, freed}
+use Rattle.dna_links.specs.Queues.{ended, forgotten, freed, booted_link}
 use Rattle.dna_links.specs.declared.queue.Queues.TheVariants.{Without}
 use Rattle.dna_links.specs.declared.port.Phase.{Phase}
 use Rattle.dna_links.specs.declared.port.Phase.TheVariants.{Confirming, Disconnecting, Running}
@@ -20,8 +20,8 @@ use Rattle.dna_links.specs.TrueSegments.{TrueSegments, Numbers, true_segments}
 use Rattle.dna_links.specs.TrueSegments as segments
 use Rattle.dna_links.specs.TrueLinks.{Links}
 use Rattle.dna_links.specs.Captures.{deliveries, delivery_count, ups}
-use Rattle.dna_links.proofs.Runs.Loose.{UserDid, Opens, Accepts, Rejects, HandsIn, Delivers, Closes, ClosesLate, SentDid, OfNone, Stays, EndsCalled, Segment}
-use Rattle.dna_links.proofs.Runs.Loose.{Acks}
+use Rattle.dna_links.proofs.Runs.Loose.{UserDid, Opens, Accepts, Rejects, HandsIn, Delivers, Closes, ClosesLate, Aborts, Boots}
+use Rattle.dna_links.proofs.Runs.Loose.{SentDid, OfNone, Stays, EndsCalled, Segment, Acks}
 use Rattle.dna_links.proofs.Tables.Outcomes.{looked, ArrivedDid, Ignores, Begins, Confirms, Ends, TakesSegment, TakesAcks, TakesOther}
 use Rattle.dna_links.proofs.Runs.Pieces.{delivered_is}
 use Rattle.dna_links.proofs.Runs.Sends.{AreSoundSegments}
@@ -50,6 +50,10 @@ pushed_count : (links : List (LinkOf TrueSegments)) (link : LinkOf TrueSegments)
     deliveries (links ++ link ∷ []) ≡ deliveries links
 pushed_count [] link none = let l = ap length none in omega arith
 pushed_count (x ∷ links) link none = let e = pushed_count links link none in omega arith
+
+booted_count : (links : List (LinkOf TrueSegments)) → deliveries (map (booted_link true_segments Without) links) ≡ deliveries links
+booted_count [] = refl
+booted_count (link ∷ links) = ap (λ (n : ℕ). length link.segments.delivered + n) (booted_count links)
 
 module _ (s : Links) where
   freed_count : (own : ℕ) → deliveries (freed true_segments Without own s).links ≡ deliveries s.links
@@ -101,6 +105,9 @@ module _ (s : Links) where
   user_count event left (Closes own number link there live) =
       let e = set_same_count s.links number link (in_phase Disconnecting link) there refl in omega arith
   user_count event left (ClosesLate own) = omega arith
+  user_count event left (Aborts own number link there) =
+      let e = set_same_count s.links number link (ended true_segments link) there refl in omega arith
+  user_count event left Boots = let e = booted_count s.links in omega arith
 
   pub sent_count : (m : NspValue) (made : Sent TrueSegments Numbers) →
       ((number : ℕ) (link : LinkOf TrueSegments) → slice_get s.links number ≡ Some link → AreSoundSegments link.segments) →

@@ -236,3 +236,20 @@ end_aside own other front others i l x differs h = record {
   held = h.held;
   none = h.none;
 }
+
+-- without the last message that this side sent
+pub end_without : (own other : List (Option SentMessage)) (front : ℕ) (others : List (LinkOf TrueSegments)) (i : ℕ) (l : LinkOf TrueSegments)
+    (x : Option SentMessage) → IsSoundEnd (own ++ x ∷ []) other front others i l → IsSoundEnd own other front others i l
+end_without own other front others i l x h = record {
+  segments = h.segments;
+  present = let p = h.present in record {
+    up_to = λ k m at same. p.up_to k m (slice_get-append own (x ∷ []) k m at) same;
+    few = p.few;
+    received_from = p.received_from;
+    acknowledged_from = p.acknowledged_from;
+  };
+  came = h.came;
+  calling = h.calling;
+  held = h.held;
+  none = h.none;
+}

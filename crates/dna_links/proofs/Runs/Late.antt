@@ -23,9 +23,9 @@ use Rattle.dna_links.specs.SegmentBook.{Sending, Late, wider}
 use Rattle.dna_links.specs.Links.{LinkOf, LinksOf, Carried, LinkTruth, number_of, on_link, at_number, with_link, with_seen, begun, changed, in_phase}
 use Rattle.dna_links.specs.Links.{with_segments, check}
 use Rattle.dna_links.specs.Queues.{fresh, in_use, with_in_use, may_send, port_of_waiting, keeps_numbers, lets_go, kept_as, requeued, goes_on, ends_by_message, drops}
-use Rattle.dna_links.specs.Queues.{forgotten, freed, ended, shows, shows_by, settled, further}
+use Rattle.dna_links.specs.Queues.{forgotten, freed, booted_link, booted, ended, shows, shows_by, settled, further}
 use Rattle.dna_links.specs.LinkBook.{on_ok}
-use Rattle.dna_links.specs.User.{LinkEventValue, Open, Accept, Reject, In, Up, Close}
+use Rattle.dna_links.specs.User.{LinkEventValue, Open, Accept, Reject, In, Up, Close, Abort, Boot}
 use Rattle.dna_links.specs.inner.Forms.{opened, answered, delivered, of_no_link, truth_of, unchanged, ending, called, confirmed, running}
 use Rattle.dna_links.specs.Sending.{Sent, message_sent}
 use Rattle.dna_links.specs.Arriving.{PartnerRule, of_partner, is_for, is_of_pair, message_arrived}
@@ -41,8 +41,8 @@ use Rattle.dna_links.proofs.Cut.LookUps.{position-map}
 use Rattle.dna_links.proofs.Cut.User.{live_if}
 use Rattle.dna_links.proofs.Runs.Sends.{AreSoundSegments, acks_sent}
 use Rattle.dna_links.proofs.Runs.LateWords.{late_sent}
-use Rattle.dna_links.proofs.Runs.Loose.{UserDid, Opens, Accepts, Rejects, HandsIn, Delivers, Closes, ClosesLate, SentDid, OfNone, Stays, EndsCalled}
-use Rattle.dna_links.proofs.Runs.Loose.{Segment, Acks, LooseStep, LooselyReached, OfA, OfB}
+use Rattle.dna_links.proofs.Runs.Loose.{UserDid, Opens, Accepts, Rejects, HandsIn, Delivers, Closes, ClosesLate, Aborts, Boots}
+use Rattle.dna_links.proofs.Runs.Loose.{SentDid, OfNone, Stays, EndsCalled, Segment, Acks, LooseStep, LooselyReached, OfA, OfB}
 use Rattle.dna_links.proofs.Runs.Loose as loose
 
 -- ---- links without what the queues leave open
@@ -153,6 +153,15 @@ freed_bare own s = go (number_of (HasAddress own) s) refl
         (λ n l. changed n (forgotten true_segments Without l) (bare_links s))) (sym (slice_get-map bare s.links number))
         ∙ ap (λ (o : Option ℕ). at_number (bare_links s).links o (bare_links s) (λ n l. changed n (forgotten true_segments Without l) (bare_links s)))
         (sym (number_bare (HasAddress own) s ∙ e))
+
+-- all links are over
+booted_map : (links : List (LinkOf TrueSegments)) → map bare (map (booted_link true_segments With) links) ≡
+    map (booted_link true_segments Without) (map bare links)
+booted_map [] = refl
+booted_map (link ∷ links) = ap (λ (all : List (LinkOf TrueSegments)). booted_link true_segments Without (bare link) ∷ all) (booted_map links)
+
+pub booted_bare : (s : Links) → bare_links (booted true_segments With s) ≡ booted true_segments Without (bare_links s)
+booted_bare s = ap (λ (links : List (LinkOf TrueSegments)). record (bare_links s) { links = links }) (booted_map s.links)
 
 -- ---- look-ups by the ports in use
 
@@ -266,6 +275,12 @@ module _ (s left : Links) where
           user_is (Close own) _ _ (ClosesLate own)
           (same_bare number link (goes_on true_segments (is_live link.port.phase) Disconnecting link) s there
           (goes_late (is_live link.port.phase) Disconnecting link live)) e
+  user_late (Abort own) e =
+      used (LiveAt own) s (Err NoLink) _ (Ok left) e (λ e. absurd cc)
+      (λ number link there passed e. let c = checked (is_calling (in_use With link).phase) LinkState _ left e in
+      user_is (Abort own) _ _ (Aborts own number (bare link) (bare_at s number link there))
+      (changed_bare number (drops true_segments With link) s) c.1)
+  user_late Boot e = user_is Boot _ _ Boots (booted_bare s) e
 
 -- ---- a message that is sent
 
@@ -526,7 +541,8 @@ step_late own other left events (runs.Sends packet made does) = loose.Sends pack
 step_late own other left events runs.SendsNone = loose.SendsNone
 step_late own other left events (runs.Keeps place unit links ahead there does) =
     loose.Keeps place unit (bare_links links) ahead there (arrived_late of_partner own.links links unit.truth unit.packet does)
-step_late own other left events (runs.KeepsNone place ahead there) = loose.KeepsNone place ahead there
+step_late own other left events (runs.Composes packet made does) = loose.Composes packet (bare_sent made) (sent_late own.links made packet does)
+step_late own other left events (runs.Passes place ahead less) = loose.Passes place ahead less
 
 pub with_loose : {start w : LinkWorld} {of_a of_b : List LinkEventValue} → Reached With start w of_a of_b →
     LooselyReached (bare_world start) (bare_world w) of_a of_b

@@ -1,17 +1,17 @@
 -- What the steps of links come to in every run, with queues or without: the few things on which bounds and deliveries rest.
-use Rattle.std.proofs.Common.{◌≡◌, ℕ, ◌+◌, ◌≤◌, Bool, true, false, Option, Some, None, List, [], ◌∷◌, ◌++◌, Ok}
+use Rattle.std.proofs.Common.{◌≡◌, ℕ, ◌+◌, ◌<◌, ◌≤◌, Bool, true, false, Option, Some, None, List, [], ◌∷◌, ◌++◌, length, Ok}
 use Rattle.std.specs.Prelude.{slice_get}
 use Rattle.std.proofs.lemmas.Bool.{and_parts}
 use Rattle.dna_packet.specs.declared.ack_word.AckWord.{AckWord}
 use Rattle.dna_packet.specs.Nsp.{SegmentValue, NspValue, DataSegment, DataAck, DisconnectConfirm}
-use Rattle.dna_links.specs.Queues.{freed}
+use Rattle.dna_links.specs.Queues.{ended, freed, booted}
 use Rattle.dna_links.specs.declared.queue.Queues.TheVariants.{Without}
 use Rattle.dna_links.specs.declared.port.Phase.TheVariants.{Confirming, Disconnecting}
 use Rattle.dna_links.specs.declared.port.LinkTest.TheVariants.{HasAddress, LiveAt, CalledBy}
 use Rattle.dna_links.specs.LookUps.{is_live, is_at}
 use Rattle.dna_links.specs.SegmentBook.{Sending}
 use Rattle.dna_links.specs.Links.{LinkOf, Carried, number_of, begun, changed, in_phase, with_segments}
-use Rattle.dna_links.specs.User.{LinkEventValue, Open, Accept, Reject, In, Up, Close}
+use Rattle.dna_links.specs.User.{LinkEventValue, Open, Accept, Reject, In, Up, Close, Abort, Boot}
 use Rattle.dna_links.specs.inner.Forms.{opened, answered, of_no_link, truth_of, unchanged, ending}
 use Rattle.dna_links.specs.Sending.{Sent}
 use Rattle.dna_links.specs.Arriving.{of_partner}
@@ -40,6 +40,9 @@ pub data UserDid (s : Links) : LinkEventValue → Links → Type 0 where
       UserDid s (Close own) (changed number (in_phase Disconnecting link) s)
   -- of a link that has ended, with queues
   ClosesLate : (own : ℕ) → UserDid s (Close own) s
+  Aborts : (own number : ℕ) (link : LinkOf TrueSegments) → slice_get s.links number ≡ Some link →
+      UserDid s (Abort own) (changed number (ended true_segments link) s)
+  Boots : UserDid s Boot (booted true_segments Without s)
 
 -- ---- a message that is sent
 
@@ -64,9 +67,11 @@ pub data LooseStep (own other : LinkSide) : List LinkEventValue → LinkSide →
   Sends : (packet : Carried) (made : Sent TrueSegments Numbers) → SentDid own.links packet.message made →
       LooseStep own other [] (sends own made.links (Some (record { packet = packet; truth = made.truth })))
   SendsNone : LooseStep own other [] (sends own own.links None)
+  Composes : (packet : Carried) (made : Sent TrueSegments Numbers) → SentDid own.links packet.message made →
+      LooseStep own other [] (record { links = made.links; sent = own.sent; front = own.front })
   Keeps : (place : ℕ) (unit : SentMessage) (links : Links) → own.front ≤ place → slice_get other.sent place ≡ Some (Some unit) →
       ArrivedDid true_segments of_partner own.links unit.packet.message unit.truth links → LooseStep own other [] (keeps own links place)
-  KeepsNone : (place : ℕ) → own.front ≤ place → slice_get other.sent place ≡ Some None → LooseStep own other [] (keeps own own.links place)
+  Passes : (place : ℕ) → own.front ≤ place → place < length other.sent → LooseStep own other [] (keeps own own.links place)
 
 pub data LooselyReached (start : LinkWorld) : LinkWorld → (of_a of_b : List LinkEventValue) → Type 0 where
   Begins : LooselyReached start start [] []
@@ -86,6 +91,8 @@ user_loose s left event (outcomes.HandsIn own message number link found may) =
 user_loose s left event (outcomes.Delivers own message number link segments found does) = Delivers own message number link segments found does
 user_loose s left event (outcomes.Closes own number link found connected) =
     Closes own number link found.there (and_parts (is_live link.port.phase) (is_at link.port.own own) found.passed).0
+user_loose s left event (outcomes.Aborts own number link found calling) = Aborts own number link found.there
+user_loose s left event outcomes.Boots = Boots
 
 sent_loose : (s : Links) (m : NspValue) (made : Sent TrueSegments Numbers) → outcomes.SentDid true_segments s m made → SentDid s m made
 sent_loose s m made (outcomes.OfNone none) = OfNone none
@@ -102,9 +109,11 @@ step_loose own other left events (runs.ByUser event links does) =
 step_loose own other left events (runs.Sends packet made does) =
     Sends packet made (sent_loose own.links packet.message made (sent_did true_segments own.links made packet does))
 step_loose own other left events runs.SendsNone = SendsNone
+step_loose own other left events (runs.Composes packet made does) =
+    Composes packet made (sent_loose own.links packet.message made (sent_did true_segments own.links made packet does))
 step_loose own other left events (runs.Keeps place unit links ahead there does) =
     Keeps place unit links ahead there (arrived_did true_segments of_partner own.links links unit.truth unit.packet does)
-step_loose own other left events (runs.KeepsNone place ahead there) = KeepsNone place ahead there
+step_loose own other left events (runs.Passes place ahead less) = Passes place ahead less
 
 pub without_loose : {start w : LinkWorld} {of_a of_b : List LinkEventValue} → Reached Without start w of_a of_b → LooselyReached start w of_a of_b
 without_loose Start = Begins

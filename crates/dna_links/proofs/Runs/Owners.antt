@@ -18,7 +18,7 @@ use Rattle.dna_links.specs.inner.Forms.{called, confirmed}
 use Rattle.dna_links.specs.TrueSegments.{TrueSegments, Numbers, true_segments}
 use Rattle.dna_links.specs.TrueSegments as segments
 use Rattle.dna_links.specs.TrueLinks.{Links}
-use Rattle.dna_links.specs.Captures.{given_address, behind, AreRead}
+use Rattle.dna_links.specs.Captures.{given_address, gives_address, behind, AreRead}
 use Rattle.dna_links.proofs.Runs.Loose.{SentDid, OfNone, Stays, EndsCalled, Segment, Acks}
 use Rattle.dna_links.proofs.Tables.Outcomes.{ArrivedDid, Ignores, Begins, Confirms, Ends}
 use Rattle.dna_links.proofs.Tables.Outcomes.{TakesSegment, TakesAcks, TakesOther}
@@ -96,12 +96,10 @@ module _ (events : List LinkEventValue) (s : Links) (o : AreOwned events s.links
       before : (p q : ℕ) (x : Option ℕ) (h : HoldsFrom events x p) (y : Option ℕ) (g : HoldsFrom events y q) → x ≡ Some own → y ≡ Some own → p < q → ⊥
       before p q x h y g own_x own_y less = at h.holds g.holds
         where
-          at : ((x ≡ Some h.address) × (given_again h.address (behind p events) ≡ false)) ⊎
-              ((x ≡ None) × (given_again h.address (behind p events) ≡ true)) →
-              ((y ≡ Some g.address) × (given_again g.address (behind q events) ≡ false)) ⊎
-              ((y ≡ None) × (given_again g.address (behind q events) ≡ true)) → ⊥
-          at (inr a) b = let e = sym own_x ∙ a.0 in absurd cc
-          at (inl a) (inr b) = let e = sym own_y ∙ b.0 in absurd cc
+          at : ((x ≡ Some h.address) × (given_again h.address (behind p events) ≡ false)) ⊎ (x ≡ None) →
+              ((y ≡ Some g.address) × (given_again g.address (behind q events) ≡ false)) ⊎ (y ≡ None) → ⊥
+          at (inr a) b = let e = sym own_x ∙ a in absurd cc
+          at (inl a) (inr b) = let e = sym own_y ∙ b in absurd cc
           at (inl a) (inl b) =
               let same : g.address ≡ h.address = same_Some g.address h.address (sym b.0 ∙ own_y ∙ sym own_x ∙ a.0) in
               let again = later_gives h.address events p q g.event less g.there (gives_is h.address g.event (g.gives ∙ ap Some same)) in
@@ -123,6 +121,39 @@ module _ (events : List LinkEventValue) (s : Links) (o : AreOwned events s.links
           at (inl e) = o.once i j p at_p (at_q ∙ ap Some (sym e))
           at (inr (inl less)) = absurd (before p q l.port.own x m.port.own y own_l own_m less)
           at (inr (inr less)) = absurd (before q p m.port.own y l.port.own x own_m own_l less)
+
+  -- an address that a link lost, and that was not given again, is no link's
+  pub lost_by : (i j p own : ℕ) (l m : LinkOf TrueSegments) (h : HoldsFrom events l.port.own p) → slice_get s.links i ≡ Some l →
+      slice_get s.links j ≡ Some m → o.place_of i ≡ Some p → l.port.own ≡ None → given_again h.address (behind p events) ≡ false → h.address ≡ own →
+      m.port.own ≡ Some own → ⊥
+  lost_by i j p own l m h at_i at_j at_p lost never same own_m = go (o.place_of j) refl (o.owned j m at_j).holds
+    where
+      gives : (e : LinkEventValue) (n : ℕ) → given_address e ≡ Some n → n ≡ own → (a : ℕ) → a ≡ own → gives_address a e ≡ true
+      gives e n g same_n a same_a = gives_is a e (g ∙ ap Some (same_n ∙ sym same_a))
+
+      at : (q : ℕ) (g : HoldsFrom events m.port.own q) → o.place_of j ≡ Some q → g.address ≡ own → given_again g.address (behind q events) ≡ false →
+          (p ≡ q) ⊎ ((p < q) ⊎ (q < p)) → ⊥
+      at q g at_q is once_given (inl e) =
+          let same_link : l ≡ m = same_Some l m (sym at_i ∙ ap (slice_get s.links) (o.once i j p at_p (at_q ∙ ap Some (sym e))) ∙ at_j) in
+          let none : m.port.own ≡ None = subst (λ (x : LinkOf TrueSegments). x.port.own ≡ None) same_link lost in
+          let e = sym own_m ∙ none in absurd cc
+      at q g at_q is once_given (inr (inl less)) =
+          let again = later_gives h.address events p q g.event less g.there (gives g.event g.address g.gives is h.address same) in
+          let n = never in absurd cc
+      at q g at_q is once_given (inr (inr less)) =
+          let again = later_gives g.address events q p h.event less h.there (gives h.event h.address h.gives same g.address is) in
+          let n = once_given in absurd cc
+
+      go : (q : Option ℕ) → o.place_of j ≡ q → HoldsAt events m.port.own (o.place_of j) → ⊥
+      go None at_q g = let none = subst (HoldsAt events m.port.own) at_q g in let e = sym own_m ∙ none in absurd cc
+      go (Some q) at_q g = by (subst (HoldsAt events m.port.own) at_q g)
+        where
+          by : HoldsFrom events m.port.own q → ⊥
+          by x = holding x.holds
+            where
+              holding : ((m.port.own ≡ Some x.address) × (given_again x.address (behind q events) ≡ false)) ⊎ (m.port.own ≡ None) → ⊥
+              holding (inl a) = at q x at_q (same_Some x.address own (sym a.0 ∙ own_m)) a.1 (cases_order p q)
+              holding (inr none) = let e = sym own_m ∙ none in absurd cc
 
   -- ---- no event
 

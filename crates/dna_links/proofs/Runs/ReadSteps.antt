@@ -1,31 +1,32 @@
 -- All links of a side are read off its user's events: each event keeps it so.
 use Rattle.std.proofs.Common.{◌≡◌, ℕ, ◌<◌, ◌≤◌, Bool, true, false, ◌&&◌, ◌==◌, cond, ◌⊎◌, inl, inr, Option, Some, None, List, [], ◌∷◌, ◌++◌, length}
-use Rattle.std.proofs.Common.{refl, sym, ap, ◌∙◌, subst, arith, append-nil, length-append, length-set, eq-eqb, ne_eqb}
+use Rattle.std.proofs.Common.{map, refl, sym, ap, ◌∙◌, subst, arith, append-nil, length-append, length-set, eq-eqb, ne_eqb}
 use Rattle.std.specs.Prelude.{slice_get, slice_set}
 use Rattle.std.proofs.lemmas.Bool.{and_parts, and_from, cases_eq}
+use Rattle.std.proofs.lemmas.List.{length-map}
 use Rattle.std.proofs.lemmas.Option.{same_Some, slice_get_within}
 use Rattle.two_nodes.proofs.Listed.{next_at}
-use Rattle.dna_links.specs.Queues.{forgotten, freed}
+use Rattle.dna_links.specs.Queues.{ended, forgotten, freed, booted_link}
 use Rattle.dna_links.specs.declared.queue.Queues.TheVariants.{Without}
 use Rattle.dna_links.specs.declared.port.Phase.{Phase}
 use Rattle.dna_links.specs.declared.port.Phase.TheVariants.{Confirming, Running, Disconnecting}
 use Rattle.dna_links.specs.declared.port.LinkTest.TheVariants.{HasAddress, LiveAt}
 use Rattle.dna_links.specs.LookUps.{passes, is_at, is_live, is_called}
 use Rattle.dna_links.specs.Links.{LinkOf, number_of, begun, changed, in_phase, with_segments}
-use Rattle.dna_links.specs.User.{LinkEventValue, Open, Accept, Reject, In, Up, Close}
+use Rattle.dna_links.specs.User.{LinkEventValue, Open, Accept, Reject, In, Up, Close, Abort, Boot}
 use Rattle.dna_links.specs.inner.Forms.{opened, answered}
 use Rattle.dna_links.specs.inner.Forms.{called}
 use Rattle.dna_links.specs.TrueSegments.{TrueSegments, Numbers, true_segments}
 use Rattle.dna_links.specs.TrueSegments as segments
 use Rattle.dna_links.specs.TrueLinks.{Links}
-use Rattle.dna_links.specs.Captures.{given_address, gives_address, message_in, message_up, handed_in, delivered_up, IsRead}
+use Rattle.dna_links.specs.Captures.{given_address, gives_address, message_in, message_up, handed_in, delivered_up, behind, IsRead}
 use Rattle.two_nodes.proofs.NumberedSteps.{at_pushed}
 use Rattle.dna_links.proofs.Tables.Outcomes.{IsFound, looked, position_none}
-use Rattle.dna_links.proofs.Runs.Loose.{UserDid, Opens, Accepts, Rejects, HandsIn, Delivers, Closes, ClosesLate}
+use Rattle.dna_links.proofs.Runs.Loose.{UserDid, Opens, Accepts, Rejects, HandsIn, Delivers, Closes, ClosesLate, Aborts, Boots}
 use Rattle.dna_links.proofs.Runs.Pieces.{delivered_is}
-use Rattle.dna_links.proofs.Runs.Sides.{set_same, at_set, all_set}
-use Rattle.dna_links.proofs.Runs.Reads.{given_again, IsOwned, at_is, owned_more, behind_last, gives_is}
-use Rattle.dna_links.proofs.Runs.Owners.{AreOwned, there_is, place_beyond, place_below, unique}
+use Rattle.dna_links.proofs.Runs.Sides.{set_same, at_set, all_set, all_map}
+use Rattle.dna_links.proofs.Runs.Reads.{given_again, HoldsFrom, IsOwned, at_is, owned_more, behind_last}
+use Rattle.dna_links.proofs.Runs.Owners.{AreOwned, there_is, place_beyond, place_below, unique, lost_by}
 
 module _ (events : List LinkEventValue) (s : Links) (o : AreOwned events s.links) where
   -- ---- an event that gives no address
@@ -54,12 +55,15 @@ module _ (events : List LinkEventValue) (s : Links) (o : AreOwned events s.links
 
     -- of a link at which it has no message
     quiet : (i : ℕ) (l m : LinkOf TrueSegments) → slice_get s.links i ≡ Some l →
+        ((k : ℕ) (h : HoldsFrom events l.port.own k) → o.place_of i ≡ Some k → l.port.own ≡ None → given_again h.address (behind k events) ≡ false →
+        (message_in h.address event ≡ []) × (message_up h.address event ≡ [])) →
         ((own : ℕ) → l.port.own ≡ Some own → (message_in own event ≡ []) × (message_up own event ≡ [])) → m.port.own ≡ l.port.own →
         m.segments ≡ l.segments →
         (is_called m.port.phase ≡ true → is_called l.port.phase ≡ true) → (is_live m.port.phase ≡ true → is_live l.port.phase ≡ true) →
         IsOwned (events ++ event ∷ []) (o.place_of i) m
-    quiet i l m at silent own same called live = owned_more events event l m (o.place_of i) (o.owned i l at)
+    quiet i l m at lost silent own same called live = owned_more events event l m (o.place_of i) (o.owned i l at)
         (λ none. record { handed = ap (λ (f : TrueSegments). f.handed) same; up = ap (λ (f : TrueSegments). f.delivered) same; own = own })
+        lost
         (λ address is. let q = silent address is in record {
           handed = ap (λ (f : TrueSegments). f.handed) same ∙ sym (append-nil l.segments.handed) ∙ ap
               (λ (x : List (List ℕ)). l.segments.handed ++ x) (sym q.0);
@@ -69,6 +73,12 @@ module _ (events : List LinkEventValue) (s : Links) (o : AreOwned events s.links
           own = inl (own ∙ is, gives_false address);
         })
         called (λ alive none. ap (λ (f : TrueSegments). f.received) same ∙ (o.owned i l at).fresh (live alive) (sym own ∙ none))
+
+    -- where it has none at all, each link that is the same
+    same_quiet : ((address : ℕ) → (message_in address event ≡ []) × (message_up address event ≡ [])) → (i : ℕ) (l : LinkOf TrueSegments) →
+        slice_get s.links i ≡ Some l → IsOwned (events ++ event ∷ []) (o.place_of i) l
+    same_quiet silent i l at =
+        quiet i l l at (λ k h at none never. silent h.address) (λ address is. silent address) refl refl (λ c. c) (λ c. c)
 
   -- a message is handed in at an address, or delivered there
   module _ (event : LinkEventValue) (gives_none : given_address event ≡ None) (own number : ℕ) (link left : LinkOf TrueSegments)
@@ -84,7 +94,7 @@ module _ (events : List LinkEventValue) (s : Links) (o : AreOwned events s.links
         where
           here : IsOwned (events ++ event ∷ []) (o.place_of number) left
           here = owned_more events event link left (o.place_of number) (o.owned number link there)
-              (λ none. let e = sym has ∙ none in absurd cc)
+              (λ none. let e = sym has ∙ none in absurd cc) (λ k h at none. let e = sym has ∙ none in absurd cc)
               (λ address is. let same : own ≡ address = same_Some own address (sym has ∙ is) in record {
                 handed = handed ∙ ap (λ (n : ℕ). link.segments.handed ++ message_in n event) same;
                 up = up ∙ ap (λ (n : ℕ). link.segments.delivered ++ message_up n event) same;
@@ -98,6 +108,7 @@ module _ (events : List LinkEventValue) (s : Links) (o : AreOwned events s.links
           go i l (inl e) = subst (λ (j : ℕ). IsOwned (events ++ event ∷ []) (o.place_of j) l) (sym e.0)
               (subst (IsOwned (events ++ event ∷ []) (o.place_of number)) e.1 here)
           go i l (inr e) = quiet event gives_none i l l e.1
+              (λ k h at none never. silent h.address (λ same. lost_by events s o i number k own l link h e.1 there at none never (sym same) has))
               (λ address is. silent address (λ same. e.0 (unique events s o i number own l link e.1 there (is ∙ ap Some (sym same)) has))) refl refl
               (λ c. c) (λ c. c)
 
@@ -117,6 +128,7 @@ module _ (events : List LinkEventValue) (s : Links) (o : AreOwned events s.links
     other_owned : (i : ℕ) (l : LinkOf TrueSegments) → slice_get s.links i ≡ Some l → (l.port.own ≡ Some own → ⊥) →
         IsOwned (events ++ event ∷ []) (o.place_of i) l
     other_owned i l at differs = owned_more events event l l (o.place_of i) (o.owned i l at) (λ none. record { handed = refl; up = refl; own = refl })
+        (λ k h at none never. giving_none event own gives h.address)
         (λ address is. let q = giving_none event own gives address in record {
           handed = sym (append-nil l.segments.handed) ∙ ap (λ (x : List (List ℕ)). l.segments.handed ++ x) (sym q.0);
           up = sym (append-nil l.segments.delivered) ∙ ap (λ (x : List (List ℕ)). l.segments.delivered ++ x) (sym q.1);
@@ -129,10 +141,11 @@ module _ (events : List LinkEventValue) (s : Links) (o : AreOwned events s.links
         IsOwned (events ++ event ∷ []) (o.place_of i) (forgotten true_segments Without l)
     forgotten_owned i l at has =
         owned_more events event l (forgotten true_segments Without l) (o.place_of i) (o.owned i l at) (λ none. let e = sym has ∙ none in absurd cc)
+        (λ k h at none never. giving_none event own gives h.address)
         (λ address is. let q = giving_none event own gives address in record {
           handed = sym (append-nil l.segments.handed) ∙ ap (λ (x : List (List ℕ)). l.segments.handed ++ x) (sym q.0);
           up = sym (append-nil l.segments.delivered) ∙ ap (λ (x : List (List ℕ)). l.segments.delivered ++ x) (sym q.1);
-          own = inr (refl, gives_is address event (gives ∙ sym has ∙ is));
+          own = inr refl;
         })
         (λ c. c) (λ live none. absurd (dead live))
       where
@@ -323,9 +336,23 @@ module _ (events : List LinkEventValue) (s : Links) (o : AreOwned events s.links
       owned_event (Close own) refl (slice_set s.links number (in_phase Disconnecting link))
       (let l = length-set s.links number (in_phase Disconnecting link) in omega arith)
       (all_set (λ (i : ℕ) (l : LinkOf TrueSegments). IsOwned (events ++ Close own ∷ []) (o.place_of i) l) s.links number (in_phase Disconnecting link)
-      (quiet (Close own) refl number link (in_phase Disconnecting link) there (λ address is. (refl, refl)) refl refl (λ c. absurd cc)
-      (λ still. live))
-      (λ i l at. quiet (Close own) refl i l l at (λ address is. (refl, refl)) refl refl (λ c. c) (λ c. c)))
+      (quiet (Close own) refl number link (in_phase Disconnecting link) there (λ k h at none never. (refl, refl)) (λ address is. (refl, refl))
+      refl refl (λ c. absurd cc) (λ still. live))
+      (same_quiet (Close own) refl (λ address. (refl, refl))))
   user_owned event left (ClosesLate own) =
-      owned_event (Close own) refl s.links (omega arith)
-      (λ i l at. quiet (Close own) refl i l l at (λ address is. (refl, refl)) refl refl (λ c. c) (λ c. c))
+      owned_event (Close own) refl s.links (omega arith) (same_quiet (Close own) refl (λ address. (refl, refl)))
+  user_owned event left (Aborts own number link there) =
+      owned_event (Abort own) refl (slice_set s.links number (ended true_segments link))
+      (let l = length-set s.links number (ended true_segments link) in omega arith)
+      (all_set (λ (i : ℕ) (l : LinkOf TrueSegments). IsOwned (events ++ Abort own ∷ []) (o.place_of i) l) s.links number (ended true_segments link)
+      (quiet (Abort own) refl number link (ended true_segments link) there (λ k h at none never. (refl, refl)) (λ address is. (refl, refl)) refl refl
+      (λ c. absurd cc) (λ still. absurd cc))
+      (same_quiet (Abort own) refl (λ address. (refl, refl))))
+  user_owned event left Boots =
+      owned_event Boot refl (map (booted_link true_segments Without) s.links)
+      (let l = length-map s.links (booted_link true_segments Without) in omega arith)
+      (all_map (λ (i : ℕ) (l : LinkOf TrueSegments). IsOwned (events ++ Boot ∷ []) (o.place_of i) l) (booted_link true_segments Without) s.links
+      (λ i l at. owned_more events Boot l (booted_link true_segments Without l) (o.place_of i) (o.owned i l at)
+      (λ none. record { handed = refl; up = refl; own = sym none }) (λ k h at none never. (refl, refl))
+      (λ address is. record { handed = sym (append-nil l.segments.handed); up = sym (append-nil l.segments.delivered); own = inr refl })
+      (λ c. absurd cc) (λ live none. absurd cc)))

@@ -6,7 +6,7 @@ use Rattle.std.proofs.lemmas.Option.{same_Some}
 use Rattle.two_nodes.proofs.Order.{slice_get-append}
 use Rattle.dna_links.specs.LookUps.{is_at, is_live, is_called}
 use Rattle.dna_links.specs.Links.{LinkOf}
-use Rattle.dna_links.specs.User.{LinkEventValue, Open, Accept, Reject, In, Up, Close}
+use Rattle.dna_links.specs.User.{LinkEventValue, Open, Accept, Reject, In, Up, Close, Abort, Boot}
 use Rattle.dna_links.specs.inner.Forms.{called}
 use Rattle.dna_links.specs.TrueSegments.{TrueSegments}
 use Rattle.dna_links.specs.Captures.{given_address, gives_address, message_in, message_up, until_given, handed_in, delivered_up, behind, IsReadFrom}
@@ -69,6 +69,8 @@ gives_none own (Open link) e = (refl, refl)
 gives_none own (Accept far link) e = (refl, refl)
 gives_none own (Reject far link) e = (refl, refl)
 gives_none own (Close link) e = (refl, refl)
+gives_none own (Abort link) e = (refl, refl)
+gives_none own Boot e = (refl, refl)
 gives_none own (In link message) e = absurd cc
 gives_none own (Up link message) e = absurd cc
 
@@ -105,14 +107,13 @@ later_gives own (first ∷ events) (suc place) (suc later) event less at gives =
 
 -- ---- one link
 
--- it has the address that the event at this place gave it, until that is given again
+-- it has the address that the event at this place gave it, until that is given again; or it has lost it
 pub record HoldsFrom (events : List LinkEventValue) (own : Option ℕ) (place : ℕ) : Type 0 where
   pub address : ℕ
   pub event : LinkEventValue
   pub there : slice_get events place ≡ Some event
   pub gives : given_address event ≡ Some address
-  pub holds : ((own ≡ Some address) × (given_again address (behind place events) ≡ false)) ⊎
-      ((own ≡ None) × (given_again address (behind place events) ≡ true))
+  pub holds : ((own ≡ Some address) × (given_again address (behind place events) ≡ false)) ⊎ (own ≡ None)
 
 abbrev pub HoldsAt : List LinkEventValue → Option ℕ → Option ℕ → Type 0
 HoldsAt events own None = own ≡ None
@@ -148,13 +149,17 @@ pub at_is : (o : Option ℕ) (own : ℕ) → is_at o own ≡ true → o ≡ Some
 at_is None own e = absurd cc
 at_is (Some n) own e = ap Some (eqb-true n own e)
 
--- what an event does to a link: it hands in or delivers there, and the link keeps its address unless it is given again
+-- what an event does to a link: it hands in or delivers there, and the link keeps its address or loses it
 module _ (events : List LinkEventValue) (event : LinkEventValue) (l m : LinkOf TrueSegments) where
   -- the link takes the messages of this address
   pub record Takes (address : ℕ) : Type 0 where
     pub handed : m.segments.handed ≡ l.segments.handed ++ message_in address event
     pub up : m.segments.delivered ≡ l.segments.delivered ++ message_up address event
-    pub own : ((m.port.own ≡ Some address) × (gives_address address event ≡ false)) ⊎ ((m.port.own ≡ None) × (gives_address address event ≡ true))
+    pub own : ((m.port.own ≡ Some address) × (gives_address address event ≡ false)) ⊎ (m.port.own ≡ None)
+
+  -- it has no message for this address
+  abbrev pub HasNone : ℕ → Type 0
+  HasNone address = (message_in address event ≡ []) × (message_up address event ≡ [])
 
   -- it is as it was
   pub record IsAsBefore : Type 0 where
@@ -175,32 +180,39 @@ module _ (events : List LinkEventValue) (event : LinkEventValue) (l m : LinkOf T
     abbrev Both : Type 0
     Both = IsReadFrom (events ++ event ∷ []) m place × HoldsFrom (events ++ event ∷ []) m.port.own place
 
-    given_more : given_again h.address (behind place events) ≡ true → IsAsBefore → l.port.own ≡ None → Both
-    given_more again b none = (
-      record {
-        event = r.event;
-        there = there_then;
-        own = r.own;
-        gives = r.gives;
-        handed = b.handed ∙ r.handed ∙
-            sym (ap (handed_in r.own) still ∙ until-again r.own (message_in r.own) (behind place events) event
-            (ap (λ (n : ℕ). given_again n (behind place events)) address_is ∙ again));
-        up = b.up ∙ r.up ∙ sym
-            (ap (delivered_up r.own) still ∙ until-again r.own (message_up r.own) (behind place events) event
-            (ap (λ (n : ℕ). given_again n (behind place events)) address_is ∙ again));
-      },
-      record {
-        address = h.address;
-        event = h.event;
-        there = slice_get-append events (event ∷ []) place h.event h.there;
-        gives = h.gives;
-        holds = inr (
-          b.own ∙ none,
-          ap (given_again h.address) still ∙ again-append h.address (behind place events) event ∙
-              ap (λ (x : Bool). x || gives_address h.address event) again,
-        );
-      },
-    )
+    -- once its address is given again, or where the event has no message for that, nothing more is read
+    no_more : (message : LinkEventValue → List (List ℕ)) → (given_again r.own (behind place events) ≡ false → message event ≡ []) →
+        until_given r.own message (behind place (events ++ event ∷ [])) ≡ until_given r.own message (behind place events)
+    no_more message none = ap (until_given r.own message) still ∙ go (given_again r.own (behind place events)) refl
+      where
+        go : (b : Bool) → given_again r.own (behind place events) ≡ b →
+            until_given r.own message (behind place events ++ event ∷ []) ≡ until_given r.own message (behind place events)
+        go true again = until-again r.own message (behind place events) event again
+        go false again =
+            until-more r.own message (behind place events) event again (λ gives. none again)
+            ∙ ap (λ (x : List (List ℕ)). until_given r.own message (behind place events) ++ x) (none again)
+            ∙ append-nil (until_given r.own message (behind place events))
+
+    lost_more : (given_again h.address (behind place events) ≡ false → HasNone h.address) → IsAsBefore → l.port.own ≡ None → Both
+    lost_more silent b none =
+        let now : given_again r.own (behind place events) ≡ false → HasNone r.own =
+        subst (λ (n : ℕ). given_again n (behind place events) ≡ false → HasNone n) (sym address_is) silent in (
+          record {
+            event = r.event;
+            there = there_then;
+            own = r.own;
+            gives = r.gives;
+            handed = b.handed ∙ r.handed ∙ sym (no_more (message_in r.own) (λ again. (now again).0));
+            up = b.up ∙ r.up ∙ sym (no_more (message_up r.own) (λ again. (now again).1));
+          },
+          record {
+            address = h.address;
+            event = h.event;
+            there = slice_get-append events (event ∷ []) place h.event h.there;
+            gives = h.gives;
+            holds = inr (b.own ∙ none);
+          },
+        )
 
     held_more : given_again h.address (behind place events) ≡ false → Takes h.address → Both
     held_more again t =
@@ -230,27 +242,28 @@ module _ (events : List LinkEventValue) (event : LinkEventValue) (l m : LinkOf T
         again_now = ap (given_again h.address) still ∙ again-append h.address (behind place events) event ∙
             ap (λ (x : Bool). x || gives_address h.address event) again
 
-        go : ((m.port.own ≡ Some h.address) × (gives_address h.address event ≡ false)) ⊎
-            ((m.port.own ≡ None) × (gives_address h.address event ≡ true)) →
-            ((m.port.own ≡ Some h.address) × (given_again h.address (behind place (events ++ event ∷ [])) ≡ false)) ⊎
-            ((m.port.own ≡ None) × (given_again h.address (behind place (events ++ event ∷ [])) ≡ true))
+        go : ((m.port.own ≡ Some h.address) × (gives_address h.address event ≡ false)) ⊎ (m.port.own ≡ None) →
+            ((m.port.own ≡ Some h.address) × (given_again h.address (behind place (events ++ event ∷ [])) ≡ false)) ⊎ (m.port.own ≡ None)
         go (inl p) = inl (p.0, again_now ∙ p.1)
-        go (inr p) = inr (p.0, again_now ∙ p.1)
+        go (inr none) = inr none
 
   -- with its place or without
   pub owned_more : (place : Option ℕ) → IsOwned events place l → (l.port.own ≡ None → IsAsBefore) →
+      ((k : ℕ) (h : HoldsFrom events l.port.own k) → place ≡ Some k → l.port.own ≡ None → given_again h.address (behind k events) ≡ false →
+      HasNone h.address) →
       ((address : ℕ) → l.port.own ≡ Some address → Takes address) → (is_called m.port.phase ≡ true → is_called l.port.phase ≡ true) →
       (is_live m.port.phase ≡ true → m.port.own ≡ None → m.segments.received ≡ []) → IsOwned (events ++ event ∷ []) place m
-  owned_more place o before takes called fresh = go place o.read o.holds o.called
+  owned_more place o before silent takes called fresh = go place refl o.read o.holds o.called
     where
-      go : (place : Option ℕ) → IsRead events l place → HoldsAt events l.port.own place → (is_called l.port.phase ≡ true → place ≡ None) →
-          IsOwned (events ++ event ∷ []) place m
-      go None r h c = let b = before h in
+      go : (now : Option ℕ) → place ≡ now → IsRead events l now → HoldsAt events l.port.own now → (is_called l.port.phase ≡ true → now ≡ None) →
+          IsOwned (events ++ event ∷ []) now m
+      go None is r h c = let b = before h in
           record { read = record { handed = b.handed ∙ r.handed; up = b.up ∙ r.up }; holds = b.own ∙ h; called = λ x. refl; fresh = fresh }
-      go (Some k) r h c = at h.holds
+      go (Some k) is r h c = at h.holds
         where
-          at : ((l.port.own ≡ Some h.address) × (given_again h.address (behind k events) ≡ false)) ⊎
-              ((l.port.own ≡ None) × (given_again h.address (behind k events) ≡ true)) → IsOwned (events ++ event ∷ []) (Some k) m
+          at : ((l.port.own ≡ Some h.address) × (given_again h.address (behind k events) ≡ false)) ⊎ (l.port.own ≡ None) →
+              IsOwned (events ++ event ∷ []) (Some k) m
           at (inl p) = let b = held_more k r h p.1 (takes h.address p.0) in
               record { read = b.0; holds = b.1; called = λ x. c (called x); fresh = fresh }
-          at (inr p) = let b = given_more k r h p.1 (before p.0) p.0 in record { read = b.0; holds = b.1; called = λ x. c (called x); fresh = fresh }
+          at (inr none) = let b = lost_more k r h (silent k h is none) (before none) none in
+              record { read = b.0; holds = b.1; called = λ x. c (called x); fresh = fresh }

@@ -1,13 +1,14 @@
 -- Both sides' links, beside all that was first sent: what holds of them at any time is kept by each step.
-use Rattle.std.proofs.Common.{◌≡◌, ℕ, zero, suc, ◌≤◌, true, ◌⊎◌, inl, inr, Option, Some, None, List, [], ◌∷◌, ◌++◌, length, refl, sym, ap, ◌∙◌, subst}
-use Rattle.std.proofs.Common.{arith, append-nil, length-append, length-set}
+use Rattle.std.proofs.Common.{◌≡◌, ℕ, zero, suc, ◌≤◌, true, ◌⊎◌, inl, inr, Option, Some, None, List, [], ◌∷◌, ◌++◌, length}
+use Rattle.std.proofs.Common.{map, option_map, refl, sym, ap, ◌∙◌, subst, arith, append-nil, length-append, length-set}
 use Rattle.std.specs.Prelude.{slice_get, slice_set}
 use Rattle.std.proofs.lemmas.Bool.{cases_eq}
-use Rattle.std.proofs.lemmas.Option.{same_Some, slice_get_within}
+use Rattle.std.proofs.lemmas.List.{length-map}
+use Rattle.std.proofs.lemmas.Option.{same_Some, slice_get_within, slice_get-map}
 use Rattle.two_nodes.proofs.Order.{slice_get-append}
-use Rattle.dna_links.specs.Queues.{forgotten, freed}
+use Rattle.dna_links.specs.Queues.{ended, forgotten, freed, booted_link, booted}
 use Rattle.dna_links.specs.declared.queue.Queues.TheVariants.{Without}
-use Rattle.dna_links.specs.declared.port.Phase.TheVariants.{Confirming, Disconnecting}
+use Rattle.dna_links.specs.declared.port.Phase.TheVariants.{Confirming, Disconnecting, Ended}
 use Rattle.dna_links.specs.declared.port.LinkTest.TheVariants.{HasAddress}
 use Rattle.dna_links.specs.LookUps.{is_calling}
 use Rattle.dna_links.specs.Segmentation.{Piece}
@@ -22,7 +23,7 @@ use Rattle.dna_links.specs.Delivery.{HeldFrom}
 use Rattle.two_nodes.proofs.Numbered.{AreNumbered, IsPresent}
 use Rattle.two_nodes.proofs.NumberedSteps.{numbered_beside, present_beside, present_new, at_pushed}
 use Rattle.dna_links.proofs.Tables.Outcomes.{looked}
-use Rattle.dna_links.proofs.Runs.Loose.{UserDid, Opens, Accepts, Rejects, HandsIn, Delivers, Closes, ClosesLate}
+use Rattle.dna_links.proofs.Runs.Loose.{UserDid, Opens, Accepts, Rejects, HandsIn, Delivers, Closes, ClosesLate, Aborts, Boots}
 use Rattle.dna_links.proofs.Tables.Words.{limits}
 use Rattle.dna_links.proofs.Runs.Pieces.{IsPassed, cut_handed, Delivered, delivered_is, passed_delivered}
 use Rattle.dna_links.proofs.Runs.Sends.{AreSoundSegments}
@@ -78,6 +79,15 @@ module _ {X : Type 0} where
       go : (slice_get xs i ≡ Some x) ⊎ ((i ≡ length xs) × (y ≡ x)) → P i x
       go (inl a) = all i x a
       go (inr e) = subst (λ (j : ℕ). P j x) (sym e.0) (subst (P (length xs)) e.1 here)
+
+-- of every item, where each becomes f of itself
+pub all_map : {X Y : Type 0} (P : ℕ → Y → Type 0) (f : X → Y) (xs : List X) → ((i : ℕ) (x : X) → slice_get xs i ≡ Some x → P i (f x)) →
+    (i : ℕ) (y : Y) → slice_get (map f xs) i ≡ Some y → P i y
+all_map {X} {Y} P f xs all i y at = go (slice_get xs i) refl (sym (slice_get-map f xs i) ∙ at)
+  where
+    go : (o : Option X) → slice_get xs i ≡ o → option_map f o ≡ Some y → P i y
+    go None there e = absurd cc
+    go (Some x) there e = subst (P i) (same_Some (f x) y e) (all i x there)
 
 pub grows_same : (links : List (LinkOf TrueSegments)) → Grows links links
 grows_same links i l at = record { link = l; there = at; more = []; given = sym (append-nil l.segments.given) }
@@ -214,6 +224,22 @@ module _ (own other : LinkSide) (h : IsSoundSide own other) where
         same_length = length-set own.links.links number (forgotten true_segments Without link);
       }))
 
+  -- each link is over, and has no address
+  booted_sound : Frees own.links (booted true_segments Without own.links)
+  booted_sound = record {
+    ends = all_map (λ (i : ℕ) (l : LinkOf TrueSegments). IsSoundEnd own.sent other.sent own.front other.links.links i l)
+        (booted_link true_segments Without) own.links.links
+        (λ i l at. end_port own.sent other.sent own.front other.links.links i l (record l.port { phase = Ended; own = None }) (λ x. absurd cc)
+        (h.ends i l at));
+    grows = λ i l at. record {
+      link = booted_link true_segments Without l;
+      there = slice_get-map (booted_link true_segments Without) own.links.links i ∙ ap (option_map (booted_link true_segments Without)) at;
+      more = [];
+      given = sym (append-nil l.segments.given);
+    };
+    same_length = length-map own.links.links (booted_link true_segments Without);
+  }
+
   -- a link changes, and gives no segment
   one_sound : (links : Links) (f : Frees own.links links) (number : ℕ) (link left : LinkOf TrueSegments) →
       slice_get own.links.links number ≡ Some link →
@@ -308,3 +334,8 @@ module _ (own other : LinkSide) (h : IsSoundSide own other) where
       (end_port own.sent other.sent own.front other.links.links number link (record link.port { phase = Disconnecting }) (λ x. absurd cc)
       (end_of number link there)))
   user_sound event left (ClosesLate address) = leaves _ none_freed
+  user_sound event left (Aborts address number link there) =
+      leaves _ (one_sound own.links none_freed number link (ended true_segments link) there refl
+      (end_port own.sent other.sent own.front other.links.links number link (record link.port { phase = Ended }) (λ x. absurd cc)
+      (end_of number link there)))
+  user_sound event left Boots = leaves _ booted_sound

@@ -1,11 +1,11 @@
 -- A packet that is first sent, and one that is kept, leave both sides' links sound; and so they are in every run.
-use Rattle.std.proofs.Common.{◌≡◌, ℕ, ◌+◌, ◌≤◌, true, false, ◌⊎◌, inl, inr, Option, Some, None, List, [], ◌∷◌, ◌++◌, length, fold, refl, sym, ap, ◌∙◌}
-use Rattle.std.proofs.Common.{subst, arith, append-nil, length-append}
+use Rattle.std.proofs.Common.{◌≡◌, ℕ, ◌+◌, ◌<◌, ◌≤◌, true, false, ◌⊎◌, inl, inr, Option, Some, None, List, [], ◌∷◌, ◌++◌, length, fold}
+use Rattle.std.proofs.Common.{refl, sym, ap, ◌∙◌, subst, arith, append-nil, length-append}
 use Rattle.std.specs.Prelude.{slice_get}
 use Rattle.std.proofs.lemmas.Bool.{and_parts, cases_eq}
 use Rattle.std.proofs.lemmas.Option.{same_Some, slice_get_within}
 use Rattle.dna_packet.specs.declared.ack_word.AckWord.{AckWord}
-use Rattle.dna_packet.specs.Nsp.{SegmentValue, DataSegment, DataAck}
+use Rattle.dna_packet.specs.Nsp.{NspValue, SegmentValue, DataSegment, DataAck}
 use Rattle.dna_links.specs.Queues.{ended}
 use Rattle.dna_links.specs.declared.port.Phase.TheVariants.{Running, Ended}
 use Rattle.dna_links.specs.declared.queue.Queues.{Queues}
@@ -26,13 +26,13 @@ use Rattle.two_nodes.proofs.Numbered.{AcksFrom, IsLawful, IsPresent}
 use Rattle.two_nodes.proofs.Numbered as numbered
 use Rattle.two_nodes.proofs.NumberedSteps.{IsSending, numbered_sending, present_sending, present_further, present_new, none_numbered, at_pushed}
 use Rattle.dna_links.proofs.Tables.Outcomes.{has_numbers, ArrivedDid, Ignores, Begins, Confirms, Ends, TakesSegment, TakesAcks, TakesOther}
-use Rattle.dna_links.proofs.Runs.Loose.{SentDid, OfNone, Stays, EndsCalled, Segment, Acks, LooseStep, ByUser, Sends, SendsNone, Keeps, KeepsNone}
-use Rattle.dna_links.proofs.Runs.Loose.{LooselyReached, OfA, OfB}
+use Rattle.dna_links.proofs.Runs.Loose.{SentDid, OfNone, Stays, EndsCalled, Segment, Acks, LooseStep, ByUser, Sends, SendsNone, Composes}
+use Rattle.dna_links.proofs.Runs.Loose.{Keeps, Passes, LooselyReached, OfA, OfB}
 use Rattle.dna_links.proofs.Runs.Loose as loose
 use Rattle.dna_links.proofs.Tables.Words.{limits, AreWords}
 use Rattle.dna_links.proofs.Runs.Sends.{SendsFrom, other_sent, IsTrueSegment}
 use Rattle.dna_links.proofs.Runs.Ends.{name_of, nobody, numbers_of, view, Grows, SegmentTold, IsTold, told_grown, IsSoundEnd, end_port, end_further}
-use Rattle.dna_links.proofs.Runs.Ends.{end_aside, present_aside}
+use Rattle.dna_links.proofs.Runs.Ends.{end_aside, end_without, present_aside}
 use Rattle.dna_links.proofs.Runs.Takes.{of_pair_is, acknowledges, end_acks, end_segment}
 use Rattle.dna_links.proofs.Runs.Sides.{set_same, at_set, all_set, all_pushed, grows_same, grows_set, grows_pushed, IsSoundSide, side_grown}
 use Rattle.dna_links.proofs.Runs.Sides.{side_beside, side_changed, end_new, user_sound}
@@ -242,13 +242,40 @@ module _ (own other : LinkSide) (h : IsSoundSide own other) (theirs : IsSoundSid
       (λ d s a e. let same : acks ≡ a = let f = sym is ∙ e in cc in
       subst (λ (y : List AckWord). AreWords y sent.known.acknowledgements) same t.words_are)
 
+  -- ---- a packet is composed, and never sent
+
+  sent_grows : (m : NspValue) (made : Sent TrueSegments Numbers) → SentDid own.links m made → Grows own.links.links made.links.links
+  sent_grows m made (OfNone none) = grows_same own.links.links
+  sent_grows m made (Stays number link none there) = grows_same own.links.links
+  sent_grows m made (EndsCalled far reason number link none is found) =
+      grows_set own.links.links own.links.links number link (ended true_segments link) [] (grows_same own.links.links) found.there
+      (sym (append-nil link.segments.given))
+  sent_grows m made (Segment segment number link sent is there goes) =
+      let t = (goes (h.ends number link there).segments).sends in
+      grows_set own.links.links own.links.links number link (with_segments sent.segments link) t.more (grows_same own.links.links) there t.given
+  sent_grows m made (Acks dst src acks number link sent is there goes) =
+      let t = (goes (h.ends number link there).segments).sends in
+      grows_set own.links.links own.links.links number link (with_segments sent.segments link) t.more (grows_same own.links.links) there t.given
+
+  -- what holds with it in a place holds without it
+  pub message_composed : (packet : Carried) (made : Sent TrueSegments Numbers) → SentDid own.links packet.message made →
+      StaySound (record { links = made.links; sent = own.sent; front = own.front }) other
+  message_composed packet made does =
+      let s = message_sent packet made does in
+      let grows = sent_grows packet.message made does in
+      record {
+        side = side_changed own other made.links grows h (λ i l at. end_without own.sent other.sent own.front other.links.links i l
+            (Some (record { packet = packet; truth = made.truth })) (s.side.ends i l at));
+        beside = side_grown other own made.links own.front grows theirs;
+      }
+
 -- ---- a packet is kept
 
-module _ (own other : LinkSide) (h : IsSoundSide own other) (theirs : IsSoundSide other own) (k : ℕ) (x : Option SentMessage) (ahead : own.front ≤ k)
-    (there : slice_get other.sent k ≡ Some x) where
+module _ (own other : LinkSide) (h : IsSoundSide own other) (theirs : IsSoundSide other own) (k : ℕ) (ahead : own.front ≤ k)
+    (less : k < length other.sent) where
   pub none_kept : IsSoundSide (keeps own own.links k) other
   none_kept = record {
-    met = let w = slice_get_within other.sent k x there in omega arith;
+    met = omega arith;
     messages = h.messages;
     nobody = present_further view limits own.sent other.sent own.front (k + 1) nobody h.nobody (omega arith);
     told = h.told;
@@ -270,19 +297,22 @@ module _ (own other : LinkSide) (h : IsSoundSide own other) (theirs : IsSoundSid
 
 module _ (own other : LinkSide) (h : IsSoundSide own other) (theirs : IsSoundSide other own) (k : ℕ) (u : SentMessage) (ahead : own.front ≤ k)
     (there : slice_get other.sent k ≡ Some (Some u)) where
+  within : k < length other.sent
+  within = slice_get_within other.sent k (Some u) there
+
   told : IsTold other.links.links u
   told = theirs.told k u there
 
   now : (number : ℕ) (link : LinkOf TrueSegments) → slice_get own.links.links number ≡ Some link →
       IsSoundEnd own.sent other.sent (k + 1) other.links.links number link
-  now number link at = (none_kept own other h theirs k (Some u) ahead there).ends number link at
+  now number link at = (none_kept own other h theirs k ahead within).ends number link at
 
   -- a link changes, and gives no segment
   one_kept : (number : ℕ) (link left : LinkOf TrueSegments) → slice_get own.links.links number ≡ Some link →
       left.segments.given ≡ link.segments.given →
       IsSoundEnd own.sent other.sent (k + 1) other.links.links number left → StaySound (keeps own (changed number left own.links) k) other
   one_kept number link left at given e =
-      after_keeping own other h theirs k (Some u) ahead there (changed number left own.links)
+      after_keeping own other h theirs k ahead within (changed number left own.links)
       (grows_set own.links.links own.links.links number link left [] (grows_same own.links.links) at (given ∙ sym (append-nil link.segments.given)))
       (all_set (λ (i : ℕ) (l : LinkOf TrueSegments). IsSoundEnd own.sent other.sent (k + 1) other.links.links i l) own.links.links number left e now)
 
@@ -311,13 +341,13 @@ module _ (own other : LinkSide) (h : IsSoundSide own other) (theirs : IsSoundSid
       }
 
   pub message_kept : (left : Links) → ArrivedDid true_segments of_partner own.links u.packet.message u.truth left → StaySound (keeps own left k) other
-  message_kept left Ignores = nothing_kept own other h theirs k (Some u) ahead there
+  message_kept left Ignores = nothing_kept own other h theirs k ahead within
   message_kept left (Begins far segsize is none) =
       let l = called true_segments of_partner far segsize u.truth.tag in
-      after_keeping own other h theirs k (Some u) ahead there (begun l own.links)
+      after_keeping own other h theirs k ahead within (begun l own.links)
       (grows_pushed own.links.links own.links.links l (grows_same own.links.links))
       (all_pushed (λ (i : ℕ) (l : LinkOf TrueSegments). IsSoundEnd own.sent other.sent (k + 1) other.links.links i l) own.links.links l
-      (end_new (keeps own own.links k) other (none_kept own other h theirs k (Some u) ahead there) (length own.links.links) l (omega arith) refl
+      (end_new (keeps own own.links k) other (none_kept own other h theirs k ahead within) (length own.links.links) l (omega arith) refl
       (λ c. absurd cc) (sender_there u.truth.tag.link refl)) now)
   message_kept left (Confirms address far segsize number link is found for) =
       one_kept number link (confirmed true_segments of_partner far segsize u.truth.tag link) found.there refl
@@ -360,7 +390,8 @@ step_sound own other left events h theirs (Sends packet made does) =
 step_sound own other left events h theirs SendsNone = none_sent own other h theirs
 step_sound own other left events h theirs (Keeps place unit links ahead there does) =
     message_kept own other h theirs place unit ahead there links does
-step_sound own other left events h theirs (KeepsNone place ahead there) = nothing_kept own other h theirs place None ahead there
+step_sound own other left events h theirs (Composes packet made does) = message_composed own other h theirs packet made does
+step_sound own other left events h theirs (Passes place ahead less) = nothing_kept own other h theirs place ahead less
 
 pub record BothLinksSound (w : LinkWorld) : Type 0 where
   pub of_a : IsSoundSide w.a w.b

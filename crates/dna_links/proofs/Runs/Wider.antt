@@ -23,8 +23,8 @@ use Rattle.dna_links.specs.SegmentBook.{Sending, Late, with_gap, wider, REACH, w
 use Rattle.dna_links.specs.Links.{LinkOf, LinksOf, Carried, LinkTruth, check, number_of, on_link, at_number, with_link, begun, changed, in_phase}
 use Rattle.dna_links.specs.Links.{with_segments}
 use Rattle.dna_links.specs.Queues.{is_silent, is_over, further, in_use, with_in_use, may_send, port_of_waiting, reached, goes_on, forgotten, freed, shows, shows_by, settled}
-use Rattle.dna_links.specs.Queues.{requeued, drops, ended, ends_by_message}
-use Rattle.dna_links.specs.User.{LinkEventValue, Open, Accept, Reject, In, Up, Close}
+use Rattle.dna_links.specs.Queues.{requeued, drops, ended, ends_by_message, booted_link, booted}
+use Rattle.dna_links.specs.User.{LinkEventValue, Accept, Reject}
 use Rattle.dna_links.specs.inner.Forms.{opened, answered, delivered, of_no_link, truth_of, unchanged, ending, called, confirmed, running}
 use Rattle.dna_links.specs.LinkBook.{on_ok}
 use Rattle.dna_links.specs.Sending.{Sent, message_sent}
@@ -40,9 +40,9 @@ use Rattle.dna_links.specs.Alike.{IsLedTo, bare, bare_links, bare_side, bare_wor
 use Rattle.dna_links.proofs.Tables.Outcomes.{IsFound, looked, checked, user_did}
 use Rattle.dna_links.proofs.Tables.Outcomes as outcomes
 use Rattle.dna_links.proofs.Cut.User.{live_if}
-use Rattle.dna_links.proofs.Runs.Sides.{all_set, all_pushed}
+use Rattle.dna_links.proofs.Runs.Sides.{all_set, all_pushed, all_map}
 use Rattle.dna_links.proofs.Runs.Late.{bare_sent, number_bare, changed_bare, begun_bare, same_bare, freed_bare, goes_live, shows_bare}
-use Rattle.dna_links.proofs.Runs.Late.{settled_all, carried_bare, ends_bare}
+use Rattle.dna_links.proofs.Runs.Late.{settled_all, carried_bare, ends_bare, booted_bare}
 use Rattle.dna_links.proofs.Runs.Bared.{IsBareAt, bare_there}
 
 -- ---- a link that goes by its own phase: nothing of it waits while it lives, and what it has sent is what its phase lets it
@@ -237,6 +237,25 @@ module _ (s : Links) (fits : AllFit s) where
           Fits (goes_on true_segments b Disconnecting l).port.phase (goes_on true_segments b Disconnecting l).queue
       go true e l none = none
       go false e l none = absurd cc
+  user_follows event left (outcomes.Aborts own number link found calling) =
+      let t = there s (LiveAt own) number link found in
+      let live = (and_parts (is_live t.l.port.phase) (is_at t.l.port.own own) t.passed).0 in
+      record {
+        links = changed number (drops true_segments With t.l) s;
+        does = at_found s (LiveAt own) number t.l _ _ t.found t.at
+            ∙ passes_check (is_calling (in_use With t.l).phase) LinkState _
+            (ap (λ (x : Port). is_calling x.phase) (in_use_is t.l (fits number t.l t.at) live)
+            ∙ ap (λ (x : LinkOf TrueSegments). is_calling x.port.phase) t.is ∙ calling);
+        same = changed_bare number (drops true_segments With t.l) s
+            ∙ ap (λ (x : LinkOf TrueSegments). changed number (ended true_segments x) (bare_links s)) t.is;
+        fit = set_fits s fits number (drops true_segments With t.l) tt;
+      }
+  user_follows event left outcomes.Boots = record {
+    links = booted true_segments With s;
+    does = refl;
+    same = booted_bare s;
+    fit = all_map FitsAt (booted_link true_segments With) s.links (λ i l at. tt);
+  }
 
 -- ---- what is sent of a segment's numbers
 
@@ -849,8 +868,17 @@ module _ (own other : LinkSide) (fits : AllFit own.links) where
         same = ap (λ (x : Links). keeps (bare_side own) x place) f.same;
         fit = f.fit;
       }
-  step_more events left (runs.KeepsNone place ahead at) =
-      record { side = keeps own own.links place; step = runs.KeepsNone place ahead at; same = refl; fit = fits }
+  step_more events left (runs.Composes packet made does) =
+      let f = sent_follows own.links fits packet made does in
+      record {
+        side = record { links = f.sent.links; sent = own.sent; front = own.front };
+        step = runs.Composes packet f.sent f.does;
+        same = ap (λ (x : Sent TrueSegments Numbers). let side : LinkSide = record { links = x.links; sent = own.sent; front = own.front } in side)
+            f.same;
+        fit = f.fit;
+      }
+  step_more events left (runs.Passes place ahead less) =
+      record { side = keeps own own.links place; step = runs.Passes place ahead less; same = refl; fit = fits }
 
 -- a world that steps with queues lead to, and that is this one but for what the queues leave open
 pub record FitsLedTo (start w : LinkWorld) (of_a of_b : List LinkEventValue) : Type 0 where

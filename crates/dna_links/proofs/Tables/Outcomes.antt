@@ -9,7 +9,7 @@ use Rattle.dna_packet.specs.Nsp.{SegmentValue, NspValue, DataSegment, LinkServic
 use Rattle.dna_packet.specs.Nsp.{ConnectConfirm, DisconnectInitiate, DisconnectConfirm}
 use Rattle.dna_station.specs.declared.link_refusal.LinkRefusal.{LinkRefusal}
 use Rattle.dna_station.specs.declared.link_refusal.LinkRefusal.TheVariants.{NoLink, LinkState, AddressInUse, CrossedLink}
-use Rattle.dna_links.specs.Queues.{ended, freed}
+use Rattle.dna_links.specs.Queues.{ended, freed, booted}
 use Rattle.dna_links.specs.declared.queue.Queues.TheVariants.{Without}
 use Rattle.dna_links.specs.declared.port.Phase.{Phase}
 use Rattle.dna_links.specs.declared.port.Phase.TheVariants.{Confirming, Disconnecting}
@@ -19,7 +19,7 @@ use Rattle.dna_links.specs.LookUps.{passes, takes_messages, is_connected, is_cal
 use Rattle.dna_links.specs.SegmentBook.{SegmentBook, Sending}
 use Rattle.dna_links.specs.Links.{LinkOf, LinksOf, Carried, LinkTruth, check, number_of, on_link, at_number, with_link, begun, changed, in_phase}
 use Rattle.dna_links.specs.Links.{with_segments}
-use Rattle.dna_links.specs.User.{LinkEventValue, Open, Accept, Reject, In, Up, Close}
+use Rattle.dna_links.specs.User.{LinkEventValue, Open, Accept, Reject, In, Up, Close, Abort, Boot}
 use Rattle.dna_links.specs.inner.Forms.{opened, answered, gives, delivered}
 use Rattle.dna_links.specs.LinkBook.{user_step}
 use Rattle.dna_links.specs.Sending.{Sent}
@@ -140,6 +140,9 @@ module _ {D K : Type 0} (book : SegmentBook D K) where
         UserDid s (Up own message) (changed number (with_segments segments link) s)
     Closes : (own number : ℕ) (link : LinkOf D) → IsFound (LiveAt own) s number link → is_connected link.port.phase ≡ true →
         UserDid s (Close own) (changed number (in_phase Disconnecting link) s)
+    Aborts : (own number : ℕ) (link : LinkOf D) → IsFound (LiveAt own) s number link → is_calling link.port.phase ≡ true →
+        UserDid s (Abort own) (changed number (ended book link) s)
+    Boots : UserDid s Boot (booted book Without s)
 
   module _ (s left : LinksOf D) where
     did : (event : LinkEventValue) (next : LinksOf D) → UserDid s event next → ◌≡◌ {A = Result (LinksOf D) LinkRefusal} (Ok next) (Ok left) →
@@ -184,6 +187,11 @@ module _ {D K : Type 0} (book : SegmentBook D K) where
         looked (LiveAt own) s (Err NoLink)
         (λ number link. check (is_connected link.port.phase) LinkState (Ok (changed number (in_phase Disconnecting link) s))) (Ok left) e
         (λ none e. absurd cc) (λ number link found e. let c = checked _ _ _ left e in did (Close own) _ (Closes own number link found c.0) c.1)
+    user_did (Abort own) e =
+        looked (LiveAt own) s (Err NoLink)
+        (λ number link. check (is_calling link.port.phase) LinkState (Ok (changed number (ended book link) s))) (Ok left) e
+        (λ none e. absurd cc) (λ number link found e. let c = checked _ _ _ left e in did (Abort own) _ (Aborts own number link found c.0) c.1)
+    user_did Boot e = did Boot (booted book Without s) Boots e
 
   -- ---- a message that is sent
 

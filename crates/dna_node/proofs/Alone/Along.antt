@@ -2,6 +2,7 @@
 -- what its user does, what it sends and what comes goes along, but for what only the rules on periods and partners refuse.
 use Rattle.std.proofs.Common.{◌≡◌, Bool, true, false, Result, Ok, Err}
 use Rattle.ddcmp_msg.specs.Message.{MessageValue}
+use Rattle.capture.specs.declared.fate.Fate.{Fate}
 use Rattle.capture.specs.declared.event.Event.{Event}
 use Rattle.dna_station.specs.declared.refusal.StationRefusal.TheVariants.{CrossedPeriod}
 use Rattle.dna_station.specs.declared.refusal.StepRefusal.{StepRefusal}
@@ -31,14 +32,14 @@ left_sent (Err refusal) = Err refusal
 pub record GoesAlong {S K : Type 0} (judge : Machine S K) (one : EndOf S K) (forget : S → S) : Type 0 where
   -- whether the rule on periods lets a message pass; else it is refused for that
   pub meets : S → MessageValue → K → Bool
-  pub crossed : (s : S) (m : MessageValue) (known : K) (kept : Bool) → meets s m known ≡ false →
-      judge.arrives s (Sound m known) kept ≡ Err (OfStation CrossedPeriod)
+  pub crossed : (s : S) (m : MessageValue) (known : K) (fate : Fate) → meets s m known ≡ false →
+      judge.arrives s (Sound m known) fate ≡ Err (OfStation CrossedPeriod)
   pub user : (s : S) (event : Event) → one.machine.user (forget s) event ≡ forget_result forget (judge.user s event)
   pub sends : (s : S) (m : MessageValue) → left_sent (one.machine.sends (forget s) m) ≡ forget_result forget (left_sent (judge.sends s m))
-  pub sound : (s : S) (m : MessageValue) (known : K) (kept : Bool) →
-      Along forget (judge.arrives s (Sound m known) kept) (one.machine.arrives (forget s) (Sound m one.unknown) kept)
-  pub header_bad : (s : S) (kept : Bool) → one.machine.arrives (forget s) HeaderBad kept ≡ forget_result forget (judge.arrives s HeaderBad kept)
-  pub data_bad : (s : S) (kept : Bool) → one.machine.arrives (forget s) DataBad kept ≡ forget_result forget (judge.arrives s DataBad kept)
+  pub sound : (s : S) (m : MessageValue) (known : K) (fate : Fate) →
+      Along forget (judge.arrives s (Sound m known) fate) (one.machine.arrives (forget s) (Sound m one.unknown) fate)
+  pub header_bad : (s : S) (fate : Fate) → one.machine.arrives (forget s) HeaderBad fate ≡ forget_result forget (judge.arrives s HeaderBad fate)
+  pub data_bad : (s : S) (fate : Fate) → one.machine.arrives (forget s) DataBad fate ≡ forget_result forget (judge.arrives s DataBad fate)
   -- what is asked of the other end looks at nothing that is forgotten
   pub wrong_unit : (s : S) (m : MessageValue) → one.wrong_unit (forget s) m ≡ one.wrong_unit s m
   pub wrong_taken : (s : S) (m : MessageValue) → one.wrong_taken (forget s) m ≡ one.wrong_taken s m

@@ -2,7 +2,11 @@
 -- does, what it sends and what comes go along, but for what only the two rules refuse.
 use Rattle.std.proofs.Common.{◌≡◌, Bool, true, false, cond, Option, Some, None, Result, Ok, Err, refl, sym, ap, ◌∙◌, subst}
 use Rattle.ddcmp_msg.specs.Message.{MessageValue}
+use Rattle.capture.specs.declared.fate.Fate.{Fate}
+use Rattle.capture.specs.declared.fate.Fate.TheVariants.{Kept, Dropped, NotKept}
+use Rattle.capture.specs.Fates.{is_kept}
 use Rattle.capture.specs.declared.event.Event.{Event}
+use Rattle.capture.specs.declared.event.Event.TheVariants as events
 use Rattle.dna_station.specs.declared.state.StationEvent.{StationEvent}
 use Rattle.dna_station.specs.declared.state.StationEvent.TheVariants.{Start, Halt}
 use Rattle.dna_station.specs.declared.tag.Tag.{Tag}
@@ -20,15 +24,15 @@ use Rattle.dna_station.specs.WireBook.{wire_book, wire_tag, wire_after_sending, 
 use Rattle.dna_station.specs.PeriodRule.{of_period}
 use Rattle.dna_station.specs.Machine.{unless_refused}
 use Rattle.dna_links.specs.Links.{Carried}
-use Rattle.dna_links.specs.User.{LinkEventValue}
+use Rattle.dna_links.specs.User.{LinkEventValue, Open, Accept, Reject, In, Up, Close, Boot, Abort}
 use Rattle.dna_links.specs.Sending.{Sent}
 use Rattle.dna_links.specs.Arriving.{of_partner, of_anyone}
 use Rattle.dna_links.specs.WireSegments.{WireSegments, wire_segments}
 use Rattle.dna_links.specs.WireLinks.{WireLinks, wire_links_user, wire_links_sent, wire_links_arrived}
-use Rattle.dna_node.proofs.Events.{by_event}
 use Rattle.dna_node.specs.TagRules.{judged_by, by_bytes_with}
 use Rattle.dna_node.specs.Content.{content}
 use Rattle.dna_node.specs.WireLayers.{WireLayers, LayersTag, of_no_link, with_wire_station, with_wire_links, first_tagged, with_tag, wire_sends_first}
+use Rattle.dna_node.specs.WireLayers.{with_wire_composed, wire_composes}
 use Rattle.dna_node.specs.WireLayers.{wire_sends_again, wire_sends_on, tag_or_none, wire_keeps_packet, wire_meets_on, wire_layers_machine}
 use Rattle.dna_node.specs.Alone.{unknown_period, unknown_tag, layers_end_by}
 use Rattle.dna_node.proofs.Alone.Along.{forget_result, Along, left_sent, GoesAlong}
@@ -64,12 +68,49 @@ module _ (queues : Queues) (s : WireLayers) where
       ap (with_wire_links (forget_layers s)) (sym (links_user_along queues wire_segments s.links event))
       ∙ by_links (wire_links_user queues s.links event)
 
+  boot_along : with_wire_links (record (forget_layers s) { station = wire_after_event (forget_station forget_tag s.station) Halt })
+      (wire_links_user queues (forget_links s.links) Boot)
+      ≡ forget_result forget_layers (with_wire_links (record s { station = wire_after_event s.station Halt }) (wire_links_user queues s.links Boot))
+  boot_along =
+      ap (with_wire_links (record (forget_layers s) { station = wire_after_event (forget_station forget_tag s.station) Halt }))
+      (sym (links_user_along queues wire_segments s.links Boot))
+      ∙ booted (wire_links_user queues s.links Boot)
+    where
+      booted : (o : Result WireLinks LinkRefusal) →
+          with_wire_links (record (forget_layers s) { station = wire_after_event (forget_station forget_tag s.station) Halt }) (effects.forget_result o)
+          ≡ forget_result forget_layers (with_wire_links (record s { station = wire_after_event s.station Halt }) o)
+      booted (Ok links) = refl
+      booted (Err refusal) = refl
+
+  composed_along : (o : Result (Sent WireSegments (Unit {0})) LinkRefusal) →
+      with_wire_composed (forget_layers s) (forget_sent o) ≡ forget_result forget_layers (with_wire_composed s o)
+  composed_along (Ok made) = refl
+  composed_along (Err refusal) = refl
+
+  packet_along : (r : Result (Option Carried) StepRefusal) →
+      wire_composes (by_bytes_with queues) (forget_layers s) r ≡ forget_result forget_layers (wire_composes (judged_by queues) s r)
+  packet_along (Ok (Some packet)) =
+      ap (λ (o : Result (Sent WireSegments (Unit {0})) LinkRefusal). with_wire_composed (forget_layers s) o)
+      (sym (links_sent_along queues wire_segments s.links packet))
+      ∙ composed_along (wire_links_sent queues s.links packet)
+  packet_along (Ok None) = refl
+  packet_along (Err refusal) = refl
+
   pub user_along : (event : Event) → (wire_layers_machine (by_bytes_with queues)).user (forget_layers s) event
       ≡ forget_result forget_layers ((wire_layers_machine (judged_by queues)).user s event)
-  user_along = by_event (λ event. (wire_layers_machine (by_bytes_with queues)).user (forget_layers s) event
-      ≡ forget_result forget_layers ((wire_layers_machine (judged_by queues)).user s event))
-      (by_station Start (user_refusal s.station.variables.state Start)) (by_station Halt (user_refusal s.station.variables.state Halt))
-      (λ event link e. rw e (link_along link))
+  user_along events.Start = by_station Start (user_refusal s.station.variables.state Start)
+  user_along events.Halt = by_station Halt (user_refusal s.station.variables.state Halt)
+  user_along (events.Open link) = link_along (Open link)
+  user_along (events.Accept partner link) = link_along (Accept partner link)
+  user_along (events.Reject partner link) = link_along (Reject partner link)
+  user_along (events.In link message) = link_along (In link message)
+  user_along (events.Up link message) = link_along (Up link message)
+  user_along (events.Close link) = link_along (Close link)
+  user_along events.Boot = boot_along
+  user_along (events.Abort link) = link_along (Abort link)
+  user_along (events.Composed packet) = packet_along (content packet)
+  user_along (events.Interrupt link message) = refl
+  user_along (events.Interrupted link message) = refl
 
 -- ---- a message is sent: what is left of the node, whatever is known of the unit
 
@@ -149,58 +190,64 @@ module _ (queues : Queues) (s : WireLayers) where
   keeps_along t tag (Ok None) = refl
   keeps_along t tag (Err refusal) = λ seen. refl
 
-  module _ (m : MessageValue) (known : LayersTag) (kept : Bool) where
+  module _ (m : MessageValue) (known : LayersTag) (fate : Fate) where
+    abbrev kept : Bool
+    kept = is_kept fate
+
     abbrev w : WireStation LinkTag
     w = forget_station forget_tag s.station
 
     -- the packets that are kept
-    by_kept : (k : Bool) (station : WireStation LinkTag) →
+    by_kept : (k : Fate) (station : WireStation LinkTag) →
         Along forget_layers (wire_meets_on (judged_by queues) s (Sound m known) k (Ok station))
         (wire_meets_on (by_bytes_with queues) (forget_layers s) (Sound m unknown_tag) k (Ok (forget_station forget_tag station)))
-    by_kept true station = keeps_along (record s { station = station }) (tag_or_none known.link) (content (body_of m))
-    by_kept false station = refl
+    by_kept Kept station = keeps_along (record s { station = station }) (tag_or_none known.link) (content (body_of m))
+    by_kept Dropped station = refl
+    by_kept NotKept station = refl
 
     by_taking : (o : Option StationRefusal) →
         Along forget_layers
-        (wire_meets_on (judged_by queues) s (Sound m known) kept (unless_refused o (wire_after_arrival s.station (Sound m known.station) kept)))
-        (wire_meets_on (by_bytes_with queues) (forget_layers s) (Sound m unknown_tag) kept
+        (wire_meets_on (judged_by queues) s (Sound m known) fate (unless_refused o (wire_after_arrival s.station (Sound m known.station) kept)))
+        (wire_meets_on (by_bytes_with queues) (forget_layers s) (Sound m unknown_tag) fate
         (unless_refused o (wire_after_arrival w (Sound m unknown_period) kept)))
     by_taking None =
-        subst (λ (t : WireStation LinkTag). Along forget_layers (wire_meets_on (judged_by queues) s (Sound m known) kept
+        subst (λ (t : WireStation LinkTag). Along forget_layers (wire_meets_on (judged_by queues) s (Sound m known) fate
         (Ok (wire_after_arrival s.station (Sound m known.station) kept)))
-        (wire_meets_on (by_bytes_with queues) (forget_layers s) (Sound m unknown_tag) kept (Ok t)))
-        (sym (arrival_along forget_tag m known.station kept s.station)) (by_kept kept (wire_after_arrival s.station (Sound m known.station) kept))
+        (wire_meets_on (by_bytes_with queues) (forget_layers s) (Sound m unknown_tag) fate (Ok t)))
+        (sym (arrival_along forget_tag m known.station kept s.station)) (by_kept fate (wire_after_arrival s.station (Sound m known.station) kept))
     by_taking (Some refusal) = λ seen. refl
 
     by_period : (met : Bool) →
-        Along forget_layers (wire_meets_on (judged_by queues) s (Sound m known) kept (unless_refused
+        Along forget_layers (wire_meets_on (judged_by queues) s (Sound m known) fate (unless_refused
         (cond met (keep_refusal (takes_by wire_book s.station m known.station) kept) (Some CrossedPeriod))
         (wire_after_arrival s.station (Sound m known.station) kept)))
-        ((wire_layers_machine (by_bytes_with queues)).arrives (forget_layers s) (Sound m unknown_tag) kept)
+        ((wire_layers_machine (by_bytes_with queues)).arrives (forget_layers s) (Sound m unknown_tag) fate)
     by_period true = by_taking (keep_refusal (takes_by wire_book s.station m known.station) kept)
     by_period false = λ seen. absurd cc
 
-    pub sound_along : Along forget_layers ((wire_layers_machine (judged_by queues)).arrives s (Sound m known) kept)
-        ((wire_layers_machine (by_bytes_with queues)).arrives (forget_layers s) (Sound m unknown_tag) kept)
+    pub sound_along : Along forget_layers ((wire_layers_machine (judged_by queues)).arrives s (Sound m known) fate)
+        ((wire_layers_machine (by_bytes_with queues)).arrives (forget_layers s) (Sound m unknown_tag) fate)
     sound_along = by_period (meets_by wire_book of_period s.station m known.station)
 
-  pub unit_header_bad_along : (kept : Bool) → (wire_layers_machine (by_bytes_with queues)).arrives (forget_layers s) HeaderBad kept
-      ≡ forget_result forget_layers ((wire_layers_machine (judged_by queues)).arrives s HeaderBad kept)
-  unit_header_bad_along true = refl
-  unit_header_bad_along false = ap (left (forget_links s.links)) (header_along forget_tag s.station false)
+  pub unit_header_bad_along : (fate : Fate) → (wire_layers_machine (by_bytes_with queues)).arrives (forget_layers s) HeaderBad fate
+      ≡ forget_result forget_layers ((wire_layers_machine (judged_by queues)).arrives s HeaderBad fate)
+  unit_header_bad_along Kept = refl
+  unit_header_bad_along Dropped = refl
+  unit_header_bad_along NotKept = ap (left (forget_links s.links)) (header_along forget_tag s.station false)
 
-  pub unit_data_bad_along : (kept : Bool) → (wire_layers_machine (by_bytes_with queues)).arrives (forget_layers s) DataBad kept
-      ≡ forget_result forget_layers ((wire_layers_machine (judged_by queues)).arrives s DataBad kept)
-  unit_data_bad_along true = refl
-  unit_data_bad_along false = ap (left (forget_links s.links)) (data_bad_along forget_tag s.station false)
+  pub unit_data_bad_along : (fate : Fate) → (wire_layers_machine (by_bytes_with queues)).arrives (forget_layers s) DataBad fate
+      ≡ forget_result forget_layers ((wire_layers_machine (judged_by queues)).arrives s DataBad fate)
+  unit_data_bad_along Kept = refl
+  unit_data_bad_along Dropped = refl
+  unit_data_bad_along NotKept = ap (left (forget_links s.links)) (data_bad_along forget_tag s.station false)
 
   -- what the rule on periods refuses
-  pub unit_crossed : (m : MessageValue) (known : LayersTag) (kept : Bool) → meets_by wire_book of_period s.station m known.station ≡ false →
-      (wire_layers_machine (judged_by queues)).arrives s (Sound m known) kept ≡ Err (OfStation CrossedPeriod)
-  unit_crossed m known kept e =
-      ap (λ (b : Bool). wire_meets_on (judged_by queues) s (Sound m known) kept (unless_refused
-      (cond b (keep_refusal (takes_by wire_book s.station m known.station) kept) (Some CrossedPeriod))
-      (wire_after_arrival s.station (Sound m known.station) kept))) e
+  pub unit_crossed : (m : MessageValue) (known : LayersTag) (fate : Fate) → meets_by wire_book of_period s.station m known.station ≡ false →
+      (wire_layers_machine (judged_by queues)).arrives s (Sound m known) fate ≡ Err (OfStation CrossedPeriod)
+  unit_crossed m known fate e =
+      ap (λ (b : Bool). wire_meets_on (judged_by queues) s (Sound m known) fate (unless_refused
+      (cond b (keep_refusal (takes_by wire_book s.station m known.station) (is_kept fate)) (Some CrossedPeriod))
+      (wire_after_arrival s.station (Sound m known.station) (is_kept fate)))) e
 
 abbrev pub layers_along : (queues : Queues) → GoesAlong (wire_layers_machine (judged_by queues)) (layers_end_by queues) forget_layers
 layers_along queues = record {

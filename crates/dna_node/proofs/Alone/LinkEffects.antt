@@ -16,8 +16,9 @@ use Rattle.dna_links.specs.declared.port.LinkTest.TheVariants.{HasAddress}
 use Rattle.dna_links.specs.LookUps.{passes, is_live}
 use Rattle.dna_links.specs.SegmentBook.{SegmentBook}
 use Rattle.dna_links.specs.Links.{LinkOf, LinksOf, LinkTruth, on_link, at_number, with_link, with_seen, begun, changed}
-use Rattle.dna_links.specs.Queues.{in_use, with_in_use, may_send, goes_on, goes_to, ends_by_message, drops, forgotten, freed, shows_by, settled}
-use Rattle.dna_links.specs.Table.{Effect, GiveAddress, GoTo, End, Drop, Settle}
+use Rattle.dna_links.specs.Queues.{in_use, with_in_use, may_send, goes_on, goes_to, ends_by_message, drops, forgotten, freed, booted_link, shows_by}
+use Rattle.dna_links.specs.Queues.{settled}
+use Rattle.dna_links.specs.Table.{Effect, GiveAddress, GoTo, End, Drop, EndAll, Settle}
 use Rattle.dna_links.specs.LinkBook.{does, others, after}
 use Rattle.dna_links.specs.Sending.{Sent}
 use Rattle.dna_node.specs.WireLayers as layers
@@ -134,6 +135,12 @@ module _ {D K : Type 0} (queues : Queues) (book : SegmentBook D K) where
   forgotten_along Without l = refl
   forgotten_along With l = refl
 
+  booted_along : (links : List (LinkOf D)) → map (booted_link book queues) (map forget_link links) ≡ map forget_link (map (booted_link book queues) links)
+  booted_along [] = refl
+  booted_along (l ∷ links) =
+      ap₂ (λ (x : LinkOf D) (all : List (LinkOf D)). x ∷ all)
+      (ap (forgotten book queues) (drops_along queues l) ∙ forgotten_along queues (drops book queues l)) (booted_along links)
+
   shows_along : (phase : Phase) (l : LinkOf D) → shows_by book phase (forget_link l) ≡ forget_link (shows_by book phase l)
   shows_along Running l = refl
   shows_along Disconnecting l = refl
@@ -191,5 +198,7 @@ module _ {D K : Type 0} (queues : Queues) (book : SegmentBook D K) where
         (λ n x. changed n (settled book x.queue.waits x) (forget_links s)) refl
         (λ n x. ap (λ (y : LinkOf D). changed n y (forget_links s)) (settled_along x.queue.waits x)
         ∙ sym (changed_along n (settled book x.queue.waits x) s)) (HasAddress own)
+    after_along (EndAll ∷ effects) number l known =
+        ap (λ (links : List (LinkOf D)). record (forget_links s) { links = links }) (booted_along s.links)
     after_along (effect ∷ effects) None l known = begins_along (effect ∷ effects) l
     after_along (effect ∷ effects) (Some number) l known = changes_along (effect ∷ effects) number l

@@ -17,7 +17,7 @@ use Rattle.dna_links.specs.Links.{LinkOf, LinksOf, Carried, LinkTruth, check, wi
 use Rattle.dna_links.specs.Queues.{in_use, may_send}
 use Rattle.dna_links.specs.Table.{Ask, Finds, FindsEither, FindsNone, FindsInUse, KnowsInUse, InPhase, InTurn, OrElse, ForThisLink, OfThisPair}
 use Rattle.dna_links.specs.Table.{Delivers, SendsSegment, SendsAcks, Effect, Row, Asks, user_row, sending_row, arrival_row}
-use Rattle.dna_links.specs.User.{LinkEventValue, Open, Accept, Reject, In, Up, Close}
+use Rattle.dna_links.specs.User.{LinkEventValue, Open, Accept, Reject, In, Up, Close, Abort, Boot}
 use Rattle.dna_links.specs.LinkBook.{are_same, on_ok, blank, does, kept, otherwise, waits, late, widened, sends_segment, sends_acks, asked, by_row}
 use Rattle.dna_links.specs.LinkBook.{after, of_none, user_step}
 use Rattle.dna_links.specs.Sending.{Sent, sent_as, message_sent, sent_step}
@@ -178,6 +178,8 @@ user_asks (Reject far own) = tt
 user_asks (In own message) = tt
 user_asks (Up own message) = tt
 user_asks (Close own) = tt
+user_asks (Abort own) = tt
+user_asks Boot = tt
 
 sending_asks : (m : NspValue) → RowRefusesSo Never (sending_row m)
 sending_asks (DataSegment segment) = tt

@@ -4,6 +4,7 @@ use Rattle.std.specs.Prelude.{slice_get}
 use Rattle.std.proofs.lemmas.Option.{slice_get-map}
 use Rattle.two_nodes.specs.Nodes.{Half, World}
 use Rattle.ddcmp_msg.specs.Message.{MessageValue, Data, Ack, Nak}
+use Rattle.capture.specs.declared.fate.Fate.TheVariants.{Kept}
 use Rattle.capture.specs.declared.record.Record.{Record}
 use Rattle.dna_station.specs.declared.head.Head.{Head}
 use Rattle.dna_station.specs.declared.refusal.StationRefusal.{StationRefusal}
@@ -109,7 +110,7 @@ module _ (queues : Queues) (own other : Half LayersNode LayersUnit) (front of_ot
 
   abbrev met : Option StationRefusal → Result WireLayers StepRefusal
   met o =
-      wire_meets_on (judged_by queues) (cut_layers_by queues s) (Sound m (cut_truth m unit.known)) true
+      wire_meets_on (judged_by queues) (cut_layers_by queues s) (Sound m (cut_truth m unit.known)) Kept
       (unless_refused o (wire_after_arrival w (Sound m u.tag) true))
 
   by_refusal : (left : WireLayers) (o : Option StationRefusal) → arrival_refusal (judged_by queues).periods s.station (Sound m u) true ≡ o →
@@ -120,7 +121,7 @@ module _ (queues : Queues) (own other : Half LayersNode LayersUnit) (front of_ot
   by_refusal left (Some refusal) allowed made = absurd cc
 
   taken_right : (left : WireLayers) →
-      (wire_layers_machine (judged_by queues)).arrives (cut_layers_by queues s) (Sound m (cut_truth m unit.known)) true ≡ Ok left →
+      (wire_layers_machine (judged_by queues)).arrives (cut_layers_by queues s) (Sound m (cut_truth m unit.known)) Kept ≡ Ok left →
       wrong_taken (cut_layers_by queues s) m ≡ None
   taken_right left made =
       by_refusal left (wire_arrival_refusal (judged_by queues).periods w (Sound m u.tag) true)

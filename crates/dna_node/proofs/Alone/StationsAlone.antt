@@ -5,6 +5,8 @@ use Rattle.two_nodes.specs.Nodes.{Half, World, Outcome, concluded, read, advance
 use Rattle.two_nodes.specs.Nodes.Outcome.{Made, Waits, Refused}
 use Rattle.two_nodes.specs.Past.{Offends}
 use Rattle.ddcmp_msg.specs.Message.{MessageValue}
+use Rattle.capture.specs.declared.fate.Fate.{Fate}
+use Rattle.capture.specs.Fates.{is_kept}
 use Rattle.capture.specs.declared.record.Record.{Record}
 use Rattle.capture.specs.declared.record.Record.TheVariants.{Sent, Received, Noise, User}
 use Rattle.capture.specs.declared.event.Event.{Event}
@@ -60,6 +62,8 @@ module _ (w : WireStation LinkTag) where
       alike (user_refusal w.variables.state Start) (wire_after_event w Start) (wire_after_event (forget w) Start) (event_along forget_tag w Start)
   user_along events.Halt =
       alike (user_refusal w.variables.state Halt) (wire_after_event w Halt) (wire_after_event (forget w) Halt) (event_along forget_tag w Halt)
+  user_along events.Boot =
+      alike (user_refusal w.variables.state Halt) (wire_after_event w Halt) (wire_after_event (forget w) Halt) (event_along forget_tag w Halt)
   user_along event = refl
 
   by_refusal : (m : MessageValue) (o : Option StationRefusal) →
@@ -77,7 +81,10 @@ module _ (w : WireStation LinkTag) where
 
   -- ---- an arrival
 
-  module _ (m : MessageValue) (known : Tag) (kept : Bool) where
+  module _ (m : MessageValue) (known : Tag) (fate : Fate) where
+    abbrev kept : Bool
+    kept = is_kept fate
+
     abbrev arrives_by : Bool → Result (WireStation LinkTag) StepRefusal
     arrives_by b =
         unless_refused (cond b (keep_refusal (takes_by wire_book w m known) kept) (Some CrossedPeriod))
@@ -89,29 +96,29 @@ module _ (w : WireStation LinkTag) where
     by_taking None = ap Ok (arrival_along forget_tag m known kept w)
     by_taking (Some refusal) = λ seen. refl
 
-    by_period : (b : Bool) → Along forget (arrives_by b) ((wire_machine of_any_period).arrives (forget w) (Sound m unknown_period) kept)
+    by_period : (b : Bool) → Along forget (arrives_by b) ((wire_machine of_any_period).arrives (forget w) (Sound m unknown_period) fate)
     by_period true = by_taking (keep_refusal (takes_by wire_book w m known) kept)
     by_period false = λ seen. absurd cc
 
-    pub sound_along : Along forget ((wire_machine of_period).arrives w (Sound m known) kept)
-        ((wire_machine of_any_period).arrives (forget w) (Sound m unknown_period) kept)
+    pub sound_along : Along forget ((wire_machine of_period).arrives w (Sound m known) fate)
+        ((wire_machine of_any_period).arrives (forget w) (Sound m unknown_period) fate)
     sound_along = by_period (meets_by wire_book of_period w m known)
 
     pub crossed : meets_by wire_book of_period w m known ≡ false →
-        (wire_machine of_period).arrives w (Sound m known) kept ≡ Err (OfStation CrossedPeriod)
+        (wire_machine of_period).arrives w (Sound m known) fate ≡ Err (OfStation CrossedPeriod)
     crossed e = ap arrives_by e
 
-  pub header_bad : (kept : Bool) →
-      (wire_machine of_any_period).arrives (forget w) HeaderBad kept ≡ forget_result forget ((wire_machine of_period).arrives w HeaderBad kept)
-  header_bad kept =
-      alike (keep_refusal false kept) (wire_after_arrival w HeaderBad kept) (wire_after_arrival (forget w) HeaderBad kept)
-      (header_along forget_tag w kept)
+  pub header_bad : (fate : Fate) →
+      (wire_machine of_any_period).arrives (forget w) HeaderBad fate ≡ forget_result forget ((wire_machine of_period).arrives w HeaderBad fate)
+  header_bad fate =
+      alike (keep_refusal false (is_kept fate)) (wire_after_arrival w HeaderBad (is_kept fate)) (wire_after_arrival (forget w) HeaderBad (is_kept fate))
+      (header_along forget_tag w (is_kept fate))
 
-  pub data_bad : (kept : Bool) →
-      (wire_machine of_any_period).arrives (forget w) DataBad kept ≡ forget_result forget ((wire_machine of_period).arrives w DataBad kept)
-  data_bad kept =
-      alike (keep_refusal false kept) (wire_after_arrival w DataBad kept) (wire_after_arrival (forget w) DataBad kept)
-      (data_bad_along forget_tag w kept)
+  pub data_bad : (fate : Fate) →
+      (wire_machine of_any_period).arrives (forget w) DataBad fate ≡ forget_result forget ((wire_machine of_period).arrives w DataBad fate)
+  data_bad fate =
+      alike (keep_refusal false (is_kept fate)) (wire_after_arrival w DataBad (is_kept fate)) (wire_after_arrival (forget w) DataBad (is_kept fate))
+      (data_bad_along forget_tag w (is_kept fate))
 
 abbrev pub station_along : GoesAlong (wire_machine of_period) station_end forget
 station_along = record {
@@ -161,32 +168,32 @@ no_receipt r this (Made half) = tt
 no_receipt r this Waits = tt
 no_receipt r this (Refused reason) = this reason
 
-module _ (own other : Half Node SentUnit) (hint : ℕ) (kept : Bool) (bytes : List ℕ) where
+module _ (own other : Half Node SentUnit) (hint : ℕ) (fate : Fate) (bytes : List ℕ) where
   abbrev Here : Result Node StepRefusal → Type 0
-  Here o = AccusesThis (Received hint kept bytes) (concluded own o)
+  Here o = AccusesThis (Received hint fate bytes) (concluded own o)
 
   by_met : (o : Option StationRefusal) (s : Station) → Here (met own.state (hint + 1) (unless_refused o s))
   by_met None s = tt
   by_met (Some refusal) s = refl
 
-  by_coming : (o : Option (ArrivalValue Truth)) → Here (comes (station_machine of_period) own.state (hint + 1) kept o)
+  by_coming : (o : Option (ArrivalValue Truth)) → Here (comes (station_machine of_period) own.state (hint + 1) fate o)
   by_coming None = refl
   by_coming (Some arrival) =
-      by_met (arrival_refusal of_period own.state.station arrival kept) (after_arrival own.state.station arrival kept)
+      by_met (arrival_refusal of_period own.state.station arrival (is_kept fate)) (after_arrival own.state.station arrival (is_kept fate))
 
   by_hint : (b : Bool) (unit : SentUnit) →
-      Here (cond b (Err HintOrder) (comes (station_machine of_period) own.state (hint + 1) kept (coming unit bytes)))
+      Here (cond b (Err HintOrder) (comes (station_machine of_period) own.state (hint + 1) fate (coming unit bytes)))
   by_hint true unit = refl
   by_hint false unit = by_coming (coming unit bytes)
 
   by_unit : (o : Option SentUnit) →
-      AccusesThis (Received hint kept bytes) (read own (receives (station_machine of_period) own.state hint kept bytes) o)
+      AccusesThis (Received hint fate bytes) (read own (receives (station_machine of_period) own.state hint fate bytes) o)
   by_unit None = tt
   by_unit (Some unit) = by_hint (nat_lt hint own.state.front) unit
 
 by_record : (own other : Half Node SentUnit) (r : Record) → AccusesThis r (advance (step (station_machine of_period)) own other r)
 by_record own other (Sent bytes) = no_receipt (Sent bytes) (λ reason. refl) (advance (step (station_machine of_period)) own other (Sent bytes))
-by_record own other (Received hint kept bytes) = by_unit own other hint kept bytes (slice_get other.sent hint)
+by_record own other (Received hint fate bytes) = by_unit own other hint fate bytes (slice_get other.sent hint)
 by_record own other (Noise bytes) = no_receipt (Noise bytes) (λ reason. refl) (advance (step (station_machine of_period)) own other (Noise bytes))
 by_record own other (User event) = no_receipt (User event) (λ reason. refl) (advance (step (station_machine of_period)) own other (User event))
 

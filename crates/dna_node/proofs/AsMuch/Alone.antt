@@ -4,6 +4,9 @@ use Rattle.std.proofs.Common.{◌∙◌, subst}
 use Rattle.ddcmp_msg.specs.Message.{MessageValue}
 use Rattle.ddcmp_msg.specs.Reading.{ReadingValue, reading, Malformed}
 use Rattle.ddcmp_msg.specs.Reading as read_as
+use Rattle.capture.specs.declared.fate.Fate.{Fate}
+use Rattle.capture.specs.declared.fate.Fate.TheVariants.{NotKept}
+use Rattle.capture.specs.Fates.{is_met}
 use Rattle.capture.specs.declared.record.Record.{Record}
 use Rattle.capture.specs.declared.record.Record.TheVariants.{Sent, Received, Noise, User}
 use Rattle.dna_station.specs.declared.head.Head.{Head}
@@ -15,7 +18,7 @@ use Rattle.dna_station.specs.Machine.{Machine, NodeOf, noise_comes}
 use Rattle.dna_links.specs.declared.queue.Queues.TheVariants.{With}
 use Rattle.dna_node.specs.TagRules.{by_bytes_with}
 use Rattle.dna_node.specs.WireLayers.{new_wire_layers_node, wire_layers_machine}
-use Rattle.dna_node.specs.Alone.{EndOf, StepAlone, Makes, Refuses, ThisEnd, does, sends, meets, unless_wrong, then_unless_wrong, if_kept, sent_alone}
+use Rattle.dna_node.specs.Alone.{EndOf, StepAlone, Makes, Refuses, ThisEnd, does, sends, meets, unless_wrong, then_unless_wrong, if_met, sent_alone}
 use Rattle.dna_node.specs.Alone.{sound_comes, comes_alone, step_alone, EndingAlone, Passed, Refused, goes_on, ends_from, layers_end, Passes, PassesBy}
 use Rattle.dna_node.proofs.AsMuch.Nodes.{IsDone, IsSent, DoesAsMuch, node_with}
 use Rattle.dna_node.proofs.AsMuch.WireLayers.{Stands, unit_same, taken_same, wire_layers_do_as_much}
@@ -71,45 +74,45 @@ module _ {S K : Type 0} (one : EndOf S K) (machine : Machine S K) (Beside : S �
         IsMade (does n (noise_comes one.machine n.station arrival)) (does n' (noise_comes machine t arrival))
     noise_made None = tt
     noise_made (Some arrival) =
-        does_made (one.machine.arrives n.station arrival false) (machine.arrives t arrival false) (as_much.arrives n.station t beside arrival false)
+        does_made (one.machine.arrives n.station arrival NotKept) (machine.arrives t arrival NotKept) (as_much.arrives n.station t beside arrival NotKept)
 
     -- ---- a receipt
 
-    module _ (front : ℕ) (kept : Bool) where
+    module _ (front : ℕ) (fate : Fate) where
       arrives_made : (arrival : ArrivalValue K) →
-          IsMade (meets n front (one.machine.arrives n.station arrival kept)) (meets n' front (machine.arrives t arrival kept))
+          IsMade (meets n front (one.machine.arrives n.station arrival fate)) (meets n' front (machine.arrives t arrival fate))
       arrives_made arrival =
-          meets_made front (one.machine.arrives n.station arrival kept) (machine.arrives t arrival kept)
-          (as_much.arrives n.station t beside arrival kept)
+          meets_made front (one.machine.arrives n.station arrival fate) (machine.arrives t arrival fate)
+          (as_much.arrives n.station t beside arrival fate)
 
       abbrev asked : (unit taken : Option StepRefusal) → StepAlone S → StepAlone S
-      asked unit taken x = unless_wrong unit (then_unless_wrong (if_kept kept taken) x)
+      asked unit taken x = unless_wrong unit (then_unless_wrong (if_met (is_met fate) taken) x)
 
-      sound_made : (m : MessageValue) → IsMade (sound_comes one n front kept m) (sound_comes more n' front kept m)
+      sound_made : (m : MessageValue) → IsMade (sound_comes one n front fate m) (sound_comes more n' front fate m)
       sound_made m =
-          subst (λ (x : Option StepRefusal). IsMade (sound_comes one n front kept m)
-          (asked x (one.wrong_taken t m) (meets n' front (machine.arrives t (Sound m one.unknown) kept)))) (sym (unit_same n.station t beside m))
-          (subst (λ (x : Option StepRefusal). IsMade (sound_comes one n front kept m)
-          (asked (one.wrong_unit n.station m) x (meets n' front (machine.arrives t (Sound m one.unknown) kept))))
+          subst (λ (x : Option StepRefusal). IsMade (sound_comes one n front fate m)
+          (asked x (one.wrong_taken t m) (meets n' front (machine.arrives t (Sound m one.unknown) fate)))) (sym (unit_same n.station t beside m))
+          (subst (λ (x : Option StepRefusal). IsMade (sound_comes one n front fate m)
+          (asked (one.wrong_unit n.station m) x (meets n' front (machine.arrives t (Sound m one.unknown) fate))))
           (sym (taken_same n.station t beside m))
           (unless_made (one.wrong_unit n.station m) _ _
-          (then_made (if_kept kept (one.wrong_taken n.station m)) _ _ (arrives_made (Sound m one.unknown)))))
+          (then_made (if_met (is_met fate) (one.wrong_taken n.station m)) _ _ (arrives_made (Sound m one.unknown)))))
 
-      comes_made : (r : ReadingValue) → IsMade (comes_alone one n front kept r) (comes_alone more n' front kept r)
+      comes_made : (r : ReadingValue) → IsMade (comes_alone one n front fate r) (comes_alone more n' front fate r)
       comes_made (read_as.Sound m) = sound_made m
       comes_made read_as.HeaderBad = arrives_made HeaderBad
       comes_made read_as.DataBad = arrives_made DataBad
       comes_made (Malformed departure) = tt
 
-    received_made : (hint : ℕ) (kept : Bool) (r : ReadingValue) (early : Bool) →
-        IsMade (cond early (Refuses ThisEnd HintOrder) (comes_alone one n (hint + 1) kept r))
-        (cond early (Refuses ThisEnd HintOrder) (comes_alone more n' (hint + 1) kept r))
-    received_made hint kept r true = tt
-    received_made hint kept r false = comes_made (hint + 1) kept r
+    received_made : (hint : ℕ) (fate : Fate) (r : ReadingValue) (early : Bool) →
+        IsMade (cond early (Refuses ThisEnd HintOrder) (comes_alone one n (hint + 1) fate r))
+        (cond early (Refuses ThisEnd HintOrder) (comes_alone more n' (hint + 1) fate r))
+    received_made hint fate r true = tt
+    received_made hint fate r false = comes_made (hint + 1) fate r
 
     step_made : (r : Record) → IsMade (step_alone one n r) (step_alone more n' r)
     step_made (Sent bytes) = sent_made (reading bytes)
-    step_made (Received hint kept bytes) = received_made hint kept (reading bytes) (nat_lt hint n.front)
+    step_made (Received hint fate bytes) = received_made hint fate (reading bytes) (nat_lt hint n.front)
     step_made (Noise bytes) = noise_made (damage (reading bytes))
     step_made (User event) =
         does_made (one.machine.user n.station event) (machine.user t event) (as_much.user n.station t beside event)

@@ -124,7 +124,7 @@ module _ {D K : Type 0} (book : SegmentBook D K) where
 
 -- ---- all links
 
-abbrev FitsAt : {D : Type 0} → ℕ → LinkOf D → Type 0
+abbrev pub FitsAt : {D : Type 0} → ℕ → LinkOf D → Type 0
 FitsAt i l = Fits l.port.phase l.queue
 
 abbrev pub AllFit : {D : Type 0} → LinksOf D → Type 0

@@ -4,6 +4,8 @@ use Rattle.std.proofs.Common.{subst}
 use Rattle.std.proofs.lemmas.List.{length-map}
 use Rattle.two_nodes.specs.Nodes.{World, Run}
 use Rattle.ddcmp_msg.specs.Message.{MessageValue}
+use Rattle.capture.specs.declared.fate.Fate.{Fate}
+use Rattle.capture.specs.declared.fate.Fate.TheVariants.{Kept, Dropped, NotKept}
 use Rattle.capture.specs.declared.record.Record.{Record}
 use Rattle.capture.specs.declared.event.Event.{Event}
 use Rattle.capture.specs.declared.event.Event.TheVariants as events
@@ -12,14 +14,15 @@ use Rattle.dna_station.specs.declared.refusal.StepRefusal.{StepRefusal}
 use Rattle.dna_station.specs.declared.link_refusal.LinkRefusal.{LinkRefusal}
 use Rattle.dna_station.specs.Table.{Change, SendPacket, change_of}
 use Rattle.dna_station.specs.PeriodRule.{of_period}
-use Rattle.dna_station.specs.Station.{Station}
+use Rattle.dna_station.specs.declared.state.StationEvent.TheVariants.{Halt}
+use Rattle.dna_station.specs.Station.{Station, after_event}
 use Rattle.dna_station.specs.StationBook.{gives_number}
 use Rattle.dna_station.specs.Truth.{Truth}
 use Rattle.dna_station.specs.Book.{ArrivalValue, body_of}
 use Rattle.dna_station.specs.Node.{station_machine}
 use Rattle.dna_links.specs.declared.queue.Queues.TheVariants.{Without, With}
 use Rattle.dna_links.specs.Links.{Carried, LinkTruth}
-use Rattle.dna_links.specs.User.{LinkEventValue}
+use Rattle.dna_links.specs.User.{LinkEventValue, Open, Accept, Reject, In, Up, Close, Boot, Abort}
 use Rattle.dna_links.specs.Sending as links_sending
 use Rattle.dna_links.specs.Arriving.{of_partner}
 use Rattle.dna_links.specs.TrueSegments.{TrueSegments, Numbers, true_segments}
@@ -33,10 +36,10 @@ use Rattle.dna_links.proofs.Runs.Wider.{AllFit, user_follows, sent_follows, arri
 use Rattle.dna_node.specs.TagRules.{judged, judged_by}
 use Rattle.dna_node.specs.Content.{content}
 use Rattle.dna_node.specs.Layers.{Layers, LayersTruth, LayersNode, LayersUnit, with_station, with_links, first_sent, with_message, carried_again}
-use Rattle.dna_node.specs.Layers.{sends_again, to_station, carried_by, sends_first, sends_on, keeps, meets_on, layers_machine, new_layers_node}
+use Rattle.dna_node.specs.Layers.{sends_again, to_station, carried_by, sends_first, sends_on, keeps, meets_on, with_composed, composes}
+use Rattle.dna_node.specs.Layers.{layers_machine, new_layers_node}
 use Rattle.dna_node.specs.LayersPair.{layers_pair, layers_start}
 use Rattle.dna_node.specs.AsMuch.{bare_layers, CountsAlike, IsRunWithQueues}
-use Rattle.dna_node.proofs.Events.{by_event}
 use Rattle.dna_node.proofs.AsMuch.Nodes.{IsDone, IsSent, DoesAsMuch, runs_with}
 
 -- a node with queues beside one without
@@ -98,13 +101,56 @@ module _ (t : Layers) (fits : AllFit t.links) where
       record { left = record t { station = station }; is = refl; beside = record { same = refl; fits = fits } }
   by_station (Err refusal) = tt
 
+  left_same : IsDone Stands (Ok (bare_layers t)) (Ok t)
+  left_same = record { left = t; is = refl; beside = record { same = refl; fits = fits } }
+
+  link_done : (event : LinkEventValue) → IsDone Stands (with_links (bare_layers t) (links_user Without (bare_links t.links) event))
+      (with_links t (links_user With t.links event))
+  link_done event = with_links_done t (links_user Without (bare_links t.links) event) (links_user With t.links event)
+      (user_links t.links fits event _ refl)
+
+  abbrev halted : Layers
+  halted = record t { station = after_event t.station Halt }
+
+  boot_done : IsDone Stands (with_links (bare_layers halted) (links_user Without (bare_links t.links) Boot))
+      (with_links halted (links_user With t.links Boot))
+  boot_done = with_links_done halted (links_user Without (bare_links t.links) Boot) (links_user With t.links Boot)
+      (user_links t.links fits Boot _ refl)
+
+  composed_done : (packet : Carried) (o : Result (links_sending.Sent TrueSegments Numbers) LinkRefusal) →
+      links_sent Without (bare_links t.links) packet ≡ o →
+      IsDone Stands (with_composed (bare_layers t) o) (with_composed t (links_sent With t.links packet))
+  composed_done packet (Ok made) done =
+      let f = sent_follows t.links fits packet made done in
+      record {
+        left = record t { links = f.sent.links };
+        is = ap (with_composed t) f.does;
+        beside = record {
+          same = ap (λ (x : links_sending.Sent TrueSegments Numbers). record t { links = x.links }) f.same;
+          fits = f.fit;
+        };
+      }
+  composed_done packet (Err refusal) done = tt
+
+  packet_composed : (r : Result (Option Carried) StepRefusal) → IsDone Stands (composes judged (bare_layers t) r) (composes (judged_by With) t r)
+  packet_composed (Ok (Some packet)) = composed_done packet _ refl
+  packet_composed (Ok None) = left_same
+  packet_composed (Err refusal) = tt
+
   user_done : (event : Event) → IsDone Stands ((layers_machine judged).user (bare_layers t) event) ((layers_machine (judged_by With)).user t event)
-  user_done =
-      by_event (λ (event : Event). IsDone Stands ((layers_machine judged).user (bare_layers t) event)
-      ((layers_machine (judged_by With)).user t event))
-      (by_station ((station_machine of_period).user t.station events.Start)) (by_station ((station_machine of_period).user t.station events.Halt))
-      (λ event link e. rw e (with_links_done t (links_user Without (bare_links t.links) link) (links_user With t.links link)
-      (user_links t.links fits link _ refl)))
+  user_done events.Start = by_station ((station_machine of_period).user t.station events.Start)
+  user_done events.Halt = by_station ((station_machine of_period).user t.station events.Halt)
+  user_done (events.Open link) = link_done (Open link)
+  user_done (events.Accept partner link) = link_done (Accept partner link)
+  user_done (events.Reject partner link) = link_done (Reject partner link)
+  user_done (events.In link message) = link_done (In link message)
+  user_done (events.Up link message) = link_done (Up link message)
+  user_done (events.Close link) = link_done (Close link)
+  user_done events.Boot = boot_done
+  user_done (events.Abort link) = link_done (Abort link)
+  user_done (events.Composed packet) = packet_composed (content packet)
+  user_done (events.Interrupt link message) = left_same
+  user_done (events.Interrupted link message) = left_same
 
   -- ---- a message is sent
 
@@ -164,12 +210,14 @@ module _ (t : Layers) (fits : AllFit t.links) where
 
   -- ---- an arrival
 
-  by_arrival : (arrival : ArrivalValue LayersTruth) (kept : Bool) (o : Result Station StepRefusal) →
-      IsDone Stands (meets_on judged (bare_layers t) arrival kept o) (meets_on (judged_by With) t arrival kept o)
-  by_arrival arrival true (Ok station) = keeps_done (record t { station = station }) fits (carried_by arrival)
-  by_arrival arrival false (Ok station) =
+  by_arrival : (arrival : ArrivalValue LayersTruth) (fate : Fate) (o : Result Station StepRefusal) →
+      IsDone Stands (meets_on judged (bare_layers t) arrival fate o) (meets_on (judged_by With) t arrival fate o)
+  by_arrival arrival Kept (Ok station) = keeps_done (record t { station = station }) fits (carried_by arrival)
+  by_arrival arrival Dropped (Ok station) =
       record { left = record t { station = station }; is = refl; beside = record { same = refl; fits = fits } }
-  by_arrival arrival kept (Err refusal) = tt
+  by_arrival arrival NotKept (Ok station) =
+      record { left = record t { station = station }; is = refl; beside = record { same = refl; fits = fits } }
+  by_arrival arrival fate (Err refusal) = tt
 
 -- what a node with queues does beside one without
 module _ (s t : Layers) (stands : Stands s t) where
@@ -183,12 +231,12 @@ module _ (s t : Layers) (stands : Stands s t) where
       subst (λ (x : Layers). IsSent Stands ((layers_machine judged).sends x m) ((layers_machine (judged_by With)).sends t m)) stands.same
       (by_sending t stands.fits m ((station_machine of_period).sends t.station m))
 
-  arrives_beside : (arrival : ArrivalValue LayersTruth) (kept : Bool) →
-      IsDone Stands ((layers_machine judged).arrives s arrival kept) ((layers_machine (judged_by With)).arrives t arrival kept)
-  arrives_beside arrival kept =
-      subst (λ (x : Layers). IsDone Stands ((layers_machine judged).arrives x arrival kept)
-      ((layers_machine (judged_by With)).arrives t arrival kept))
-      stands.same (by_arrival t stands.fits arrival kept ((station_machine of_period).arrives t.station (to_station arrival) kept))
+  arrives_beside : (arrival : ArrivalValue LayersTruth) (fate : Fate) →
+      IsDone Stands ((layers_machine judged).arrives s arrival fate) ((layers_machine (judged_by With)).arrives t arrival fate)
+  arrives_beside arrival fate =
+      subst (λ (x : Layers). IsDone Stands ((layers_machine judged).arrives x arrival fate)
+      ((layers_machine (judged_by With)).arrives t arrival fate))
+      stands.same (by_arrival t stands.fits arrival fate ((station_machine of_period).arrives t.station (to_station arrival) fate))
 
 layers_do_as_much : DoesAsMuch (layers_machine judged) (layers_machine (judged_by With)) Stands
 layers_do_as_much = record { user = user_beside; sends = sends_beside; arrives = arrives_beside }

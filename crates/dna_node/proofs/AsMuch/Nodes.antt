@@ -7,6 +7,8 @@ use Rattle.two_nodes.specs.Nodes.Run.{Done, OfA, OfB}
 use Rattle.ddcmp_msg.specs.Message.{MessageValue}
 use Rattle.ddcmp_msg.specs.Reading.{ReadingValue, reading}
 use Rattle.ddcmp_msg.specs.Reading as read_as
+use Rattle.capture.specs.declared.fate.Fate.{Fate}
+use Rattle.capture.specs.declared.fate.Fate.TheVariants.{NotKept}
 use Rattle.capture.specs.declared.record.Record.{Record}
 use Rattle.capture.specs.declared.record.Record.TheVariants.{Sent, Received, Noise, User}
 use Rattle.capture.specs.declared.event.Event.{Event}
@@ -42,8 +44,8 @@ module _ {S : Type 0} (Beside : S → S → Type 0) where
 pub record DoesAsMuch {S K : Type 0} (plain more : Machine S K) (Beside : S → S → Type 0) : Type 0 where
   pub user : (s t : S) → Beside s t → (event : Event) → IsDone Beside (plain.user s event) (more.user t event)
   pub sends : (s t : S) → Beside s t → (m : MessageValue) → IsSent Beside (plain.sends s m) (more.sends t m)
-  pub arrives : (s t : S) → Beside s t → (arrival : ArrivalValue K) (kept : Bool) →
-      IsDone Beside (plain.arrives s arrival kept) (more.arrives t arrival kept)
+  pub arrives : (s t : S) → Beside s t → (arrival : ArrivalValue K) (fate : Fate) →
+      IsDone Beside (plain.arrives s arrival fate) (more.arrives t arrival fate)
 
 -- ---- nodes
 
@@ -106,8 +108,8 @@ module _ {S K : Type 0} {plain more : Machine S K} {Beside : S → S → Type 0}
         (answered own_with other_with (does own_with.state (noise_comes more t arrival)))
     noise_made None = tt
     noise_made (Some arrival) =
-        does_made (plain.arrives own.state.station arrival false) (more.arrives t arrival false)
-        (as_much.arrives own.state.station t beside arrival false)
+        does_made (plain.arrives own.state.station arrival NotKept) (more.arrives t arrival NotKept)
+        (as_much.arrives own.state.station t beside arrival NotKept)
 
     -- ---- a receipt
 
@@ -120,27 +122,27 @@ module _ {S K : Type 0} {plain more : Machine S K} {Beside : S → S → Type 0}
     }
     met_made front (Err refusal) o' done = tt
 
-    comes_made : (front : ℕ) (kept : Bool) (arrival : Option (ArrivalValue K)) →
-        IsMade (concluded own (comes plain own.state front kept arrival)) (concluded own_with (comes more own_with.state front kept arrival))
-    comes_made front kept None = tt
-    comes_made front kept (Some arrival) =
-        met_made front (plain.arrives own.state.station arrival kept) (more.arrives t arrival kept)
-        (as_much.arrives own.state.station t beside arrival kept)
+    comes_made : (front : ℕ) (fate : Fate) (arrival : Option (ArrivalValue K)) →
+        IsMade (concluded own (comes plain own.state front fate arrival)) (concluded own_with (comes more own_with.state front fate arrival))
+    comes_made front fate None = tt
+    comes_made front fate (Some arrival) =
+        met_made front (plain.arrives own.state.station arrival fate) (more.arrives t arrival fate)
+        (as_much.arrives own.state.station t beside arrival fate)
 
-    ordered_made : (front : ℕ) (kept : Bool) (arrival : Option (ArrivalValue K)) (early : Bool) →
-        IsMade (concluded own (cond early (Err HintOrder) (comes plain own.state front kept arrival)))
-        (concluded own_with (cond early (Err HintOrder) (comes more own_with.state front kept arrival)))
-    ordered_made front kept arrival true = tt
-    ordered_made front kept arrival false = comes_made front kept arrival
+    ordered_made : (front : ℕ) (fate : Fate) (arrival : Option (ArrivalValue K)) (early : Bool) →
+        IsMade (concluded own (cond early (Err HintOrder) (comes plain own.state front fate arrival)))
+        (concluded own_with (cond early (Err HintOrder) (comes more own_with.state front fate arrival)))
+    ordered_made front fate arrival true = tt
+    ordered_made front fate arrival false = comes_made front fate arrival
 
-    received_made : (hint : ℕ) (kept : Bool) (bytes : List ℕ) (o : Option (UnitOf K)) →
-        IsMade (read own (receives plain own.state hint kept bytes) o) (read own_with (receives more own_with.state hint kept bytes) o)
-    received_made hint kept bytes None = tt
-    received_made hint kept bytes (Some unit) = ordered_made (hint + 1) kept (coming unit bytes) (nat_lt hint own.state.front)
+    received_made : (hint : ℕ) (fate : Fate) (bytes : List ℕ) (o : Option (UnitOf K)) →
+        IsMade (read own (receives plain own.state hint fate bytes) o) (read own_with (receives more own_with.state hint fate bytes) o)
+    received_made hint fate bytes None = tt
+    received_made hint fate bytes (Some unit) = ordered_made (hint + 1) fate (coming unit bytes) (nat_lt hint own.state.front)
 
     step_made : (r : Record) → IsMade (advance (step plain) own other r) (advance (step more) own_with other_with r)
     step_made (Sent bytes) = sent_made bytes (reading bytes)
-    step_made (Received hint kept bytes) = received_made hint kept bytes (slice_get other.sent hint)
+    step_made (Received hint fate bytes) = received_made hint fate bytes (slice_get other.sent hint)
     step_made (Noise bytes) = noise_made (damage (reading bytes))
     step_made (User event) =
         does_made (plain.user own.state.station event) (more.user t event) (as_much.user own.state.station t beside event)

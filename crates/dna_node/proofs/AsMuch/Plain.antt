@@ -1,5 +1,5 @@
 -- Links without queues are those with queues once the queues are put aside, and what a link that has ended may keep is let go. Over any book.
-use Rattle.std.proofs.Common.{◌≡◌, ℕ, zero, suc, Bool, true, false, ◌||◌, Option, Some, None, List, [], ◌∷◌, map, Ok, refl, sym, ap, ◌∙◌, option_map}
+use Rattle.std.proofs.Common.{◌≡◌, ℕ, zero, suc, Bool, true, false, ◌||◌, Option, Some, None, List, [], ◌∷◌, map, Ok, refl, sym, ap, ap₂, ◌∙◌, option_map}
 use Rattle.std.specs.Prelude.{slice_get, slice_set}
 use Rattle.std.proofs.lemmas.List.{map-append, map-set}
 use Rattle.std.proofs.lemmas.Option.{slice_get-map, same_Some}
@@ -14,7 +14,7 @@ use Rattle.dna_links.specs.declared.port.LinkTest.TheVariants.{HasAddress}
 use Rattle.dna_links.specs.LookUps.{passes, is_live}
 use Rattle.dna_links.specs.SegmentBook.{SegmentBook, Sending}
 use Rattle.dna_links.specs.Links.{LinkOf, LinksOf, number_of, on_link, at_number, with_link, begun, changed, in_phase, with_segments}
-use Rattle.dna_links.specs.Queues.{fresh, further, has_waiting, keeps_numbers, lets_go, requeued, goes_on, ends_by_message, drops, ended, forgotten}
+use Rattle.dna_links.specs.Queues.{fresh, further, has_waiting, keeps_numbers, lets_go, requeued, goes_on, ends_by_message, drops, ended, forgotten, booted_link, booted}
 use Rattle.dna_links.specs.Queues.{freed, shows, shows_by, settled}
 use Rattle.dna_links.specs.Sending.{Sent}
 use Rattle.dna_links.proofs.Tables.Outcomes.{looked}
@@ -200,6 +200,15 @@ module _ {D K : Type 0} (book : SegmentBook D K) where
         ∙ sym (at_found (plain_links s) (HasAddress own) number (plain m) (plain_links s)
         (λ n m. changed n (forgotten book Without m) (plain_links s)) (number_plain (HasAddress own) s ∙ found.found)
         (plain_at s number m found.there)))
+
+    booted_each : (links : List (LinkOf D)) → map plain (map (booted_link book With) links) ≡ map (booted_link book Without) (map plain links)
+    booted_each [] = refl
+    booted_each (m ∷ links) =
+        ap₂ (λ (x : LinkOf D) (all : List (LinkOf D)). x ∷ all)
+        (forgotten_plain (drops book With m) ∙ ap (forgotten book Without) (drops_plain m)) (booted_each links)
+
+    pub booted_plain : (s : LinksOf D) → plain_links (booted book With s) ≡ booted book Without (plain_links s)
+    booted_plain s = ap (λ (links : List (LinkOf D)). record (plain_links s) { links = links }) (booted_each s.links)
 
     -- what is delivered of what a link has without queues
     pub record Delivered (live : Bool) (message : List ℕ) (f left : D) : Type 0 where

@@ -8,20 +8,21 @@ use Rattle.dna_links.specs.declared.port.Port.{Port}
 use Rattle.dna_links.specs.declared.port.LinkTest.TheVariants.{HasAddress, LiveAt, CalledBy}
 use Rattle.dna_links.specs.declared.queue.Queues.TheVariants.{Without, With}
 use Rattle.dna_links.specs.declared.queue.LinkQueue.{LinkQueue}
-use Rattle.dna_links.specs.LookUps.{is_live, is_called, is_connected, takes_messages, is_at}
+use Rattle.dna_links.specs.LookUps.{is_live, is_calling, is_called, is_connected, takes_messages, is_at}
 use Rattle.dna_links.specs.SegmentBook.{SegmentBook}
 use Rattle.dna_links.specs.Links.{LinkOf, LinksOf, number_of, with_link, begun, changed, in_phase, with_segments}
-use Rattle.dna_links.specs.Queues.{in_use, reached, goes_on, freed}
-use Rattle.dna_links.specs.User.{LinkEventValue, Accept, Reject}
+use Rattle.dna_links.specs.Queues.{in_use, reached, goes_on, drops, ended, freed, booted_link, booted}
+use Rattle.dna_links.specs.User.{LinkEventValue, Accept, Reject, Abort, Boot}
 use Rattle.dna_links.specs.inner.Forms.{opened, answered, delivered}
 use Rattle.dna_links.specs.LinkBook.{user_step}
 use Rattle.dna_links.proofs.Tables.Outcomes.{IsFound}
 use Rattle.dna_links.proofs.Tables.Outcomes as outcomes
 use Rattle.dna_links.proofs.Cut.User.{live_if}
+use Rattle.dna_links.proofs.Runs.Sides.{all_map}
 use Rattle.dna_links.proofs.Runs.Wider.{Fits}
 use Rattle.dna_node.proofs.AsMuch.Plain.{at_found, at_none, plain, plain_links, LetsGo, changed_plain, begun_plain}
-use Rattle.dna_node.proofs.AsMuch.Plain.{live_segments, live_with, goes_plain, freed_plain, delivers_plain}
-use Rattle.dna_node.proofs.AsMuch.Fit.{live_waits, in_use_is, AllFit, there, missing, passes_check, set_fits, begun_fits, freed_fits}
+use Rattle.dna_node.proofs.AsMuch.Plain.{live_segments, live_with, goes_plain, freed_plain, drops_plain, booted_plain, delivers_plain}
+use Rattle.dna_node.proofs.AsMuch.Fit.{live_waits, in_use_is, FitsAt, AllFit, there, missing, passes_check, set_fits, begun_fits, freed_fits}
 
 module _ {D K : Type 0} (book : SegmentBook D K) (good : LetsGo book) (s : LinksOf D) (fits : AllFit s) where
   pub record UserFollows (event : LinkEventValue) (left : LinksOf D) : Type 0 where
@@ -123,3 +124,22 @@ module _ {D K : Type 0} (book : SegmentBook D K) (good : LetsGo book) (s : Links
           Fits (goes_on book b Disconnecting l).port.phase (goes_on book b Disconnecting l).queue
       go true e l none = none
       go false e l none = absurd cc
+  user_follows event left (outcomes.Aborts own number link found calling) =
+      let t = there book s (LiveAt own) number link found in
+      let live = (and_parts (is_live t.m.port.phase) (is_at t.m.port.own own) t.passed).0 in
+      record {
+        links = changed number (drops book With t.m) s;
+        does = at_found s (LiveAt own) number t.m _ _ t.found t.at
+            ∙ passes_check (is_calling (in_use With t.m).phase) LinkState _
+            (ap (λ (x : Port). is_calling x.phase) (in_use_is t.m (fits number t.m t.at) live)
+            ∙ ap (λ (x : LinkOf D). is_calling x.port.phase) t.is ∙ calling);
+        same = changed_plain book number (drops book With t.m) s
+            ∙ ap (λ (x : LinkOf D). changed number x (plain_links book s)) (drops_plain book good t.m ∙ ap (ended book) t.is);
+        fit = set_fits s fits number (drops book With t.m) tt;
+      }
+  user_follows event left outcomes.Boots = record {
+    links = booted book With s;
+    does = refl;
+    same = booted_plain book good s;
+    fit = all_map FitsAt (booted_link book With) s.links (λ i l at. tt);
+  }

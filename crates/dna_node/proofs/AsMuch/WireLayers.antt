@@ -2,6 +2,8 @@
 use Rattle.std.proofs.Common.{◌≡◌, ℕ, Bool, true, false, cond, Option, Some, None, List, Result, Ok, Err, refl, sym, ap, ◌∙◌, subst}
 use Rattle.std.proofs.lemmas.Bool.{and_parts}
 use Rattle.ddcmp_msg.specs.Message.{MessageValue, Data, Ack, Nak}
+use Rattle.capture.specs.declared.fate.Fate.{Fate}
+use Rattle.capture.specs.declared.fate.Fate.TheVariants.{Kept, Dropped, NotKept}
 use Rattle.capture.specs.declared.event.Event.{Event}
 use Rattle.capture.specs.declared.event.Event.TheVariants as events
 use Rattle.dna_packet.specs.declared.ack_word.AckWord.{AckWord}
@@ -11,7 +13,8 @@ use Rattle.dna_station.specs.declared.refusal.StepRefusal.{StepRefusal}
 use Rattle.dna_station.specs.declared.link_refusal.LinkRefusal.{LinkRefusal}
 use Rattle.dna_station.specs.PeriodRule.{of_any_period}
 use Rattle.dna_station.specs.Book.{ArrivalValue, Sound, HeaderBad, DataBad, body_of}
-use Rattle.dna_station.specs.WireStation.{WireStation, wire_after_label}
+use Rattle.dna_station.specs.declared.state.StationEvent.TheVariants.{Halt}
+use Rattle.dna_station.specs.WireStation.{WireStation, wire_after_event, wire_after_label}
 use Rattle.dna_station.specs.WireBook.{gives_new}
 use Rattle.dna_station.specs.WireNode.{wire_machine}
 use Rattle.dna_links.specs.declared.queue.Queues.TheVariants.{Without, With}
@@ -19,7 +22,7 @@ use Rattle.dna_links.specs.declared.tag.LinkTag.{LinkTag}
 use Rattle.dna_links.specs.declared.port.LinkTest.TheVariants.{ActedOn}
 use Rattle.dna_links.specs.LookUps.{is_connected, has_both}
 use Rattle.dna_links.specs.Links.{Carried}
-use Rattle.dna_links.specs.User.{LinkEventValue}
+use Rattle.dna_links.specs.User.{LinkEventValue, Open, Accept, Reject, In, Up, Close, Boot, Abort}
 use Rattle.dna_links.specs.Sending.{Sent}
 use Rattle.dna_links.specs.Arriving.{of_anyone}
 use Rattle.dna_links.specs.WireSegments.{WireSegments, wire_segments}
@@ -30,9 +33,8 @@ use Rattle.dna_node.specs.TagRules.{by_bytes, by_bytes_with}
 use Rattle.dna_node.specs.Content.{content}
 use Rattle.dna_node.specs.WireLayers.{WireLayers, LayersTag, of_no_link, with_wire_station, with_wire_links, first_tagged, with_tag, to_wire_station}
 use Rattle.dna_node.specs.WireLayers.{wire_sends_first, wire_sends_again, wire_sends_on, tag_or_none, wire_keeps_packet, wire_keeps, wire_meets_on}
-use Rattle.dna_node.specs.WireLayers.{wire_layers_machine}
+use Rattle.dna_node.specs.WireLayers.{with_wire_composed, wire_composes, wire_layers_machine}
 use Rattle.dna_node.specs.Accusing.{wrong_unit, wrong_words, wrong_acks, wrong_message, wrong_carried, wrong_taken}
-use Rattle.dna_node.proofs.Events.{by_event}
 use Rattle.dna_node.proofs.AsMuch.Nodes.{IsDone, IsSent, DoesAsMuch}
 use Rattle.dna_node.proofs.AsMuch.Plain.{plain_links, at_found, at_none, number_plain, plain_at, live_segments}
 use Rattle.dna_node.proofs.AsMuch.Fit.{AllFit}
@@ -101,14 +103,55 @@ module _ (t : WireLayers) (fits : AllFit t.links) where
   by_station (Ok station) = record { left = alone station; is = refl; beside = record { same = refl; fits = fits } }
   by_station (Err refusal) = tt
 
+  link_done : (event : LinkEventValue) → IsDone Stands (with_wire_links (plain_layers t) (wire_links_user Without (plain_of t.links) event))
+      (with_wire_links t (wire_links_user With t.links event))
+  link_done event = with_links_done t (wire_links_user Without (plain_of t.links) event) (wire_links_user With t.links event)
+      (user_links t.links fits event _ refl)
+
+  abbrev halted : WireLayers
+  halted = alone (wire_after_event t.station Halt)
+
+  boot_done : IsDone Stands (with_wire_links (plain_layers halted) (wire_links_user Without (plain_of t.links) Boot))
+      (with_wire_links halted (wire_links_user With t.links Boot))
+  boot_done = with_links_done halted (wire_links_user Without (plain_of t.links) Boot) (wire_links_user With t.links Boot)
+      (user_links t.links fits Boot _ refl)
+
+  composed_done : (packet : Carried) (o : Result (Sent WireSegments (Unit {0})) LinkRefusal) →
+      wire_links_sent Without (plain_of t.links) packet ≡ o →
+      IsDone Stands (with_wire_composed (plain_layers t) o) (with_wire_composed t (wire_links_sent With t.links packet))
+  composed_done packet (Ok made) done =
+      let f = sent_follows wire_segments wire_lets_go t.links fits packet made done in
+      record {
+        left = record t { links = f.sent.links };
+        is = ap (with_wire_composed t) f.does;
+        beside = record {
+          same = ap (λ (x : Sent WireSegments (Unit {0})). record (plain_layers t) { links = x.links }) f.same;
+          fits = f.fit;
+        };
+      }
+  composed_done packet (Err refusal) done = tt
+
+  packet_composed : (r : Result (Option Carried) StepRefusal) →
+      IsDone Stands (wire_composes by_bytes (plain_layers t) r) (wire_composes (by_bytes_with With) t r)
+  packet_composed (Ok (Some packet)) = composed_done packet _ refl
+  packet_composed (Ok None) = left_same
+  packet_composed (Err refusal) = tt
+
   user_done : (event : Event) →
       IsDone Stands ((wire_layers_machine by_bytes).user (plain_layers t) event) ((wire_layers_machine (by_bytes_with With)).user t event)
-  user_done =
-      by_event (λ (event : Event). IsDone Stands ((wire_layers_machine by_bytes).user (plain_layers t) event)
-      ((wire_layers_machine (by_bytes_with With)).user t event))
-      (by_station ((wire_machine of_any_period).user t.station events.Start)) (by_station ((wire_machine of_any_period).user t.station events.Halt))
-      (λ event link e. rw e (with_links_done t (wire_links_user Without (plain_of t.links) link) (wire_links_user With t.links link)
-      (user_links t.links fits link _ refl)))
+  user_done events.Start = by_station ((wire_machine of_any_period).user t.station events.Start)
+  user_done events.Halt = by_station ((wire_machine of_any_period).user t.station events.Halt)
+  user_done (events.Open link) = link_done (Open link)
+  user_done (events.Accept partner link) = link_done (Accept partner link)
+  user_done (events.Reject partner link) = link_done (Reject partner link)
+  user_done (events.In link message) = link_done (In link message)
+  user_done (events.Up link message) = link_done (Up link message)
+  user_done (events.Close link) = link_done (Close link)
+  user_done events.Boot = boot_done
+  user_done (events.Abort link) = link_done (Abort link)
+  user_done (events.Composed packet) = packet_composed (content packet)
+  user_done (events.Interrupt link message) = left_same
+  user_done (events.Interrupted link message) = left_same
 
   -- ---- a message is sent
 
@@ -168,11 +211,12 @@ module _ (t : WireLayers) (fits : AllFit t.links) where
   keeps_done HeaderBad = left_same
   keeps_done DataBad = left_same
 
-arrival_done : (t : WireLayers) → AllFit t.links → (arrival : ArrivalValue LayersTag) (kept : Bool) (o : Result (WireStation LinkTag) StepRefusal) →
-    IsDone Stands (wire_meets_on by_bytes (plain_layers t) arrival kept o) (wire_meets_on (by_bytes_with With) t arrival kept o)
-arrival_done t fits arrival true (Ok station) = keeps_done (record t { station = station }) fits arrival
-arrival_done t fits arrival false (Ok station) = left_same (record t { station = station }) fits
-arrival_done t fits arrival kept (Err refusal) = tt
+arrival_done : (t : WireLayers) → AllFit t.links → (arrival : ArrivalValue LayersTag) (fate : Fate) (o : Result (WireStation LinkTag) StepRefusal) →
+    IsDone Stands (wire_meets_on by_bytes (plain_layers t) arrival fate o) (wire_meets_on (by_bytes_with With) t arrival fate o)
+arrival_done t fits arrival Kept (Ok station) = keeps_done (record t { station = station }) fits arrival
+arrival_done t fits arrival Dropped (Ok station) = left_same (record t { station = station }) fits
+arrival_done t fits arrival NotKept (Ok station) = left_same (record t { station = station }) fits
+arrival_done t fits arrival fate (Err refusal) = tt
 
 -- ---- what is asked of the other end
 
@@ -226,12 +270,12 @@ module _ (s t : WireLayers) (stands : Stands s t) where
       ((wire_layers_machine (by_bytes_with With)).sends t m)) stands.same
       (by_sending t stands.fits m ((wire_machine of_any_period).sends t.station m))
 
-  arrives_beside : (arrival : ArrivalValue LayersTag) (kept : Bool) →
-      IsDone Stands ((wire_layers_machine by_bytes).arrives s arrival kept) ((wire_layers_machine (by_bytes_with With)).arrives t arrival kept)
-  arrives_beside arrival kept =
-      subst (λ (x : WireLayers). IsDone Stands ((wire_layers_machine by_bytes).arrives x arrival kept)
-      ((wire_layers_machine (by_bytes_with With)).arrives t arrival kept)) stands.same
-      (arrival_done t stands.fits arrival kept ((wire_machine of_any_period).arrives t.station (to_wire_station arrival) kept))
+  arrives_beside : (arrival : ArrivalValue LayersTag) (fate : Fate) →
+      IsDone Stands ((wire_layers_machine by_bytes).arrives s arrival fate) ((wire_layers_machine (by_bytes_with With)).arrives t arrival fate)
+  arrives_beside arrival fate =
+      subst (λ (x : WireLayers). IsDone Stands ((wire_layers_machine by_bytes).arrives x arrival fate)
+      ((wire_layers_machine (by_bytes_with With)).arrives t arrival fate)) stands.same
+      (arrival_done t stands.fits arrival fate ((wire_machine of_any_period).arrives t.station (to_wire_station arrival) fate))
 
 pub wire_layers_do_as_much : DoesAsMuch (wire_layers_machine by_bytes) (wire_layers_machine (by_bytes_with With)) Stands
 wire_layers_do_as_much = record { user = user_beside; sends = sends_beside; arrives = arrives_beside }

@@ -19,7 +19,7 @@ use Rattle.dna_links.specs.inner.Forms.{confirmed, running, acted_on}
 use Rattle.dna_links.specs.TrueSegments.{TrueSegments, true_segments}
 use Rattle.dna_links.specs.TrueLinks.{Links, links_arrived}
 use Rattle.dna_links.specs.Captures.{given_address}
-use Rattle.dna_links.specs.Runs.{SentMessage, LinkSide, LinkWorld, LinkStep, ByUser, Sends, SendsNone, Keeps, KeepsNone, Reached, Start, ByA, ByB}
+use Rattle.dna_links.specs.Runs.{SentMessage, LinkSide, LinkWorld, LinkStep, ByUser, Sends, SendsNone, Composes, Keeps, Passes, Reached, Start, ByA, ByB}
 use Rattle.dna_links.specs.Runs.{sends, new_world}
 use Rattle.dna_node.proofs.Once.Orderly.{higher, highest, AddressesRise, highest-join}
 use Rattle.two_nodes.proofs.NumberedSteps.{at_pushed}
@@ -106,7 +106,9 @@ module _ (own other : LinkSide) (most others : ℕ) (h : IsAddressedSide own oth
   step_left left events rise (Keeps place unit links ahead there does) = side_left left most
       (came_stays own.links other.links.links most h.links unit.truth unit.packet.message links (theirs.told place unit there).from
       (arrived_did true_segments of_partner own.links links unit.truth unit.packet does)) (λ k u at. inl at)
-  step_left left events rise (KeepsNone place ahead there) =
+  step_left left events rise (Composes packet made does) = side_left left most
+      (sent_stays own.links other.links.links most h.links packet.message made (sent_did true_segments own.links made packet does)) (λ k u at. inl at)
+  step_left left events rise (Passes place ahead less) =
       side_left left most (same_links own.links other.links.links most h.links) (λ k u at. inl at)
 
 -- ---- all steps

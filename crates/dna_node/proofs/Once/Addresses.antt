@@ -6,7 +6,7 @@ use Rattle.std.specs.Prelude.{slice_get, slice_set}
 use Rattle.std.proofs.lemmas.Bool.{and_parts, cases_eq}
 use Rattle.std.proofs.lemmas.Option.{same_Some}
 use Rattle.two_nodes.proofs.Order.{slice_get-append}
-use Rattle.dna_links.specs.Queues.{forgotten, freed}
+use Rattle.dna_links.specs.Queues.{forgotten, freed, ended}
 use Rattle.dna_links.specs.declared.queue.Queues.TheVariants.{Without}
 use Rattle.dna_links.specs.declared.port.Phase.{Phase}
 use Rattle.dna_links.specs.declared.port.Phase.TheVariants.{Confirming, Disconnecting}
@@ -18,10 +18,10 @@ use Rattle.dna_links.specs.inner.Forms.{opened, answered}
 use Rattle.dna_links.specs.TrueSegments.{TrueSegments, true_segments}
 use Rattle.dna_links.specs.TrueLinks.{Links}
 use Rattle.dna_links.specs.Captures.{given_address}
-use Rattle.dna_node.proofs.Once.Orderly.{IsHigher, higher}
+use Rattle.dna_node.proofs.Once.Orderly.{IsHigher, Rises, higher}
 use Rattle.two_nodes.proofs.NumberedSteps.{at_pushed}
 use Rattle.dna_links.proofs.Runs.Reads.{at_is}
-use Rattle.dna_links.proofs.Tables.Outcomes.{looked, UserDid, Opens, Accepts, Rejects, HandsIn, Delivers, Closes}
+use Rattle.dna_links.proofs.Tables.Outcomes.{looked, UserDid, Opens, Accepts, Rejects, HandsIn, Delivers, Closes, Aborts, Boots}
 use Rattle.dna_links.proofs.Runs.Sides.{set_same, set_other, at_set, all_set, all_pushed}
 
 abbrev pub LinkList : Type 0
@@ -235,7 +235,7 @@ module _ (s : Links) (others : LinkList) (most : ℕ) (h : AreAddressed s.links 
       (one_left (Some address) less number link (answered true_segments phase address link) there (inr (h.named number link there called, refl))
       (h.far number link there, λ c. absurd cc))
 
-  pub user_addressed : (event : LinkEventValue) (left : Links) → IsHigher most (given_address event) → UserDid true_segments s event left →
+  pub user_addressed : (event : LinkEventValue) (left : Links) → Rises most event → UserDid true_segments s event left →
       Leaves left (higher most (given_address event))
   user_addressed event left less (Opens address free) =
       subst (λ (x : Links). Leaves (begun (opened true_segments address) x) address) (sym (freed_same address less))
@@ -253,3 +253,6 @@ module _ (s : Links) (others : LinkList) (most : ℕ) (h : AreAddressed s.links 
       one_kept number link (with_segments segments link) found.there (record { own = refl; far = refl; partner = refl; called = λ c. c })
   user_addressed event left less (Closes address number link found connected) =
       one_kept number link (in_phase Disconnecting link) found.there (record { own = refl; far = refl; partner = refl; called = λ c. absurd cc })
+  user_addressed event left less (Aborts address number link found calling) =
+      one_kept number link (ended true_segments link) found.there (record { own = refl; far = refl; partner = refl; called = λ c. absurd cc })
+  user_addressed event left less Boots = absurd less

@@ -1,5 +1,5 @@
 -- What two nodes make that ask no rule on tags, two that do make too, where each side starts at most once and gives its link addresses in order.
-use Rattle.std.proofs.Common.{◌≡◌, ℕ, ◌+◌, ◌≤◌, Bool, true, false, eqb, cond, nat_lt, Option, Some, None, option_map, List, [], ◌∷◌, ◌++◌, map, Err}
+use Rattle.std.proofs.Common.{◌≡◌, ℕ, ◌+◌, ◌≤◌, Bool, true, false, eqb, cond, nat_lt, Option, Some, None, Result, Ok, Err, option_map, List, [], ◌∷◌, ◌++◌, map, Err}
 use Rattle.std.proofs.Common.{refl, sym, ap, ◌∙◌, subst, arith}
 use Rattle.std.specs.Prelude.{slice_get, bytes_eq}
 use Rattle.std.proofs.lemmas.Bool.{and_parts}
@@ -12,6 +12,9 @@ use Rattle.two_nodes.proofs.Order.{one_more_of_a, one_more_of_b, exchange}
 use Rattle.ddcmp_msg.specs.Message.{MessageValue, Data, Ack, Strt}
 use Rattle.ddcmp_msg.specs.Reading.{ReadingValue, reading}
 use Rattle.ddcmp_msg.specs.Reading as read_as
+use Rattle.capture.specs.declared.fate.Fate.{Fate}
+use Rattle.capture.specs.declared.fate.Fate.TheVariants.{Kept, Dropped, NotKept}
+use Rattle.capture.specs.Fates.{is_kept}
 use Rattle.capture.specs.declared.event.Event.{Event}
 use Rattle.capture.specs.declared.event.Event.TheVariants as events
 use Rattle.capture.specs.declared.record.Record.{Record}
@@ -20,6 +23,7 @@ use Rattle.dna_station.specs.declared.head.Head.{Head}
 use Rattle.dna_station.specs.declared.state.State.{State}
 use Rattle.dna_station.specs.declared.state.State.TheVariants.{Halted, Istrt, Astrt, Running}
 use Rattle.dna_station.specs.declared.refusal.StationRefusal.TheVariants.{CrossedPeriod}
+use Rattle.dna_station.specs.declared.refusal.StepRefusal.{StepRefusal}
 use Rattle.dna_station.specs.declared.refusal.StepRefusal.TheVariants.{HintOrder}
 use Rattle.dna_station.specs.Table.{row, Row, ignored}
 use Rattle.dna_station.specs.PeriodRule.{meets}
@@ -29,11 +33,13 @@ use Rattle.dna_station.specs.Truth.{tag_of}
 use Rattle.dna_station.specs.Book.{Sound, has_packet, keep_refusal}
 use Rattle.dna_station.specs.StationBook.{takes, after_arrival}
 use Rattle.dna_station.specs.Line.{damage, coming_by}
-use Rattle.dna_station.specs.Machine.{met, comes, receives, sent_step, noise_step, user_step, unless_refused, step}
+use Rattle.dna_station.specs.Machine.{does, met, comes, receives, sent_step, noise_step, user_step, unless_refused, step}
+use Rattle.dna_links.specs.Links.{Carried}
 use Rattle.dna_links.specs.declared.queue.Queues.TheVariants.{Without}
 use Rattle.dna_links.specs.TrueLinks.{Links, links_arrived}
 use Rattle.dna_links.specs.Runs.{SentMessage}
-use Rattle.dna_node.specs.Layers.{Layers, LayersNode, LayersUnit, with_links, keeps, meets_on, layers_machine, stations, unit_of_station}
+use Rattle.dna_node.specs.Content.{content}
+use Rattle.dna_node.specs.Layers.{Layers, LayersTruth, LayersNode, LayersUnit, with_links, composes, keeps, meets_on, layers_machine, stations, unit_of_station}
 use Rattle.dna_node.specs.LayersPair.{layers_pair, layers_start, link_event_in, link_events, side_of, bytes_pair}
 use Rattle.dna_node.proofs.Once.Orderly.{AddressesRise, IsOrderly, starts-join}
 use Rattle.dna_station.proofs.Bounds.Numbers.{is_data}
@@ -104,41 +110,45 @@ module _ (own other : Half LayersNode LayersUnit) where
         (h.other_addressed.told unit.known.station.place message (h.told.told hint unit there d ∙ ap Some is))))
 
     -- what comes is met in the same way
-    kept_or_not : (kept : Bool) (takes : Bool) → (takes ≡ true → is_data unit.message ≡ true) →
-        meets_on by_bytes s (Sound unit.message unit.known) kept
-        (unless_refused (keep_refusal takes kept) (after_arrival station (Sound unit.message unit.known.station) kept))
-        ≡ meets_on judged s (Sound unit.message unit.known) kept
-        (unless_refused (keep_refusal takes kept) (after_arrival station (Sound unit.message unit.known.station) kept))
-    kept_or_not false takes d = refl
-    kept_or_not true false d = refl
-    kept_or_not true true d =
+    kept_or_not : (fate : Fate) (takes : Bool) → (takes ≡ true → is_data unit.message ≡ true) →
+        meets_on by_bytes s (Sound unit.message unit.known) fate
+        (unless_refused (keep_refusal takes (is_kept fate)) (after_arrival station (Sound unit.message unit.known.station) (is_kept fate)))
+        ≡ meets_on judged s (Sound unit.message unit.known) fate
+        (unless_refused (keep_refusal takes (is_kept fate)) (after_arrival station (Sound unit.message unit.known.station) (is_kept fate)))
+    kept_or_not NotKept takes d = refl
+    kept_or_not Dropped true d = refl
+    kept_or_not Dropped false d = refl
+    kept_or_not Kept false d = refl
+    kept_or_not Kept true d =
         kept_same (record s { station = after_arrival station (Sound unit.message unit.known.station) true }) refl (d refl) unit.known.carried refl
 
-    sound_same : (kept : Bool) → (layers_machine by_bytes).arrives s (Sound unit.message unit.known) kept ≡ (layers_machine judged).arrives s
-        (Sound unit.message unit.known) kept
-    sound_same kept =
-        kept_or_not kept (takes station unit.message unit.known.station) (λ e. row_is_data station.state unit.message (and_parts _ _ e).0)
-        ∙ ap (λ (b : Bool). meets_on judged s (Sound unit.message unit.known) kept
-        (unless_refused (cond b (keep_refusal (takes station unit.message unit.known.station) kept) (Some CrossedPeriod))
-        (after_arrival station (Sound unit.message unit.known.station) kept))) (sym meets_it)
+    sound_same : (fate : Fate) → (layers_machine by_bytes).arrives s (Sound unit.message unit.known) fate ≡ (layers_machine judged).arrives s
+        (Sound unit.message unit.known) fate
+    sound_same fate =
+        kept_or_not fate (takes station unit.message unit.known.station) (λ e. row_is_data station.state unit.message (and_parts _ _ e).0)
+        ∙ ap (λ (b : Bool). meets_on judged s (Sound unit.message unit.known) fate
+        (unless_refused (cond b (keep_refusal (takes station unit.message unit.known.station) (is_kept fate)) (Some CrossedPeriod))
+        (after_arrival station (Sound unit.message unit.known.station) (is_kept fate)))) (sym meets_it)
 
-    damage_same : (kept : Bool) (read : ReadingValue) → comes (layers_machine by_bytes) own.state (hint + 1) kept (damage read) ≡ comes
-        (layers_machine judged) own.state (hint + 1) kept (damage read)
-    damage_same true read_as.HeaderBad = refl
-    damage_same false read_as.HeaderBad = refl
-    damage_same true read = refl
-    damage_same false read = refl
+    damage_same : (fate : Fate) (read : ReadingValue) → comes (layers_machine by_bytes) own.state (hint + 1) fate (damage read) ≡ comes
+        (layers_machine judged) own.state (hint + 1) fate (damage read)
+    damage_same Kept read_as.HeaderBad = refl
+    damage_same Dropped read_as.HeaderBad = refl
+    damage_same NotKept read_as.HeaderBad = refl
+    damage_same Kept read = refl
+    damage_same Dropped read = refl
+    damage_same NotKept read = refl
 
-    comes_same : (kept : Bool) (read : ReadingValue) (b : Bool) →
-        comes (layers_machine by_bytes) own.state (hint + 1) kept (coming_by b unit read) ≡ comes (layers_machine judged) own.state (hint + 1) kept
+    comes_same : (fate : Fate) (read : ReadingValue) (b : Bool) →
+        comes (layers_machine by_bytes) own.state (hint + 1) fate (coming_by b unit read) ≡ comes (layers_machine judged) own.state (hint + 1) fate
         (coming_by b unit read)
-    comes_same kept read true = ap (met own.state (hint + 1)) (sound_same kept)
-    comes_same kept read false = damage_same kept read
+    comes_same fate read true = ap (met own.state (hint + 1)) (sound_same fate)
+    comes_same fate read false = damage_same fate read
 
-    receives_same : (kept : Bool) (bytes : List ℕ) → receives (layers_machine by_bytes) own.state hint kept bytes unit ≡ receives
-        (layers_machine judged) own.state hint kept bytes unit
-    receives_same kept bytes =
-        ap (λ x. cond (nat_lt hint own.state.front) (Err HintOrder) x) (comes_same kept (reading bytes) (bytes_eq bytes unit.bytes))
+    receives_same : (fate : Fate) (bytes : List ℕ) → receives (layers_machine by_bytes) own.state hint fate bytes unit ≡ receives
+        (layers_machine judged) own.state hint fate bytes unit
+    receives_same fate bytes =
+        ap (λ x. cond (nat_lt hint own.state.front) (Err HintOrder) x) (comes_same fate (reading bytes) (bytes_eq bytes unit.bytes))
 
   sent_same : (bytes : List ℕ) (r : ReadingValue) → sent_step (layers_machine by_bytes) own.state bytes r ≡ sent_step (layers_machine judged)
       own.state bytes r
@@ -149,8 +159,15 @@ module _ (own other : Half LayersNode LayersUnit) where
   noise_same (read_as.Sound m) = refl
   noise_same read = refl
 
+  packet_same : (r : Result (Option Carried) StepRefusal) →
+      does {K = LayersTruth} own.state (composes by_bytes s r) ≡ does own.state (composes judged s r)
+  packet_same (Ok (Some packet)) = refl
+  packet_same (Ok None) = refl
+  packet_same (Err refusal) = refl
+
   user_same : (event : Event) → user_step (layers_machine by_bytes) own.state event ≡ user_step (layers_machine judged) own.state event
   user_same events.Start = refl
+  user_same (events.Composed packet) = packet_same (content packet)
   user_same event = refl
 
   -- each record becomes the same
@@ -158,12 +175,12 @@ module _ (own other : Half LayersNode LayersUnit) where
   record_same h (Sent bytes) = ap (answered own other) (sent_same bytes (reading bytes))
   record_same h (Noise bytes) = ap (answered own other) (noise_same (reading bytes))
   record_same h (User event) = ap (answered own other) (user_same event)
-  record_same h (Received hint kept bytes) = go (slice_get other.sent hint) refl
+  record_same h (Received hint fate bytes) = go (slice_get other.sent hint) refl
     where
-      go : (o : Option LayersUnit) → slice_get other.sent hint ≡ o → read own (receives (layers_machine by_bytes) own.state hint kept bytes) o ≡ read
-          own (receives (layers_machine judged) own.state hint kept bytes) o
+      go : (o : Option LayersUnit) → slice_get other.sent hint ≡ o → read own (receives (layers_machine by_bytes) own.state hint fate bytes) o ≡ read
+          own (receives (layers_machine judged) own.state hint fate bytes) o
       go None there = refl
-      go (Some unit) there = ap (concluded own) (receives_same h hint unit there kept bytes)
+      go (Some unit) there = ap (concluded own) (receives_same h hint unit there fate bytes)
 
 -- ---- a run
 

@@ -8,9 +8,11 @@ use Rattle.ddcmp_msg.specs.declared.nak_reason.NakReason.{NakReason}
 use Rattle.ddcmp_msg.specs.declared.nak_reason.NakReason.TheVariants.{HeaderCheck, DataCheck}
 use Rattle.two_nodes.specs.Nodes.{Half, World}
 use Rattle.two_nodes.specs.Kept.{IsKept}
+use Rattle.capture.specs.Fates.{is_kept}
 use Rattle.capture.specs.declared.record.Record.{Record}
 use Rattle.capture.specs.declared.record.Record.TheVariants.{Sent, Received, Noise, User}
 use Rattle.capture.specs.declared.event.Event.{Event}
+use Rattle.capture.specs.declared.event.Event.TheVariants.{Boot}
 use Rattle.dna_station.specs.declared.state.State.{State}
 use Rattle.dna_station.specs.declared.state.State.TheVariants.{Halted, Istrt, Astrt, Running}
 use Rattle.dna_station.specs.declared.state.StationEvent.{StationEvent}
@@ -28,7 +30,7 @@ use Rattle.dna_station.specs.Pair.{pair}
 use Rattle.dna_links.proofs.Runs.Sides.{all_pushed}
 use Rattle.dna_node.proofs.Once.Orderly.{starts_in, starts, starts-join}
 use Rattle.dna_station.proofs.Steps.Effects.{sending_stays, by_response, by_packet, by_rep, arrival_stays}
-use Rattle.dna_station.proofs.Steps.Happens.{Happens, ComesOf, Itself, BadHeader, BadData, Nothing, UserEvent, Sending, Receipt, Counted, Unheard}
+use Rattle.dna_station.proofs.Steps.Happens.{Happens, ComesOf, Itself, BadHeader, BadData, Nothing, UserEvent, Boots, Sending, Receipt, Counted, Unheard}
 use Rattle.dna_station.proofs.Steps.Happens.{happens, event_of}
 use Rattle.dna_station.proofs.Bounds.Numbers.{unit_of}
 
@@ -206,6 +208,10 @@ module _ (own other : Half Node SentUnit) (mine : AreBegun own.state.station own
   same_period h r same none left =
       record { of_own = left; of_other = subst (AreBegun other.state.station other.sent) (sym same) theirs; period = let e = none in omega arith }
 
+  halt_leaves : (event : Event) → starts_in (User event) ≡ 0 →
+      LeavesBegun own other (record { state = record own.state { station = after_event own.state.station Halt }; sent = own.sent }) (User event)
+  halt_leaves event none = same_period _ (User event) refl none (event_begun own.state.station own.sent other.state.station.period Halt mine)
+
   event_leaves : (event : StationEvent) →
       LeavesBegun own other (record { state = record own.state { station = after_event own.state.station event }; sent = own.sent })
       (User (event_of event))
@@ -216,7 +222,7 @@ module _ (own other : Half Node SentUnit) (mine : AreBegun own.state.station own
             beside other.state.station other.sent own.state.station.period (own.state.station.period + 1) (omega arith) theirs;
         period = refl;
       }
-  event_leaves Halt = same_period _ (User (event_of Halt)) refl refl (event_begun own.state.station own.sent other.state.station.period Halt mine)
+  event_leaves Halt = halt_leaves (event_of Halt) refl
 
   no_start : (event : Event) → begins event ≡ false → starts_in (User event) ≡ 0
   no_start event e = ap (λ (b : Bool). cond b 1 0) e
@@ -227,12 +233,13 @@ module _ (own other : Half Node SentUnit) (mine : AreBegun own.state.station own
       same_period _ (Noise bytes) refl refl (damage_begun own.state.station own.sent other.state.station.period reason true mine)
   record_leaves r h (Unheard bytes) = same_period _ (Noise bytes) refl refl mine
   record_leaves r h (UserEvent event allowed) = event_leaves event
+  record_leaves r h Boots = halt_leaves Boot refl
   record_leaves r h (Sending bytes m reads allowed) =
       same_period _ (Sent bytes) (sending_stays own.state.station m).period refl
       (sending_begun own.state.station own.sent other.state.station.period bytes m allowed mine)
-  record_leaves r h (Receipt hint kept bytes unit arrival there ahead comes allowed) =
-      same_period _ (Received hint kept bytes) (arrival_stays own.state.station arrival kept).period refl
-      (receipt_begun own.state.station own.sent other.state.station.period own.state.station.period unit bytes arrival kept comes
+  record_leaves r h (Receipt hint fate bytes unit arrival there ahead comes allowed) =
+      same_period _ (Received hint fate bytes) (arrival_stays own.state.station arrival (is_kept fate)).period refl
+      (receipt_begun own.state.station own.sent other.state.station.period own.state.station.period unit bytes arrival (is_kept fate) comes
       (theirs.units hint unit there) mine)
 
 -- ---- in every run

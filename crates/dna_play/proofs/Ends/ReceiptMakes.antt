@@ -9,6 +9,9 @@ use Rattle.ddcmp_msg.specs.Message.{MessageValue}
 use Rattle.ddcmp_msg.specs.Reading.{reading}
 use Rattle.dna_packet.specs.Nsp.{NspValue, DataSegment, LinkService, DataAck, OtherDataAck, ConnectInitiate, ConnectConfirm, DisconnectInitiate}
 use Rattle.dna_packet.specs.Nsp.{DisconnectConfirm}
+use Rattle.capture.specs.declared.fate.Fate.{Fate}
+use Rattle.capture.specs.declared.fate.Fate.TheVariants.{NotKept}
+use Rattle.capture.specs.Fates.{is_kept, is_met}
 use Rattle.capture.specs.declared.record.Record.TheVariants.{Received}
 use Rattle.dna_links.specs.declared.queue.Queues.TheVariants.{Without}
 use Rattle.dna_links.specs.declared.port.LinkTest.{LinkTest}
@@ -92,20 +95,20 @@ module _ (own other : End) (facts : Facts own other) (ahead : own.half.state.fro
   s = own.half.state.station
 
   -- what comes for the unit is met
-  abbrev met_by : Bool → List ℕ → Result LayersNode StepRefusal
-  met_by kept bytes =
-      comes (layers_machine by_bytes) own.half.state (own.passed + 1) kept (coming_by (bytes_eq bytes unit.bytes) unit (reading bytes))
+  abbrev met_by : Fate → List ℕ → Result LayersNode StepRefusal
+  met_by fate bytes =
+      comes (layers_machine by_bytes) own.half.state (own.passed + 1) fate (coming_by (bytes_eq bytes unit.bytes) unit (reading bytes))
 
-  is_made : (kept : Bool) (bytes : List ℕ) (left : LayersNode) → met_by kept bytes ≡ Ok left →
-      advance end_step own.half other.half (Received own.passed kept bytes) ≡ Made (stepped own.half left)
+  is_made : (fate : Fate) (bytes : List ℕ) (left : LayersNode) → met_by fate bytes ≡ Ok left →
+      advance end_step own.half other.half (Received own.passed fate bytes) ≡ Made (stepped own.half left)
   unfolding end_step
-  is_made kept bytes left met_it = rw (there, le-ltb own.passed own.half.state.front ahead, met_it) refl
+  is_made fate bytes left met_it = rw (there, le-ltb own.passed own.half.state.front ahead, met_it) refl
 
   pub damage_made : (d : ShownDamage) (bytes : List ℕ) → bytes_eq bytes unit.bytes ≡ false → reading bytes ≡ read_of d →
-      advance end_step own.half other.half (Received own.passed false bytes)
+      advance end_step own.half other.half (Received own.passed NotKept bytes)
       ≡ Made (left_half own (after_arrival s.station (arrival_of d) false) s.links)
-  damage_made OfHeader bytes differs shows = is_made false bytes _ (rw (shows, differs) refl)
-  damage_made OfData bytes differs shows = is_made false bytes _ (rw (shows, differs) refl)
+  damage_made OfHeader bytes differs shows = is_made NotKept bytes _ (rw (shows, differs) refl)
+  damage_made OfData bytes differs shows = is_made NotKept bytes _ (rw (shows, differs) refl)
 
   pub within : IsWithin s.station unit.message unit.known.station
   within = facts.known.bounded.within own.passed (unit_of_station unit)
@@ -134,9 +137,10 @@ module _ (own other : End) (facts : Facts own other) (ahead : own.half.state.fro
   after kept = record s { station = after_arrival s.station (Sound unit.message unit.known.station) kept }
 
   -- as it was sent, kept only where its packet can be taken; with the links after it
-  pub unit_made : (kept : Bool) → (kept ≡ true → can_take (variables_of own.half) unit.message ≡ true) → (links : Links) →
-      cond kept (keeps by_bytes (after kept) unit.known.carried) (Ok (after kept)) ≡ Ok (record (after kept) { links = links }) →
-      advance end_step own.half other.half (Received own.passed kept unit.bytes)
-      ≡ Made (left_half own (after_arrival s.station (Sound unit.message unit.known.station) kept) links)
-  unit_made kept can links kept_it =
-      is_made kept unit.bytes _ (rw ((bytes_eq-Decides unit.bytes unit.bytes).1 refl, allowed kept can, kept_it) refl)
+  pub unit_made : (fate : Fate) → (is_kept fate ≡ true → can_take (variables_of own.half) unit.message ≡ true) → (links : Links) →
+      let kept = after (is_kept fate) in
+      cond (is_met fate) (keeps by_bytes kept unit.known.carried) (Ok kept) ≡ Ok (record kept { links = links }) →
+      advance end_step own.half other.half (Received own.passed fate unit.bytes)
+      ≡ Made (left_half own (after_arrival s.station (Sound unit.message unit.known.station) (is_kept fate)) links)
+  unit_made fate can links kept_it =
+      is_made fate unit.bytes _ (rw ((bytes_eq-Decides unit.bytes unit.bytes).1 refl, allowed (is_kept fate) can, kept_it) refl)

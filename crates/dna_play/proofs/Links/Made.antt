@@ -1,21 +1,26 @@
 -- What the user of an end's links may do is done: where the rule of a step holds, its event is made.
-use Rattle.std.proofs.Common.{◌≡◌, refl, ℕ, ◌<◌, Bool, true, ◌&&◌, Some, None, List, Ok, ap₂, arith}
+use Rattle.std.proofs.Common.{◌≡◌, refl, ℕ, ◌<◌, Bool, true, ◌&&◌, Some, None, List, Ok, ap, ap₂, arith, subst, sym}
 use Rattle.std.specs.Prelude.{slice_get}
 use Rattle.std.proofs.lemmas.Bool.{and_parts}
+use Rattle.std.proofs.lemmas.Option.{same_Some}
 use Rattle.capture.specs.declared.event.Event.{Event}
+use Rattle.capture.specs.declared.event.Event.TheVariants as events
 use Rattle.capture.specs.declared.record.Record.TheVariants.{User}
 use Rattle.dna_links.specs.declared.queue.Queues.TheVariants.{Without}
 use Rattle.dna_links.specs.declared.port.Phase.{Phase}
 use Rattle.dna_links.specs.declared.port.Phase.TheVariants.{Disconnecting}
 use Rattle.dna_links.specs.declared.port.LinkTest.TheVariants.{LiveAt, CalledBy}
-use Rattle.dna_links.specs.LookUps.{is_live, is_at, is_connected, takes_messages}
+use Rattle.dna_links.specs.LookUps.{is_live, is_at, is_calling, is_connected, takes_messages}
 use Rattle.dna_links.specs.Links.{LinkOf, number_of, begun, changed, in_phase, with_segments}
-use Rattle.dna_links.specs.User.{LinkEventValue, Open, Accept, Reject, In, Close}
+use Rattle.dna_links.specs.Queues.{ended}
+use Rattle.dna_links.specs.User.{LinkEventValue, Open, In, Close, Abort, Boot}
 use Rattle.dna_links.specs.inner.Forms.{opened, gives, answers}
 use Rattle.dna_links.specs.inner.Forms as forms
 use Rattle.dna_links.specs.TrueSegments.{TrueSegments, true_segments}
 use Rattle.dna_links.specs.TrueLinks.{Links, links_user}
 use Rattle.dna_node.specs.Content.{link_event}
+use Rattle.dna_node.specs.Layers.{Layers, layers_user, with_links}
+use Rattle.dna_node.specs.TagRules.{by_bytes}
 use Rattle.dna_play.specs.HasLine.{has_line}
 use Rattle.dna_play.specs.Played.{end_step, makes}
 use Rattle.dna_play.proofs.Played.Steps.{PlayHalf}
@@ -28,12 +33,27 @@ use Rattle.dna_play.proofs.Ends.TrueEnd.{links_of}
 
 -- ---- an event is made
 
+-- what is of the links alone
+abbrev pub IsOfLinks : LinkEventValue → Type 0
+IsOfLinks Boot = ⊥
+IsOfLinks value = Unit {0}
+
+alone_is : (s : Layers) (event : Event) (value : LinkEventValue) → link_event event ≡ Some value → IsOfLinks value →
+    layers_user by_bytes s event ≡ with_links s (links_user Without s.links value)
+alone_is s events.Boot value is alone = absurd (subst IsOfLinks (sym (same_Some Boot value is)) alone)
+alone_is s events.Start value is alone = absurd cc
+alone_is s events.Halt value is alone = absurd cc
+alone_is s (events.Composed packet) value is alone = absurd cc
+alone_is s (events.Interrupt link bytes) value is alone = absurd cc
+alone_is s (events.Interrupted link bytes) value is alone = absurd cc
+alone_is s event value is alone = ap (λ (v : LinkEventValue). with_links s (links_user Without s.links v)) (same_Some _ value is)
+
 -- one that the links take, and that has a line
-pub event_makes : (own other : PlayHalf) (event : Event) (value : LinkEventValue) (left : Links) → link_event event ≡ Some value →
+pub event_makes : (own other : PlayHalf) (event : Event) (value : LinkEventValue) (left : Links) → link_event event ≡ Some value → IsOfLinks value →
     has_line (User event) ≡ true →
     links_user Without (links_of own) value ≡ Ok left → makes own other (User event) ≡ Some (with_left own left)
 unfolding end_step
-event_makes own other event value left is lined does_it = rw (lined, is, does_it) refl
+event_makes own other event value left is alone lined does_it = rw (lined, alone_is own.state.station event value is alone, does_it) refl
 
 -- ---- the links take it
 
@@ -78,3 +98,8 @@ pub close_goes : (s : Links) (address number : ℕ) (link : LinkOf TrueSegments)
     is_connected link.port.phase ≡ true → links_user Without s (Close address) ≡ Ok (changed number (in_phase Disconnecting link) s)
 close_goes s address number link found may =
     right_may s (LiveAt address) is_connected (λ number link. Ok (changed number (in_phase Disconnecting link) s)) number link found may
+
+pub abort_goes : (s : Links) (address number : ℕ) (link : LinkOf TrueSegments) → IsFound (LiveAt address) s number link →
+    is_calling link.port.phase ≡ true → links_user Without s (Abort address) ≡ Ok (changed number (ended true_segments link) s)
+abort_goes s address number link found may =
+    right_may s (LiveAt address) is_calling (λ number link. Ok (changed number (ended true_segments link) s)) number link found may

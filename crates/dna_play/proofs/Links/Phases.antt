@@ -24,6 +24,9 @@ Takes = Calling ∷ Confirming ∷ Running ∷ []
 abbrev pub Connected : List Phase
 Connected = Confirming ∷ Running ∷ []
 
+abbrev pub Calls : List Phase
+Calls = Calling ∷ []
+
 abbrev pub Retried : List Phase
 Retried = Calling ∷ Confirming ∷ Disconnecting ∷ Running ∷ []
 
@@ -43,6 +46,9 @@ connected_is phase e = absurd cc
 
 pub connected_when : (phase : Phase) → IsOneOf Connected phase → (is_connected phase ≡ true) × (is_live phase ≡ true)
 connected_when phase one = (one_passes is_connected Connected phase refl one, one_passes is_live Connected phase refl one)
+
+pub calls_when : (phase : Phase) → IsOneOf Calls phase → (is_calling phase ≡ true) × (is_live phase ≡ true)
+calls_when phase one = (one_passes is_calling Calls phase refl one, one_passes is_live Calls phase refl one)
 
 pub retries_live : (phase : Phase) → IsOneOf Retried phase → is_live phase ≡ true
 retries_live phase one = one_passes is_live Retried phase refl one

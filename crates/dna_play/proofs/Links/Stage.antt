@@ -1,14 +1,16 @@
 -- What holds of the links of an end of the player is kept by each thing that happens: each that lives is kept and fits, what it owes goes with it,
 -- and each DC names a link that is over.
-use Rattle.std.proofs.Common.{◌≡◌, ℕ, ◌+◌, ◌<◌, ◌≤◌, ◌^◌, true, false, Some, List, drop, sym, subst, ◌∙◌, arith}
+use Rattle.std.proofs.Common.{◌≡◌, ℕ, ◌+◌, ◌<◌, ◌≤◌, ◌^◌, true, false, Some, List, [], ◌∷◌, map, drop, refl, sym, subst, ◌∙◌, arith}
 use Rattle.std.specs.Prelude.{slice_get}
 use Rattle.two_nodes.proofs.NumberedSteps.{slice_get-drop}
 use Rattle.dna_links.specs.LookUps.{is_live}
 use Rattle.dna_links.specs.Links.{LinkOf, begun, changed}
-use Rattle.dna_links.specs.TrueSegments.{TrueSegments}
+use Rattle.dna_links.specs.Queues.{booted, booted_link}
+use Rattle.dna_links.specs.declared.queue.Queues.TheVariants.{Without}
+use Rattle.dna_links.specs.TrueSegments.{TrueSegments, true_segments}
 use Rattle.dna_links.specs.TrueLinks.{Links}
 use Rattle.dna_play.specs.LinkOwed.{LinkOwed, EndConfirm}
-use Rattle.dna_play.specs.StoredEnd.{StoredLinks}
+use Rattle.dna_play.specs.StoredEnd.{StoredLinks, no_stored_links}
 use Rattle.dna_play.specs.StoredLinks as keeping
 use Rattle.dna_links.proofs.Runs.Sides.{all_pushed, all_set}
 use Rattle.dna_node.proofs.Once.Addresses.{LinkList}
@@ -16,7 +18,7 @@ use Rattle.dna_play.proofs.Links.Lists.{set_back}
 use Rattle.dna_play.proofs.Links.Pays.{OwedFits, end_of}
 use Rattle.dna_play.proofs.Links.Confirms.{IsDone, IsPast}
 use Rattle.dna_play.proofs.Links.Goes.{Goes, segments_go, stays_as_it_is}
-use Rattle.dna_play.proofs.Links.Keeps.{Keeps, At, IsKept, is_kept, link_there, keeps_set, keeps_no_more, keeps_begun}
+use Rattle.dna_play.proofs.Links.Keeps.{Keeps, NoLink, Over, At, IsKept, is_kept, link_there, keeps_set, keeps_no_more, keeps_begun}
 
 -- its addresses and its reason are words
 pub record IsSmall (confirm : EndConfirm) : Type 0 where
@@ -37,6 +39,14 @@ AllConfirms links most confirms = (i : ℕ) (confirm : EndConfirm) → slice_get
 pub record LinkHolds (links : LinkList) (most : ℕ) (kept : StoredLinks) : Type 0 where
   pub keeps : Keeps links kept.links
   pub confirms : AllConfirms links most kept.confirms
+
+-- after a boot none lives, and nothing is kept
+keeps_none : (links : LinkList) → Keeps (map (booted_link true_segments Without) links) []
+keeps_none [] = NoLink
+keeps_none (l ∷ links) = Over refl (keeps_none links)
+
+pub booted_holds : (s : Links) → LinkHolds (booted true_segments Without s).links 0 no_stored_links
+booted_holds s = record { keeps = keeps_none s.links; confirms = λ i confirm at. absurd cc }
 
 module _ (s : Links) (most : ℕ) (kept : StoredLinks) (h : LinkHolds s.links most kept) where
   confirms_left : (left : LinkList) (top : ℕ) → most ≤ top →

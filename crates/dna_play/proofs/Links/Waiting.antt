@@ -95,7 +95,7 @@ abbrev pub waiting : List LinkEnd → ℕ
 waiting [] = 0
 waiting (link ∷ links) = wait link + waiting links
 
-fewer_wait : (links : List LinkEnd) (place : ℕ) → waiting (remove links place) ≤ waiting links
+pub fewer_wait : (links : List LinkEnd) (place : ℕ) → waiting (remove links place) ≤ waiting links
 fewer_wait [] zero = omega arith
 fewer_wait [] (suc place) = omega arith
 fewer_wait (link ∷ links) zero = omega arith

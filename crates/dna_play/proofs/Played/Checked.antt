@@ -21,7 +21,7 @@ IsCheckedRun p played = Run layers_pair (layers_start (first_head p) (second_hea
 
 pub checked : (p : Progress) (played : Played) → Going p played → p.starts_a ≤ 1 → p.starts_b ≤ 1 → IsCheckedRun p played
 checked p played g few_a few_b = is_checked_run (first_head p) (second_head p) played.ends.of_a played.ends.of_b g.made.run
-    (orderly played.ends.of_a g.order_a few_a) (orderly played.ends.of_b g.order_b few_b)
+    (orderly played.ends.of_a (g.order_a few_a) few_a) (orderly played.ends.of_b (g.order_b few_b) few_b)
 
 module _ (script : Script) where
   pub whole_is_run : (played : Played) → play script ≡ Ok played → StartsOnce script.steps → IsCheckedRun (progress_of script script.steps) played

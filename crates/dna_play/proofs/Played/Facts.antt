@@ -131,7 +131,7 @@ module _ (p : Progress) (node_a : IsNode p.node_a) (node_b : IsNode p.node_b) (f
     lines = sent_lined run g.made.lines_a g.made.lines_b (λ k unit at. absurd cc) (λ k unit at. absurd cc)
 
     addresses : BothAddressed p.node_a p.node_b p.node_b p.node_a links_world (link_events both.of_a) (link_events both.of_b)
-    addresses = reached_addressed p.node_a p.node_b p.node_b p.node_a met.joined.joined.reached g.order_a.rise g.order_b.rise
+    addresses = reached_addressed p.node_a p.node_b p.node_b p.node_a met.joined.joined.reached (g.order_a few_a).rise (g.order_b few_b).rise
 
     known_a : Known both.a both.b
     known_a =
@@ -139,11 +139,11 @@ module _ (p : Progress) (node_a : IsNode p.node_a) (node_b : IsNode p.node_b) (f
         let head = (heads_stay run).0 in
         record {
           ready = ready_a (first_head p) (second_head p) (played_of both).nodes both.of_a both.of_b run
-              (orderly both.of_a g.order_a few_a) (orderly both.of_b g.order_b few_b);
+              (orderly both.of_a (g.order_a few_a) few_a) (orderly both.of_b (g.order_b few_b) few_b);
           bounded = sound_bounded (cut_half stations both.a.half) (cut_half stations both.b.half) order.of_a.sound order.of_b.sound;
           numbers = numbers_of links_world.a links_world.b bounds.0;
-          addressed = subst (AreAddressed (links_of both.a.half).links (links_of both.b.half).links) g.order_a.top addresses.of_a.links;
-          others = subst (AreAddressed (links_of both.b.half).links (links_of both.a.half).links) g.order_b.top addresses.of_b.links;
+          addressed = subst (AreAddressed (links_of both.a.half).links (links_of both.b.half).links) (g.order_a few_a).top addresses.of_a.links;
+          others = subst (AreAddressed (links_of both.b.half).links (links_of both.a.half).links) (g.order_b few_b).top addresses.of_b.links;
           head_own = subst (λ (x : Head). x.own < 2 ^ 16) (sym head) (word _ node_a);
           head_peer = subst (λ (x : Head). x.peer < 2 ^ 16) (sym head) (word _ node_b);
           node = addresses.at_a.node_is ∙ ap (λ (x : Head). x.own) (sym head);
@@ -170,7 +170,7 @@ module _ (p : Progress) (node_a : IsNode p.node_a) (node_b : IsNode p.node_b) (f
   pub later_a : (both : TrueEnds) → Going p (played_of both) → Later both.a both.b
   later_a both g e records makes order = facts_a (record both { a = e; of_a = both.of_a ++ records }) (record {
     made = more_of_a _ both.b.half both.of_a both.of_b makes g.made;
-    order_a = subst (λ (n : ℕ). InOrder 0 n (both.of_a ++ records) e.addresses) (add-zero p.starts_a)
-        (order_join 0 both.a.addresses e.addresses p.starts_a 0 both.of_a records g.order_a order);
+    order_a = λ once. subst (λ (n : ℕ). InOrder 0 n (both.of_a ++ records) e.addresses) (add-zero p.starts_a)
+        (order_join 0 both.a.addresses e.addresses p.starts_a 0 both.of_a records (g.order_a once) order);
     order_b = g.order_b;
   })

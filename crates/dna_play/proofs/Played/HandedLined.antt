@@ -56,6 +56,8 @@ record_lined (User (events.Reject far own)) h = (h.spelling.numbers.1, tt)
 record_lined (User (events.In own message)) h = (record { bytes = h.spelling.bytes; short = h.short }, tt)
 record_lined (User (events.Up own message)) h = (tt, tt)
 record_lined (User (events.Close own)) h = (tt, tt)
+record_lined (User (events.Abort own)) h = (tt, tt)
+record_lined (User events.Boot) h = (tt, tt)
 record_lined r h = tt
 
 pub events_lined : (records : List Record) → AllByRecursion IsRecord records → EventsLined (link_events records)
@@ -108,10 +110,9 @@ address_lined list own held (Some place) h e lined = go h.holds
     of_event : IsLink h.address
     of_event = given_lined h.event h.address h.gives (there EventLined list place h.event lined h.there)
 
-    go : ((held ≡ Some h.address) × (given_again h.address (behind place list) ≡ false)) ⊎
-        ((held ≡ None) × (given_again h.address (behind place list) ≡ true)) → IsLink own
+    go : ((held ≡ Some h.address) × (given_again h.address (behind place list) ≡ false)) ⊎ (held ≡ None) → IsLink own
     go (inl is) = subst IsLink (same_Some h.address own (sym is.0 ∙ e)) of_event
-    go (inr is) = let none : held ≡ None = is.0 in absurd cc
+    go (inr none) = absurd cc
 
 -- ---- what is whole
 

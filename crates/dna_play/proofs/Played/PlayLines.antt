@@ -6,6 +6,7 @@ use Rattle.std.proofs.lemmas.Bool.Decides.{Decides-and}
 use Rattle.capture.specs.declared.limit.TheConstants.{MAX_HINT, MAX_LINK}
 use Rattle.capture.specs.declared.event.Event.{Event}
 use Rattle.capture.specs.declared.event.Event.TheVariants.{Start, Halt, Open, Accept, Reject, In, Up, Close}
+use Rattle.capture.specs.declared.event.Event.TheVariants.{Boot, Abort, Composed, Interrupt, Interrupted}
 use Rattle.capture.specs.declared.record.Record.{Record}
 use Rattle.capture.specs.declared.record.Record.TheVariants.{Received, User}
 use Rattle.capture.specs.Range.{IsLink, EventNumbersFit, NumbersFit, IsRecord, record_bytes, most_bytes}
@@ -34,9 +35,14 @@ event_decides (Reject partner link) = Decides-and (is_link partner) (is_link lin
 event_decides (In link bytes) = link_decides link
 event_decides (Up link bytes) = link_decides link
 event_decides (Close link) = link_decides link
+event_decides Boot = none tt
+event_decides (Abort link) = link_decides link
+event_decides (Composed bytes) = none tt
+event_decides (Interrupt link bytes) = link_decides link
+event_decides (Interrupted link bytes) = link_decides link
 
 numbers_decide : (r : Record) → (numbers_fit r ≡ true) ↔ NumbersFit r
-numbers_decide (Received hint kept bytes) = (leb-true hint MAX_HINT, le-leb hint MAX_HINT)
+numbers_decide (Received hint fate bytes) = (leb-true hint MAX_HINT, le-leb hint MAX_HINT)
 numbers_decide (User event) = event_decides event
 numbers_decide r = none tt
 

@@ -1,6 +1,6 @@
 -- What a script plays is a run of nodes that ask no rule on tags, and each record has a line; it starts each side so often as its steps do, and gives
 -- link addresses in order.
-use Rattle.std.proofs.Common.{◌≡◌, Bool, true, Some, None, List, [], ◌∷◌, ◌++◌, Ok, Err, refl, ap, ◌∙◌, cond, append_assoc, append-nil}
+use Rattle.std.proofs.Common.{◌≡◌, ◌≤◌, Bool, true, Some, None, List, [], ◌∷◌, ◌++◌, Ok, Err, refl, ap, ◌∙◌, cond, append_assoc, append-nil, arith}
 use Rattle.std.specs.List.{AllByRecursion}
 use Rattle.std.proofs.lemmas.Option.{same_Some}
 use Rattle.two_nodes.specs.Nodes.{World, Run, Done, Outcome, Made, advance}
@@ -80,11 +80,11 @@ first_head p = record { own = p.node_a; peer = p.node_b }
 abbrev pub second_head : Progress → Head
 second_head p = record { own = p.node_b; peer = p.node_a }
 
--- with so many starts of each side so far, and addresses in order
+-- with so many starts of each side so far, and addresses in order where it is one at most
 pub record Going (p : Progress) (so_far : Played) : Type 0 where
   pub made : AreMade (layers_start (first_head p) (second_head p)) so_far.nodes so_far.ends.of_a so_far.ends.of_b
-  pub order_a : InOrder 0 p.starts_a so_far.ends.of_a so_far.ends.pair.a.end.addresses
-  pub order_b : InOrder 0 p.starts_b so_far.ends.of_b so_far.ends.pair.b.end.addresses
+  pub order_a : p.starts_a ≤ 1 → InOrder 0 p.starts_a so_far.ends.of_a so_far.ends.pair.a.end.addresses
+  pub order_b : p.starts_b ≤ 1 → InOrder 0 p.starts_b so_far.ends.of_b so_far.ends.pair.b.end.addresses
 
 pub going_exchange : (p : Progress) (so_far : Played) → Going p so_far → Going (exchanged_progress p) (exchanged so_far)
 going_exchange p so_far g = record {
@@ -98,16 +98,16 @@ pub going_keeps : (p : Progress) (so_far : Played) {next : Played} (step : StepV
 going_keeps p so_far step (OfStep made half is makes) g =
     let own = so_far.ends.pair.a.end in record {
       made = more_of_a _ so_far.nodes.b so_far.ends.of_a so_far.ends.of_b makes g.made;
-      order_a = order_join 0 own.addresses made.end.addresses p.starts_a (starts_now step) so_far.ends.of_a made.records g.order_a
-          (stored_leaves own so_far.ends.pair.a.coming step made is).order;
+      order_a = λ once. order_join 0 own.addresses made.end.addresses p.starts_a (starts_now step) so_far.ends.of_a made.records
+          (g.order_a (omega arith)) ((stored_leaves own so_far.ends.pair.a.coming step made is).order (omega arith));
       order_b = g.order_b;
     }
 
 pub not_begun_going : (script : Script) → Going (progress_of script []) (not_begun script)
 not_begun_going script = record {
   made = record { run = Done; lines_a = tt; lines_b = tt };
-  order_a = nothing_in_order 0;
-  order_b = nothing_in_order 0;
+  order_a = λ once. nothing_in_order 0;
+  order_b = λ once. nothing_in_order 0;
 }
 
 pub reached_going : {script : Script} {first later : List ScriptStep} {so_far : Played} → Reached script first later so_far →

@@ -8,6 +8,9 @@ use Rattle.ddcmp_msg.specs.Reading.{ReadingValue, HeaderBad, DataBad, reading}
 use Rattle.ddcmp_msg.specs.Spelling.{spelling}
 use Rattle.capture.specs.declared.event.Event.{Event}
 use Rattle.capture.specs.declared.event.Event.TheVariants as events
+use Rattle.capture.specs.declared.fate.Fate.{Fate}
+use Rattle.capture.specs.declared.fate.Fate.TheVariants.{Dropped}
+use Rattle.capture.specs.Fates.{is_met}
 use Rattle.capture.specs.declared.limit.TheConstants.{MAX_LINK, MAX_HINT, MAX_UNIT, MAX_MESSAGE}
 use Rattle.capture.specs.declared.record.Record.{Record}
 use Rattle.capture.specs.declared.record.Record.TheVariants.{Sent, Noise, User}
@@ -16,7 +19,7 @@ use Rattle.dna_station.specs.declared.state.StationEvent.TheVariants as station_
 use Rattle.dna_station.specs.Table.{user_refusal}
 use Rattle.dna_links.specs.declared.port.Phase.TheVariants.{Confirming, Disconnecting}
 use Rattle.dna_links.specs.declared.port.LinkTest.TheVariants.{LiveAt, CalledBy}
-use Rattle.dna_links.specs.LookUps.{is_connected, takes_messages}
+use Rattle.dna_links.specs.LookUps.{is_calling, is_connected, takes_messages}
 use Rattle.dna_play.specs.Script as script
 use Rattle.dna_play.specs.Script.{StepValue}
 use Rattle.dna_play.specs.PlayRun.{starts_now}
@@ -30,10 +33,10 @@ use Rattle.dna_play.specs.StoredEnd.{StoredEnd}
 use Rattle.dna_play.specs.StoredStation as stations
 use Rattle.dna_play.specs.StoredLinks.{answered, opened}
 use Rattle.dna_play.specs.StoredPlay.{StoredStepped, unless_refused, answers, if_so, timed, retrying, sends_message, sends_choice, all_short}
-use Rattle.dna_play.specs.StoredPlay.{up_address, arrived, receives, hears_as, with_next, stored_plays}
+use Rattle.dna_play.specs.StoredPlay.{up_address, arrived, kept_or_not, receives, hears_as, with_next, stored_plays}
 use Rattle.dna_play.specs.StoredPlayed.{is_of_line}
 use Rattle.dna_play.proofs.Links.Looked.{looked}
-use Rattle.dna_play.proofs.Links.Waiting.{NoMore, arrived_waits, begun_waits, changed_waits, choice_waits, wait, waiting}
+use Rattle.dna_play.proofs.Links.Waiting.{NoMore, arrived_waits, begun_waits, changed_waits, choice_waits, fewer_wait, wait, waiting}
 use Rattle.dna_play.proofs.Played.Order.{InOrder, ups_in_order}
 
 -- how many units a step takes off the line
@@ -49,7 +52,7 @@ one_off step = go (is_of_line step)
 
 -- a step that starts its end so often, and takes so many units off the line, leaves this
 pub record LeavesSo (e : StoredEnd) (coming : List (List ℕ)) (starts units : ℕ) (made : StoredStepped) : Type 0 where
-  pub order : InOrder e.addresses starts made.records made.end.addresses
+  pub order : starts ≤ 1 → InOrder e.addresses starts made.records made.end.addresses
   pub passed : made.end.passed ≡ e.passed + units
   pub there : units ≤ length coming
   -- its records, with the pieces that wait behind it, are at most two more than those that waited
@@ -87,12 +90,12 @@ module _ (e : StoredEnd) (coming : List (List ℕ)) where
 
   record_leaves : (starts : ℕ) (end : StoredEnd) (sent : List (List ℕ)) (r : Record) → InOrder e.addresses starts (r ∷ []) end.addresses →
       end.passed ≡ e.passed → NoMore e.links end.links → LeavesSo e coming starts 0 (record { end = end; sent = sent; records = r ∷ [] })
-  record_leaves starts end sent r order same few = record { order = order; passed = omega arith; there = omega arith; few = omega arith }
+  record_leaves starts end sent r order same few = record { order = λ once. order; passed = omega arith; there = omega arith; few = omega arith }
 
   silent_leaves : (end : StoredEnd) (units : ℕ) → end.addresses ≡ e.addresses → end.passed ≡ e.passed + units → units ≤ length coming →
       NoMore e.links end.links → LeavesSo e coming 0 units (record { end = end; sent = []; records = [] })
   silent_leaves end units stays passed there few =
-      record { order = record { counted = refl; rise = tt; top = omega arith }; passed = passed; there = there; few = omega arith }
+      record { order = λ once. record { counted = refl; rise = tt; top = omega arith }; passed = passed; there = there; few = omega arith }
 
   debt_leaves : (o : Option Debt) → IfMade Stays (timed e o)
   debt_leaves None = tt
@@ -138,14 +141,15 @@ module _ (e : StoredEnd) (coming : List (List ℕ)) where
       go [] all = tt
       go (bytes ∷ later) all = all (omega arith) bytes
 
-  receives_leaves : 1 ≤ length coming → (bytes : List ℕ) (read : ReadingValue) (kept : Bool) → IfMade Passes (receives e bytes read kept)
-  receives_leaves there bytes read kept =
-      let address = up_address (carried kept read) in let messages = (arrived (carried kept read) e.links).messages in
+  receives_leaves : 1 ≤ length coming → (bytes : List ℕ) (read : ReadingValue) (fate : Fate) → IfMade Passes (receives e bytes read fate)
+  receives_leaves there bytes read fate =
+      let message = carried (is_met fate) read in
+      let address = up_address message in let messages = (arrived message e.links).messages in
       let rest = ups_in_order e.addresses address messages in let c = rest.counted in
       let n = length-map messages (λ (message : List ℕ). User (events.Up address message)) in
-      let more = arrived_waits e.links (carried kept read) in
+      let more = arrived_waits e.links message in
       test_case Passes (nat_le e.passed MAX_HINT) _ BadStep (λ hint. test_case Passes (all_short messages) _ BadStep (λ short. record {
-        order = record { counted = omega arith; rise = rest.rise; top = rest.top };
+        order = λ once. record { counted = omega arith; rise = rest.rise; top = rest.top };
         passed = refl;
         there = there;
         few = omega arith;
@@ -158,17 +162,21 @@ module _ (e : StoredEnd) (coming : List (List ℕ)) where
   plays_leave script.Start = unless_case (LeavesSo e coming 1 0) (user_refusal e.station.variables.state station_events.Start) _
       (record_leaves 1 _ [] (User events.Start) (record { counted = refl; rise = tt; top = refl }) refl (omega arith))
   plays_leave script.Halt = record_leaves 0 _ [] (User events.Halt) (record { counted = refl; rise = tt; top = refl }) refl (omega arith)
+  plays_leave script.Boot =
+      record { order = λ once. absurd (omega arith); passed = omega arith; there = omega arith; few = omega arith }
   plays_leave script.Timer = debt_leaves (timer_debt e.station.variables.state e.station.variables)
   plays_leave script.Send = choice_leaves (choice e.station.variables e.station.owed (link_choice e.links.confirms e.links.links))
   plays_leave script.Deliver =
-      unit_case _ (λ there bytes. receives_leaves there bytes (reading bytes) (stations.keeps true (reading bytes) e.station))
+      unit_case _ (λ there bytes. receives_leaves there bytes (reading bytes) (kept_or_not (stations.keeps true (reading bytes) e.station)))
   plays_leave script.Refuse =
-      unit_case _ (λ there bytes. receives_leaves there bytes (reading bytes) (stations.keeps false (reading bytes) e.station))
+      unit_case _ (λ there bytes. receives_leaves there bytes (reading bytes) (kept_or_not (stations.keeps false (reading bytes) e.station)))
+  plays_leave script.Drop = unit_case _ (λ there bytes.
+      so_case Passes (stations.can_keep (reading bytes) e.station) _ (receives_leaves there bytes (reading bytes) Dropped))
   plays_leave script.Lose =
       unit_case _ (λ there bytes. test_case Passes (nat_le e.passed MAX_HINT) _ BadStep (λ hint. silent_leaves _ 1 refl refl there (omega arith)))
   plays_leave (script.Damage place value) = unit_case _ (λ there bytes. let hurt = damaged place value bytes in
       test_case Passes (is_damage place value bytes) _ BadStep
-      (λ is. receives_leaves there hurt (reading hurt) (stations.keeps true (reading hurt) e.station)))
+      (λ is. receives_leaves there hurt (reading hurt) (kept_or_not (stations.keeps true (reading hurt) e.station))))
   plays_leave (script.Noise bytes) = so_case Stays (nat_le (length bytes) MAX_UNIT) _ (noise_leaves bytes (reading bytes))
   plays_leave script.Open = test_case Stays (nat_lt e.addresses MAX_LINK) _ Full (λ less.
       record_leaves 0 _ [] (User (events.Open (e.addresses + 1))) (record { counted = refl; rise = (omega arith, tt); top = refl }) refl
@@ -185,6 +193,10 @@ module _ (e : StoredEnd) (coming : List (List ℕ)) where
       so_case Stays (is_connected link.port.phase) _
       (record_leaves 0 _ [] (User (events.Close own)) (record { counted = refl; rise = (tt, tt); top = refl }) refl
       (changed_waits e.links place link _ at refl)))
+  plays_leave (script.Abort own) = looked (IfMade Stays) (LiveAt own) e.links (Err BadStep) _ tt (λ place link at passed.
+      so_case Stays (is_calling link.port.phase) _
+      (record_leaves 0 _ [] (User (events.Abort own)) (record { counted = refl; rise = (tt, tt); top = refl }) refl
+      (fewer_wait e.links.links place)))
   plays_leave (script.Retry own) = looked (IfMade Stays) (LiveAt own) e.links (Err BadStep) _ tt
       (λ place link at passed. retry_leaves place link (retried link.port.phase) at)
 

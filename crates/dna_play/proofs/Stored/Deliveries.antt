@@ -70,7 +70,7 @@ gets_made other address number (message ∷ later) half l lined there owns only 
     with_found s (HasAddress address) number l (Err NoLink)
     (λ number link. forms.delivered true_segments number link s (true_segments.delivers message link.segments))
     (found_at s (HasAddress address) number l there owns only) ∙ ap (forms.delivered true_segments number l s) d.does in
-    First (event_makes half other (events.Up address message) (of_links.Up address message) left refl lined.0 does)
+    First (event_makes half other (events.Up address message) (of_links.Up address message) left refl tt lined.0 does)
     (subst (λ (x : Links). MakesAll other (with_left half left) (ups address later) (with_left half x))
     (rw (set-set s.links number k (with_segments (segments_got k.segments later) k), more_got l.segments message later d.w d.counted) refl)
     (gets_made other address number later (with_left half left) k lined.1 (set_same s.links number l k there) owns

@@ -1,5 +1,5 @@
 -- What the user of an end of the player does with a link that has an address, and the timer of a link.
-use Rattle.std.proofs.Common.{◌≡◌, ℕ, true, Option, Some, None, List, length, Result, Err, arith, refl, sym, ap, ◌∙◌, subst, le-leb, ◌&&◌}
+use Rattle.std.proofs.Common.{◌≡◌, ℕ, true, Option, Some, None, List, length, Result, Err, arith, inl, refl, sym, ap, ◌∙◌, subst, le-leb, ◌&&◌}
 use Rattle.std.specs.Prelude.{nat_le, slice_get}
 use Rattle.std.proofs.lemmas.Bool.{and_parts}
 use Rattle.std.proofs.lemmas.Option.{same_Some}
@@ -9,6 +9,7 @@ use Rattle.capture.specs.declared.limit.TheConstants.{MAX_MESSAGE}
 use Rattle.capture.specs.declared.record.Record.TheVariants.{User}
 use Rattle.dna_links.specs.Links.{LinkOf, changed, in_phase, with_segments}
 use Rattle.dna_links.specs.LookUps.{takes_messages, is_live, is_at}
+use Rattle.dna_links.specs.Queues.{ended}
 use Rattle.dna_links.specs.TrueSegments.{TrueSegments, true_segments}
 use Rattle.dna_links.specs.TrueLinks.{Links}
 use Rattle.dna_links.specs.User as of_links
@@ -18,7 +19,7 @@ use Rattle.dna_links.specs.declared.port.Phase.TheVariants.{Disconnecting}
 use Rattle.dna_links.specs.declared.port.Port.{Port}
 use Rattle.dna_play.specs.LinkOwed.{LinkOwed, DisconnectDuty, retried, with_duty, same_phase, unless_left}
 use Rattle.dna_play.specs.NextSent.{LinkEnd}
-use Rattle.dna_play.specs.Script.{StepValue, Close, Retry, In}
+use Rattle.dna_play.specs.Script.{StepValue, Close, Abort, Retry, In}
 use Rattle.dna_play.specs.StepRule.{IsOneOf, HasLink}
 use Rattle.dna_play.specs.Stop.{BadStep, Stop}
 use Rattle.dna_play.specs.StoredLinks as stored_link
@@ -27,15 +28,15 @@ use Rattle.dna_play.specs.StoredPlay as keeping
 use Rattle.dna_links.proofs.Runs.Reads.{at_is}
 use Rattle.dna_links.proofs.Tables.Outcomes.{IsFound}
 use Rattle.dna_play.proofs.Played.Steps.{Nothing}
-use Rattle.dna_play.proofs.Links.Goes.{segments_go, handed_goes, connected_goes, stays_as_it_is}
+use Rattle.dna_play.proofs.Links.Goes.{segments_go, handed_goes, connected_goes, ended_goes, stays_as_it_is}
 use Rattle.dna_play.proofs.Links.Keeps.{At, is_kept, link_there, kept_there, kept_of, live_at_lives, look}
 use Rattle.dna_play.proofs.Played.PlayLines.{bare_line}
-use Rattle.dna_play.proofs.Links.Made.{in_goes, close_goes, live_found}
+use Rattle.dna_play.proofs.Links.Made.{in_goes, close_goes, abort_goes, live_found}
 use Rattle.dna_play.proofs.Links.Owing.{still_same, still_fits, duty_fits, left_fits}
 use Rattle.dna_play.proofs.Links.Pays.{end_of, OwedFits}
-use Rattle.dna_play.proofs.Links.Phases.{Takes, Connected, Retried, takes_is, takes_when, connected_is, connected_when, retries_live, IsRetried}
-use Rattle.dna_play.proofs.Links.Phases.{retried_is}
-use Rattle.dna_play.proofs.Links.Stage.{set_holds, owed_holds}
+use Rattle.dna_play.proofs.Links.Phases.{Takes, Connected, Calls, Retried, calling_is, calls_when, takes_is, takes_when, connected_is, connected_when}
+use Rattle.dna_play.proofs.Links.Phases.{retries_live, IsRetried, retried_is}
+use Rattle.dna_play.proofs.Links.Stage.{set_holds, end_holds, owed_holds}
 use Rattle.dna_play.proofs.Ends.Stage.{kept_stage, retried_fits}
 use Rattle.dna_play.proofs.Ends.TrueEnd.{stored, End, links_of}
 use Rattle.dna_play.proofs.Stored.Made.{s, known, event_right}
@@ -112,7 +113,7 @@ module _ (own other : End) (now : StoredNow own other) where
       let go = segments_go own.addresses l _ (handed_goes l.segments message (bytes_tested message lined.spelling.bytes)) in
       let in_order = ((known own other now).numbers n l found.there).0 in
       let owes = subst (OwedFits left) (still_same l left o refl refl) (still_fits l left o in_order (go.moves in_order) (is_kept at).owes) in
-      event_right own other now (In address message) (events.In address message) (of_links.In address message) own.addresses refl
+      event_right own other now (In address message) (events.In address message) (of_links.In address message) own.addresses refl tt
       (changed n left links) (stored_link.changed place (stored_link.handed message (end_of l o)) own.links) (line_tested _ lined)
       (in_goes links address message n l found (and_parts _ _ takes).0) now.stage.few
       (set_holds links own.addresses own.links now.stage.links at left o own.addresses (omega arith) go (is_kept at).lives owes)
@@ -127,13 +128,27 @@ module _ (own other : End) (now : StoredNow own other) where
       so_right own other (Close address) _ _ (λ asks. (connected_when l.port.phase (asked asks)).0) (λ connected.
       let left = in_phase Disconnecting l in
       let owed = unless_left (same_phase l.port.phase Disconnecting) o in
-      event_right own other now (Close address) (events.Close address) (of_links.Close address) own.addresses refl (changed n left links)
+      event_right own other now (Close address) (events.Close address) (of_links.Close address) own.addresses refl tt (changed n left links)
       (stored_link.changed place (stored_link.closed (end_of l o)) own.links) (bare_line (events.Close address) linked refl)
       (close_goes links address n l found connected) now.stage.few
       (set_holds links own.addresses own.links now.stage.links at left (with_duty DisconnectDuty true owed) own.addresses (omega arith)
       (connected_goes own.addresses l Disconnecting l.segments refl (λ far. refl) connected (stays_as_it_is l.segments)) refl
       (duty_fits left owed DisconnectDuty refl (left_fits l left o ((known own other now).numbers n l found.there).0 refl (is_kept at).owes)))
       (may (connected_is l.port.phase connected)) (never_full own other (Close address) refl)))
+
+  -- ---- its call is given up
+
+  pub abort_right : (address : ℕ) → IsLink address → IsRight own other (Abort address) (keeping.aborts (stored own) address)
+  abort_right address linked =
+      link_right (Abort address) address Calls (λ phase one. (calls_when phase one).1) (λ asks. asks) (λ asks. asks) _
+      (λ n place l o found at may asked.
+      so_right own other (Abort address) _ _ (λ asks. (calls_when l.port.phase (asked asks)).0) (λ calling.
+      let left = ended true_segments l in
+      event_right own other now (Abort address) (events.Abort address) (of_links.Abort address) own.addresses refl tt (changed n left links)
+      (stored_link.ended place own.links) (bare_line (events.Abort address) linked refl)
+      (abort_goes links address n l found calling) now.stage.few
+      (end_holds links own.addresses own.links now.stage.links at left (ended_goes own.addresses l) refl)
+      (may (inl (calling_is l.port.phase calling))) (never_full own other (Abort address) refl)))
 
   -- ---- the timer of a link
 

@@ -1,5 +1,5 @@
 -- What the user of an end of the player does: a start, a halt, and what is done with its links, by what becomes of these.
-use Rattle.std.proofs.Common.{◌≡◌, ℕ, ◌≤◌, Bool, true, false, ◌&&◌, not, Some, refl, sym, ap, ◌∙◌, Ok}
+use Rattle.std.proofs.Common.{◌≡◌, ℕ, ◌≤◌, Bool, true, false, ◌&&◌, not, Some, refl, sym, ap, ◌∙◌, Ok, arith}
 use Rattle.capture.specs.declared.event.Event.{Event}
 use Rattle.capture.specs.declared.event.Event.TheVariants as events
 use Rattle.capture.specs.declared.limit.TheConstants.{MAX_LINK}
@@ -12,21 +12,23 @@ use Rattle.dna_station.specs.Machine.{does}
 use Rattle.dna_station.specs.Table.{user_refusal}
 use Rattle.dna_station.specs.WireStation.{StationVariables}
 use Rattle.dna_links.specs.declared.queue.Queues.TheVariants.{Without}
+use Rattle.dna_links.specs.Queues.{booted}
+use Rattle.dna_links.specs.TrueSegments.{true_segments}
 use Rattle.dna_links.specs.TrueLinks.{Links, links_user}
 use Rattle.dna_links.specs.User.{LinkEventValue}
 use Rattle.dna_node.specs.Content.{link_event}
 use Rattle.dna_play.specs.HasLine.{has_line}
 use Rattle.dna_play.specs.Owed.{OwesStrt, Owed, same_state, all_acknowledged, still_owed}
 use Rattle.dna_play.specs.Played.{end_step}
-use Rattle.dna_play.specs.Script.{Start, Halt, StepValue}
-use Rattle.dna_play.specs.StoredEnd.{StoredLinks, StoredEnd, StoredStation}
+use Rattle.dna_play.specs.Script.{Start, Halt, Boot, StepValue}
+use Rattle.dna_play.specs.StoredEnd.{StoredLinks, StoredEnd, StoredStation, no_stored_links}
 use Rattle.dna_play.specs.StoredPlay.{with_links}
 use Rattle.dna_play.specs.StoredPlay as keeping
 use Rattle.dna_play.specs.StoredStation as stored_station
 use Rattle.dna_play.proofs.Played.Steps.{Nothing, First}
 use Rattle.dna_play.proofs.Ends.Stage.{Known, with_left, with_event, links_stage, start_event_stage, halt_event_stage, strt_stage}
-use Rattle.dna_play.proofs.Links.Made.{event_makes}
-use Rattle.dna_play.proofs.Links.Stage.{LinkHolds}
+use Rattle.dna_play.proofs.Links.Made.{IsOfLinks, event_makes}
+use Rattle.dna_play.proofs.Links.Stage.{LinkHolds, booted_holds}
 use Rattle.dna_play.proofs.Ends.TrueEnd.{stored, End, station_of, links_of, after_record, variables_of, owing_more}
 use Rattle.dna_play.proofs.Stored.Now.{StoredNow, facts_of}
 use Rattle.dna_play.proofs.Stored.Right.{IsAsked, HasNoRoom, IsRight, kept_right, never_full}
@@ -77,6 +79,21 @@ module _ (own other : End) (now : StoredNow own other) where
   halt_right = kept_right own other Halt (after_event station_events.Halt) (First refl Nothing) refl refl (halt_event_stage own now.stage) tt
       (never_full own other Halt refl)
 
+  -- ---- of both
+
+  abbrev booted_end : End
+  booted_end = record (after_event station_events.Halt) {
+    half = with_left (with_event own.half station_events.Halt) (booted true_segments Without s);
+    links = no_stored_links;
+    addresses = 0;
+  }
+
+  pub boot_right : IsRight own other Boot (keeping.boots (stored own))
+  unfolding end_step
+  boot_right = let h = halt_event_stage own now.stage in kept_right own other Boot booted_end (First refl Nothing) refl refl
+      (record { pays = h.pays; packets = h.packets; links = booted_holds s; plain = h.plain; few = omega arith; ahead = h.ahead })
+      tt (never_full own other Boot refl)
+
   -- ---- of the links
 
   -- what an end then keeps
@@ -84,11 +101,11 @@ module _ (own other : End) (now : StoredNow own other) where
   StoredBy address links = with_links links (record (stored own) { addresses = address })
 
   -- it is made, and these links are kept then
-  pub event_right : (step : StepValue) (event : Event) (value : LinkEventValue) (top : ℕ) → link_event event ≡ Some value →
+  pub event_right : (step : StepValue) (event : Event) (value : LinkEventValue) (top : ℕ) → link_event event ≡ Some value → IsOfLinks value →
       (left : Links) (kept : StoredLinks) → has_line (User event) ≡ true → links_user Without s value ≡ Ok left → top ≤ MAX_LINK →
       LinkHolds left.links top kept → IsAsked own other step → ¬ (HasNoRoom own other step) →
       IsRight own other step (keeping.made event (StoredBy top kept))
-  event_right step event value top is left kept lined does few holds asks room =
+  event_right step event value top is alone left kept lined does few holds asks room =
       kept_right own other step (record (after_record own (with_left own.half left) kept) { addresses = top })
-      (First (event_makes own.half other.half event value left is lined does) Nothing)
+      (First (event_makes own.half other.half event value left is alone lined does) Nothing)
       (rw (owed_same (variables_of own.half) own.owed now.stage.pays.rep) refl) refl (links_stage own now.stage left kept top few holds) asks room

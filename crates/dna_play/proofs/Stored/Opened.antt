@@ -36,7 +36,7 @@ use Rattle.dna_node.proofs.Once.Addresses.{LinkList}
 use Rattle.dna_play.proofs.Links.Goes.{answered_goes}
 use Rattle.dna_play.proofs.Links.Keeps.{At, is_kept, link_there, kept_there, kept_of, called_by_lives, look}
 use Rattle.dna_play.proofs.Played.PlayLines.{bare_line}
-use Rattle.dna_play.proofs.Links.Made.{open_goes, answer_goes}
+use Rattle.dna_play.proofs.Links.Made.{IsOfLinks, open_goes, answer_goes}
 use Rattle.dna_play.proofs.Links.Owing.{duty_fits, nothing_fits, left_fits}
 use Rattle.dna_play.proofs.Links.Pays.{end_of, is_there, some_found, fits_in, phase_of}
 use Rattle.dna_play.proofs.Links.Phases.{called_is}
@@ -66,7 +66,7 @@ module _ (own other : End) (now : StoredNow own other) where
   pub open_right : IsRight own other Open (keeping.opens (stored own))
   open_right = giving_right own other now Open _ refl tt (λ less.
       let left = forms.opened true_segments next in
-      event_right own other now Open (events.Open next) (of_links.Open next) next refl (begun left links)
+      event_right own other now Open (events.Open next) (of_links.Open next) next refl tt (begun left links)
       (stored_link.begun (stored_link.opened next) own.links) (bare_line (events.Open next) (next_address less) refl)
       (open_goes links others own.addresses (known own other now).addressed next (omega arith)) (omega arith)
       (push_holds links own.addresses own.links now.stage.links left (with_duty InitiateDuty true nothing) next (omega arith) (record {
@@ -102,7 +102,8 @@ module _ (own other : End) (now : StoredNow own other) where
   module _ (partner : ℕ) (step : StepValue) (event : ℕ → Event) (value : ℕ → LinkEventValue) (phase : Phase) (duty : Duty)
       (gives : gives_address step ≡ true) (may : IsCalled (stored own) partner → IsAsked own other step)
       (asked : IsAsked own other step → IsCalled (stored own) partner)
-      (is : (address : ℕ) → link_event (event address) ≡ Some (value address)) (lives : is_live phase ≡ true) (of : phase ≡ phase_of duty)
+      (is : (address : ℕ) → link_event (event address) ≡ Some (value address)) (alone : (address : ℕ) → IsOfLinks (value address))
+      (lives : is_live phase ≡ true) (of : phase ≡ phase_of duty)
       (shape : (l : LinkOf TrueSegments) →
       fits_in phase (forms.answered true_segments phase next l) ≡ (is_some l.port.far && eqb l.segsize SEGSIZE))
       (lined : IsLink next → has_line (User (event next)) ≡ true)
@@ -115,7 +116,7 @@ module _ (own other : End) (now : StoredNow own other) where
         giving_right own other now step _ gives asks (λ less.
         let left = forms.answered true_segments phase next l in
         let owed = unless_left (same_phase l.port.phase phase) o in
-        event_right own other now step (event next) (value next) next (is next) (changed n left links)
+        event_right own other now step (event next) (value next) next (is next) (alone next) (changed n left links)
         (stored_link.changed place (stored_link.answered phase duty next (end_of l o)) own.links)
         (lined (next_address less)) (goes n l found (omega arith)) (omega arith)
         (set_holds links own.addresses own.links now.stage.links at left (with_duty duty true owed) next (omega arith)
@@ -127,10 +128,12 @@ module _ (own other : End) (now : StoredNow own other) where
 
   pub accept_right : (partner : ℕ) → IsLink partner → IsRight own other (Accept partner) (keeping.accepts (stored own) partner)
   accept_right partner far = answer_right partner (Accept partner) (events.Accept partner) (of_links.Accept partner) Confirming ConfirmDuty refl
-      (λ asks. asks) (λ asks. asks) (λ address. refl) refl refl (λ l. refl) (λ near. bare_line (events.Accept partner next) (far, near) refl)
+      (λ asks. asks) (λ asks. asks) (λ address. refl) (λ address. tt) refl refl (λ l. refl)
+      (λ near. bare_line (events.Accept partner next) (far, near) refl)
       (answer_goes links others own.addresses (known own other now).addressed Confirming partner next)
 
   pub reject_right : (partner : ℕ) → IsLink partner → IsRight own other (Reject partner) (keeping.rejects (stored own) partner)
   reject_right partner far = answer_right partner (Reject partner) (events.Reject partner) (of_links.Reject partner) Disconnecting DisconnectDuty refl
-      (λ asks. asks) (λ asks. asks) (λ address. refl) refl refl (λ l. refl) (λ near. bare_line (events.Reject partner next) (far, near) refl)
+      (λ asks. asks) (λ asks. asks) (λ address. refl) (λ address. tt) refl refl (λ l. refl)
+      (λ near. bare_line (events.Reject partner next) (far, near) refl)
       (answer_goes links others own.addresses (known own other now).addressed Disconnecting partner next)

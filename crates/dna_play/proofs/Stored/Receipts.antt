@@ -6,6 +6,9 @@ use Rattle.ddcmp_msg.specs.Reading.{ReadingValue, reading}
 use Rattle.ddcmp_msg.specs.Reading as read_as
 use Rattle.dna_packet.specs.Nsp.{NspValue}
 use Rattle.capture.specs.declared.limit.TheConstants.{MAX_HINT, MAX_UNIT}
+use Rattle.capture.specs.declared.fate.Fate.{Fate}
+use Rattle.capture.specs.declared.fate.Fate.TheVariants.{NotKept, Kept, Dropped}
+use Rattle.capture.specs.Fates.{is_kept, is_met}
 use Rattle.capture.specs.declared.record.Record.TheVariants.{Received}
 use Rattle.dna_station.specs.Book.{ArrivalValue, Sound}
 use Rattle.dna_station.specs.Station.{Station}
@@ -16,14 +19,15 @@ use Rattle.dna_links.specs.Runs.{SentMessage}
 use Rattle.dna_node.specs.LayersPair.{side_of}
 use Rattle.dna_node.specs.Layers.{LayersUnit, Layers, keeps, with_links}
 use Rattle.dna_play.specs.Owed.{Owed, arrival_debt, can_take, with_debt}
-use Rattle.dna_play.specs.Script.{Deliver, Refuse, Damage, StepValue}
+use Rattle.dna_play.specs.Script.{Deliver, Refuse, Drop, Damage, StepValue}
 use Rattle.dna_play.specs.Played.{makes}
 use Rattle.dna_play.specs.Stop.{BadStep}
 use Rattle.dna_play.specs.Receipt.{carried, is_damage, damaged}
 use Rattle.dna_play.proofs.Ends.TrueEnd as true_end
 use Rattle.dna_play.specs.StoredEnd.{StoredEnd, StoredStation}
+use Rattle.dna_play.specs.StoredStation.{can_keep}
 use Rattle.dna_play.specs.StoredLinks.{Delivering}
-use Rattle.dna_play.specs.StoredPlay.{arrived, up_address, ups, came_as, with_next}
+use Rattle.dna_play.specs.StoredPlay.{arrived, up_address, ups, came_as, if_so, kept_or_not, with_next}
 use Rattle.dna_play.specs.StoredPlay as keeping
 use Rattle.dna_links.proofs.Tables.Outcomes.{checked}
 use Rattle.dna_node.proofs.Once.AddressRuns.{anyone_same}
@@ -42,12 +46,16 @@ use Rattle.dna_play.proofs.Played.Runs.{line_makes}
 use Rattle.dna_play.proofs.Stored.Now.{StoredNow, facts_of}
 use Rattle.dna_play.proofs.Stored.Stations.{station_came}
 use Rattle.dna_play.proofs.Stored.Segments.{left_half, Got, nothing_got, message_got}
-use Rattle.dna_play.proofs.Stored.Right.{IsAsked, IsRight, kept_right, never_full, unit_right, next_is}
+use Rattle.dna_play.proofs.Stored.Right.{IsAsked, IsRight, kept_right, never_full, so_right, unit_right, next_is}
 use Rattle.dna_play.specs.StepRule.{gives_address, IsHurt}
 use Rattle.std.proofs.lemmas.Bool.{and_parts}
 use Rattle.std.proofs.lemmas.Option.{same_Some}
 use Rattle.dna_play.proofs.Bytes.{bytes_tested, damaged_bytes}
 use Rattle.dna_play.proofs.Ends.TrueEnd.{End, links_of, station_of, stored, coming}
+
+kept_is : (kept : Bool) → is_kept (kept_or_not kept) ≡ kept
+kept_is true = refl
+kept_is false = refl
 
 module _ (own other : End) (now : StoredNow own other) where
   abbrev s : Links
@@ -66,37 +74,38 @@ module _ (own other : End) (now : StoredNow own other) where
 
   -- what the station owes then
   abbrev owed_then : Station → ReadingValue → Bool → Owed
-  owed_then left read is_kept = with_debt (arrival_debt k read is_kept) (left_owed station left own.owed)
+  owed_then left read kept = with_debt (arrival_debt k read kept) (left_owed station left own.owed)
 
   -- this arrival, which is read so, is received: the node makes it, and the user gets what is whole then
-  record IsReceived (bytes : List ℕ) (arrival : ArrivalValue Truth) (read : ReadingValue) (is_kept : Bool) : Type 0 where
+  record IsReceived (bytes : List ℕ) (arrival : ArrivalValue Truth) (read : ReadingValue) (fate : Fate) : Type 0 where
     links : Links
-    makes_it : makes own.half other.half (Received own.passed is_kept bytes) ≡ Some (left_half own (after_arrival station arrival is_kept) links)
+    makes_it : makes own.half other.half (Received own.passed fate bytes)
+        ≡ Some (left_half own (after_arrival station arrival (is_kept fate)) links)
     comes : Comes station arrival read
-    got : Got own other now (after_arrival station arrival is_kept) links (carried is_kept read)
+    got : Got own other now (after_arrival station arrival (is_kept fate)) links (carried (is_met fate) read)
 
-  module _ (bytes : List ℕ) (arrival : ArrivalValue Truth) (read : ReadingValue) (is_kept : Bool) (x : IsReceived bytes arrival read is_kept) where
+  module _ (bytes : List ℕ) (arrival : ArrivalValue Truth) (read : ReadingValue) (fate : Fate) (x : IsReceived bytes arrival read fate) where
     abbrev left : Station
-    left = after_arrival station arrival is_kept
+    left = after_arrival station arrival (is_kept fate)
 
     abbrev delivering : Delivering
-    delivering = arrived (carried is_kept read) own.links
+    delivering = arrived (carried (is_met fate) read) own.links
 
     abbrev comes_to : StoredStation → StoredEnd
-    comes_to after = record (stored own) { station = after; links = (arrived (carried is_kept read) own.links).links; passed = own.passed + 1 }
+    comes_to after = record (stored own) { station = after; links = delivering.links; passed = own.passed + 1 }
 
     receipt_right : (value : StepValue) → IsAsked own other value → gives_address value ≡ false →
-        IsRight own other value (keeping.receives (stored own) bytes read is_kept)
+        IsRight own other value (keeping.receives (stored own) bytes read fate)
     receipt_right value asks no_address = rw (le-leb own.passed MAX_HINT now.few, x.got.short) (kept_right own other value (record own {
       half = left_half own left x.got.final;
-      owed = owed_then left read is_kept;
+      owed = owed_then left read (is_kept fate);
       links = delivering.links;
       passed = own.passed + 1;
     })
-        (First x.makes_it x.got.gets) (ap comes_to (station_came station facts.known.bounded.ordered own.owed x.comes is_kept)) refl
+        (First x.makes_it x.got.gets) (ap comes_to (station_came station facts.known.bounded.ordered own.owed x.comes (is_kept fate))) refl
         (record {
-          pays = came_stage station own.owed now.stage.pays facts.known.bounded.ordered x.comes is_kept;
-          packets = came_packets station arrival is_kept now.stage.packets;
+          pays = came_stage station own.owed now.stage.pays facts.known.bounded.ordered x.comes (is_kept fate);
+          packets = came_packets station arrival (is_kept fate) now.stage.packets;
           links = x.got.holds;
           plain = now.stage.plain;
           few = now.stage.few;
@@ -112,23 +121,25 @@ module _ (own other : End) (now : StoredNow own other) where
     abbrev arrival : ArrivalValue Truth
     arrival = Sound unit.message unit.known.station
 
-    abbrev met : Bool → Layers
-    met is_kept = record own.half.state.station { station = after_arrival station arrival is_kept }
+    abbrev after : Fate → Station
+    after fate = after_arrival station arrival (is_kept fate)
+
+    abbrev met : Fate → Layers
+    met fate = record own.half.state.station { station = after fate }
 
     -- these links are left, and the user gets what is whole of this message then
-    received_with : (is_kept : Bool) → (is_kept ≡ true → can_take k unit.message ≡ true) → (links : Links) (message : Option NspValue) →
-        carried is_kept (read_as.Sound unit.message) ≡ message →
-        cond is_kept (keeps by_bytes (met is_kept) unit.known.carried) (Ok (met is_kept)) ≡ Ok (record (met is_kept) { links = links }) →
-        (Facts (record own { half = left_half own (after_arrival station arrival is_kept) links }) other →
-        Got own other now (after_arrival station arrival is_kept) links message) →
-        IsReceived unit.bytes arrival (read_as.Sound unit.message) is_kept
-    received_with is_kept can links message is kept_it got =
-        let r = Received own.passed is_kept unit.bytes in
-        let half = left_half own (after_arrival station arrival is_kept) links in
+    received_with : (fate : Fate) → (is_kept fate ≡ true → can_take k unit.message ≡ true) → (links : Links) (message : Option NspValue) →
+        carried (is_met fate) (read_as.Sound unit.message) ≡ message →
+        cond (is_met fate) (keeps by_bytes (met fate) unit.known.carried) (Ok (met fate)) ≡ Ok (record (met fate) { links = links }) →
+        (Facts (record own { half = left_half own (after fate) links }) other → Got own other now (after fate) links message) →
+        IsReceived unit.bytes arrival (read_as.Sound unit.message) fate
+    received_with fate can links message is kept_it got =
+        let r = Received own.passed fate unit.bytes in
+        let half = left_half own (after fate) links in
         let line = facts.lined own.passed unit there in
         let makes_it = line_makes own.half other.half r half
         (rw (le-leb own.passed MAX_HINT now.few, bytes_tested unit.bytes line.spelling.bytes, le-leb (length unit.bytes) MAX_UNIT line.short) refl)
-        (unit_made own other facts now.stage.ahead unit there is_kept can links kept_it) in
+        (unit_made own other facts now.stage.ahead unit there fate can links kept_it) in
         record {
           links = links;
           makes_it = makes_it;
@@ -136,15 +147,20 @@ module _ (own other : End) (now : StoredNow own other) where
           got = rw is (got (now.later (record own { half = half }) (r ∷ []) (First makes_it Nothing) (quiet own r refl refl)));
         }
 
-    unit_received : (is_kept : Bool) → (is_kept ≡ true → can_take k unit.message ≡ true) → (o : Option SentMessage) → unit.known.carried ≡ o →
-        IsReceived unit.bytes arrival (read_as.Sound unit.message) is_kept
-    unit_received false can o is =
-        received_with false can s None refl refl
-        (λ after. nothing_got own other now (after_arrival station arrival false) s 0 own.links now.stage.links)
-    unit_received true can None is = received_with true can s None
+    none_received : (fate : Fate) → (is_kept fate ≡ true → can_take k unit.message ≡ true) →
+        carried (is_met fate) (read_as.Sound unit.message) ≡ None →
+        cond (is_met fate) (keeps by_bytes (met fate) unit.known.carried) (Ok (met fate)) ≡ Ok (met fate) →
+        IsReceived unit.bytes arrival (read_as.Sound unit.message) fate
+    none_received fate can is kept_it =
+        received_with fate can s None is kept_it (λ later. nothing_got own other now (after fate) s 0 own.links now.stage.links)
+
+    unit_received : (fate : Fate) → (is_kept fate ≡ true → can_take k unit.message ≡ true) → (o : Option SentMessage) → unit.known.carried ≡ o →
+        IsReceived unit.bytes arrival (read_as.Sound unit.message) fate
+    unit_received NotKept can o is = none_received NotKept can refl refl
+    unit_received Dropped can o is = none_received Dropped can refl refl
+    unit_received Kept can None is = none_received Kept can
         (rw (facts.packets own.passed unit there (taken_is_data k unit.message (can refl)), is) refl) (rw is refl)
-        (λ after. nothing_got own other now (after_arrival station arrival true) s 0 own.links now.stage.links)
-    unit_received true can (Some u) is =
+    unit_received Kept can (Some u) is =
         let ready = facts.known.ready in
         let place = unit.known.station.place in
         let is_data = taken_is_data k unit.message (can refl) in
@@ -154,19 +170,35 @@ module _ (own other : End) (now : StoredNow own other) where
         let told = ready.other_addressed.told place u at in
         let same = anyone_same (side_of own.half ready.front) (side_of other.half ready.of_other) ready.most ready.most_of_other ready.addressed
         ready.other_addressed u told in
-        received_with true can takes.0 (Some u.packet.message) (rw (facts.packets own.passed unit there is_data, is) refl)
-        (ap (keeps by_bytes (met true)) is ∙ ap (with_links (met true)) takes.1)
-        (λ after. message_got own other now (after_arrival station arrival true) u.truth takes.0 u.packet.message (now.theirs.plain place u at)
+        received_with Kept can takes.0 (Some u.packet.message) (rw (facts.packets own.passed unit there is_data, is) refl)
+        (ap (keeps by_bytes (met Kept)) is ∙ ap (with_links (met Kept)) takes.1)
+        (λ later. message_got own other now (after Kept) u.truth takes.0 u.packet.message (now.theirs.plain place u at)
         (ends_hold own other now.stage now.theirs facts.known u.packet.message u.truth.tag told)
         (facts.near own.passed unit there now.stage.ahead (judged_takes own other facts now.stage.ahead unit there (can refl)) u is)
-        (checked _ _ _ takes.0 (sym same ∙ takes.1)).1 after.known.addressed.distinct (after.whole u.packet.message))
+        (checked _ _ _ takes.0 (sym same ∙ takes.1)).1 later.known.addressed.distinct (later.whole u.packet.message))
 
     unit_right_by : (value : StepValue) (buffer : Bool) → IsAsked own other value → gives_address value ≡ false →
         IsRight own other value (keeping.comes (stored own) buffer unit.bytes)
     unit_right_by value buffer asks no_address =
-        let is_kept = buffer && can_take k unit.message in
-        rw told (receipt_right unit.bytes arrival (read_as.Sound unit.message) is_kept
-        (unit_received is_kept (λ e. (and_parts buffer (can_take k unit.message) e).1) unit.known.carried refl) value asks no_address)
+        let kept = buffer && can_take k unit.message in let fate = kept_or_not kept in
+        rw told (receipt_right unit.bytes arrival (read_as.Sound unit.message) fate
+        (unit_received fate (λ e. (and_parts buffer (can_take k unit.message) (sym (kept_is kept) ∙ e)).1) unit.known.carried refl) value asks
+        no_address)
+
+    -- its packet is lost before the links, where it can be taken
+    lost_right : IsRight own other Drop (keeping.drops (stored own) unit.bytes)
+    lost_right = subst (λ (r : ReadingValue).
+        IsRight own other Drop (if_so (can_keep r (stored own).station) (keeping.receives (stored own) unit.bytes r Dropped))) (sym told)
+        (so_right own other Drop (can_take k unit.message) (keeping.receives (stored own) unit.bytes (read_as.Sound unit.message) Dropped) asked
+        (λ can. receipt_right unit.bytes arrival (read_as.Sound unit.message) Dropped
+        (unit_received Dropped (λ e. can) unit.known.carried refl) Drop
+        (unit.bytes, next_is own other unit there, ap (λ (r : ReadingValue). can_keep r (stored own).station) told ∙ can) refl))
+      where
+        asked : IsAsked own other Drop → can_take k unit.message ≡ true
+        asked asks =
+            let same : asks.0 ≡ unit.bytes = same_Some asks.0 unit.bytes (sym asks.1 ∙ next_is own other unit there) in
+            ap (λ (r : ReadingValue). can_keep r (stored own).station) (sym told)
+            ∙ subst (λ (bytes : List ℕ). can_keep (reading bytes) (stored own).station ≡ true) same asks.2
 
     -- ---- it comes damaged
 
@@ -178,7 +210,7 @@ module _ (own other : End) (now : StoredNow own other) where
       differs = damage_is_seen unit.message unit.bytes place value (bytes_tested unit.bytes
           (facts.lined own.passed unit there).spelling.bytes) told is
 
-      line : has_line (Received own.passed false hurt) ≡ true
+      line : has_line (Received own.passed NotKept hurt) ≡ true
       line =
           let l = facts.lined own.passed unit there in
           let most = (hurt_of place value unit.bytes is).most in
@@ -190,12 +222,12 @@ module _ (own other : End) (now : StoredNow own other) where
             le-leb (length hurt) MAX_UNIT (omega arith),
           ) refl
 
-      bad_received : (d : ShownDamage) → reading hurt ≡ read_of d → IsReceived hurt (arrival_of d) (read_of d) false
+      bad_received : (d : ShownDamage) → reading hurt ≡ read_of d → IsReceived hurt (arrival_of d) (read_of d) NotKept
       bad_received d e =
           let after = after_arrival station (arrival_of d) false in
           record {
             links = s;
-            makes_it = line_makes own.half other.half (Received own.passed false hurt) (left_half own after s) line
+            makes_it = line_makes own.half other.half (Received own.passed NotKept hurt) (left_half own after s) line
                 (damage_made own other facts now.stage.ahead unit there d hurt differs.differs e);
             comes = ComesHurt d;
             got = nothing_got own other now after s 0 own.links now.stage.links;
@@ -204,9 +236,9 @@ module _ (own other : End) (now : StoredNow own other) where
       comes_hurt : (d : ShownDamage) → reading hurt ≡ read_of d → IsAsked own other (Damage place value) →
           IsRight own other (Damage place value) (keeping.comes (stored own) true hurt)
       comes_hurt OfHeader e asks =
-          rw e (receipt_right hurt (arrival_of OfHeader) read_as.HeaderBad false (bad_received OfHeader e) (Damage place value) asks refl)
+          rw e (receipt_right hurt (arrival_of OfHeader) read_as.HeaderBad NotKept (bad_received OfHeader e) (Damage place value) asks refl)
       comes_hurt OfData e asks =
-          rw e (receipt_right hurt (arrival_of OfData) read_as.DataBad false (bad_received OfData e) (Damage place value) asks refl)
+          rw e (receipt_right hurt (arrival_of OfData) read_as.DataBad NotKept (bad_received OfData e) (Damage place value) asks refl)
 
   -- ---- the steps
 
@@ -217,6 +249,9 @@ module _ (own other : End) (now : StoredNow own other) where
   pub refuse_right : IsRight own other Refuse (with_next (coming own other.half) (keeping.comes (stored own) false))
   refuse_right = unit_right own other now Refuse (keeping.comes (stored own) false) (λ asks. asks)
       (λ unit there. unit_right_by unit there Refuse false (unit.bytes, next_is own other unit there) refl)
+
+  pub drop_right : IsRight own other Drop (with_next (coming own other.half) (keeping.drops (stored own)))
+  drop_right = unit_right own other now Drop (keeping.drops (stored own)) (λ asks. (asks.0, asks.1)) lost_right
 
   pub damage_right : (place value : ℕ) →
       IsRight own other (Damage place value) (with_next (coming own other.half) (keeping.comes_damaged (stored own) place value))

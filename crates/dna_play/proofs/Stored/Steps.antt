@@ -1,19 +1,19 @@
 -- Each kind of step of a script is right: it goes by its rule, keeps what holds of its end, and is the same of what the nodes of the ends keep.
 use Rattle.std.proofs.Common.{length, ◌<◌, ℕ, ◌≤◌}
-use Rattle.dna_play.proofs.Stored.Made.{start_right, halt_right}
+use Rattle.dna_play.proofs.Stored.Made.{start_right, halt_right, boot_right}
 use Rattle.dna_play.proofs.Stored.Now.{StoredNow}
 use Rattle.dna_play.specs.StoredPlay.{stored_plays}
-use Rattle.dna_play.specs.Script.{Close, Retry, In, Open, Accept, Reject, ScriptStep, Start, Halt, StepValue, Timer, Send, Deliver, Refuse, Lose}
-use Rattle.dna_play.specs.Script.{Damage, Noise}
+use Rattle.dna_play.specs.Script.{Close, Abort, Retry, In, Open, Accept, Reject, ScriptStep, Start, Halt, Boot, StepValue, Timer, Send, Deliver}
+use Rattle.dna_play.specs.Script.{Refuse, Drop, Lose, Damage, Noise}
 use Rattle.dna_play.specs.ScriptText.{IsStep, NumbersFit, step_bytes, most_bytes}
 use Rattle.std.specs.Prelude.{slice_index}
 use Rattle.dna_play.proofs.Stored.Right.{IsRight}
 use Rattle.dna_play.proofs.Stored.Opened.{open_right, accept_right, reject_right}
 use Rattle.dna_play.proofs.Stored.Timers.{timer_right, lose_right}
-use Rattle.dna_play.proofs.Stored.Receipts.{deliver_right, refuse_right, damage_right}
+use Rattle.dna_play.proofs.Stored.Receipts.{deliver_right, refuse_right, drop_right, damage_right}
 use Rattle.dna_play.proofs.Stored.Noise.{noise_right}
 use Rattle.dna_play.proofs.Stored.Sends.{send_right}
-use Rattle.dna_play.proofs.Stored.Handed.{in_right, close_right, retry_right}
+use Rattle.dna_play.proofs.Stored.Handed.{in_right, close_right, abort_right, retry_right}
 use Rattle.dna_play.proofs.Ends.TrueEnd.{stored, End, coming}
 
 module _ (own other : End) (now : StoredNow own other) where
@@ -23,10 +23,12 @@ module _ (own other : End) (now : StoredNow own other) where
   unfolding stored_plays
   value_right Start numbers bytes short = start_right own other now
   value_right Halt numbers bytes short = halt_right own other now
+  value_right Boot numbers bytes short = boot_right own other now
   value_right Timer numbers bytes short = timer_right own other now
   value_right Send numbers bytes short = send_right own other now
   value_right Deliver numbers bytes short = deliver_right own other now
   value_right Refuse numbers bytes short = refuse_right own other now
+  value_right Drop numbers bytes short = drop_right own other now
   value_right Lose numbers bytes short = lose_right own other now
   value_right (Damage place value) numbers bytes short = damage_right own other now place value
   value_right (Noise noise) numbers bytes short =
@@ -37,6 +39,7 @@ module _ (own other : End) (now : StoredNow own other) where
   value_right (In link message) numbers bytes short =
       in_right own other now link message (record { spelling = record { numbers = numbers; bytes = bytes }; short = short })
   value_right (Close link) numbers bytes short = close_right own other now link numbers
+  value_right (Abort link) numbers bytes short = abort_right own other now link numbers
   value_right (Retry link) numbers bytes short = retry_right own other now link
 
   pub step_right : (step : ScriptStep) → IsStep step →

@@ -1,6 +1,7 @@
 -- Which unit a receipt may name: one behind the unit of the receipt before, whatever became of that.
-use Rattle.std.proofs.Common.{ℕ, true, false, List, [], ◌∷◌, ◌++◌}
+use Rattle.std.proofs.Common.{ℕ, List, [], ◌∷◌, ◌++◌}
 use Rattle.wire_base.specs.declared.side.Side.TheVariants.{B}
+use Rattle.capture.specs.declared.fate.Fate.TheVariants.{NotKept, Kept}
 use Rattle.capture.specs.declared.record.Record.TheVariants.{Sent, Received, User}
 use Rattle.capture.specs.declared.event.Event.TheVariants.{Start, Halt}
 use Rattle.dna_station.specs.declared.refusal.StepRefusal.TheVariants.{HintOrder}
@@ -14,20 +15,20 @@ damaged_STRT = 5 ∷ 6 ∷ 0xc0 ∷ 0 ∷ 0 ∷ 1 ∷ 0x75 ∷ 0x15 ∷ []
 
 record Rows : Type 0 where
   -- A unit that came damaged does not come again
-  the_front_moves_over_damage : Verdict (User Start ∷ Sent STRT ∷ []) (Received 0 false damaged_STRT ∷ Received 0 false STRT ∷ [])
+  the_front_moves_over_damage : Verdict (User Start ∷ Sent STRT ∷ []) (Received 0 NotKept damaged_STRT ∷ Received 0 NotKept STRT ∷ [])
       (refused B 1 HintOrder)
   -- nor does a packet for which there was no buffer
   the_front_moves_over_data_not_kept : Verdict (started ++ Sent (DATA 1 0) ∷ [])
-      (answered ++ Received 1 false (DATA 1 0) ∷ Received 1 true (DATA 1 0) ∷ []) (refused B 4 HintOrder)
+      (answered ++ Received 1 NotKept (DATA 1 0) ∷ Received 1 Kept (DATA 1 0) ∷ []) (refused B 4 HintOrder)
   -- nor what came in HALTED
   the_front_moves_over_an_ack_in_halted : Verdict (acked_a ++ Sent (ACK 0) ∷ [])
-      (answered ++ User Halt ∷ Received 2 false (ACK 0) ∷ Received 2 false (ACK 0) ∷ []) (refused B 5 HintOrder)
+      (answered ++ User Halt ∷ Received 2 NotKept (ACK 0) ∷ Received 2 NotKept (ACK 0) ∷ []) (refused B 5 HintOrder)
   -- also where another unit came before the halt
   an_ack_in_halted_moves_the_front : Verdict (acked_a ++ Sent (ACK 0) ∷ [])
-      (acked_b ++ User Halt ∷ Received 2 false (ACK 0) ∷ Received 2 false (ACK 0) ∷ []) (refused B 6 HintOrder)
+      (acked_b ++ User Halt ∷ Received 2 NotKept (ACK 0) ∷ Received 2 NotKept (ACK 0) ∷ []) (refused B 6 HintOrder)
   -- and a unit that a later one overtook is lost
   a_later_unit_was_received : Verdict (acked_a ++ Sent (DATA 1 0) ∷ Sent (data_of 2 0 (7 ∷ [])) ∷ [])
-      (acked_b ++ Received 3 false (data_of 2 0 (7 ∷ [])) ∷ Received 2 true (DATA 1 0) ∷ []) (refused B 5 HintOrder)
+      (acked_b ++ Received 3 NotKept (data_of 2 0 (7 ∷ [])) ∷ Received 2 Kept (DATA 1 0) ∷ []) (refused B 5 HintOrder)
 
 computed : Rows
 unfolding computing

@@ -1,6 +1,9 @@
--- Worked runs of both sides' links: packets are lost, and a segment that was lost at a restart of the line comes when it is sent again.
-use Rattle.std.proofs.Common.{◌≡◌, ℕ, ◌≤◌, Bool, true, false, nat_le, Option, Some, None, List, [], ◌∷◌, ◌++◌, map, refl, Result, Ok, Err, leb-true}
+-- Worked runs of both sides' links: packets are lost on the line or after it, or composed and never sent, and what they had comes when it is
+-- sent again; a node boots.
+use Rattle.std.proofs.Common.{◌≡◌, ℕ, ◌≤◌, Bool, true, false, nat_lt, nat_le, Option, Some, None, List, [], ◌∷◌, ◌++◌, length, map, refl}
+use Rattle.std.proofs.Common.{Result, Ok, Err, leb-true, ltb-true}
 use Rattle.std.specs.Prelude.{slice_get}
+use Rattle.std.proofs.lemmas.Option.{slice_get_within}
 use Rattle.wire_base.specs.declared.side.Side.{Side}
 use Rattle.wire_base.specs.declared.side.Side.TheVariants.{A, B}
 use Rattle.dna_packet.specs.declared.fault.NspFault.{NspFault}
@@ -9,23 +12,26 @@ use Rattle.dna_packet.specs.ReadingNsp.{nsp_at}
 use Rattle.dna_station.specs.declared.link_refusal.LinkRefusal.{LinkRefusal}
 use Rattle.dna_links.specs.declared.queue.Queues.TheVariants.{Without}
 use Rattle.dna_links.specs.Links.{LinkOf, Carried}
-use Rattle.dna_links.specs.User.{LinkEventValue, Open, Accept, In, Up, Close}
+use Rattle.dna_links.specs.User.{LinkEventValue, Open, Accept, In, Up, Close, Boot}
 use Rattle.dna_links.specs.Sending.{Sent}
 use Rattle.dna_links.specs.Arriving.{of_partner}
 use Rattle.dna_links.specs.TrueSegments.{TrueSegments, Numbers}
 use Rattle.dna_links.specs.TrueLinks.{Links, links_user, links_sent, links_arrived}
-use Rattle.dna_links.specs.Runs.{SentMessage, LinkSide, LinkWorld, LinkStep, ByUser, Sends, SendsNone, Keeps, KeepsNone, Reached, Start, ByA, ByB}
-use Rattle.dna_links.specs.Runs.{new_world}
+use Rattle.dna_links.specs.Runs.{SentMessage, LinkSide, LinkWorld, LinkStep, ByUser, Sends, SendsNone, Composes, Keeps, Passes}
+use Rattle.dna_links.specs.Runs.{Reached, Start, ByA, ByB, new_world}
 use Rattle.dna_links.specs.Captures.{handed_in, delivered_up, behind}
 use Rattle.dna_rows.proofs.Units.{CI, CC_2, DI, DC_42, DATA_ACK, ack, SEGMENT, carries}
 use Rattle.dna_rows.proofs.Links.Steps.{NODE_A, NODE_B}
 
--- What a side does: its user, a packet that is first sent with this message or with none, or the packet at this place that is kept
+-- What a side does: its user, a packet that is first sent with this message or with none, one that is composed and never sent, or the packet at this
+-- place, which is kept and met by the links, or lost before them
 data Duty : Type 0 where
   Does : (event : LinkEventValue) → Duty
   First : (bytes : List ℕ) → Duty
   FirstNone : Duty
+  Composed : (bytes : List ℕ) → Duty
   Kept : (place : ℕ) → Duty
+  Lost : (place : ℕ) → Duty
 
 record Made (own other : LinkSide) : Type 0 where
   pub events : List LinkEventValue
@@ -42,6 +48,15 @@ module _ (own other : LinkSide) where
   sends_made packet (Ok made) e = Some (record { events = []; left = _; step = Sends packet made e })
   sends_made packet (Err reason) e = None
 
+  abbrev composes_made : (packet : Carried) (r : Result (Sent TrueSegments Numbers) LinkRefusal) → links_sent Without own.links packet ≡ r →
+      Option (Made own other)
+  composes_made packet (Ok made) e = Some (record { events = []; left = _; step = Composes packet made e })
+  composes_made packet (Err reason) e = None
+
+  abbrev composed_made : Result NspValue NspFault → Option (Made own other)
+  composed_made (Ok message) = composes_made (record { dst = own.links.peer; src = own.links.node; message = message }) _ refl
+  composed_made (Err fault) = None
+
   abbrev first_made : Result NspValue NspFault → Option (Made own other)
   first_made (Ok message) = sends_made (record { dst = own.links.peer; src = own.links.node; message = message }) _ refl
   first_made (Err fault) = None
@@ -53,18 +68,26 @@ module _ (own other : LinkSide) where
 
   abbrev stored_made : (place : ℕ) (o : Option (Option SentMessage)) → own.front ≤ place → slice_get other.sent place ≡ o → Option (Made own other)
   stored_made place None ahead there = None
-  stored_made place (Some None) ahead there = Some (record { events = []; left = _; step = KeepsNone place ahead there })
+  stored_made place (Some None) ahead there =
+      Some (record { events = []; left = _; step = Passes place ahead (slice_get_within other.sent place None there) })
   stored_made place (Some (Some unit)) ahead there = arrives_made place unit _ ahead there refl
 
-  abbrev ahead_made : (place : ℕ) (b : Bool) → nat_le own.front place ≡ b → Option (Made own other)
-  ahead_made place true e = stored_made place _ (leb-true own.front place e) refl
-  ahead_made place false e = None
+  abbrev lost_made : (place : ℕ) (b : Bool) → own.front ≤ place → nat_lt place (length other.sent) ≡ b → Option (Made own other)
+  lost_made place true ahead e = Some (record { events = []; left = _; step = Passes place ahead (ltb-true place (length other.sent) e) })
+  lost_made place false ahead e = None
+
+  abbrev ahead_made : (is_met : Bool) (place : ℕ) (b : Bool) → nat_le own.front place ≡ b → Option (Made own other)
+  ahead_made true place true e = stored_made place _ (leb-true own.front place e) refl
+  ahead_made false place true e = lost_made place _ (leb-true own.front place e) refl
+  ahead_made is_met place false e = None
 
   abbrev duty_made : Duty → Option (Made own other)
   duty_made (Does event) = does_made event _ refl
   duty_made (First bytes) = first_made (nsp_at bytes)
   duty_made FirstNone = Some (record { events = []; left = _; step = SendsNone })
-  duty_made (Kept place) = ahead_made place _ refl
+  duty_made (Composed bytes) = composed_made (nsp_at bytes)
+  duty_made (Kept place) = ahead_made true place _ refl
+  duty_made (Lost place) = ahead_made false place _ refl
 
 -- all that was made from this world on
 record Ran (start : LinkWorld) : Type 0 where
@@ -134,6 +157,26 @@ lost_at_a_restart = connected ++ a (Does (In 1 letters)) ∷ a (First (SEGMENT 0
     a (First (SEGMENT 0x40 2 1 (carries 2 (0x63 ∷ [])))) ∷ b (Kept 4) ∷ a (First (SEGMENT 0x20 2 1 (carries 1 (0x61 ∷ 0x62 ∷ [])))) ∷ b (Kept 5) ∷
     b (Does (Up 2 letters)) ∷ []
 
+-- the first segment is kept, and lost before the links; then it is sent again
+abbrev lost_before_the_links : List Step
+lost_before_the_links = connected ++ a (Does (In 1 letters)) ∷ a (First (SEGMENT 0x20 2 1 (carries 1 (0x61 ∷ 0x62 ∷ [])))) ∷
+    a (First (SEGMENT 0x40 2 1 (carries 2 (0x63 ∷ [])))) ∷ b (Lost 3) ∷ b (Kept 4) ∷ []
+
+-- the first segment is composed and never sent; the second is, and then the first as one that is sent again
+abbrev composed_and_not_sent : List Step
+composed_and_not_sent = connected ++ a (Does (In 1 letters)) ∷ a (Composed (SEGMENT 0x20 2 1 (carries 1 (0x61 ∷ 0x62 ∷ [])))) ∷
+    a (First (SEGMENT 0x40 2 1 (carries 2 (0x63 ∷ [])))) ∷ b (Kept 3) ∷ []
+
+abbrev sent_again : (place : ℕ) → List Step
+sent_again place = a (First (SEGMENT 0x20 2 1 (carries 1 (0x61 ∷ 0x62 ∷ [])))) ∷ b (Kept place) ∷ b (Does (Up 2 letters)) ∷ []
+
+-- a boots once its message was handed in and a part of it sent, and calls again from the same address; b, which knows nothing of that, has closed
+abbrev booted : List Step
+booted = connected ++ a (Does (In 1 letters)) ∷ a (First (SEGMENT 0x20 2 1 (carries 1 (0x61 ∷ 0x62 ∷ [])))) ∷ a (Does Boot) ∷ b (Does (Close 2)) ∷
+    b (First (DI 1 2)) ∷ a (Kept 1) ∷ a (First (DC_42 2 1)) ∷ b (Kept 4) ∷ a (Does (Open 1)) ∷ a (First (CI 1)) ∷ b (Kept 5) ∷
+    b (Does (Accept 1 2)) ∷ b (First (CC_2 1 2)) ∷ a (Kept 2) ∷ a (Does (In 1 (0x78 ∷ []))) ∷
+    a (First (SEGMENT 0x60 2 1 (carries 1 (0x78 ∷ [])))) ∷ b (Kept 6) ∷ b (Does (Up 2 (0x78 ∷ []))) ∷ []
+
 -- the link ends, and both addresses are given again
 abbrev given_again : List Step
 given_again = lost_at_a_restart ++ a (Does (Close 1)) ∷ a (First (DI 2 1)) ∷ b (Kept 6) ∷ b (First (DC_42 1 2)) ∷ a (Kept 1) ∷ a (Does (Open 1)) ∷
@@ -145,6 +188,19 @@ record Rows : Type 0 where
   -- a packet is not kept twice, nor behind a later one
   kept_twice : shown 0 0 (run_of (lost_at_a_restart ++ b (Kept 5) ∷ [])) ≡ None
   kept_late : shown 0 0 (run_of (lost_at_a_restart ++ b (Kept 3) ∷ [])) ≡ None
+  -- nor is one that was lost
+  kept_after_the_loss : shown 0 0 (run_of (lost_before_the_links ++ b (Kept 3) ∷ [])) ≡ None
+  not_delivered_yet : shown 0 0 (run_of (lost_before_the_links ++ b (Does (Up 2 letters)) ∷ [])) ≡ None
+  delivered_after_a_loss : shown 0 0 (run_of (lost_before_the_links ++ sent_again 5)) ≡ Some
+      (record { up = (letters ∷ []) ∷ []; in_at_a = letters ∷ []; up_at_b = letters ∷ [] })
+  delivered_once_sent : shown 0 0 (run_of (composed_and_not_sent ++ sent_again 4)) ≡ Some
+      (record { up = (letters ∷ []) ∷ []; in_at_a = letters ∷ []; up_at_b = letters ∷ [] })
+  -- there is no other place than that of the one that was sent
+  none_beyond : shown 0 0 (run_of (composed_and_not_sent ++ b (Lost 4) ∷ [])) ≡ None
+  before_the_boot : shown 0 0 (run_of booted) ≡ Some
+      (record { up = [] ∷ ((0x78 ∷ []) ∷ []) ∷ []; in_at_a = letters ∷ []; up_at_b = [] })
+  after_the_boot : shown 3 2 (run_of booted) ≡ Some
+      (record { up = [] ∷ ((0x78 ∷ []) ∷ []) ∷ []; in_at_a = (0x78 ∷ []) ∷ []; up_at_b = (0x78 ∷ []) ∷ [] })
   first_link : shown 0 0 (run_of given_again) ≡ Some
       (record { up = (letters ∷ []) ∷ ((0x78 ∷ []) ∷ []) ∷ []; in_at_a = letters ∷ []; up_at_b = letters ∷ [] })
   second_link : shown 3 2 (run_of given_again) ≡ Some

@@ -101,7 +101,8 @@ module _ {D K : Type 0} (book : SegmentBook D K) where
       (sent_step Without book own.state packet)
 
   abbrev arrives : OneEnd D K → Carried → LinkTruth K → Becomes (OneEnd D K)
-  arrives own packet truth = of_result (λ (next : LinksOf D). record own { state = next }) (arrived_step Without book of_partner own.state packet truth)
+  arrives own packet truth = of_result (λ (next : LinksOf D). record own { state = next }) (arrived_step Without book of_partner own.state packet
+      truth)
 
   -- ---- what both make
 

@@ -1,6 +1,7 @@
 -- The flags of a unit, quick sync 0x40 and select 0x80 of its third byte, are not judged in any message.
-use Rattle.std.proofs.Common.{false, [], ◌∷◌, ◌++◌}
+use Rattle.std.proofs.Common.{[], ◌∷◌, ◌++◌}
 use Rattle.wire_base.specs.declared.side.Side.TheVariants.{B}
+use Rattle.capture.specs.declared.fate.Fate.TheVariants.{NotKept}
 use Rattle.capture.specs.declared.record.Record.TheVariants.{Sent, Received, User}
 use Rattle.capture.specs.declared.event.Event.TheVariants.{Start}
 use Rattle.dna_station.specs.declared.refusal.StationRefusal.TheVariants.{NoCause}
@@ -14,23 +15,24 @@ record Rows : Type 0 where
   -- STRT without flags
   strt_without_flags : Verdict [] (User Start ∷ Sent (control 6 0 0 0) ∷ []) Accepted
   -- STRT with quick sync alone, STACK without flags, ACK with select alone
-  any_flags_in_startup : Verdict (User Start ∷ Sent (control 6 0x40 0 0) ∷ Received 0 false (control 7 0 0 0) ∷ Sent (control 1 0x80 0 0) ∷ [])
-      (User Start ∷ Received 0 false (control 6 0x40 0 0) ∷ Sent (control 7 0 0 0) ∷ Received 1 false (control 1 0x80 0 0) ∷ []) Accepted
+  any_flags_in_startup : Verdict (User Start ∷ Sent (control 6 0x40 0 0) ∷ Received 0 NotKept (control 7 0 0 0) ∷ Sent (control 1 0x80 0 0) ∷ [])
+      (User Start ∷ Received 0 NotKept (control 6 0x40 0 0) ∷ Sent (control 7 0 0 0) ∷ Received 1 NotKept (control 1 0x80 0 0) ∷ []) Accepted
   -- a data message with quick sync and a REP with both flags; in answer a NAK of reason 8 with select and one of reason 3 with both
   any_flags_while_running : Verdict
-      (started ++ Sent (data_with 0x40 1 0 (5 ∷ [])) ∷ Sent (control 3 0xc0 0 1) ∷ Received 1 false (control 2 0x88 0 0) ∷
-      Received 2 false (control 2 0xc3 0 0) ∷ [])
-      (answered ++ Received 1 false (data_with 0x40 1 0 (5 ∷ [])) ∷ Received 2 false (control 3 0xc0 0 1) ∷ Sent (control 2 0x88 0 0) ∷
+      (started ++ Sent (data_with 0x40 1 0 (5 ∷ [])) ∷ Sent (control 3 0xc0 0 1) ∷ Received 1 NotKept (control 2 0x88 0 0) ∷
+      Received 2 NotKept (control 2 0xc3 0 0) ∷ [])
+      (answered ++ Received 1 NotKept (data_with 0x40 1 0 (5 ∷ [])) ∷ Received 2 NotKept (control 3 0xc0 0 1) ∷ Sent (control 2 0x88 0 0) ∷
       Sent (control 2 0xc3 0 0) ∷ []) Accepted
   -- a packet that is sent again may have other flags, whatever those of the messages around it
   a_repeat_may_have_other_flags : Verdict
-      (User Start ∷ Sent (control 6 0 0 0) ∷ Received 0 false (control 7 0x80 0 0) ∷ Sent (control 1 0xc0 0 0) ∷ Sent (data_with 0x40 1 0 (5 ∷ [])) ∷
-      Received 1 false (control 2 0x88 0 0) ∷ Sent (data_with 0x80 1 0 (5 ∷ [])) ∷ [])
-      (User Start ∷ Received 0 false (control 6 0 0 0) ∷ Sent (control 7 0x80 0 0) ∷ Received 2 false (data_with 0x40 1 0 (5 ∷ [])) ∷
+      (User Start ∷ Sent (control 6 0 0 0) ∷ Received 0 NotKept (control 7 0x80 0 0) ∷ Sent (control 1 0xc0 0 0) ∷ Sent
+      (data_with 0x40 1 0 (5 ∷ [])) ∷
+      Received 1 NotKept (control 2 0x88 0 0) ∷ Sent (data_with 0x80 1 0 (5 ∷ [])) ∷ [])
+      (User Start ∷ Received 0 NotKept (control 6 0 0 0) ∷ Sent (control 7 0x80 0 0) ∷ Received 2 NotKept (data_with 0x40 1 0 (5 ∷ [])) ∷
       Sent (control 2 0x88 0 0) ∷ []) Accepted
   -- nor are flags a part of the reason: a NAK of reason 8 with both wants the cause of reason 8
-  flags_are_no_part_of_the_reason : Verdict (User Start ∷ Sent STRT ∷ Received 0 false STRT ∷ Sent (control 7 0 0 0) ∷ [])
-      (User Start ∷ Sent STRT ∷ Received 1 false (control 7 0 0 0) ∷ Sent (control 2 0xc8 0 0) ∷ []) (refused B 3 (OfStation NoCause))
+  flags_are_no_part_of_the_reason : Verdict (User Start ∷ Sent STRT ∷ Received 0 NotKept STRT ∷ Sent (control 7 0 0 0) ∷ [])
+      (User Start ∷ Sent STRT ∷ Received 1 NotKept (control 7 0 0 0) ∷ Sent (control 2 0xc8 0 0) ∷ []) (refused B 3 (OfStation NoCause))
 
 computed : Rows
 unfolding computing

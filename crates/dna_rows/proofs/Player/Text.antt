@@ -6,7 +6,8 @@ use Rattle.capture.specs.Text.{bytes_text, address_text}
 use Rattle.capture.specs.Reading.{number_at, positive_at, address_at}
 use Rattle.capture.proofs.NumberLaws.{number_takes}
 use Rattle.capture.proofs.AddressLaws.{address_takes}
-use Rattle.dna_play.specs.Script.{Start, Halt, Timer, Send, Deliver, Refuse, Lose, Damage, Noise, Open, Accept, Reject, In, Close, Retry}
+use Rattle.dna_play.specs.Script.{Start, Halt, Boot, Timer, Send, Deliver, Refuse, Drop, Lose, Damage, Noise, Open, Accept, Reject, In, Close, Abort}
+use Rattle.dna_play.specs.Script.{Retry}
 use Rattle.capture.specs.Listed.{list_head}
 use Rattle.dna_play.specs.ScriptText.{line_text, script_form}
 use Rattle.dna_rows.proofs.Scripts.{a, b}
@@ -21,10 +22,12 @@ node text address e = sym (address_takes text address e).0
 record Rows : Type 0 where
   start_line : line_text (a Start) ≡ codes "a start"
   halt_line : line_text (b Halt) ≡ codes "b halt"
+  boot_line : line_text (a Boot) ≡ codes "a boot"
   timer_line : line_text (a Timer) ≡ codes "a timer"
   send_line : line_text (b Send) ≡ codes "b send"
   deliver_line : line_text (a Deliver) ≡ codes "a deliver"
   refuse_line : line_text (b Refuse) ≡ codes "b refuse"
+  drop_line : line_text (b Drop) ≡ codes "b drop"
   lose_line : line_text (a Lose) ≡ codes "a lose"
   noise_line : (bytes : List ℕ) → line_text (b (Noise bytes)) ≡ codes "b noise " ++ bytes_text bytes
   no_noise_line : line_text (a (Noise [])) ≡ codes "a noise -"
@@ -33,6 +36,7 @@ record Rows : Type 0 where
   accept_line : line_text (a (Accept 65535)) ≡ codes "a accept 65535"
   reject_line : line_text (b (Reject 10)) ≡ codes "b reject 10"
   close_line : line_text (a (Close 1)) ≡ codes "a close 1"
+  abort_line : line_text (b (Abort 10)) ≡ codes "b abort 10"
   retry_line : line_text (b (Retry 2)) ≡ codes "b retry 2"
   -- BYTES stand as in a capture
   in_line : (message : List ℕ) → line_text (a (In 3 message)) ≡ codes "a in 3 " ++ bytes_text message

@@ -1,6 +1,7 @@
 -- The causes of NAKs: they are counted, each for its own reason, and nothing but a NAK of that reason uses one up.
-use Rattle.std.proofs.Common.{ℕ, true, false, List, [], ◌∷◌, ◌++◌}
+use Rattle.std.proofs.Common.{ℕ, List, [], ◌∷◌, ◌++◌}
 use Rattle.wire_base.specs.declared.side.Side.TheVariants.{B}
+use Rattle.capture.specs.declared.fate.Fate.TheVariants.{NotKept, Kept}
 use Rattle.capture.specs.declared.record.Record.TheVariants.{Sent, Received, Noise}
 use Rattle.dna_station.specs.declared.refusal.StationRefusal.TheVariants.{NoCause}
 use Rattle.dna_station.specs.declared.refusal.StepRefusal.TheVariants.{Station as OfStation}
@@ -23,27 +24,27 @@ cut_data = 0x81 ∷ 1 ∷ 0 ∷ 0 ∷ 1 ∷ 1 ∷ 0xe3 ∷ 0x81 ∷ 5 ∷ 0xc0 �
 record Rows : Type 0 where
   -- Two bad headers, of a unit and of noise, allow two NAKs of reason 1
   causes_of_one_reason_are_counted : Verdict (started ++ Sent (DATA 1 0) ∷ Sent (data_of 2 0 (7 ∷ [])) ∷ [])
-      (answered ++ Received 1 true (DATA 1 0) ∷ Received 2 false bad_header ∷ Noise [] ∷ Sent (NAK 1 1) ∷ Sent (NAK 1 1) ∷ []) Accepted
+      (answered ++ Received 1 Kept (DATA 1 0) ∷ Received 2 NotKept bad_header ∷ Noise [] ∷ Sent (NAK 1 1) ∷ Sent (NAK 1 1) ∷ []) Accepted
   -- and no third
   two_causes_1_three_naks : Verdict (started ++ Sent (DATA 1 0) ∷ Sent (data_of 2 0 (7 ∷ [])) ∷ Sent (ACK 0) ∷ [])
-      (answered ++ Received 1 true (DATA 1 0) ∷ Received 2 false bad_header ∷ Noise [] ∷ Sent (NAK 1 1) ∷ Sent (NAK 1 1) ∷ Sent (NAK 1 1) ∷ [])
+      (answered ++ Received 1 Kept (DATA 1 0) ∷ Received 2 NotKept bad_header ∷ Noise [] ∷ Sent (NAK 1 1) ∷ Sent (NAK 1 1) ∷ Sent (NAK 1 1) ∷ [])
       (refused B 8 (OfStation NoCause))
   -- two that showed bad data, a unit and noise, allow two NAKs of reason 2, also with an ACK between them
   two_causes_2 : Verdict (started ++ Sent (DATA 1 0) ∷ Sent (data_of 2 0 (7 ∷ [])) ∷ Sent (ACK 0) ∷ [])
-      (answered ++ Received 1 true (DATA 1 0) ∷ Received 2 false bad_data ∷ Noise cut_data ∷ Sent (NAK 2 1) ∷ Sent (ACK 1) ∷ Sent (NAK 2 1) ∷ [])
+      (answered ++ Received 1 Kept (DATA 1 0) ∷ Received 2 NotKept bad_data ∷ Noise cut_data ∷ Sent (NAK 2 1) ∷ Sent (ACK 1) ∷ Sent (NAK 2 1) ∷ [])
       Accepted
   -- two REPs of what did not come allow two NAKs of reason 3, also with an ACK between them
   two_causes_3 : Verdict (acked_a ++ Sent (DATA 1 0) ∷ Sent (REP 1) ∷ Sent (REP 1) ∷ [])
-      (acked_b ++ Received 3 false (REP 1) ∷ Received 4 false (REP 1) ∷ Sent (NAK 3 0) ∷ Sent (ACK 0) ∷ Sent (NAK 3 0) ∷ []) Accepted
+      (acked_b ++ Received 3 NotKept (REP 1) ∷ Received 4 NotKept (REP 1) ∷ Sent (NAK 3 0) ∷ Sent (ACK 0) ∷ Sent (NAK 3 0) ∷ []) Accepted
   -- Two packets without a buffer allow two NAKs of reason 8, also with a NAK between them that needs no cause
-  one_nak_answers_one_cause : Verdict (started ++ Sent (DATA 1 0) ∷ Received 1 false (NAK 9 0) ∷ Sent (DATA 1 0) ∷ [])
-      (answered ++ Received 1 false (DATA 1 0) ∷ Sent (NAK 9 0) ∷ Received 2 false (DATA 1 0) ∷ Sent (NAK 8 0) ∷ Sent (NAK 8 0) ∷ []) Accepted
+  one_nak_answers_one_cause : Verdict (started ++ Sent (DATA 1 0) ∷ Received 1 NotKept (NAK 9 0) ∷ Sent (DATA 1 0) ∷ [])
+      (answered ++ Received 1 NotKept (DATA 1 0) ∷ Sent (NAK 9 0) ∷ Received 2 NotKept (DATA 1 0) ∷ Sent (NAK 8 0) ∷ Sent (NAK 8 0) ∷ []) Accepted
   -- an ACK uses no cause up, though it says what the NAK would
   an_ack_answers_no_cause : Verdict (started ++ Sent (DATA 1 0) ∷ Sent (data_of 2 0 (7 ∷ [])) ∷ [])
-      (answered ++ Received 1 true (DATA 1 0) ∷ Received 2 false bad_header ∷ Sent (ACK 1) ∷ Sent (NAK 1 1) ∷ []) Accepted
+      (answered ++ Received 1 Kept (DATA 1 0) ∷ Received 2 NotKept bad_header ∷ Sent (ACK 1) ∷ Sent (NAK 1 1) ∷ []) Accepted
   -- each reason has its own causes: a NAK of reason 2 leaves that of reason 8 open
   two_kinds_of_causes : Verdict (started ++ Sent (DATA 1 0) ∷ Sent (data_of 2 0 (7 ∷ [])) ∷ [])
-      (answered ++ Received 1 false (DATA 1 0) ∷ Received 2 false bad_data ∷ Sent (NAK 2 0) ∷ Sent (NAK 8 0) ∷ []) Accepted
+      (answered ++ Received 1 NotKept (DATA 1 0) ∷ Received 2 NotKept bad_data ∷ Sent (NAK 2 0) ∷ Sent (NAK 8 0) ∷ []) Accepted
   -- NAKs of reasons 16, 17 and 9 need no cause
   naks_without_a_cause : Verdict (started ++ Sent (NAK 16 0) ∷ Sent (NAK 17 0) ∷ Sent (NAK 9 0) ∷ []) answered Accepted
 

@@ -1,7 +1,8 @@
 -- Worked rows of noise, and pairs of captures that tell its rules from their turns, computed from the definitions.
-use Rattle.std.proofs.Common.{true, false, List, [], ◌∷◌, ◌++◌, ℕ}
+use Rattle.std.proofs.Common.{List, [], ◌∷◌, ◌++◌, ℕ}
 use Rattle.two_nodes.specs.Nodes.{Refused}
 use Rattle.wire_base.specs.declared.side.Side.TheVariants.{A, B}
+use Rattle.capture.specs.declared.fate.Fate.TheVariants.{NotKept, Kept}
 use Rattle.capture.specs.declared.record.Record.{Record}
 use Rattle.capture.specs.declared.record.Record.TheVariants.{Sent, Received, Noise, User}
 use Rattle.capture.specs.declared.event.Event.TheVariants.{Start}
@@ -21,27 +22,27 @@ abbrev zeros : List ℕ
 zeros = 0 ∷ 0 ∷ 0 ∷ 0 ∷ 0 ∷ 0 ∷ 0 ∷ 0 ∷ []
 
 abbrev lost_a : List Record
-lost_a = User Start ∷ Sent STRT ∷ Sent STRT ∷ Received 0 false STACK ∷ Sent (ACK 0) ∷ []
+lost_a = User Start ∷ Sent STRT ∷ Sent STRT ∷ Received 0 NotKept STACK ∷ Sent (ACK 0) ∷ []
 
 abbrev lost_b : List Record
-lost_b = User Start ∷ Received 1 false STRT ∷ Sent STACK ∷ Received 2 false (ACK 0) ∷ []
+lost_b = User Start ∷ Received 1 NotKept STRT ∷ Sent STACK ∷ Received 2 NotKept (ACK 0) ∷ []
 
 record Rows : Type 0 where
   -- ---- b is in RUNNING: a's first STRT was lost
   -- no bytes come, and are answered as a bad header; the next unit is taken, for noise leaves the front
-  noise_answered_as_header : Runs (lost_a ++ Received 1 false (NAK 1 0) ∷ Sent (DATA 1 0) ∷ [])
-      (lost_b ++ Noise [] ∷ Sent (NAK 1 0) ∷ Received 3 true (DATA 1 0) ∷ [])
+  noise_answered_as_header : Runs (lost_a ++ Received 1 NotKept (NAK 1 0) ∷ Sent (DATA 1 0) ∷ [])
+      (lost_b ++ Noise [] ∷ Sent (NAK 1 0) ∷ Received 3 Kept (DATA 1 0) ∷ [])
   noise_answered_as_data : Runs lost_a (lost_b ++ Noise header_alone ∷ Sent (NAK 2 0) ∷ [])
   noise_without_its_cause : EndsAt B lost_a (lost_b ++ Noise header_alone ∷ []) (Sent (NAK 1 0)) (refused NoCause)
   sound_noise : EndsAt B lost_a lost_b (Noise STRT) (Refused NotNoise)
   noise_of_zeros : EndsAt B lost_a lost_b (Noise zeros) (Refused NotNoise)
   -- ---- the line
-  noise_leaves_the_front : Runs (User Start ∷ Sent STRT ∷ []) (Noise [] ∷ Received 0 false STRT ∷ [])
+  noise_leaves_the_front : Runs (User Start ∷ Sent STRT ∷ []) (Noise [] ∷ Received 0 NotKept STRT ∷ [])
   noise_that_reads_as_sound : EndsAt A [] [] (Noise STRT) (Refused NotNoise)
   noise_that_reads_as_malformed : EndsAt A [] [] (Noise maintenance) (Refused NotNoise)
   -- ---- what it opens, by the state
   noise_in_halted : Runs (Noise [] ∷ []) []
-  noise_in_a_start : EndsAt A (User Start ∷ Noise [] ∷ Sent STRT ∷ Received 0 false STACK ∷ []) answered (Sent (NAK 1 0)) (refused NoCause)
+  noise_in_a_start : EndsAt A (User Start ∷ Noise [] ∷ Sent STRT ∷ Received 0 NotKept STACK ∷ []) answered (Sent (NAK 1 0)) (refused NoCause)
   noise_with_a_bad_header : Runs (started ++ Noise [] ∷ Sent (NAK 1 0) ∷ []) answered
   noise_with_bad_data : EndsAt A (started ++ Noise header_alone ∷ []) answered (Sent (NAK 1 0)) (refused NoCause)
 

@@ -1,6 +1,7 @@
 -- Worked rows of data transfer, computed from the definitions like those of startup.
-use Rattle.std.proofs.Common.{true, false, List, [], ◌∷◌, ◌++◌, ◌≡◌}
+use Rattle.std.proofs.Common.{List, [], ◌∷◌, ◌++◌, ◌≡◌}
 use Rattle.wire_base.specs.declared.side.Side.TheVariants.{A, B}
+use Rattle.capture.specs.declared.fate.Fate.TheVariants.{NotKept, Kept}
 use Rattle.capture.specs.declared.record.Record.{Record}
 use Rattle.capture.specs.declared.record.Record.TheVariants.{Sent, Received, User}
 use Rattle.capture.specs.declared.event.Event.TheVariants.{Start, Halt}
@@ -18,37 +19,37 @@ second_first_a = acked_a ++ Sent (DATA 1 0) ∷ Sent (DATA 2 0) ∷ []
 
 -- the packet comes damaged, is asked for by a NAK and repeated
 abbrev repeated_a : List Record
-repeated_a = acked_a ++ Sent (DATA 1 0) ∷ Received 1 false (NAK 2 0) ∷ Sent (DATA 1 0) ∷ []
+repeated_a = acked_a ++ Sent (DATA 1 0) ∷ Received 1 NotKept (NAK 2 0) ∷ Sent (DATA 1 0) ∷ []
 
 abbrev repeated_b : List Record
-repeated_b = answered ++ Received 1 false (ACK 0) ∷ Received 2 false damaged_DATA ∷ Sent (NAK 2 0) ∷ Received 3 true (DATA 1 0) ∷ []
+repeated_b = answered ++ Received 1 NotKept (ACK 0) ∷ Received 2 NotKept damaged_DATA ∷ Sent (NAK 2 0) ∷ Received 3 Kept (DATA 1 0) ∷ []
 
 -- the packet is lost; a REP asks for it, a NAK answers, and it is repeated
 abbrev asked_for_a : List Record
-asked_for_a = acked_a ++ Sent (DATA 1 0) ∷ Sent (REP 1) ∷ Received 1 false (NAK 3 0) ∷ Sent (DATA 1 0) ∷ []
+asked_for_a = acked_a ++ Sent (DATA 1 0) ∷ Sent (REP 1) ∷ Received 1 NotKept (NAK 3 0) ∷ Sent (DATA 1 0) ∷ []
 
 abbrev asked_for_b : List Record
-asked_for_b = answered ++ Received 1 false (ACK 0) ∷ Received 3 false (REP 1) ∷ Sent (NAK 3 0) ∷ Received 4 true (DATA 1 0) ∷ []
+asked_for_b = answered ++ Received 1 NotKept (ACK 0) ∷ Received 3 NotKept (REP 1) ∷ Sent (NAK 3 0) ∷ Received 4 Kept (DATA 1 0) ∷ []
 
 record Rows : Type 0 where
   -- one packet is kept
-  one_packet_kept : Runs (acked_a ++ Sent (DATA 1 0) ∷ []) (answered ++ Received 1 false (ACK 0) ∷ Received 2 true (DATA 1 0) ∷ [])
-  second_packet_first : Runs second_first_a (answered ++ Received 3 false (DATA 2 0) ∷ [])
-  second_packet_kept : EndsAt B second_first_a answered (Received 3 true (DATA 2 0)) (refused WrongKeep)
+  one_packet_kept : Runs (acked_a ++ Sent (DATA 1 0) ∷ []) (answered ++ Received 1 NotKept (ACK 0) ∷ Received 2 Kept (DATA 1 0) ∷ [])
+  second_packet_first : Runs second_first_a (answered ++ Received 3 NotKept (DATA 2 0) ∷ [])
+  second_packet_kept : EndsAt B second_first_a answered (Received 3 Kept (DATA 2 0)) (refused WrongKeep)
   damaged_and_repeated : Runs repeated_a repeated_b
   -- the cause of the NAK is used up
   second_nak : EndsAt B repeated_a repeated_b (Sent (NAK 2 1)) (refused NoCause)
   -- the packet is repeated with other data
-  changed_packet : EndsAt A (acked_a ++ Sent (DATA 1 0) ∷ Received 1 false (NAK 2 0) ∷ [])
-      (answered ++ Received 1 false (ACK 0) ∷ Received 2 false damaged_DATA ∷ Sent (NAK 2 0) ∷ []) (Sent (data_of 1 0 (6 ∷ []))) (refused Changed)
+  changed_packet : EndsAt A (acked_a ++ Sent (DATA 1 0) ∷ Received 1 NotKept (NAK 2 0) ∷ [])
+      (answered ++ Received 1 NotKept (ACK 0) ∷ Received 2 NotKept damaged_DATA ∷ Sent (NAK 2 0) ∷ []) (Sent (data_of 1 0 (6 ∷ []))) (refused Changed)
   -- a start in RUNNING
   starts_while_running : EndsAt A acked_a answered (User Start) (refused WrongUserEvent)
   rep_answered : Runs asked_for_a asked_for_b
   -- once it is taken, a REP of its number gives no cause
-  rep_of_what_came : EndsAt B (asked_for_a ++ Sent (REP 1) ∷ []) (asked_for_b ++ Received 5 false (REP 1) ∷ []) (Sent (NAK 3 1)) (refused NoCause)
+  rep_of_what_came : EndsAt B (asked_for_a ++ Sent (REP 1) ∷ []) (asked_for_b ++ Received 5 NotKept (REP 1) ∷ []) (Sent (NAK 3 1)) (refused NoCause)
   -- there is no buffer for the packet: a NAK says so, it is repeated and kept; a NAK for an overrun needs no cause
-  refused_for_want_of_a_buffer : Runs (acked_a ++ Sent (DATA 1 0) ∷ Received 1 false (NAK 8 0) ∷ Sent (DATA 1 0) ∷ [])
-      (answered ++ Received 1 false (ACK 0) ∷ Received 2 false (DATA 1 0) ∷ Sent (NAK 8 0) ∷ Received 3 true (DATA 1 0) ∷ Sent (NAK 9 1) ∷ [])
+  refused_for_want_of_a_buffer : Runs (acked_a ++ Sent (DATA 1 0) ∷ Received 1 NotKept (NAK 8 0) ∷ Sent (DATA 1 0) ∷ [])
+      (answered ++ Received 1 NotKept (ACK 0) ∷ Received 2 NotKept (DATA 1 0) ∷ Sent (NAK 8 0) ∷ Received 3 Kept (DATA 1 0) ∷ Sent (NAK 9 1) ∷ [])
   -- a RESP of what never came: of an ACK, and of a packet
   acknowledges_unasked : EndsAt A acked_a answered (Sent (ACK 1)) (refused WrongResponse)
   responds_unasked : EndsAt A acked_a answered (Sent (DATA 1 1)) (refused WrongResponse)

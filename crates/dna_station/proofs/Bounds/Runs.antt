@@ -2,16 +2,18 @@
 use Rattle.std.proofs.Common.{List, [], refl, arith}
 use Rattle.two_nodes.specs.Nodes.{Half, World, Run}
 use Rattle.two_nodes.specs.Kept.{IsKept}
+use Rattle.capture.specs.Fates.{is_kept}
 use Rattle.capture.specs.declared.record.Record.{Record}
 use Rattle.dna_station.specs.declared.head.Head.{Head}
 use Rattle.dna_station.specs.PeriodRule.{of_period}
 use Rattle.dna_station.specs.Line.{SentUnit}
 use Rattle.dna_station.specs.Node.{Node, new_node}
+use Rattle.dna_station.specs.declared.state.StationEvent.TheVariants.{Halt}
 use Rattle.dna_station.specs.Station.{new_station}
 use Rattle.dna_station.specs.Bounds.{IsBounded}
 use Rattle.dna_station.specs.Pair.{pair, start}
 use Rattle.dna_station.proofs.Bounds.Ordered.{new_ordered}
-use Rattle.dna_station.proofs.Steps.Happens.{Happens, Nothing, UserEvent, Sending, Receipt, Counted, Unheard}
+use Rattle.dna_station.proofs.Steps.Happens.{Happens, Nothing, UserEvent, Boots, Sending, Receipt, Counted, Unheard}
 use Rattle.dna_station.proofs.Bounds.Sides.{OfBoth, IsKeptBySides, kept_by_both, after_run}
 use Rattle.two_nodes.proofs.NumberedSteps.{none_numbered, present_new}
 use Rattle.dna_station.proofs.Bounds.Numbers.{limits, view, numbers_of, unit_of}
@@ -27,17 +29,19 @@ module _ (own other : Half Node SentUnit) (h : IsSound own.state own.sent other.
   sound_own r left (Counted bytes reason) = sound_counted own.state own.sent other.sent reason h
   sound_own r left (Unheard bytes) = h
   sound_own r left (UserEvent event allowed) = sound_event own.state own.sent other.sent event h
+  sound_own r left Boots = sound_event own.state own.sent other.sent Halt h
   sound_own r left (Sending bytes m read allowed) = sound_sending own.state own.sent other.sent bytes m h read allowed
-  sound_own r left (Receipt hint kept bytes unit arrival there ahead of_unit allowed) =
-      sound_receipt own.state own.sent other.sent h theirs.messages hint unit there ahead bytes arrival kept of_unit allowed
+  sound_own r left (Receipt hint fate bytes unit arrival there ahead of_unit allowed) =
+      sound_receipt own.state own.sent other.sent h theirs.messages hint unit there ahead bytes arrival (is_kept fate) of_unit allowed
 
   pub sound_other : (r : Record) (left : Half Node SentUnit) → Happens of_period own other r left → IsSound other.state other.sent left.sent
   sound_other r left (Nothing event none) = theirs
   sound_other r left (Counted bytes reason) = theirs
   sound_other r left (Unheard bytes) = theirs
   sound_other r left (UserEvent event allowed) = theirs
+  sound_other r left Boots = theirs
   sound_other r left (Sending bytes m read allowed) = sound_beside other.state other.sent own.sent (unit_of own.state.station bytes m) theirs
-  sound_other r left (Receipt hint kept bytes unit arrival there ahead of_unit allowed) = theirs
+  sound_other r left (Receipt hint fate bytes unit arrival there ahead of_unit allowed) = theirs
 
 pub new_sound : (head : Head) → IsSound (new_node head) [] []
 new_sound head = record {

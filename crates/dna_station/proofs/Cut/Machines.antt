@@ -13,6 +13,8 @@ use Rattle.ddcmp_msg.specs.Reading as read_as
 use Rattle.capture.specs.declared.record.Record.{Record}
 use Rattle.capture.specs.declared.record.Record.TheVariants.{Sent, Received, Noise, User}
 use Rattle.capture.specs.declared.event.Event.{Event}
+use Rattle.capture.specs.declared.fate.Fate.{Fate}
+use Rattle.capture.specs.declared.fate.Fate.TheVariants.{NotKept}
 use Rattle.dna_station.specs.declared.refusal.StepRefusal.{StepRefusal}
 use Rattle.dna_station.specs.declared.refusal.StepRefusal.TheVariants.{HintOrder}
 use Rattle.dna_station.specs.Book.{Sound, HeaderBad, DataBad}
@@ -39,12 +41,12 @@ module _ {S K T J : Type 0} (of_station : S → T) (of_known : MessageValue → 
   pub record DoTheSame (own other : Half (NodeOf S) (UnitOf K)) : Type 0 where
     pub user : (event : Event) → two.user (of_station own.state.station) event ≡ cut_result (one.user own.state.station event)
     pub sending : (m : MessageValue) → two.sends (of_station own.state.station) m ≡ cut_sent m (one.sends own.state.station m)
-    pub sound : (k : ℕ) (unit : UnitOf K) (kept : Bool) → slice_get other.sent k ≡ Some unit → own.state.front ≤ k →
-        two.arrives (of_station own.state.station) (Sound unit.message (of_known unit.message unit.known)) kept ≡ cut_result
-        (one.arrives own.state.station (Sound unit.message unit.known) kept)
-    pub header_bad : (kept : Bool) → two.arrives (of_station own.state.station) HeaderBad kept ≡ cut_result
-        (one.arrives own.state.station HeaderBad kept)
-    pub data_bad : (kept : Bool) → two.arrives (of_station own.state.station) DataBad kept ≡ cut_result (one.arrives own.state.station DataBad kept)
+    pub sound : (k : ℕ) (unit : UnitOf K) (fate : Fate) → slice_get other.sent k ≡ Some unit → own.state.front ≤ k →
+        two.arrives (of_station own.state.station) (Sound unit.message (of_known unit.message unit.known)) fate ≡ cut_result
+        (one.arrives own.state.station (Sound unit.message unit.known) fate)
+    pub header_bad : (fate : Fate) → two.arrives (of_station own.state.station) HeaderBad fate ≡ cut_result
+        (one.arrives own.state.station HeaderBad fate)
+    pub data_bad : (fate : Fate) → two.arrives (of_station own.state.station) DataBad fate ≡ cut_result (one.arrives own.state.station DataBad fate)
 
   module _ (own other : Half (NodeOf S) (UnitOf K)) (same : DoTheSame own other) where
     did_same : (o : Result S StepRefusal) →
@@ -76,12 +78,12 @@ module _ {S K T J : Type 0} (of_station : S → T) (of_known : MessageValue → 
         (answered own other (noise_step one own.state r))
     noise_same read_as.HeaderBad =
         ap (λ (o : Result T StepRefusal). answered (cut_half machine_cut own) (cut_half machine_cut other) (does (cut_half machine_cut own).state o))
-        (same.header_bad false)
-        ∙ did_same (one.arrives own.state.station HeaderBad false)
+        (same.header_bad NotKept)
+        ∙ did_same (one.arrives own.state.station HeaderBad NotKept)
     noise_same read_as.DataBad =
         ap (λ (o : Result T StepRefusal). answered (cut_half machine_cut own) (cut_half machine_cut other) (does (cut_half machine_cut own).state o))
-        (same.data_bad false)
-        ∙ did_same (one.arrives own.state.station DataBad false)
+        (same.data_bad NotKept)
+        ∙ did_same (one.arrives own.state.station DataBad NotKept)
     noise_same read = refl
 
     met_same : (front : ℕ) (p : Result T StepRefusal) (o : Result S StepRefusal) → p ≡ cut_result o →
@@ -96,40 +98,40 @@ module _ {S K T J : Type 0} (of_station : S → T) (of_known : MessageValue → 
         go (Ok s) = refl
         go (Err refusal) = refl
 
-    module _ (hint : ℕ) (kept : Bool) (unit : UnitOf K) (there : slice_get other.sent hint ≡ Some unit) (ahead : own.state.front ≤ hint) where
+    module _ (hint : ℕ) (fate : Fate) (unit : UnitOf K) (there : slice_get other.sent hint ≡ Some unit) (ahead : own.state.front ≤ hint) where
       damage_same : (r : ReadingValue) →
-          concluded (cut_half machine_cut own) (comes two (cut_half machine_cut own).state (hint + 1) kept (damage r)) ≡ cut_outcome machine_cut
-          (concluded own (comes one own.state (hint + 1) kept (damage r)))
-      damage_same read_as.HeaderBad = met_same (hint + 1) _ _ (same.header_bad kept)
-      damage_same read_as.DataBad = met_same (hint + 1) _ _ (same.data_bad kept)
+          concluded (cut_half machine_cut own) (comes two (cut_half machine_cut own).state (hint + 1) fate (damage r)) ≡ cut_outcome machine_cut
+          (concluded own (comes one own.state (hint + 1) fate (damage r)))
+      damage_same read_as.HeaderBad = met_same (hint + 1) _ _ (same.header_bad fate)
+      damage_same read_as.DataBad = met_same (hint + 1) _ _ (same.data_bad fate)
       damage_same read = refl
 
       comes_same : (is : Bool) (r : ReadingValue) →
           concluded (cut_half machine_cut own)
-          (comes two (cut_half machine_cut own).state (hint + 1) kept (coming_by is (unit_cut unit) r)) ≡ cut_outcome machine_cut
-          (concluded own (comes one own.state (hint + 1) kept (coming_by is unit r)))
-      comes_same true r = met_same (hint + 1) _ _ (same.sound hint unit kept there ahead)
+          (comes two (cut_half machine_cut own).state (hint + 1) fate (coming_by is (unit_cut unit) r)) ≡ cut_outcome machine_cut
+          (concluded own (comes one own.state (hint + 1) fate (coming_by is unit r)))
+      comes_same true r = met_same (hint + 1) _ _ (same.sound hint unit fate there ahead)
       comes_same false r = damage_same r
 
-    read_same : (hint : ℕ) (kept : Bool) (bytes : List ℕ) (o : Option (UnitOf K)) → slice_get other.sent hint ≡ o →
-        read (cut_half machine_cut own) (receives two (cut_half machine_cut own).state hint kept bytes) (option_map unit_cut o) ≡ cut_outcome
-        machine_cut (read own (receives one own.state hint kept bytes) o)
-    read_same hint kept bytes None there = refl
-    read_same hint kept bytes (Some unit) there = go (nat_lt hint own.state.front) refl
+    read_same : (hint : ℕ) (fate : Fate) (bytes : List ℕ) (o : Option (UnitOf K)) → slice_get other.sent hint ≡ o →
+        read (cut_half machine_cut own) (receives two (cut_half machine_cut own).state hint fate bytes) (option_map unit_cut o) ≡ cut_outcome
+        machine_cut (read own (receives one own.state hint fate bytes) o)
+    read_same hint fate bytes None there = refl
+    read_same hint fate bytes (Some unit) there = go (nat_lt hint own.state.front) refl
       where
         go : (b : Bool) → nat_lt hint own.state.front ≡ b →
             concluded (cut_half machine_cut own)
-            (cond b (Err HintOrder) (comes two (cut_half machine_cut own).state (hint + 1) kept (coming (unit_cut unit) bytes))) ≡ cut_outcome
-            machine_cut (concluded own (cond b (Err HintOrder) (comes one own.state (hint + 1) kept (coming unit bytes))))
+            (cond b (Err HintOrder) (comes two (cut_half machine_cut own).state (hint + 1) fate (coming (unit_cut unit) bytes))) ≡ cut_outcome
+            machine_cut (concluded own (cond b (Err HintOrder) (comes one own.state (hint + 1) fate (coming unit bytes))))
         go true e = refl
-        go false e = comes_same hint kept unit there (ltb-false hint own.state.front e) (bytes_eq bytes unit.bytes) (reading bytes)
+        go false e = comes_same hint fate unit there (ltb-false hint own.state.front e) (bytes_eq bytes unit.bytes) (reading bytes)
 
     pub record_same : (r : Record) → advance (step two) (cut_half machine_cut own) (cut_half machine_cut other) r ≡ cut_outcome machine_cut
         (advance (step one) own other r)
     record_same (Sent bytes) = sent_same bytes (reading bytes)
-    record_same (Received hint kept bytes) =
-        ap (read (cut_half machine_cut own) (receives two (cut_half machine_cut own).state hint kept bytes)) (slice_get-map unit_cut other.sent hint)
-        ∙ read_same hint kept bytes (slice_get other.sent hint) refl
+    record_same (Received hint fate bytes) =
+        ap (read (cut_half machine_cut own) (receives two (cut_half machine_cut own).state hint fate bytes)) (slice_get-map unit_cut other.sent hint)
+        ∙ read_same hint fate bytes (slice_get other.sent hint) refl
     record_same (Noise bytes) = noise_same (reading bytes)
     record_same (User event) =
         ap (λ (o : Result T StepRefusal). answered (cut_half machine_cut own) (cut_half machine_cut other) (does (cut_half machine_cut own).state o))

@@ -4,6 +4,8 @@ use Rattle.std.proofs.lemmas.List.{map-append}
 use Rattle.two_nodes.specs.Nodes.{Half, advance}
 use Rattle.two_nodes.specs.Cutting.{cut_half, cut_outcome}
 use Rattle.ddcmp_msg.specs.Message.{MessageValue}
+use Rattle.capture.specs.declared.fate.Fate.{Fate}
+use Rattle.capture.specs.Fates.{is_kept}
 use Rattle.capture.specs.declared.record.Record.{Record}
 use Rattle.capture.specs.declared.event.Event.{Event}
 use Rattle.capture.specs.declared.event.Event.TheVariants as events
@@ -93,10 +95,10 @@ module _ {L : Type 0} where
     bounded_same = record {
       user = user_same;
       sending = sending_made;
-      sound = λ k unit kept there ahead. sound_made unit kept (bounded.within k unit there ahead);
-      header_bad = λ kept. alike (keep_refusal false kept) (keep_refusal false kept) _ _ refl
+      sound = λ k unit fate there ahead. sound_made unit fate (bounded.within k unit there ahead);
+      header_bad = λ fate. let kept = is_kept fate in alike (keep_refusal false kept) (keep_refusal false kept) _ _ refl
           (λ e. sym (header_same (unlabelled own.state.station.packets) own.state.station kept) ∙ seen_packets own.state.station HeaderBad kept);
-      data_bad = λ kept. alike (keep_refusal false kept) (keep_refusal false kept) _ _ refl
+      data_bad = λ fate. let kept = is_kept fate in alike (keep_refusal false kept) (keep_refusal false kept) _ _ refl
           (λ e. sym (data_bad_same (unlabelled own.state.station.packets) own.state.station kept) ∙ seen_packets own.state.station DataBad kept);
     }
       where
@@ -107,6 +109,9 @@ module _ {L : Type 0} where
             alike _ (user_refusal own.state.station.state Start) (wire_after_event (station_seen own.state.station) Start)
             (after_event own.state.station Start) refl (λ e. seen_event own.state.station Start)
         user_same events.Halt =
+            alike _ (user_refusal own.state.station.state Halt) (wire_after_event (station_seen own.state.station) Halt)
+            (after_event own.state.station Halt) refl (λ e. seen_event own.state.station Halt)
+        user_same events.Boot =
             alike _ (user_refusal own.state.station.state Halt) (wire_after_event (station_seen own.state.station) Halt)
             (after_event own.state.station Halt) refl (λ e. seen_event own.state.station Halt)
         user_same event = refl
@@ -128,20 +133,20 @@ module _ {L : Type 0} where
             go None = refl
             go (Some refusal) = refl
 
-        sound_made : (unit : SentUnit) (kept : Bool) →
+        sound_made : (unit : SentUnit) (fate : Fate) →
             (meets_needs of_period own.state.station unit.message unit.known ≡ true → IsWithin own.state.station unit.message unit.known) →
-            (wire_machine of_period).arrives (station_seen own.state.station) (Sound unit.message unit.known.tag) kept ≡ cut_result station_seen
+            (wire_machine of_period).arrives (station_seen own.state.station) (Sound unit.message unit.known.tag) fate ≡ cut_result station_seen
             (λ (m : MessageValue) (u : Truth). u.tag) (station_machine of_period) (wire_machine of_period)
-            ((station_machine of_period).arrives own.state.station (Sound unit.message unit.known) kept)
-        sound_made unit kept within =
-            alike _ (arrival_refusal of_period own.state.station (Sound unit.message unit.known) kept)
-            (wire_after_arrival (station_seen own.state.station) (Sound unit.message unit.known.tag) kept)
-            (after_arrival own.state.station (Sound unit.message unit.known) kept)
-            (sym (arrival_refusal_same {L = L} (unlabelled own.state.station.packets) of_period own.state.station unit.message unit.known kept
+            ((station_machine of_period).arrives own.state.station (Sound unit.message unit.known) fate)
+        sound_made unit fate within =
+            alike _ (arrival_refusal of_period own.state.station (Sound unit.message unit.known) (is_kept fate))
+            (wire_after_arrival (station_seen own.state.station) (Sound unit.message unit.known.tag) (is_kept fate))
+            (after_arrival own.state.station (Sound unit.message unit.known) (is_kept fate))
+            (sym (arrival_refusal_same {L = L} (unlabelled own.state.station.packets) of_period own.state.station unit.message unit.known (is_kept fate)
             within))
             (λ e. sym (arrival_same (unlabelled own.state.station.packets) own.state.station (unlabelled_bodies L own.state.station.packets)
-            bounded.ordered unit.message unit.known kept (within (not_crossed own.state.station unit.message unit.known kept e)))
-            ∙ seen_packets own.state.station (Sound unit.message unit.known) kept)
+            bounded.ordered unit.message unit.known (is_kept fate) (within (not_crossed own.state.station unit.message unit.known (is_kept fate) e)))
+            ∙ seen_packets own.state.station (Sound unit.message unit.known) (is_kept fate))
 
     pub record_same : (r : Record) → advance (wire_step of_period) (cut_half (seen {L = L}) own) (cut_half (seen {L = L}) other) r ≡ cut_outcome seen
         (advance (step of_period) own other r)

@@ -6,18 +6,20 @@ use Rattle.two_nodes.specs.Nodes.{Half}
 use Rattle.ddcmp_msg.specs.Message.{MessageValue}
 use Rattle.ddcmp_msg.specs.Reading.{reading}
 use Rattle.ddcmp_msg.specs.Reading as read_as
+use Rattle.capture.specs.declared.fate.Fate.{Fate}
+use Rattle.capture.specs.Fates.{is_kept}
 use Rattle.capture.specs.declared.record.Record.{Record}
 use Rattle.capture.specs.declared.record.Record.TheVariants.{Received}
 use Rattle.dna_station.specs.declared.state.StationEvent.TheVariants.{Start, Halt}
 use Rattle.dna_station.specs.Station.{Station, PastPeriod, past, after_event}
-use Rattle.dna_station.specs.Delivery.{periods, taken_by_period, packet_in, in_last, with_period, delivered_by, delivered}
+use Rattle.dna_station.specs.Delivery.{periods, taken_by_period, packet_in, in_last, with_packets, with_period, delivered_by, delivered}
 use Rattle.dna_station.specs.PeriodRule.{of_period}
 use Rattle.dna_station.specs.Truth.{Truth}
 use Rattle.dna_station.specs.Book.{ArrivalValue, HeaderBad, DataBad, Sound}
 use Rattle.dna_station.specs.StationBook.{after_sending, arrival_refusal, after_arrival}
 use Rattle.dna_station.specs.Line.{SentUnit}
 use Rattle.dna_station.specs.Node.{Node}
-use Rattle.dna_station.proofs.Steps.Happens.{Happens, Nothing, UserEvent, Sending, Receipt, Counted, Unheard, ComesOf, Itself, BadHeader, BadData}
+use Rattle.dna_station.proofs.Steps.Happens.{Happens, Nothing, UserEvent, Boots, Sending, Receipt, Counted, Unheard, ComesOf, Itself, BadHeader, BadData}
 use Rattle.dna_station.proofs.Bounds.Stations.{IsSound}
 use Rattle.dna_station.proofs.Steps.Effects.{Stays, sending_stays}
 use Rattle.dna_station.proofs.Delivery.Steps.{TookBy, Took, arrival_took, unkept}
@@ -50,40 +52,40 @@ sending_taken s m = same_taken s (after_sending s m) (sending_stays s m).earlier
 
 -- ---- a receipt
 
-not_kept : (ps : List (List (List ℕ))) (hint : ℕ) (kept : Bool) (bytes : List ℕ) → kept ≡ false → ps ≡ delivered_by ps (Received hint kept bytes)
-not_kept ps hint true bytes e = absurd cc
-not_kept ps hint false bytes e = refl
+not_kept : (ps : List (List (List ℕ))) (kept : Bool) (packets : List (List ℕ)) → kept ≡ false → ps ≡ with_packets kept packets ps
+not_kept ps true packets e = absurd cc
+not_kept ps false packets e = refl
 
-was_kept : (ps : List (List (List ℕ))) (hint : ℕ) (kept : Bool) (bytes packet : List ℕ) → kept ≡ true → packet_in (reading bytes) ≡ packet ∷ [] →
-    in_last (packet ∷ []) ps ≡ delivered_by ps (Received hint kept bytes)
-was_kept ps hint true bytes packet e read = ap (λ (x : List (List ℕ)). in_last x ps) (sym read)
-was_kept ps hint false bytes packet e read = absurd cc
+was_kept : (ps : List (List (List ℕ))) (kept : Bool) (bytes packet : List ℕ) → kept ≡ true → packet_in (reading bytes) ≡ packet ∷ [] →
+    in_last (packet ∷ []) ps ≡ with_packets kept (packet_in (reading bytes)) ps
+was_kept ps true bytes packet e read = ap (λ (x : List (List ℕ)). in_last x ps) (sym read)
+was_kept ps false bytes packet e read = absurd cc
 
 packet_read : (m : MessageValue) (bytes : List ℕ) (packet : List (List ℕ)) → reading bytes ≡ read_as.Sound m → packet_in (read_as.Sound m) ≡ packet →
     packet_in (reading bytes) ≡ packet
 packet_read m bytes packet read is = ap packet_in read ∙ is
 
-module _ (s t : Station) (hint : ℕ) (kept : Bool) (bytes : List ℕ) (unit : SentUnit) (stays : Stays s t) where
+module _ (s t : Station) (hint : ℕ) (fate : Fate) (bytes : List ℕ) (unit : SentUnit) (stays : Stays s t) where
   -- the packet that was taken is the one of these bytes
-  as_delivered : (kept ≡ true → reading bytes ≡ read_as.Sound unit.message) → TookBy s t unit.message unit.known kept →
-      taken_by_period t ≡ delivered_by (taken_by_period s) (Received hint kept bytes)
-  as_delivered read (inl (n, none)) = same_taken s t stays.earlier n.taken ∙ not_kept (taken_by_period s) hint kept bytes none
-  as_delivered read (inr (inl (p, none))) = same_taken s t stays.earlier p.taken ∙ not_kept (taken_by_period s) hint kept bytes none
+  as_delivered : (is_kept fate ≡ true → reading bytes ≡ read_as.Sound unit.message) → TookBy s t unit.message unit.known (is_kept fate) →
+      taken_by_period t ≡ delivered_by (taken_by_period s) (Received hint fate bytes)
+  as_delivered read (inl (n, none)) = same_taken s t stays.earlier n.taken ∙ not_kept (taken_by_period s) (is_kept fate) (packet_in (reading bytes)) none
+  as_delivered read (inr (inl (p, none))) = same_taken s t stays.earlier p.taken ∙ not_kept (taken_by_period s) (is_kept fate) (packet_in (reading bytes)) none
   as_delivered read (inr (inr (p, was))) =
       more_taken s t (p.body ∷ []) stays.earlier p.taken
-      ∙ was_kept (taken_by_period s) hint kept bytes p.body was
+      ∙ was_kept (taken_by_period s) (is_kept fate) bytes p.body was
       (packet_read unit.message bytes (p.body ∷ []) (read was) (ap (λ (m : MessageValue). packet_in (read_as.Sound m)) p.message))
 
-receipt_taken : (s : Station) (hint : ℕ) (kept : Bool) (bytes : List ℕ) (unit : SentUnit) (arrival : ArrivalValue Truth) →
-    reading unit.bytes ≡ read_as.Sound unit.message → ComesOf unit bytes arrival → arrival_refusal of_period s arrival kept ≡ None →
-    Took s (after_arrival s arrival kept) unit.message unit.known kept →
-    taken_by_period (after_arrival s arrival kept) ≡ delivered_by (taken_by_period s) (Received hint kept bytes)
-receipt_taken s hint kept bytes unit (Sound m u) reads (Itself same) allowed took =
-    as_delivered s _ hint kept bytes unit took.0 (λ was. ap reading same ∙ reads) took.1
-receipt_taken s hint kept bytes unit HeaderBad reads BadHeader allowed took =
-    as_delivered s _ hint kept bytes unit took.0 (λ was. absurd (let none = unkept kept allowed in cc)) took.1
-receipt_taken s hint kept bytes unit DataBad reads BadData allowed took =
-    as_delivered s _ hint kept bytes unit took.0 (λ was. absurd (let none = unkept kept allowed in cc)) took.1
+receipt_taken : (s : Station) (hint : ℕ) (fate : Fate) (bytes : List ℕ) (unit : SentUnit) (arrival : ArrivalValue Truth) →
+    reading unit.bytes ≡ read_as.Sound unit.message → ComesOf unit bytes arrival → arrival_refusal of_period s arrival (is_kept fate) ≡ None →
+    Took s (after_arrival s arrival (is_kept fate)) unit.message unit.known (is_kept fate) →
+    taken_by_period (after_arrival s arrival (is_kept fate)) ≡ delivered_by (taken_by_period s) (Received hint fate bytes)
+receipt_taken s hint fate bytes unit (Sound m u) reads (Itself same) allowed took =
+    as_delivered s _ hint fate bytes unit took.0 (λ was. ap reading same ∙ reads) took.1
+receipt_taken s hint fate bytes unit HeaderBad reads BadHeader allowed took =
+    as_delivered s _ hint fate bytes unit took.0 (λ was. absurd (let none = unkept (is_kept fate) allowed in cc)) took.1
+receipt_taken s hint fate bytes unit DataBad reads BadData allowed took =
+    as_delivered s _ hint fate bytes unit took.0 (λ was. absurd (let none = unkept (is_kept fate) allowed in cc)) took.1
 
 -- ---- any record
 
@@ -95,10 +97,11 @@ module _ (own other : Half Node SentUnit) (h : IsSound own.state own.sent other.
   record_taken r left (Unheard bytes) = refl
   record_taken r left (UserEvent Start allowed) = map-append taken (periods own.state.station) (past (after_event own.state.station Start) ∷ [])
   record_taken r left (UserEvent Halt allowed) = refl
+  record_taken r left Boots = refl
   record_taken r left (Sending bytes m read allowed) = sending_taken own.state.station m
-  record_taken r left (Receipt hint kept bytes unit arrival there ahead of_unit allowed) =
-      receipt_taken own.state.station hint kept bytes unit arrival (theirs.told hint unit there).reads of_unit allowed
-      (arrival_took own.state.station unit bytes arrival kept of_unit h.none allowed)
+  record_taken r left (Receipt hint fate bytes unit arrival there ahead of_unit allowed) =
+      receipt_taken own.state.station hint fate bytes unit arrival (theirs.told hint unit there).reads of_unit allowed
+      (arrival_took own.state.station unit bytes arrival (is_kept fate) of_unit h.none allowed)
 
 -- ---- in a run
 

@@ -5,6 +5,7 @@ use Rattle.std.proofs.lemmas.List.{nil_from_length}
 use Rattle.two_nodes.specs.Nodes.{Half, World, Run}
 use Rattle.two_nodes.specs.Kept.{IsKept}
 use Rattle.two_nodes.proofs.Order.{slice_get-append}
+use Rattle.capture.specs.Fates.{is_kept}
 use Rattle.capture.specs.declared.record.Record.{Record}
 use Rattle.dna_station.specs.declared.head.Head.{Head}
 use Rattle.dna_station.specs.declared.state.StationEvent.TheVariants.{Start, Halt}
@@ -15,7 +16,7 @@ use Rattle.dna_station.specs.StationBook.{station_book, after_sending, after_arr
 use Rattle.dna_station.specs.Line.{SentUnit}
 use Rattle.dna_station.specs.Node.{Node, new_node}
 use Rattle.dna_station.specs.Pair.{pair, start}
-use Rattle.dna_station.proofs.Steps.Happens.{Happens, Nothing, UserEvent, Sending, Receipt, Counted, Unheard}
+use Rattle.dna_station.proofs.Steps.Happens.{Happens, Nothing, UserEvent, Boots, Sending, Receipt, Counted, Unheard}
 use Rattle.dna_station.proofs.Bounds.Numbers.{unit_of}
 use Rattle.dna_station.proofs.Bounds.Stations.{IsSound}
 use Rattle.dna_station.proofs.Steps.Effects.{Stays, sending_stays}
@@ -50,6 +51,12 @@ module _ (own other : Half Node SentUnit) (h : IsSound own.state own.sent other.
   receipt_takes hint kept unit t there ahead stays (inr (inr (x, e))) =
       takes_packet own.state.station t other.sent own.sent own.state.front hint unit there ahead o.count other.state.station theirs p.takes stays x
 
+  order_halted : OwnOrder (record own.state { station = after_event own.state.station Halt }) own.sent other.sent
+  order_halted = record {
+    partnered = event_partnered own.state own.sent other.sent Halt h p.partnered;
+    takes = takes_last own.state.station (after_event own.state.station Halt) other.sent own.state.front p.takes refl refl refl;
+  }
+
   order_own : (r : Record) (left : Half Node SentUnit) → Happens of_period own other r left → OwnOrder left.state left.sent other.sent
   order_own r left (Nothing event none) = p
   order_own r left (Counted bytes reason) = record {
@@ -63,22 +70,20 @@ module _ (own other : Half Node SentUnit) (h : IsSound own.state own.sent other.
         takes =
             takes_start own.state.station other.sent own.state.front p.takes;
       }
-  order_own r left (UserEvent Halt allowed) = record {
-    partnered = event_partnered own.state own.sent other.sent Halt h p.partnered;
-    takes = takes_last own.state.station (after_event own.state.station Halt) other.sent own.state.front p.takes refl refl refl;
-  }
+  order_own r left (UserEvent Halt allowed) = order_halted
+  order_own r left Boots = order_halted
   order_own r left (Sending bytes m read allowed) =
       let t = sending_stays own.state.station m in
       record {
         partnered = sending_partnered own.state own.sent other.sent bytes m h p.partnered;
         takes = takes_last own.state.station (after_sending own.state.station m) other.sent own.state.front p.takes t.earlier t.partner t.taken;
       }
-  order_own r left (Receipt hint kept bytes unit arrival there ahead of_unit allowed) =
-      let took = arrival_took own.state.station unit bytes arrival kept of_unit h.none allowed in
+  order_own r left (Receipt hint fate bytes unit arrival there ahead of_unit allowed) =
+      let took = arrival_took own.state.station unit bytes arrival (is_kept fate) of_unit h.none allowed in
       record {
-        partnered = receipt_partnered own.state own.sent other.sent (after_arrival own.state.station arrival kept) unit.message unit.known kept h o
+        partnered = receipt_partnered own.state own.sent other.sent (after_arrival own.state.station arrival (is_kept fate)) unit.message unit.known (is_kept fate) h o
             took p.partnered;
-        takes = receipt_takes hint kept unit (after_arrival own.state.station arrival kept) there ahead took.0 took.1;
+        takes = receipt_takes hint (is_kept fate) unit (after_arrival own.state.station arrival (is_kept fate)) there ahead took.0 took.1;
       }
 
 module _ (own other : Half Node SentUnit) (p : OwnOrder other.state other.sent own.sent) where
@@ -88,13 +93,14 @@ module _ (own other : Half Node SentUnit) (p : OwnOrder other.state other.sent o
   order_other r left (Counted bytes reason) = p
   order_other r left (Unheard bytes) = p
   order_other r left (UserEvent event allowed) = p
+  order_other r left Boots = p
   order_other r left (Sending bytes m read allowed) = record {
     partnered = p.partnered;
     takes = takes_beside (periods other.state.station) own.sent (own.sent ++ unit_of own.state.station bytes m ∷ []) other.state.front
         other.state.front (omega arith)
         (λ k u at. slice_get-append own.sent (unit_of own.state.station bytes m ∷ []) k u at) p.takes;
   }
-  order_other r left (Receipt hint kept bytes unit arrival there ahead of_unit allowed) = p
+  order_other r left (Receipt hint fate bytes unit arrival there ahead of_unit allowed) = p
 
 -- ---- in a run
 

@@ -7,6 +7,7 @@ use Rattle.two_nodes.specs.Nodes.{Half, World, Run}
 use Rattle.ddcmp_msg.specs.Message.{MessageValue, Data, Nak}
 use Rattle.ddcmp_msg.specs.Reading.{ReadingValue, reading}
 use Rattle.ddcmp_msg.specs.Reading as read_as
+use Rattle.capture.specs.Fates.{is_kept}
 use Rattle.capture.specs.declared.record.Record.{Record}
 use Rattle.dna_station.specs.declared.head.Head.{Head}
 use Rattle.dna_station.specs.declared.state.StationEvent.TheVariants.{Start, Halt}
@@ -21,7 +22,7 @@ use Rattle.dna_station.specs.Node.{Node}
 use Rattle.dna_station.specs.Pair.{pair, start}
 use Rattle.dna_station.proofs.Bounds.Modulo.{same_test}
 use Rattle.dna_station.proofs.Steps.Checks.{sending_passed}
-use Rattle.dna_station.proofs.Steps.Happens.{Happens, Nothing, UserEvent, Sending, Receipt, Counted, Unheard}
+use Rattle.dna_station.proofs.Steps.Happens.{Happens, Nothing, UserEvent, Boots, Sending, Receipt, Counted, Unheard}
 use Rattle.dna_station.proofs.Bounds.Stations.{IsSound}
 use Rattle.dna_station.proofs.Delivery.Steps.{arrival_took}
 use Rattle.dna_station.proofs.Delivery.Captures.{in_last-append}
@@ -89,12 +90,13 @@ module _ (own other : Half Node SentUnit) (h : IsSound own.state own.sent other.
   record_given r left (Unheard bytes) = refl
   record_given r left (UserEvent Start allowed) = map-append given_in (periods own.state.station) (past (after_event own.state.station Start) ∷ [])
   record_given r left (UserEvent Halt allowed) = refl
+  record_given r left Boots = refl
   record_given r left (Sending bytes m read allowed) =
       sending_given own.state.station m h.ordered allowed
       ∙ ap (λ (x : ReadingValue). in_last (offers x (present (given_by_period own.state.station))) (given_by_period own.state.station)) (sym read)
-  record_given r left (Receipt hint kept bytes unit arrival there ahead of_unit allowed) =
-      let stays = (arrival_took own.state.station unit bytes arrival kept of_unit h.none allowed).0 in
-      same_given own.state.station (after_arrival own.state.station arrival kept) stays.earlier stays.packets
+  record_given r left (Receipt hint fate bytes unit arrival there ahead of_unit allowed) =
+      let stays = (arrival_took own.state.station unit bytes arrival (is_kept fate) of_unit h.none allowed).0 in
+      same_given own.state.station (after_arrival own.state.station arrival (is_kept fate)) stays.earlier stays.packets
 
 -- ---- in a run
 

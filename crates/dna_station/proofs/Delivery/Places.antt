@@ -6,6 +6,7 @@ use Rattle.std.proofs.lemmas.Grind.{flat_map-append}
 use Rattle.two_nodes.specs.Nodes.{Half}
 use Rattle.two_nodes.proofs.Order.{slice_get-append}
 use Rattle.ddcmp_msg.specs.Message.{MessageValue, Data}
+use Rattle.capture.specs.Fates.{is_kept}
 use Rattle.capture.specs.declared.record.Record.{Record}
 use Rattle.dna_station.specs.declared.state.StationEvent.TheVariants.{Start, Halt}
 use Rattle.dna_station.specs.Station.{Station, PastPeriod, past, packets_of, all_given, after_event}
@@ -17,7 +18,7 @@ use Rattle.two_nodes.specs.Beginning.{BeginsWith}
 use Rattle.dna_station.specs.Line.{SentUnit}
 use Rattle.dna_station.specs.Node.{Node}
 use Rattle.dna_station.proofs.Steps.Checks.{sending_passed}
-use Rattle.dna_station.proofs.Steps.Happens.{Happens, Nothing, UserEvent, Sending, Receipt, Counted, Unheard}
+use Rattle.dna_station.proofs.Steps.Happens.{Happens, Nothing, UserEvent, Boots, Sending, Receipt, Counted, Unheard}
 use Rattle.two_nodes.proofs.NumberedSteps.{each_pushed}
 use Rattle.dna_station.proofs.Bounds.Numbers.{unit_of}
 use Rattle.dna_station.proofs.Bounds.Stations.{IsSound}
@@ -84,11 +85,12 @@ module _ (own other : Half Node SentUnit) (h : IsSound own.state own.sent other.
   places_left r left (Unheard bytes) = p
   places_left r left (UserEvent Start allowed) = places_still (after_event own.state.station Start) (given_start own.state.station)
   places_left r left (UserEvent Halt allowed) = p
+  places_left r left Boots = p
   places_left r left (Sending bytes m read allowed) =
       each_pushed own.sent (unit_of own.state.station bytes m)
       (λ i (x : SentUnit). CarriesItsPacket (all_given (after_sending own.state.station m)) x.message x.known)
       (places_still (after_sending own.state.station m) (given_sending own.state.station m)) (sent_at_place own.state.station m allowed)
-  places_left r left (Receipt hint kept bytes unit arrival there ahead of_unit allowed) =
-      let stays = (arrival_took own.state.station unit bytes arrival kept of_unit h.none allowed).0 in
-      places_still (after_arrival own.state.station arrival kept)
-      (given_same own.state.station (after_arrival own.state.station arrival kept) stays.earlier stays.packets)
+  places_left r left (Receipt hint fate bytes unit arrival there ahead of_unit allowed) =
+      let stays = (arrival_took own.state.station unit bytes arrival (is_kept fate) of_unit h.none allowed).0 in
+      places_still (after_arrival own.state.station arrival (is_kept fate))
+      (given_same own.state.station (after_arrival own.state.station arrival (is_kept fate)) stays.earlier stays.packets)

@@ -11,6 +11,7 @@ use Rattle.two_nodes.specs.Kept.{IsKept}
 use Rattle.two_nodes.proofs.Order.{slice_get-append}
 use Rattle.two_nodes.proofs.Listed.{next_at}
 use Rattle.ddcmp_msg.specs.Message.{MessageValue, Data}
+use Rattle.capture.specs.Fates.{is_kept}
 use Rattle.capture.specs.declared.record.Record.{Record}
 use Rattle.capture.specs.declared.record.Record.TheVariants.{Sent, Received, Noise, User}
 use Rattle.dna_station.specs.declared.head.Head.{Head}
@@ -23,7 +24,7 @@ use Rattle.dna_station.specs.Delivery.{periods}
 use Rattle.dna_station.specs.Line.{SentUnit}
 use Rattle.dna_station.specs.Node.{Node}
 use Rattle.dna_station.specs.Pair.{pair, start}
-use Rattle.dna_station.proofs.Steps.Happens.{Happens, Nothing, UserEvent, Sending, Receipt, Counted, Unheard, happens}
+use Rattle.dna_station.proofs.Steps.Happens.{Happens, Nothing, UserEvent, Boots, Boots, Sending, Receipt, Counted, Unheard, happens}
 use Rattle.two_nodes.proofs.NumberedSteps.{at_pushed}
 use Rattle.dna_station.proofs.Bounds.Numbers.{is_data, unit_of}
 use Rattle.dna_station.proofs.Bounds.Stations.{IsSound}
@@ -187,14 +188,15 @@ placed_left own other h o p r left (Counted bytes reason) =
 placed_left own other h o p r left (Unheard bytes) = p
 placed_left own other h o p r left (UserEvent Start allowed) = placed_start own.state.station own.sent o (λ i u at. (h.told i u at).no_later) p
 placed_left own other h o p r left (UserEvent Halt allowed) = placed_same own.state.station (after_event own.state.station Halt) own.sent refl refl p
+placed_left own other h o p r left Boots = placed_same own.state.station (after_event own.state.station Halt) own.sent refl refl p
 placed_left own other h o p r left (Sending bytes m read allowed) =
     let t = sending_stays own.state.station m in
     let a = h.ordered.above in
     placed_same own.state.station (after_sending own.state.station m) (own.sent ++ unit_of own.state.station bytes m ∷ []) t.earlier t.period
     (placed_sending own.state.station own.sent bytes m (omega arith) (λ i u at. (h.told i u at).no_later) p)
-placed_left own other h o p r left (Receipt hint kept bytes unit arrival there ahead of_unit allowed) =
-    let t = (arrival_took own.state.station unit bytes arrival kept of_unit h.none allowed).0 in
-    placed_same own.state.station (after_arrival own.state.station arrival kept) own.sent t.earlier t.period p
+placed_left own other h o p r left (Receipt hint fate bytes unit arrival there ahead of_unit allowed) =
+    let t = (arrival_took own.state.station unit bytes arrival (is_kept fate) of_unit h.none allowed).0 in
+    placed_same own.state.station (after_arrival own.state.station arrival (is_kept fate)) own.sent t.earlier t.period p
 
 pub record BothPlaced (w : World Node SentUnit) (of_a of_b : List Record) : Type 0 where
   pub order : BothInOrder w of_a of_b
@@ -255,12 +257,16 @@ behind_still s t line line' other further front periods received passed grown (i
       behind = k.behind;
     })
 
--- what a record leaves of it: a packet that is kept lies at or behind that place
-abbrev pub LeftBehind : (own other left : Half Node SentUnit) → (front : ℕ) → Record → Type 0
-LeftBehind own other left front (Received hint true bytes) =
+-- what a receipt leaves of it: a packet that is kept lies at or behind that place
+abbrev pub LeftByReceipt : (other left : Half Node SentUnit) → (front hint : ℕ) → (kept : Bool) → Type 0
+LeftByReceipt other left front hint true =
     (unit : SentUnit) × IsDataAt other.sent hint unit × (front ≤ unit.known.place) × IsBehind left.state.station left.state.front other.sent
     (unit.known.place + 1)
-LeftBehind own other left front (Received hint false bytes) = IsBehind left.state.station left.state.front other.sent front
+LeftByReceipt other left front hint false = IsBehind left.state.station left.state.front other.sent front
+
+-- what a record leaves of it
+abbrev pub LeftBehind : (own other left : Half Node SentUnit) → (front : ℕ) → Record → Type 0
+LeftBehind own other left front (Received hint fate bytes) = LeftByReceipt other left front hint (is_kept fate)
 LeftBehind own other left front (Sent bytes) = IsBehind left.state.station left.state.front other.sent front
 LeftBehind own other left front (Noise bytes) = IsBehind left.state.station left.state.front other.sent front
 LeftBehind own other left front (User event) = IsBehind left.state.station left.state.front other.sent front
@@ -311,14 +317,14 @@ module _ (own other : Half Node SentUnit) (h : IsSound own.state own.sent other.
           behind = refl;
         })
 
-    by_taking : (kept : Bool) (bytes : List ℕ) → TookBy own.state.station t unit.message unit.known kept →
-        LeftBehind own other (stepped own (record own.state { station = t; front = hint + 1 })) front (Received hint kept bytes)
-    by_taking false bytes (inl (x, e)) = let r = x.received in unkept t (hint + 1) stays.period (omega arith) (omega arith)
-    by_taking false bytes (inr (inl (x, e))) = let r = x.received in unkept t (hint + 1) stays.period (omega arith) (omega arith)
-    by_taking false bytes (inr (inr (x, e))) = absurd cc
-    by_taking true bytes (inl (x, e)) = absurd cc
-    by_taking true bytes (inr (inl (x, e))) = absurd cc
-    by_taking true bytes (inr (inr (x, e))) =
+    by_taking : (kept : Bool) → TookBy own.state.station t unit.message unit.known kept →
+        LeftByReceipt other (stepped own (record own.state { station = t; front = hint + 1 })) front hint kept
+    by_taking false (inl (x, e)) = let r = x.received in unkept t (hint + 1) stays.period (omega arith) (omega arith)
+    by_taking false (inr (inl (x, e))) = let r = x.received in unkept t (hint + 1) stays.period (omega arith) (omega arith)
+    by_taking false (inr (inr (x, e))) = absurd cc
+    by_taking true (inl (x, e)) = absurd cc
+    by_taking true (inr (inl (x, e))) = absurd cc
+    by_taking true (inr (inr (x, e))) =
         let at : IsDataAt other.sent hint unit = (there, ap is_data x.message) in
         (unit, at, at_or_behind at x p, now_last at x)
 
@@ -329,13 +335,14 @@ module _ (own other : Half Node SentUnit) (h : IsSound own.state own.sent other.
   behind_left r left (UserEvent Start allowed) =
       behind_still own.state.station (after_event own.state.station Start) own.state.front own.state.front other.sent other.sent front (omega arith)
       (λ same. absurd (omega arith)) (omega arith) (λ k u at. at) p
+  behind_left r left Boots = unkept (after_event own.state.station Halt) own.state.front refl (omega arith) (omega arith)
   behind_left r left (UserEvent Halt allowed) = unkept (after_event own.state.station Halt) own.state.front refl (omega arith) (omega arith)
   behind_left r left (Sending bytes m read allowed) =
       let t = sending_stays own.state.station m in let e = t.received in
       unkept (after_sending own.state.station m) own.state.front t.period (omega arith) (omega arith)
-  behind_left r left (Receipt hint kept bytes unit arrival there ahead of_unit allowed) =
-      let took = arrival_took own.state.station unit bytes arrival kept of_unit h.none allowed in
-      by_taking hint unit (after_arrival own.state.station arrival kept) there ahead took.0 kept bytes took.1
+  behind_left r left (Receipt hint fate bytes unit arrival there ahead of_unit allowed) =
+      let took = arrival_took own.state.station unit bytes arrival (is_kept fate) of_unit h.none allowed in
+      by_taking hint unit (after_arrival own.state.station arrival (is_kept fate)) there ahead took.0 (is_kept fate) took.1
 
 -- the other side, beside what this record left
 pub behind_beside : (own other : Half Node SentUnit) (front : ℕ) → IsBehind other.state.station other.state.front own.sent front →
@@ -344,8 +351,9 @@ behind_beside own other front p r left (Nothing event none) = p
 behind_beside own other front p r left (Counted bytes reason) = p
 behind_beside own other front p r left (Unheard bytes) = p
 behind_beside own other front p r left (UserEvent event allowed) = p
+behind_beside own other front p r left Boots = p
 behind_beside own other front p r left (Sending bytes m read allowed) =
     behind_still other.state.station other.state.station other.state.front other.state.front own.sent
     (own.sent ++ unit_of own.state.station bytes m ∷ []) front (omega arith) (λ same. omega arith) (omega arith)
     (λ k u at. slice_get-append own.sent (unit_of own.state.station bytes m ∷ []) k u at) p
-behind_beside own other front p r left (Receipt hint kept bytes unit arrival there ahead of_unit allowed) = p
+behind_beside own other front p r left (Receipt hint fate bytes unit arrival there ahead of_unit allowed) = p

@@ -3,10 +3,13 @@ use Rattle.std.proofs.Common.{◌≡◌, ℕ, Bool, zero, suc, ◌+◌, ◌-◌,
 use Rattle.std.specs.Prelude.{slice_get}
 use Rattle.std.proofs.lemmas.List.{length_push, nil_from_length}
 use Rattle.std.proofs.lemmas.Option.{same_Some}
-use Rattle.two_nodes.specs.Nodes.{Half}
+use Rattle.two_nodes.specs.Nodes.{Half, stepped}
 use Rattle.ddcmp_msg.specs.Message.{MessageValue, Data}
+use Rattle.capture.specs.Fates.{is_kept}
 use Rattle.capture.specs.declared.record.Record.{Record}
-use Rattle.dna_station.specs.Station.{Station, PastPeriod, new_station, past}
+use Rattle.dna_station.specs.declared.state.StationEvent.{StationEvent}
+use Rattle.dna_station.specs.declared.state.StationEvent.TheVariants.{Halt}
+use Rattle.dna_station.specs.Station.{Station, PastPeriod, new_station, past, after_event}
 use Rattle.dna_station.specs.Delivery.{periods, IsDelivered, DeliversFrom}
 use Rattle.two_nodes.specs.Beginning.{BeginsWith}
 use Rattle.dna_station.specs.PeriodRule.{of_period}
@@ -14,7 +17,7 @@ use Rattle.dna_station.specs.Truth.{Truth}
 use Rattle.dna_station.specs.StationBook.{station_book, after_arrival}
 use Rattle.dna_station.specs.Line.{SentUnit}
 use Rattle.dna_station.specs.Node.{Node}
-use Rattle.dna_station.proofs.Steps.Happens.{Happens, Nothing, UserEvent, Sending, Receipt, Counted, Unheard}
+use Rattle.dna_station.proofs.Steps.Happens.{Happens, Nothing, UserEvent, Boots, Sending, Receipt, Counted, Unheard}
 use Rattle.two_nodes.proofs.NumberedSteps.{each_pushed}
 use Rattle.dna_station.proofs.Bounds.Stations.{IsSound}
 use Rattle.dna_station.proofs.Delivery.Periods.{GrowTo, begins_same, grow_present, IsOffered, offered_grown, begins_next}
@@ -90,6 +93,13 @@ pub record Left (own left other : Half Node SentUnit) : Type 0 where
 module _ (own other : Half Node SentUnit) (h : IsSound own.state own.sent other.sent) (theirs : IsSound other.state other.sent own.sent)
     (o : Offers own.state.station own.sent) (p : Offers other.state.station other.sent) (d : Delivers own.state.station (periods other.state.station))
   where
+    by_event : (event : StationEvent) → Left own (stepped own (record own.state { station = after_event own.state.station event })) other
+    by_event event = record {
+      offers = event_offers own.state.station own.sent event o;
+      delivers = event_delivers own.state.station (periods other.state.station) event d;
+      grows = event_grows own.state.station event;
+    }
+
     pub left_by : (r : Record) (left : Half Node SentUnit) → Happens of_period own other r left → Left own left other
     left_by r left (Nothing event none) =
         record { offers = o; delivers = d; grows = grow_present own.state.station own.state.station refl (begins_same own.state.station.packets) }
@@ -100,26 +110,23 @@ module _ (own other : Half Node SentUnit) (h : IsSound own.state own.sent other.
     }
     left_by r left (Unheard bytes) =
         record { offers = o; delivers = d; grows = grow_present own.state.station own.state.station refl (begins_same own.state.station.packets) }
-    left_by r left (UserEvent event allowed) = record {
-      offers = event_offers own.state.station own.sent event o;
-      delivers = event_delivers own.state.station (periods other.state.station) event d;
-      grows = event_grows own.state.station event;
-    }
+    left_by r left (UserEvent event allowed) = by_event event
+    left_by r left Boots = by_event Halt
     left_by r left (Sending bytes m read allowed) = record {
       offers = sending_offers own.state.station own.sent bytes m h.ordered allowed o;
       delivers = sending_delivers own.state.station (periods other.state.station) m d;
       grows = sending_grows own.state.station m;
     }
-    left_by r left (Receipt hint kept bytes unit arrival there ahead of_unit allowed) =
-        let took = arrival_took own.state.station unit bytes arrival kept of_unit h.none allowed in
+    left_by r left (Receipt hint fate bytes unit arrival there ahead of_unit allowed) =
+        let took = arrival_took own.state.station unit bytes arrival (is_kept fate) of_unit h.none allowed in
         let later = (theirs.told hint unit there).no_later in
         let count = length_push other.state.station.earlier (past other.state.station) in
         let same = p.count in
         record {
-          offers = receipt_offers own.state.station (after_arrival own.state.station arrival kept) unit.message unit.known kept took own.sent o;
-          delivers = receipt_delivers own.state.station (after_arrival own.state.station arrival kept) unit.message unit.known kept took
+          offers = receipt_offers own.state.station (after_arrival own.state.station arrival (is_kept fate)) unit.message unit.known (is_kept fate) took own.sent o;
+          delivers = receipt_delivers own.state.station (after_arrival own.state.station arrival (is_kept fate)) unit.message unit.known (is_kept fate) took
               (periods other.state.station) o.taken_count (omega arith) (p.offered hint unit there) d;
-          grows = receipt_grows own.state.station (after_arrival own.state.station arrival kept) unit.message unit.known kept took;
+          grows = receipt_grows own.state.station (after_arrival own.state.station arrival (is_kept fate)) unit.message unit.known (is_kept fate) took;
         }
 
 pub new_offers : Offers new_station []

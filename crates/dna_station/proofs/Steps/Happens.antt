@@ -10,6 +10,8 @@ use Rattle.ddcmp_msg.specs.declared.nak_reason.NakReason.TheVariants.{HeaderChec
 use Rattle.ddcmp_msg.specs.Message.{MessageValue}
 use Rattle.ddcmp_msg.specs.Reading.{ReadingValue, reading}
 use Rattle.ddcmp_msg.specs.Reading as read_as
+use Rattle.capture.specs.declared.fate.Fate.{Fate}
+use Rattle.capture.specs.Fates.{is_kept}
 use Rattle.capture.specs.declared.record.Record.{Record}
 use Rattle.capture.specs.declared.record.Record.TheVariants.{Sent, Received, Noise, User}
 use Rattle.capture.specs.declared.event.Event.{Event}
@@ -49,11 +51,12 @@ pub data Happens (rule : PeriodRule) (own other : Half Node SentUnit) : Record �
       Happens rule own other (Sent bytes)
       (stepped_sending own (record own.state { station = after_sending own.state.station m })
       (record { bytes = bytes; message = m; known = truth_of own.state.station m }))
-  Receipt : (hint : ℕ) (kept : Bool) (bytes : List ℕ) (unit : SentUnit) (arrival : ArrivalValue Truth) → slice_get other.sent hint ≡ Some unit →
+  Receipt : (hint : ℕ) (fate : Fate) (bytes : List ℕ) (unit : SentUnit) (arrival : ArrivalValue Truth) → slice_get other.sent hint ≡ Some unit →
       own.state.front ≤ hint → ComesOf unit bytes arrival →
-      arrival_refusal rule own.state.station arrival kept ≡ None →
-      Happens rule own other (Received hint kept bytes)
-      (stepped own (record own.state { station = after_arrival own.state.station arrival kept; front = hint + 1 }))
+      arrival_refusal rule own.state.station arrival (is_kept fate) ≡ None →
+      Happens rule own other (Received hint fate bytes)
+      (stepped own (record own.state { station = after_arrival own.state.station arrival (is_kept fate); front = hint + 1 }))
+  Boots : Happens rule own other (User events.Boot) (stepped own (record own.state { station = after_event own.state.station Halt }))
   Counted : (bytes : List ℕ) (reason : NakReason) →
       Happens rule own other (Noise bytes) (stepped own (record own.state { station = station_book.counts reason own.state.station }))
   Unheard : (bytes : List ℕ) → Happens rule own other (Noise bytes) (stepped own own.state)
@@ -73,6 +76,7 @@ module _ (rule : PeriodRule) (own other h : Half Node SentUnit) where
       go event None allowed made = left _ _ (UserEvent event allowed) made
       go event (Some refusal) allowed made = absurd cc
   event_happens events.Halt made = left _ _ (UserEvent Halt refl) made
+  event_happens events.Boot made = left _ _ Boots made
   event_happens event made = left _ _ (Nothing event refl) made
 
   sends_happens : (bytes : List ℕ) (m : MessageValue) (o : Option StationRefusal) → reading bytes ≡ read_as.Sound m →
@@ -87,37 +91,37 @@ module _ (rule : PeriodRule) (own other h : Half Node SentUnit) where
   sent_happens bytes (read_as.Sound m) read made = sends_happens bytes m _ read refl made
   sent_happens bytes r read made = absurd cc
 
-  module _ (hint : ℕ) (kept : Bool) (bytes : List ℕ) (unit : SentUnit) (there : slice_get other.sent hint ≡ Some unit)
+  module _ (hint : ℕ) (fate : Fate) (bytes : List ℕ) (unit : SentUnit) (there : slice_get other.sent hint ≡ Some unit)
       (ahead : own.state.front ≤ hint) where
     met_happens : (arrival : ArrivalValue Truth) → ComesOf unit bytes arrival → (o : Option StationRefusal) →
-        arrival_refusal rule own.state.station arrival kept ≡ o →
-        concluded own (met own.state (hint + 1) (unless_refused o (after_arrival own.state.station arrival kept))) ≡ Made h →
-        Happens rule own other (Received hint kept bytes) h
-    met_happens arrival of_unit None allowed made = left _ _ (Receipt hint kept bytes unit arrival there ahead of_unit allowed) made
+        arrival_refusal rule own.state.station arrival (is_kept fate) ≡ o →
+        concluded own (met own.state (hint + 1) (unless_refused o (after_arrival own.state.station arrival (is_kept fate)))) ≡ Made h →
+        Happens rule own other (Received hint fate bytes) h
+    met_happens arrival of_unit None allowed made = left _ _ (Receipt hint fate bytes unit arrival there ahead of_unit allowed) made
     met_happens arrival of_unit (Some refusal) allowed made = absurd cc
 
-    damage_happens : (r : ReadingValue) → concluded own (comes (station_machine rule) own.state (hint + 1) kept (damage r)) ≡ Made h →
-        Happens rule own other (Received hint kept bytes) h
+    damage_happens : (r : ReadingValue) → concluded own (comes (station_machine rule) own.state (hint + 1) fate (damage r)) ≡ Made h →
+        Happens rule own other (Received hint fate bytes) h
     damage_happens read_as.HeaderBad made = met_happens HeaderBad BadHeader _ refl made
     damage_happens read_as.DataBad made = met_happens DataBad BadData _ refl made
     damage_happens r made = absurd cc
 
     comes_happens : (same : Bool) (r : ReadingValue) → bytes_eq bytes unit.bytes ≡ same →
-        concluded own (comes (station_machine rule) own.state (hint + 1) kept (coming_by same unit r)) ≡ Made h →
-        Happens rule own other (Received hint kept bytes) h
+        concluded own (comes (station_machine rule) own.state (hint + 1) fate (coming_by same unit r)) ≡ Made h →
+        Happens rule own other (Received hint fate bytes) h
     comes_happens true r same made = met_happens (Sound unit.message unit.known) (Itself ((bytes_eq-Decides bytes unit.bytes).0 same)) _ refl made
     comes_happens false r same made = damage_happens r made
 
-  read_happens : (hint : ℕ) (kept : Bool) (bytes : List ℕ) (o : Option SentUnit) → slice_get other.sent hint ≡ o →
-      read own (receives (station_machine rule) own.state hint kept bytes) o ≡ Made h → Happens rule own other (Received hint kept bytes) h
-  read_happens hint kept bytes None there made = absurd cc
-  read_happens hint kept bytes (Some unit) there made = go (nat_lt hint own.state.front) refl made
+  read_happens : (hint : ℕ) (fate : Fate) (bytes : List ℕ) (o : Option SentUnit) → slice_get other.sent hint ≡ o →
+      read own (receives (station_machine rule) own.state hint fate bytes) o ≡ Made h → Happens rule own other (Received hint fate bytes) h
+  read_happens hint fate bytes None there made = absurd cc
+  read_happens hint fate bytes (Some unit) there made = go (nat_lt hint own.state.front) refl made
     where
       go : (b : Bool) → nat_lt hint own.state.front ≡ b →
-          concluded own (cond b (Err HintOrder) (comes (station_machine rule) own.state (hint + 1) kept (coming unit bytes))) ≡ Made h →
-          Happens rule own other (Received hint kept bytes) h
+          concluded own (cond b (Err HintOrder) (comes (station_machine rule) own.state (hint + 1) fate (coming unit bytes))) ≡ Made h →
+          Happens rule own other (Received hint fate bytes) h
       go true e made = absurd cc
-      go false e made = comes_happens hint kept bytes unit there (ltb-false hint own.state.front e) (bytes_eq bytes unit.bytes) (reading bytes) refl
+      go false e made = comes_happens hint fate bytes unit there (ltb-false hint own.state.front e) (bytes_eq bytes unit.bytes) (reading bytes) refl
           made
 
   counted_happens : (bytes : List ℕ) (reason : NakReason) (b : Bool) →
@@ -134,6 +138,6 @@ module _ (rule : PeriodRule) (own other h : Half Node SentUnit) where
 
   pub happens : (r : Record) → advance (step rule) own other r ≡ Made h → Happens rule own other r h
   happens (Sent bytes) made = sent_happens bytes (reading bytes) refl made
-  happens (Received hint kept bytes) made = read_happens hint kept bytes (slice_get other.sent hint) refl made
+  happens (Received hint fate bytes) made = read_happens hint fate bytes (slice_get other.sent hint) refl made
   happens (Noise bytes) made = noise_happens bytes (reading bytes) made
   happens (User event) made = event_happens event made

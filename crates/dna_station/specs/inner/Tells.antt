@@ -29,7 +29,7 @@ module _ {S K : Type 0} where
 
     step_tells : Tells (step machine) named_unit is_sent
     step_tells n (Sent bytes) = sent_tells n bytes (reading bytes)
-    step_tells n (Received hint kept bytes) = (refl, refl)
+    step_tells n (Received hint fate bytes) = (refl, refl)
     step_tells n (Noise bytes) = did_tells K n (noise_comes machine n.station (damage (reading bytes)))
     step_tells n (User event) = did_tells K n (machine.user n.station event)
 

@@ -17,7 +17,7 @@ use Rattle.drawing.specs.inner.Kept.{Rest}
 abbrev pub IsBegun : Keep → ℕ → Begun → List MadeRecord → Type 0
 IsBegun keep rows begun order = (rest : List MadeRecord) × WereTold keep rows begun.ladder rest order × Rest begun.is_all rest
 
--- by a ladder that was begun, with the same verdict: what stands behind the records was told, or not
+-- by a ladder that was begun, with the same verdict: what comes after the records was told, or not
 abbrev pub Ends : ShownEnds → Begun → LadderView → Type 0
 Ends ends begun after = (rest : List MadeRecord) → Rest begun.is_all rest → IsLadderBy rest ends.verdict ends begun.ladder after
 

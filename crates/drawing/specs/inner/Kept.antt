@@ -38,7 +38,7 @@ abbrev pub Rest : Bool → List MadeRecord → Type 0
 Rest true rest = rest ≡ []
 Rest false rest = (next : MadeRecord) × (more : List MadeRecord) × (rest ≡ next ∷ more)
 
--- the first records, those behind them, and the rest
+-- the first records, those after them, and the rest
 pub record IsFirst (first : First) (order : List MadeRecord) : Type 0 where
   pub later : List MadeEntry
   pub rest : List MadeRecord

@@ -76,13 +76,13 @@ fn add_hint(
     unit: u64,
 ) -> Result<(), AllocError> {
     let line = row.line;
-    let Entry::Received { kept, hint: _ } = row.entry else {
+    let Entry::Received { fate, hint: _ } = row.entry else {
         return Ok(());
     };
     if next.is_none() && row.is_told_by_distance() {
         return Ok(());
     }
-    let Some(put) = receipt_line(near.alloc, row.form, (kept, unit), &row.bytes)? else {
+    let Some(put) = receipt_line(near.alloc, row.form, (fate, unit), &row.bytes)? else {
         return Ok(());
     };
     let mut changes = line_replaced(near.alloc, line, put)?;
@@ -93,7 +93,7 @@ fn add_hint(
     edits.add(near.side, Mistake::WrongHint { line, unit }, changes)
 }
 
-// In format 2 the distance of this receipt is counted from one of that unit, behind which so many lines pass before it.
+// In format 2 the distance of this receipt is counted from one of that unit, after which so many lines pass before it.
 pub(crate) fn add_next_distance(
     changes: &mut Vec<Change>,
     near: Near<'_>,
@@ -107,10 +107,10 @@ pub(crate) fn add_next_distance(
     let form = HintForm::Distance {
         mark: unit.saturating_add(1),
     };
-    let Entry::Received { kept, hint } = next.entry else {
+    let Entry::Received { fate, hint } = next.entry else {
         return Ok(());
     };
-    let Some(put) = receipt_line(near.alloc, form, (kept, hint), &next.bytes)? else {
+    let Some(put) = receipt_line(near.alloc, form, (fate, hint), &next.bytes)? else {
         return Ok(());
     };
     changes.push(Change {
@@ -124,10 +124,10 @@ pub(crate) fn add_next_distance(
 // From the refused receipt on, which is one line in format 2, and each receipt in format 1.
 fn add_hints_from(edits: &mut Edits, near: Near<'_>, unit: u64) -> Result<(), AllocError> {
     let (form, line) = (near.row.form, near.row.line);
-    let Entry::Received { kept, hint } = near.row.entry else {
+    let Entry::Received { fate, hint } = near.row.entry else {
         return Ok(());
     };
-    let Some(put) = receipt_line(near.alloc, form, (kept, unit), &near.row.bytes)? else {
+    let Some(put) = receipt_line(near.alloc, form, (fate, unit), &near.row.bytes)? else {
         return Ok(());
     };
     let mut changes = line_replaced(near.alloc, line, put)?;
@@ -142,7 +142,7 @@ fn add_hints_from(edits: &mut Edits, near: Near<'_>, unit: u64) -> Result<(), Al
     edits.add(near.side, Mistake::WrongHints { line, unit }, changes)
 }
 
-// Shifts the hints behind a line as far as that line's, whose hint names this unit; where they begin again, they go on from the last one. `false`
+// Shifts the hints after a line as far as that line's, whose hint names this unit; where they begin again, they go on from the last one. `false`
 // where a number would be none.
 fn add_later_hints(
     changes: &mut Vec<Change>,
@@ -152,14 +152,14 @@ fn add_later_hints(
 ) -> Result<bool, AllocError> {
     let (mut line, mut hint, mut unit) = first;
     for row in later {
-        let Entry::Received { kept, hint: next } = row.entry else {
+        let Entry::Received { fate, hint: next } = row.entry else {
             continue;
         };
         unit = match next.checked_sub(hint) {
             Some(far) => unit.saturating_add(far),
             None => unit.saturating_add(1),
         };
-        let Some(put) = receipt_line(near.alloc, row.form, (kept, unit), &row.bytes)? else {
+        let Some(put) = receipt_line(near.alloc, row.form, (fate, unit), &row.bytes)? else {
             return Ok(false);
         };
         let passed = row.line.saturating_sub(line).saturating_sub(1);

@@ -1,6 +1,7 @@
 //! Lines that are missing.
 
 use super::Near;
+use super::anew::add_wide_line;
 use super::hints::add_next_distance;
 use super::moves::{first_receipt, lowest_unit};
 use crate::edits::Edits;
@@ -8,7 +9,7 @@ use crate::line_changes::put_before;
 use crate::mistake::Mistake;
 use crate::row::{Damage, Due, Row};
 use crate::spelling::{line_of, receipt_line};
-use capture::Entry;
+use capture::{Entry, Fate, Format};
 use std::alloc::AllocError;
 use wire_base::Side;
 
@@ -41,7 +42,7 @@ pub(crate) fn add_sent(edits: &mut Edits, near: Near<'_>) -> Result<(), AllocErr
     Ok(())
 }
 
-// Of a unit that a receipt has: in front of each line between the units before it and behind it, the last one first.
+// Of a unit that a receipt has: in front of each line between the units before it and after it, the last one first.
 fn add_sent_places(
     edits: &mut Edits,
     near: Near<'_>,
@@ -79,7 +80,7 @@ fn add_sent_place(
     edits.add(side, Mistake::SentMissing { before, unit, like }, changes)
 }
 
-// The lines that bytes near by tell of, and in front of the refused record `u start` and `u halt`.
+// The lines that bytes near by tell of, and in front of the refused record `u start` and `u halt`. What format 3 alone has is put in in that.
 pub(crate) fn add_user(edits: &mut Edits, near: Near<'_>, due: &[Due]) -> Result<(), AllocError> {
     for line in due {
         add_user_line(edits, near, line.before, (line.entry, &line.bytes))?;
@@ -89,7 +90,7 @@ pub(crate) fn add_user(edits: &mut Edits, near: Near<'_>, due: &[Due]) -> Result
     add_user_line(edits, near, before, (Entry::Halt, &[]))
 }
 
-fn add_user_line(
+pub(crate) fn add_user_line(
     edits: &mut Edits,
     near: Near<'_>,
     before: u64,
@@ -99,6 +100,9 @@ fn add_user_line(
     let Some(put) = line_of(near.alloc, entry, bytes)? else {
         return Ok(());
     };
+    if !Format::One.has(entry) {
+        return add_wide_line(edits, near, before, (entry, put));
+    }
     let changes = put_before(near.alloc, before, put)?;
     let mistake = match entry {
         Entry::Noise => Mistake::NoiseMissing { before },
@@ -133,8 +137,8 @@ pub(crate) fn add_receipts(
         if let Some(damage) = damage {
             add_damaged(edits, near, sent, (unit, damage))?;
         }
-        add_receipt(edits, near, sent, (true, unit))?;
-        add_receipt(edits, near, sent, (false, unit))?;
+        add_receipt(edits, near, sent, (Fate::Kept, unit))?;
+        add_receipt(edits, near, sent, (Fate::NotKept, unit))?;
     }
     Ok(())
 }
@@ -150,7 +154,7 @@ fn is_taken(near: Near<'_>, unit: u64) -> bool {
     }
 }
 
-// The refused record or the first one behind it that is a receipt.
+// The refused record or the first one after it that is a receipt.
 fn next_receipt<'r>(near: Near<'r>) -> Option<&'r Row> {
     if near.row.received().is_some() {
         return Some(near.row);
@@ -162,12 +166,12 @@ fn add_receipt(
     edits: &mut Edits,
     near: Near<'_>,
     sent: &Row,
-    entry: (bool, u64),
+    entry: (Fate, u64),
 ) -> Result<(), AllocError> {
-    let (kept, unit) = entry;
+    let (fate, unit) = entry;
     let mistake = Mistake::ReceiptMissing {
         before: near.row.line,
-        kept,
+        fate,
         unit,
         like: sent.line,
     };
@@ -191,7 +195,7 @@ fn add_damaged(
         unit,
         like: sent.line,
     };
-    add_receipt_line(edits, near, mistake, ((false, unit), &bytes))
+    add_receipt_line(edits, near, mistake, ((Fate::NotKept, unit), &bytes))
 }
 
 // Turns a bit of the check: whether the unit has that check.
@@ -214,7 +218,7 @@ fn add_receipt_line(
     edits: &mut Edits,
     near: Near<'_>,
     mistake: Mistake,
-    receipt: ((bool, u64), &[u8]),
+    receipt: ((Fate, u64), &[u8]),
 ) -> Result<(), AllocError> {
     let (entry, bytes) = receipt;
     let Some(put) = receipt_line(near.alloc, near.row.form, entry, bytes)? else {

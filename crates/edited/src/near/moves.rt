@@ -1,4 +1,4 @@
-//! Lines that stand too early or too late.
+//! Lines that come too early or too late.
 
 use super::Near;
 use crate::edits::Edits;
@@ -36,7 +36,7 @@ fn may_pass(row: &Row, other: &Row) -> bool {
     row.received().is_none() || other.received().is_none()
 }
 
-// The last receipt in front of the refused record belongs behind it, or further behind.
+// The last receipt in front of the refused record belongs after it, or further on.
 fn add_last_receipt(edits: &mut Edits, near: Near<'_>) -> Result<(), AllocError> {
     let Some(row) = last_receipt(near.before) else {
         return Ok(());
@@ -60,7 +60,7 @@ pub(crate) fn last_receipt(rows: &[Row]) -> Option<&Row> {
     None
 }
 
-// The unit behind that of the last receipt.
+// The unit after that of the last receipt.
 pub(crate) fn lowest_unit(before: &[Row]) -> u64 {
     match last_receipt(before) {
         Some(row) => match row.received() {

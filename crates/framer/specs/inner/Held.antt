@@ -22,16 +22,16 @@ pub record IsHeld (bytes : List ℕ) : Type 0 where
   pub cut : front bytes ≡ Cut
   pub short : length bytes < MAX_FRAME
 
--- none, or the beginning of a unit, or a unit and nothing behind it
+-- none, or the beginning of a unit, or a unit and nothing after it
 abbrev pub IsBegun : List ℕ → Type 0
 IsBegun bytes = (front bytes ≡ Cut) ⊎ (front bytes ≡ Whole (length bytes))
 
--- a unit of this kind, whole and with nothing behind it, or the beginning of one
+-- a unit of this kind, whole and with nothing after it, or the beginning of one
 abbrev pub Completes : List ℕ → Option Kind → Type 0
 Completes bytes (Some kind) = (front bytes ≡ Whole (length bytes)) × (kind_of (slice_index bytes 0) ≡ Some kind)
 Completes bytes None = IsHeld bytes
 
--- what stands at a place: a whole unit of this length, or one that is cut or nothing
+-- what is at a place: a whole unit of this length, or one that is cut or nothing
 abbrev pub StandsAt : Front → Option ℕ → Type 0
 StandsAt found (Some len) = found ≡ Whole len
 StandsAt found None = found ≡ Cut

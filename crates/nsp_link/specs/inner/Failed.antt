@@ -5,7 +5,7 @@ use Rattle.dna_links.specs.declared.port.LinkTest.TheVariants.{LiveAt}
 use Rattle.dna_links.specs.declared.port.Phase.{Phase}
 use Rattle.dna_links.specs.declared.queue.Queues.{Queues}
 use Rattle.dna_links.specs.Links.{LinkOf}
-use Rattle.dna_links.specs.LookUps.{is_connected, takes_messages}
+use Rattle.dna_links.specs.LookUps.{is_calling, is_connected, takes_messages}
 use Rattle.dna_links.specs.Queues.{in_use, may_send}
 use Rattle.dna_links.specs.WireSegments.{WireSegments}
 use Rattle.dna_links.specs.WireLinks.{WireLinks}
@@ -34,3 +34,7 @@ module _ (queues : Queues) where
   abbrev pub fails_to_close : (own : ℕ) → WireLinks → Option FailedLinkEvent
   fails_to_close own s = fails_in_use own s (λ number link.
       named (is_connected (in_use queues link).phase) (event.IsConnected number (in_use queues link).phase) None)
+
+  abbrev pub fails_to_abort : (own : ℕ) → WireLinks → Option FailedLinkEvent
+  fails_to_abort own s = fails_in_use own s (λ number link.
+      named (is_calling (in_use queues link).phase) (event.IsCalling number (in_use queues link).phase) None)

@@ -24,7 +24,7 @@ module _ {X : Type 0} (p : X → Bool) where
   abbrev pub passes_at : List X → ℕ → Bool
   passes_at xs number = passes_in (slice_get xs number)
 
-  -- this number, if what stands there passes
+  -- this number, if what is there passes
   abbrev pub passing : List X → Option ℕ → Option ℕ
   passing xs None = None
   passing xs (Some number) = if passes_at xs number then Some number else None

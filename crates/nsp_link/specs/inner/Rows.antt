@@ -14,14 +14,14 @@ use Rattle.dna_links.specs.declared.queue.Queues.TheVariants.{Without, With}
 use Rattle.dna_links.specs.declared.queue.Said.{Said}
 use Rattle.dna_links.specs.declared.queue.Said.TheVariants.{OfRun, Disconnect}
 use Rattle.dna_links.specs.declared.tag.LinkTag.{LinkTag}
-use Rattle.dna_links.specs.LookUps.{is_connected, takes_messages, passes}
+use Rattle.dna_links.specs.LookUps.{is_calling, is_connected, takes_messages, passes}
 use Rattle.dna_links.specs.SegmentBook.{Late, wider}
 use Rattle.dna_links.specs.Links.{LinkOf, check, number_of, with_link, with_seen, at_number, begun, changed, with_segments}
 use Rattle.dna_links.specs.LinkBook.{on_ok}
-use Rattle.dna_links.specs.Queues.{in_use, may_send, goes_to, ends_by_message, drops, freed, shows, settled}
+use Rattle.dna_links.specs.Queues.{in_use, may_send, goes_to, ends_by_message, drops, freed, booted, shows, settled}
 use Rattle.dna_links.specs.Sending.{Sent}
 use Rattle.dna_links.specs.Arriving.{PartnerRule, is_for, is_of_pair, of_partner}
-use Rattle.dna_links.specs.User.{LinkEventValue, Open, Accept, Reject, In, Up, Close}
+use Rattle.dna_links.specs.User.{LinkEventValue, Open, Accept, Reject, In, Up, Close, Abort, Boot}
 use Rattle.dna_links.specs.inner.Forms as forms
 use Rattle.dna_links.specs.inner.Forms.{called, delivered, of_no_link, opened, segment_of, truth_of, unchanged}
 use Rattle.dna_links.specs.WireSegments.{WireSegments, wire_segments, delivers, hands_in, is_new, sends_acks, sends_late, takes_acks, takes_segment, went_on}
@@ -125,6 +125,13 @@ module _ (queues : Queues) where
   closes own s = found_in_use (LiveAt own) s (Err NoLink) (λ number link.
       check (is_connected (in_use queues link).phase) LinkState (Ok (changed number (goes_to wire_segments queues Disconnecting link) s)))
 
+  abbrev pub aborts : (own : ℕ) → WireLinks → Result WireLinks LinkRefusal
+  aborts own s = found_in_use (LiveAt own) s (Err NoLink) (λ number link.
+      check (is_calling (in_use queues link).phase) LinkState (Ok (changed number (drops wire_segments queues link) s)))
+
+  abbrev pub boots : WireLinks → Result WireLinks LinkRefusal
+  boots s = Ok (booted wire_segments queues s)
+
   abbrev pub delivers_up : (own : ℕ) → List ℕ → WireLinks → Result WireLinks LinkRefusal
   delivers_up own message s = with_link (HasAddress own) s (Err NoLink) (λ number link.
       delivered wire_segments number link s (delivers message link.segments))
@@ -136,6 +143,8 @@ module _ (queues : Queues) where
   acts s (In own message) = hands own message s
   acts s (Up own message) = delivers_up own message s
   acts s (Close own) = closes own s
+  acts s (Abort own) = aborts own s
+  acts s Boot = boots s
 
   -- ---- what is sent
 

@@ -65,7 +65,7 @@ impl LastSent {
         None
     }
 
-    // The numbers that a word may have behind it.
+    // The numbers that a word after this one may have.
     fn word_numbers(self, again: bool, received: Seq<4096>) -> Numbers
         ensures { result ≡ spec.word_numbers again received self }
     {
@@ -98,7 +98,7 @@ impl LastSent {
 }
 
 impl LateSent {
-    // The numbers that a word of a new segment may have behind it.
+    // The numbers that a word of a new segment after this one may have.
     fn numbers(self, received: Seq<4096>) -> Numbers
         ensures { result ≡ spec.late_numbers received self }
     {

@@ -13,7 +13,7 @@ use link_segments::{REACH, is_of_data};
 use std::marker::Model;
 use wire_base::Seq;
 
-/// The last one behind some words, and how far the highest one of a new segment then lies below it, 0 to 4,095.
+/// The last one after some words, and how far the highest one of a new segment then lies below it, 0 to 4,095.
 #[derive(Clone, Copy)]
 pub struct LateSent {
     pub sent: LastSent,
@@ -31,7 +31,7 @@ impl Model for LateSent {
 }
 
 impl LastSent {
-    /// The last one behind these words of a new segment, where each may be sent: besides what [`LastSent::behind_all`] allows it names an earlier
+    /// The last one after these words of a new segment, where each may be sent: besides what [`LastSent::behind_all`] allows it names an earlier
     /// number that lies at most so far below the last one sent.
     #[tactic(auto, using(crate::proofs::LateWords::words))]
     pub fn behind_all_late(
@@ -55,7 +55,7 @@ impl LastSent {
         Some(late)
     }
 
-    /// The last one behind such a word with this number, where it may be sent.
+    /// The last one after such a word with this number, where it may be sent.
     pub fn behind_late(self, gap: u16, received: Seq<4096>, number: u16) -> Option<LateSent>
         requires { number < 4096 }
         ensures { result ≡ after_late received number self (last_named_late received number (record { sent = self; gap = gap })) }

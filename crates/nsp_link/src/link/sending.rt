@@ -80,7 +80,7 @@ impl<W: Window<Piece, 4096> + Drop> Link<W> {
         Ok(())
     }
 
-    // With queues: its numbers are those behind this segment.
+    // With queues: its numbers are those after this segment.
     fn number_late(&mut self, alloc: Global, segment: &Segment) -> Result<(), LinkFault>
         requires kept { keeps self.old.port.phase self.old.queue ≡ true }
         requires acks { AllByRecursion IsAckWord segment.now.acks.items }
@@ -154,7 +154,7 @@ impl<W: Window<Piece, 4096> + Drop> Link<W> {
         Ok(())
     }
 
-    // With queues: its numbers are those behind these words.
+    // With queues: its numbers are those after these words.
     fn number_acks(&mut self, words: &[AckWord]) -> Result<(), LinkRefusal>
         requires kept { keeps self.old.port.phase self.old.queue ≡ true }
         requires acks { AllByRecursion IsAckWord words.now }

@@ -3,7 +3,7 @@
 ghost use Rattle.std.specs.Prelude.{◌≡◌, Some, None, true, false, OnOk, OnErr};
 ghost use Rattle.dna_links.specs.LookUps.{is_live, is_called, is_calling};
 ghost use Rattle.dna_links.specs.Links.{with_segments};
-ghost use Rattle.dna_links.specs.Queues.{goes_to, in_use};
+ghost use Rattle.dna_links.specs.Queues.{booted_link, goes_to, in_use};
 ghost use Rattle.dna_links.specs.WireSegments.{wire_segments, hands_in, delivers};
 ghost use Rattle.nsp_link.specs.Kinds.{queues_of};
 ghost use Rattle.nsp_link.specs.inner.Index.{Stays, begins_use};
@@ -77,6 +77,17 @@ impl<W: Window<Piece, 4096> + Drop> Link<W> {
         if is_queued::<QUEUES>() {
             self.queue = reached(phase, self.queue);
         }
+    }
+
+    /// Its node starts anew: it is over, and its address is nobody's. The answer is whether nothing of it waits, as always with queues.
+    #[tactic(auto, using(crate::proofs::Booted::booting))]
+    pub fn boot<const QUEUES: u8>(&mut self, alloc: Global) -> bool
+        ensures boots { self.new ≡ booted_link wire_segments (queues_of QUEUES) self.old }
+        ensures settled { result ≡ true → self.new.queue.waits ≡ None }
+    {
+        self.port.phase = Phase::Ended;
+        self.forget::<QUEUES>(alloc);
+        self.queue.waits.is_none()
     }
 
     /// Its own address is given to another link.

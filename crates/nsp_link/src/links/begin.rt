@@ -217,7 +217,7 @@ fn use_of<W: Window<Piece, 4096> + Drop>(links: &Vec<Link<W>>, number: Option<us
     }
 }
 
-// A link that a CI begins is put behind the others; no live one knows its far address. Where memory is refused, nothing changes.
+// A link that a CI begins is put after the others; no live one knows its far address. Where memory is refused, nothing changes.
 #[tactic(auto, using(crate::proofs::Giving::indexes))]
 fn called_at<W: Window<Piece, 4096> + Drop, const QUEUES: u8>(
     alloc: Global,
@@ -291,7 +291,7 @@ fn opened_at<W: Window<Piece, 4096> + Drop, const QUEUES: u8>(
     Ok(())
 }
 
-// A link that is opened here is put behind the others; the ended link that held its address loses it.
+// A link that is opened here is put after the others; the ended link that held its address loses it.
 fn put_opened<W: Window<Piece, 4096> + Drop, const QUEUES: u8>(
     alloc: Global,
     links: &mut Vec<Link<W>>,

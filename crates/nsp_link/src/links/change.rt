@@ -16,12 +16,13 @@ ghost use Rattle.nsp_link.specs.Fault.{IsFault};
 ghost use Rattle.nsp_link.specs.Segments.{is_held};
 ghost use Rattle.nsp_link.specs.inner.Index.{times};
 ghost use Rattle.nsp_link.specs.Kinds.{queues_of};
-ghost use Rattle.nsp_link.specs.inner.Indexing.{KeepsAt, LivesAt, UsesAt};
+ghost use Rattle.nsp_link.specs.inner.Indexing.{CallsAt, KeepsAt, LivesAt, UsesAt};
 ghost use Rattle.nsp_link.specs.inner.Rows.{acked, confirmed, numbered, runs, sent_by};
 
 use super::Links;
 use super::begin::{count_only_with, end_use};
 use crate::index::Index;
+use crate::phase::is_phase;
 use crate::{LinkFault, LinkRefusal, LinkTag, Piece};
 use dna_links::{Phase, Port, Said};
 use dna_packet::{AckWord, Segment};
@@ -210,6 +211,20 @@ impl<W: Window<Piece, 4096> + Drop> Links<W> {
         forget(&mut self.index, port);
         count_only_with::<QUEUES>(&mut self.index);
         end_use(&mut self.index, known);
+    }
+
+    // The call with this number is given up. With queues it may have ended, and then nothing of it waits any more.
+    pub(super) fn give_up_at<const QUEUES: u8>(&mut self, number: usize)
+        requires within { number < length self.old.links }
+        requires calls { CallsAt (queues_of QUEUES) number self.old }
+        ensures { (link : LinkOf WireSegments) → slice_get self.old.links number ≡ Some link
+            → self.new ≡ changed number (drops wire_segments (queues_of QUEUES) link) self.old }
+    {
+        if is_phase(Phase::Ended, self.links[number].port().phase) {
+            self.settle_at(number);
+            return;
+        }
+        self.drop_at::<QUEUES>(number);
     }
 }
 

@@ -7,12 +7,13 @@ ghost use Rattle.nsp_link.specs.FailedEvent.{refusal_of_event};
 ghost use Rattle.nsp_link.specs.FailedEvent as spec;
 ghost use Rattle.nsp_link.specs.Kinds.{queues_of};
 ghost use Rattle.nsp_link.specs.Missing.{refusal_in};
-ghost use Rattle.nsp_link.specs.inner.Failed.{fails_to_close, fails_to_hand_in};
+ghost use Rattle.nsp_link.specs.inner.Failed.{fails_to_abort, fails_to_close, fails_to_hand_in};
 
 use super::Links;
 use crate::failed::FailedLinkEvent;
+use crate::phase::is_phase;
 use crate::{LinkEvent, Piece};
-use dna_links::LinkTest;
+use dna_links::{LinkTest, Phase};
 use link_segments::{is_connected, takes_messages};
 use wire_base::Window;
 
@@ -40,6 +41,8 @@ impl<W: Window<Piece, 4096> + Drop> Links<W> {
             LinkEvent::In { link, message: _ } => self.failed_handing_in::<QUEUES>(link),
             LinkEvent::Up { link, message } => self.failed_delivery(link, message),
             LinkEvent::Close { link } => self.failed_close::<QUEUES>(link),
+            LinkEvent::Abort { link } => self.failed_abort::<QUEUES>(link),
+            LinkEvent::Boot => None,
         }
     }
 
@@ -102,6 +105,25 @@ impl<W: Window<Piece, 4096> + Drop> Links<W> {
             return None;
         }
         Some(FailedLinkEvent::IsConnected {
+            link: number as u64,
+            seen,
+        })
+    }
+
+    // A call is given up.
+    #[tactic(auto, using(crate::proofs::FailedTurn::uses_found))]
+    fn failed_abort<const QUEUES: u8>(&self, own: u16) -> Option<FailedLinkEvent>
+        ensures { result ≡ fails_to_abort (queues_of QUEUES) own self.now }
+    {
+        let test = LinkTest::LiveAt { own };
+        let Some((number, link)) = self.found_in_use::<QUEUES>(test) else {
+            return Some(FailedLinkEvent::NoLink(self.missing(test)));
+        };
+        let seen = link.port_in_use::<QUEUES>().phase;
+        if is_phase(Phase::Calling, seen) {
+            return None;
+        }
+        Some(FailedLinkEvent::IsCalling {
             link: number as u64,
             seen,
         })

@@ -10,21 +10,23 @@ ghost use Rattle.nsp_link.specs.Phases.{event_takes_memory};
 ghost use Rattle.nsp_link.specs.inner.Rows as rows;
 
 use super::Links;
+use crate::phase::is_phase;
 use crate::{LinkEvent, LinkFault, LinkRefusal, Piece};
 use dna_links::{LinkTest, Phase};
 use link_segments::{is_connected, takes_messages};
 use wire_base::Window;
 
 impl<W: Window<Piece, 4096> + Drop> Links<W> {
-    /// What their user does (NSP 4.0, session control interface). `Open`, `Accept`, `Reject` and `In` may take memory, and the other
-    /// events take none. A message that is delivered is compared with what came, and not copied.
+    /// What their user does (NSP 4.0, session control interface), or that their node boots. `Open`, `Accept`, `Reject` and `In` may take
+    /// memory, and the other events take none. A message that is delivered is compared with what came, and not copied. `Boot` may always be.
     ///
     /// `Refused`, the first that fits:
     ///
-    /// - `NoLink`: of `Accept` and `Reject`, no link in Called has this address of the other node; of `In` and `Close`, no live link
-    ///   has this own address, and with queues none of which something may be sent; of `Up`, no link ever got it.
+    /// - `NoLink`: of `Accept` and `Reject`, no link in Called has this address of the other node; of `In`, `Close` and `Abort`, no live
+    ///   link has this own address, and with queues none of which something may be sent; of `Up`, no link got it since the last `Boot`.
     /// - `AddressInUse`: of `Open`, `Accept` and `Reject`, a live link has this own address.
-    /// - `LinkState`: of `In`, the link is not in Calling, Confirming or RUN, or was not when it ended; of `Close`, not in Confirming or RUN.
+    /// - `LinkState`: of `In`, the link is not in Calling, Confirming or RUN, or was not when it ended; of `Close`, not in Confirming or RUN;
+    ///   of `Abort`, not in Calling.
     /// - `WrongDelivery`: of `Up`, the message is not the next whole one that came.
     ///
     /// `OutOfMemory`, after all of these: memory was refused. After any of them the links are as they were.
@@ -59,6 +61,11 @@ impl<W: Window<Piece, 4096> + Drop> Links<W> {
             LinkEvent::In { link, message } => self.hand_in::<QUEUES>(link, message),
             LinkEvent::Up { link, message } => self.deliver::<QUEUES>(link, message),
             LinkEvent::Close { link } => self.close::<QUEUES>(link),
+            LinkEvent::Abort { link } => self.abort::<QUEUES>(link),
+            LinkEvent::Boot => {
+                self.boot::<QUEUES>();
+                Ok(())
+            }
         }
     }
 
@@ -76,6 +83,23 @@ impl<W: Window<Piece, 4096> + Drop> Links<W> {
             return Err(LinkFault::Refused(LinkRefusal::LinkState));
         }
         self.close_link::<QUEUES>(number);
+        Ok(())
+    }
+
+    // The call that was opened from here is given up.
+    #[tactic(auto, using(crate::proofs::InUse::found_in_use))]
+    fn abort<const QUEUES: u8>(&mut self, own: u16) -> Result<(), LinkFault>
+        ensures ok { OnOk result (rows.aborts (queues_of QUEUES) own self.old ≡ Ok self.new) }
+        ensures refused { IfErr result (λ fault. IsFault (rows.aborts (queues_of QUEUES) own self.old) false fault) }
+        ensures err { OnErr result (self.new ≡ self.old) }
+    {
+        let Some((number, link)) = self.found_in_use::<QUEUES>(LinkTest::LiveAt { own }) else {
+            return Err(LinkFault::Refused(LinkRefusal::NoLink));
+        };
+        if !is_phase(Phase::Calling, link.port_in_use::<QUEUES>().phase) {
+            return Err(LinkFault::Refused(LinkRefusal::LinkState));
+        }
+        self.give_up_at::<QUEUES>(number);
         Ok(())
     }
 

@@ -45,7 +45,7 @@ pub record IsWaiting (bytes : List ℕ) (ahead : Ahead) (r : Record) : Type 0 wh
   pub ahead_is : ahead ≡ Waits entry
   pub is : record_with entry bytes ≡ r
 
--- what stands behind the records that were read, where this is what the reader has to give
+-- what comes after the records that were read, where this is what the reader has to give
 abbrev pub behind : Ahead → Option (List ℕ) → Behind
 behind Unread come = ToCome come
 behind (Waits entry) come = ToCome come
@@ -85,7 +85,7 @@ abbrev pub IsReadyFor : Course → Option Entry → Type 0
 IsReadyFor course (Some entry) = (course.ahead ≡ Unread) × (course.capture.phase ≡ Reading) × NumbersFit (record_with entry course.capture.bytes)
 IsReadyFor course None = course.ahead ≡ Ended
 
--- why the next record is not known: a line that departs is the one behind what was read, all of which was made
+-- why the next record is not known: a line that departs is the one after what was read, all of which was made
 abbrev pub IsFaultOf : Track → CaptureFault → Type 0
 IsFaultOf t (faults.Departs kind line) = (t.course.ahead ≡ Unread) × DepartsBehind (read_of t) kind line
 IsFaultOf t faults.Read = Unit {0}

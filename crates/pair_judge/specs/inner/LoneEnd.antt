@@ -2,6 +2,7 @@
 use Rattle.std.specs.Prelude.{◌≡◌, ℕ, ◌+◌, ◌<◌, ◌≤◌, ◌^◌, Bool, false, Result, Ok, Err}
 use Rattle.ddcmp_msg.specs.Message.{MessageValue}
 use Rattle.ddcmp_msg.specs.Reading.{ReadingValue}
+use Rattle.capture.specs.declared.fate.Fate.{Fate}
 use Rattle.capture.specs.declared.record.Record.{Record}
 use Rattle.dna_station.specs.declared.head.Head.{Head}
 use Rattle.dna_station.specs.WireStation.{load}
@@ -66,11 +67,11 @@ ShowsDamage (came.Done damaged) shows = damaged ≡ shows
 ShowsDamage (came.Fails accused refusal) shows = Unit {0}
 
 module _ (top : JudgeTop) where
-  abbrev pub SoundIs : Came → WireLayers → WireLayers → (kept : Bool) → MessageValue → Type 0
-  SoundIs c old new kept m = CameBy (λ n front. sound_comes top.alone n front kept m) c old new × ShowsDamage c false
+  abbrev pub SoundIs : Came → WireLayers → WireLayers → Fate → MessageValue → Type 0
+  SoundIs c old new fate m = CameBy (λ n front. sound_comes top.alone n front fate m) c old new × ShowsDamage c false
 
-  abbrev pub CameIs : Came → WireLayers → WireLayers → (kept : Bool) → ReadingValue → Type 0
-  CameIs c old new kept bytes = CameBy (λ n front. comes_alone top.alone n front kept bytes) c old new × ShowsDamage c (shows_damage bytes)
+  abbrev pub CameIs : Came → WireLayers → WireLayers → Fate → ReadingValue → Type 0
+  CameIs c old new fate bytes = CameBy (λ n front. comes_alone top.alone n front fate bytes) c old new × ShowsDamage c (shows_damage bytes)
 
 -- what is told of what both layers met
 abbrev pub MeetsIs : Came → (damaged : Bool) → Result (Unit {0}) StepFault → Type 0

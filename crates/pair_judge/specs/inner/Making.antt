@@ -4,7 +4,7 @@ use Rattle.two_nodes.specs.Nodes.{Outcome, advance}
 use Rattle.two_nodes.specs.Nodes as any
 use Rattle.capture.specs.declared.record.Record.{Record}
 use Rattle.capture.specs.declared.entry.Entry.{Entry}
-use Rattle.capture.specs.declared.entry.Entry.TheVariants.{Sent, Received, Noise}
+use Rattle.capture.specs.declared.entry.Entry.TheVariants.{Sent, Received, Noise, Interrupt, Interrupted}
 use Rattle.dna_station.specs.WireStation.{load}
 use Rattle.pair_judge.specs.declared.line.Line.{Line}
 use Rattle.pair_judge.specs.declared.end.End.{End}
@@ -17,12 +17,18 @@ use Rattle.pair_judge.specs.inner.Wire.{judge_step, JudgeHalf, JudgeTop}
 -- an entry of the user, and not of what was sent or came
 abbrev pub IsEvent : Entry → Type 0
 IsEvent Sent = ⊥
-IsEvent (Received kept hint) = ⊥
+IsEvent (Received fate hint) = ⊥
 IsEvent Noise = ⊥
 IsEvent entry = Unit {0}
 
+-- one that is carried, and not judged
+abbrev pub IsCarriedEntry : Entry → Type 0
+IsCarriedEntry (Interrupt link) = Unit {0}
+IsCarriedEntry (Interrupted link) = Unit {0}
+IsCarriedEntry entry = ⊥
+
 abbrev pub is_receipt : Entry → Bool
-is_receipt (Received kept hint) = true
+is_receipt (Received fate hint) = true
 is_receipt entry = false
 
 -- this end of the judge, with the line from the other side, stands for that half of the run

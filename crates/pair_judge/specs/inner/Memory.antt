@@ -4,6 +4,9 @@ use Rattle.ddcmp_msg.specs.Reading.{ReadingValue, reading, Sound, HeaderBad, Dat
 use Rattle.capture.specs.declared.record.Record.{Record}
 use Rattle.capture.specs.declared.record.Record.TheVariants.{Sent, Received, Noise, User}
 use Rattle.capture.specs.declared.event.Event.{Event}
+use Rattle.capture.specs.declared.event.Event.TheVariants.{Composed}
+use Rattle.capture.specs.declared.fate.Fate.{Fate}
+use Rattle.capture.specs.Fates.{is_met}
 use Rattle.dna_node.specs.Content.{link_event}
 use Rattle.dna_links.specs.User.{LinkEventValue}
 use Rattle.dna_station.specs.Machine.{Machine}
@@ -26,9 +29,9 @@ MaySend s HeaderBad = ⊥
 MaySend s DataBad = ⊥
 MaySend s (Malformed departure) = ⊥
 
--- what shows no damage and was kept: for the link that its packet begins, or the piece in that
-abbrev pub MayKeep : (kept damaged : Bool) → Type 0
-MayKeep kept damaged = (kept ≡ true) × (damaged ≡ false)
+-- what shows no damage and is met by the links: for the link that its packet begins, or the piece in that
+abbrev pub MayKeep : Fate → (damaged : Bool) → Type 0
+MayKeep fate damaged = (is_met fate ≡ true) × (damaged ≡ false)
 
 module _ (machine : Machine WireLayers LayersTag) where
   -- an event that a node of this machine allows, and that begins a link, gives it an address or hands a message in
@@ -36,10 +39,15 @@ module _ (machine : Machine WireLayers LayersTag) where
   MayEnter s event None = ⊥
   MayEnter s event (Some of_links) = IsOk (machine.user s event) × (event_takes_memory of_links ≡ true)
 
-  -- no other record does: not a start, halt, delivery or close, not noise, not a receipt that is damaged or not kept, and no event that
+  -- so may a packet that it composes, for the piece in that
+  abbrev pub MayHappen : WireLayers → Event → Type 0
+  MayHappen s (Composed packet) = Unit {0}
+  MayHappen s event = MayEnter s event (link_event event)
+
+  -- no other record does: not a start, halt, delivery or close, not noise, not a receipt that is damaged or not met, and no event that
   -- breaks a rule
   abbrev pub MayTakeMemory : WireLayers → Record → Type 0
   MayTakeMemory s (Sent bytes) = MaySend s (reading bytes)
-  MayTakeMemory s (Received hint kept bytes) = MayKeep kept (shows_damage (reading bytes))
+  MayTakeMemory s (Received hint fate bytes) = MayKeep fate (shows_damage (reading bytes))
   MayTakeMemory s (Noise bytes) = ⊥
-  MayTakeMemory s (User event) = MayEnter s event (link_event event)
+  MayTakeMemory s (User event) = MayHappen s event

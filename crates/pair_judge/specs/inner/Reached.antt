@@ -132,7 +132,7 @@ module _ (top : JudgeTop) where
   StopsFor a b Accepted = Unit {0}
   StopsFor a b (findings.Refused side place cause) = StopsAt a b side place cause
 
-  -- The finding is that of all captures that go on behind what was read; an acceptance comes with the counts of all
+  -- The finding is that of all captures that go on after what was read; an acceptance comes with the counts of all
   -- records.
   pub record IsFound (a b : Track) (finding : Finding) : Type 0 where
     pub made_a : List Record

@@ -1,6 +1,7 @@
 -- What became of a receipt, beside all units that the other side sent.
 use Rattle.std.specs.Prelude.{◌≡◌, ℕ, Bool, true, false, Some, None, Ok, Err, List, slice_get}
 use Rattle.ddcmp_msg.specs.Reading.{reading}
+use Rattle.capture.specs.declared.fate.Fate.{Fate}
 use Rattle.dna_station.specs.declared.head.Head.{Head}
 use Rattle.dna_station.specs.declared.tag.Tag.{Tag}
 use Rattle.dna_station.specs.Book.{ArrivalValue, Sound, HeaderBad, DataBad}
@@ -36,14 +37,14 @@ pub record LayersMove : Type 0 where
 abbrev pub layers_move : WireLayers → WireLayers → Line → Line → LayersMove
 layers_move old new before after = record { old = old; new = new; before = before; after = after }
 
--- What came: the hint, whether its packet was kept, and the bytes
+-- What came: the hint, what became of its packet, and the bytes
 pub record Came : Type 0 where
   pub hint : ℕ
-  pub kept : Bool
+  pub fate : Fate
   pub bytes : List ℕ
 
-abbrev pub came : ℕ → Bool → List ℕ → Came
-came hint kept bytes = record { hint = hint; kept = kept; bytes = bytes }
+abbrev pub came : ℕ → Fate → List ℕ → Came
+came hint fate bytes = record { hint = hint; fate = fate; bytes = bytes }
 
 -- a fact of a receipt that can't be made
 abbrev pub IfFails : Receipt → Type 0 → Type 0
@@ -62,7 +63,7 @@ module _ (top : JudgeTop) where
   pub record IsReceived (m : LayersMove) (c : Came) (sent : List WireLayersUnit) : Type 0 where
     pub unit : WireLayersUnit
     pub was_sent : slice_get sent c.hint ≡ Some unit
-    pub step : (head : Head) → judge_receives top (node_of head m.old m.before) c.hint c.kept c.bytes unit ≡ Ok (node_of head m.new m.after)
+    pub step : (head : Head) → judge_receives top (node_of head m.old m.before) c.hint c.fate c.bytes unit ≡ Ok (node_of head m.new m.after)
     pub shows : Shows m.after sent
 
   abbrev pub ReceiptIs : Receipt → LayersMove → Came → List WireLayersUnit → Type 0
@@ -71,4 +72,4 @@ module _ (top : JudgeTop) where
   ReceiptIs Waits m c sent = slice_get sent c.hint ≡ None
   ReceiptIs (Fails refusal) m c sent =
       (unit : WireLayersUnit) × (slice_get sent c.hint ≡ Some unit)
-      × ((head : Head) → judge_receives top (node_of head m.old m.before) c.hint c.kept c.bytes unit ≡ Err refusal)
+      × ((head : Head) → judge_receives top (node_of head m.old m.before) c.hint c.fate c.bytes unit ≡ Err refusal)

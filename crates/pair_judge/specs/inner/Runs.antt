@@ -1,4 +1,4 @@
--- Tags by runs: each unit has the tag of the first run that ends behind it, or the newest one.
+-- Tags by runs: each unit has the tag of the first run that ends after it, or the newest one.
 use Rattle.std.specs.Prelude.{ℕ, ◌+◌, nat_lt, max, if◌then◌else◌, List, [], ◌∷◌}
 use Rattle.dna_station.specs.declared.tag.Tag.{Tag}
 use Rattle.dna_node.specs.WireLayers.{WireLayersUnit}
@@ -14,7 +14,7 @@ tag_at (run ∷ runs) newest number = if nat_lt number run.end then run.tag else
 abbrev pub tag_of : Tags → ℕ → Tag
 tag_of tags number = tag_at tags.older.items tags.newest number
 
--- no run ends behind this number
+-- no run ends after this number
 abbrev pub behind : List TagRun → ℕ
 behind [] = 0
 behind (run ∷ runs) = max run.end (behind runs)

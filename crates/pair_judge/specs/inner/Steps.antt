@@ -27,7 +27,7 @@ with_link link HeaderBad = HeaderBad
 with_link link DataBad = DataBad
 
 module _ (top : JudgeTop) where
-  -- These bytes were sent: the node goes on from the old layers to the new ones, and its unit stands last on the line
+  -- These bytes were sent: the node goes on from the old layers to the new ones, and its unit is last on the line
   pub record IsSent (old new : WireLayers) (before after : Line) (bytes : List ℕ) : Type 0 where
     pub unit : WireLayersUnit
     pub step : (head : Head) (front : ℕ) → judge_sent_step top (node_at head old front) bytes (reading bytes) ≡ Sends (node_at head new front) unit

@@ -1,7 +1,8 @@
--- What may stand on top of the stations that the judge runs.
+-- What may be on top of the stations that the judge runs.
 use Rattle.std.specs.Prelude.{ℕ, ◌≡◌, Bool, None, Result, Ok, Err, length}
 use Rattle.ddcmp_msg.specs.Message.{MessageValue}
 use Rattle.capture.specs.declared.event.Event.{Event}
+use Rattle.capture.specs.declared.fate.Fate.{Fate}
 use Rattle.dna_station.specs.declared.refusal.StepRefusal.{StepRefusal}
 use Rattle.dna_station.specs.declared.tag.Tag.{Tag}
 use Rattle.dna_links.specs.declared.tag.LinkTag.{LinkTag}
@@ -65,8 +66,8 @@ abbrev pub line_by : PeriodRule → Machine WireLayers LayersTag
 line_by rule = record {
   user = λ (s : WireLayers) (event : Event). with_wire_station s ((wire_machine rule).user s.station event);
   sends = λ (s : WireLayers) (m : MessageValue). sent_alone s ((wire_machine rule).sends s.station m);
-  arrives = λ (s : WireLayers) (arrival : ArrivalValue LayersTag) (kept : Bool). with_wire_station s
-      ((wire_machine rule).arrives s.station (to_wire_station arrival) kept);
+  arrives = λ (s : WireLayers) (arrival : ArrivalValue LayersTag) (fate : Fate). with_wire_station s
+      ((wire_machine rule).arrives s.station (to_wire_station arrival) fate);
 }
 
 abbrev pub line_machine : Machine WireLayers LayersTag

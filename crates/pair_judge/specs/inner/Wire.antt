@@ -2,6 +2,7 @@
 use Rattle.std.specs.Prelude.{◌≡◌, ℕ, Bool, List, Result}
 use Rattle.two_nodes.specs.Nodes.{Answer, Half, Nodes, World}
 use Rattle.ddcmp_msg.specs.Reading.{ReadingValue}
+use Rattle.capture.specs.declared.fate.Fate.{Fate}
 use Rattle.capture.specs.declared.record.Record.{Record}
 use Rattle.dna_station.specs.declared.refusal.StepRefusal.{StepRefusal}
 use Rattle.dna_station.specs.declared.head.Head.{Head}
@@ -18,7 +19,7 @@ JudgeHalf = Half WireLayersNode WireLayersUnit
 abbrev pub JudgeWorld : Type 0
 JudgeWorld = World WireLayersNode WireLayersUnit
 
--- What stands on top of the stations that the judge runs
+-- What is on top of the stations that the judge runs
 pub record JudgeTop : Type 1 where
   -- the kind of node that it takes the ends for
   pub kind : NodeKind
@@ -41,8 +42,8 @@ module _ (top : JudgeTop) where
   abbrev pub judge_sent_step : WireLayersNode → List ℕ → ReadingValue → Answer WireLayersNode WireLayersUnit StepRefusal
   judge_sent_step n bytes read = sent_step top.machine n bytes read
 
-  abbrev pub judge_receives : WireLayersNode → ℕ → Bool → List ℕ → WireLayersUnit → Result WireLayersNode StepRefusal
-  judge_receives n hint kept bytes unit = receives top.machine n hint kept bytes unit
+  abbrev pub judge_receives : WireLayersNode → ℕ → Fate → List ℕ → WireLayersUnit → Result WireLayersNode StepRefusal
+  judge_receives n hint fate bytes unit = receives top.machine n hint fate bytes unit
 
   abbrev pub judge_hears : WireLayers → ReadingValue → Result WireLayers StepRefusal
   judge_hears s read = noise_comes top.machine s (damage read)

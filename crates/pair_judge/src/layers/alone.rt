@@ -7,6 +7,7 @@ use crate::held_link::HeldLink;
 use crate::step_fault::StepFault;
 use crate::top::Top;
 use crate::unit_tag::UnitTag;
+use capture::Fate;
 use ddcmp_msg::Message;
 use ddcmp_station::{Arrival, StationEvent};
 use dna_links::LinkTag;
@@ -33,6 +34,17 @@ impl Top for NothingOnTop {
         Ok(())
     }
 
+    fn boot(layers: &mut Layers) {
+        layers.halt();
+    }
+
+    #[inline(always)]
+    fn composed(_layers: &mut Layers, _packet: &[u8]) -> Result<(), StepFault> {
+        Ok(())
+    }
+
+    fn carries() {}
+
     // No packet has a tag.
     #[inline(always)]
     fn sent(layers: &mut Layers, message: &Message) -> Result<UnitTag, StepFault> {
@@ -54,21 +66,21 @@ impl Top for NothingOnTop {
         layers: &mut Layers,
         arrival: Arrival,
         _link: &HeldLink,
-        kept: bool,
+        fate: Fate,
     ) -> Result<(), StepFault> {
-        match layers.station.ask_arrival::<true>(arrival, kept) {
+        match layers.station.ask_arrival::<true>(arrival, fate.is_kept()) {
             Ok(permit) => {
-                layers.station.arrive(arrival, permit.row, kept);
+                layers.station.arrive(arrival, permit.row, fate.is_kept());
                 Ok(())
             }
             Err(check) => Err(StepFault::Refused(StepRefusal::Station(check.refusal()))),
         }
     }
 
-    fn arrived_unknown(layers: &mut Layers, arrival: Arrival, kept: bool) -> Result<(), StepFault> {
-        match layers.station.ask_arrival::<false>(arrival, kept) {
+    fn arrived_unknown(layers: &mut Layers, arrival: Arrival, fate: Fate) -> Result<(), StepFault> {
+        match layers.station.ask_arrival::<false>(arrival, fate.is_kept()) {
             Ok(permit) => {
-                layers.station.arrive(arrival, permit.row, kept);
+                layers.station.arrive(arrival, permit.row, fate.is_kept());
                 Ok(())
             }
             Err(check) => Err(StepFault::Refused(StepRefusal::Station(check.refusal()))),
@@ -78,9 +90,9 @@ impl Top for NothingOnTop {
     fn may_arrive_unknown(
         layers: &Layers,
         arrival: Arrival,
-        kept: bool,
+        fate: Fate,
     ) -> Result<(), StepRefusal> {
-        match layers.station.ask_arrival::<false>(arrival, kept) {
+        match layers.station.ask_arrival::<false>(arrival, fate.is_kept()) {
             Ok(_) => Ok(()),
             Err(check) => Err(StepRefusal::Station(check.refusal())),
         }

@@ -15,6 +15,7 @@ use super::{Layers, OF_NO_LINK};
 use crate::held_link::HeldLink;
 use crate::packet::{Carried, content};
 use crate::step_fault::StepFault;
+use capture::Fate;
 use ddcmp_station::Arrival;
 use dna_links::LinkTag;
 use dna_packet::read_nsp;
@@ -22,8 +23,8 @@ use dna_station::StepRefusal;
 use nsp_link::LinkFault;
 
 impl Layers {
-    /// This came, with the tag of its packet, and the node kept the packet or did not. A packet that is kept is read again and goes to the
-    /// links, whose NSP has queues or has none (`QUEUES`). Of an end whose other side is not known, no period and no link of what comes is known, so
+    /// This came, with the tag of its packet, and the node kept the packet or did not. A packet that is kept, and not lost then, is read again and
+    /// goes to the links, whose NSP has queues or has none (`QUEUES`). Of an end whose other side is not known, no period and no link of what comes is known, so
     /// neither rule on those is asked: not `OF_PAIR`.
     ///
     /// `Refused`, in this order: as the station refuses; as the links refuse. Then both layers are as they were. `OutOfMemory`: memory for a
@@ -33,31 +34,38 @@ impl Layers {
         &mut self,
         arrival: Arrival,
         link: &HeldLink,
-        kept: bool,
+        fate: Fate,
     ) -> Result<(), StepFault>
         requires { load self.old.station < 2 ^ 63 }
-        ensures ok { OnOk result ((wire_layers_machine (rules_by OF_PAIR QUEUES)).arrives self.old (with_link link.now (arrival_view arrival.entry)) kept
+        ensures ok { OnOk result ((wire_layers_machine (rules_by OF_PAIR QUEUES)).arrives self.old (with_link link.now (arrival_view arrival.entry)) fate
             ≡ Ok self.new) }
         ensures refused { IfErr result (IfRefused (λ refusal.
-            (wire_layers_machine (rules_by OF_PAIR QUEUES)).arrives self.old (with_link link.now (arrival_view arrival.entry)) kept ≡ Err refusal)) }
+            (wire_layers_machine (rules_by OF_PAIR QUEUES)).arrives self.old (with_link link.now (arrival_view arrival.entry)) fate ≡ Err refusal)) }
         ensures still { IfErr result (IfRefused (λ refusal. self.new ≡ self.old)) }
-        ensures memory { IfErr result (IfNoMemory (MayKeep kept (is_damage (arrival_view arrival.entry)))) }
+        ensures memory { IfErr result (IfNoMemory (MayKeep fate (is_damage (arrival_view arrival.entry)))) }
         ensures load { load self.new.station ≤ load self.old.station + 1 }
     {
+        let kept = fate.is_kept();
         match self.station.ask_arrival::<OF_PAIR>(arrival, kept) {
-            Ok(permit) => match permit.packet {
-                Some(packet) => match self.keep::<OF_PAIR, QUEUES>(packet, tag_of(link)) {
-                    Ok(()) => {
-                        self.station.arrive_apart(arrival, permit.row, kept);
+            Ok(permit) => {
+                if !fate.is_met() {
+                    self.station.arrive(arrival, permit.row, kept);
+                    return Ok(());
+                }
+                match permit.packet {
+                    Some(packet) => match self.keep::<OF_PAIR, QUEUES>(packet, tag_of(link)) {
+                        Ok(()) => {
+                            self.station.arrive_apart(arrival, permit.row, kept);
+                            Ok(())
+                        }
+                        Err(fault) => Err(fault),
+                    },
+                    None => {
+                        self.station.arrive(arrival, permit.row, kept);
                         Ok(())
                     }
-                    Err(fault) => Err(fault),
-                },
-                None => {
-                    self.station.arrive(arrival, permit.row, kept);
-                    Ok(())
                 }
-            },
+            }
             Err(check) => Err(StepFault::Refused(StepRefusal::Station(check.refusal()))),
         }
     }

@@ -21,6 +21,7 @@ use crate::carried::carried;
 use crate::failed_check::FailedCheck;
 use crate::held_link::HeldLink;
 use crate::packet::Carried;
+use capture::Fate;
 use ddcmp_msg::Message;
 use ddcmp_station::{Arrival, SendPermit, State};
 use dna_packet::read_nsp;
@@ -39,6 +40,13 @@ impl Layers {
                 self.station.tell_sending(message, check),
             )),
         }
+    }
+
+    /// The first check that this packet does not pass, if the node composed it now and never sent it; `None` where it may. Takes no memory.
+    pub fn failed_composed<const QUEUES: u8>(&self, packet: &[u8]) -> Option<FailedCheck>
+        ensures { result ≡ spec.failed_composed (queues_of QUEUES) self.now packet.now }
+    {
+        self.failed_first::<QUEUES>(packet)
     }
 
     // The check that a packet does not pass at the links, if it is first sent now.
@@ -77,14 +85,14 @@ impl Layers {
         &self,
         arrival: Arrival,
         link: &HeldLink,
-        kept: bool,
+        fate: Fate,
     ) -> Option<FailedCheck>
-        ensures { result ≡ spec.failed_arrival self.now (with_link link.now (arrival_view arrival.entry)) kept }
+        ensures { result ≡ spec.failed_arrival self.now (with_link link.now (arrival_view arrival.entry)) fate }
     {
-        if let Err(check) = self.station.ask_arrival::<true>(arrival, kept) {
+        if let Err(check) = self.station.ask_arrival::<true>(arrival, fate.is_kept()) {
             return Some(FailedCheck::StationArrival(self.station.tell_arrival(&arrival, check)));
         }
-        if !kept {
+        if !fate.is_met() {
             return None;
         }
         match arrival {

@@ -8,6 +8,7 @@ use crate::held_link::HeldLink;
 use crate::step_fault::StepFault;
 use crate::top::Top;
 use crate::unit_tag::UnitTag;
+use capture::Fate;
 use ddcmp_msg::Message;
 use ddcmp_station::{Arrival, StationEvent};
 use dna_node::{
@@ -33,6 +34,16 @@ impl<const QUEUES: u8> Top for LinksOnTop<QUEUES> {
         layers.at_links::<QUEUES>(event)
     }
 
+    fn boot(layers: &mut Layers) {
+        layers.boot::<QUEUES>();
+    }
+
+    fn composed(layers: &mut Layers, packet: &[u8]) -> Result<(), StepFault> {
+        layers.composed::<QUEUES>(packet)
+    }
+
+    fn carries() {}
+
     #[inline(always)]
     fn sent(layers: &mut Layers, message: &Message) -> Result<UnitTag, StepFault> {
         layers.sent::<QUEUES>(message)
@@ -43,21 +54,21 @@ impl<const QUEUES: u8> Top for LinksOnTop<QUEUES> {
         layers: &mut Layers,
         arrival: Arrival,
         link: &HeldLink,
-        kept: bool,
+        fate: Fate,
     ) -> Result<(), StepFault> {
-        layers.arrived::<true, QUEUES>(arrival, link, kept)
+        layers.arrived::<true, QUEUES>(arrival, link, fate)
     }
 
-    fn arrived_unknown(layers: &mut Layers, arrival: Arrival, kept: bool) -> Result<(), StepFault> {
-        layers.arrived::<false, QUEUES>(arrival, &HeldLink::new(&Some(OF_NO_LINK)), kept)
+    fn arrived_unknown(layers: &mut Layers, arrival: Arrival, fate: Fate) -> Result<(), StepFault> {
+        layers.arrived::<false, QUEUES>(arrival, &HeldLink::new(&Some(OF_NO_LINK)), fate)
     }
 
     fn may_arrive_unknown(
         layers: &Layers,
         arrival: Arrival,
-        kept: bool,
+        fate: Fate,
     ) -> Result<(), StepRefusal> {
-        layers.may_arrive_unknown::<QUEUES>(arrival, kept)
+        layers.may_arrive_unknown::<QUEUES>(arrival, fate)
     }
 
     fn wrong_unit(layers: &Layers, message: &Message) -> Option<StepRefusal> {

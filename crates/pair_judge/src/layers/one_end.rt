@@ -11,6 +11,7 @@ ghost use Rattle.pair_judge.specs.inner.Tops.{rules_by};
 
 use super::Layers;
 use crate::packet::{Carried, content};
+use capture::Fate;
 use ddcmp_station::Arrival;
 use dna_packet::read_nsp;
 use dna_station::{LinkRefusal, StepRefusal};
@@ -20,18 +21,24 @@ impl Layers {
     pub fn may_arrive_unknown<const QUEUES: u8>(
         &self,
         arrival: Arrival,
-        kept: bool,
+        fate: Fate,
     ) -> Result<(), StepRefusal>
         ensures ok { OnOk result (IsOk ((wire_layers_machine (rules_by false QUEUES)).arrives self.now (with_link (Some of_no_link)
-            (arrival_view arrival.entry)) kept)) }
+            (arrival_view arrival.entry)) fate)) }
         ensures refused { IfErr result (λ refusal.
-            (wire_layers_machine (rules_by false QUEUES)).arrives self.now (with_link (Some of_no_link) (arrival_view arrival.entry)) kept ≡ Err refusal) }
+            (wire_layers_machine (rules_by false QUEUES)).arrives self.now (with_link (Some of_no_link) (arrival_view arrival.entry)) fate ≡ Err refusal) }
     {
+        let kept = fate.is_kept();
         match self.station.ask_arrival::<false>(arrival, kept) {
-            Ok(permit) => match permit.packet {
-                Some(packet) => self.may_keep_unknown::<QUEUES>(packet),
-                None => Ok(()),
-            },
+            Ok(permit) => {
+                if !fate.is_met() {
+                    return Ok(());
+                }
+                match permit.packet {
+                    Some(packet) => self.may_keep_unknown::<QUEUES>(packet),
+                    None => Ok(()),
+                }
+            }
             Err(check) => Err(StepRefusal::Station(check.refusal())),
         }
     }

@@ -9,6 +9,7 @@ ghost use Rattle.dna_node.specs.TagRules.{judged_by};
 ghost use Rattle.nsp_link.specs.Kinds.{queues_of};
 ghost use Rattle.dna_node.specs.WireLayers.{WireLayers, first_tagged, wire_sends_first};
 ghost use Rattle.dna_station.specs.WireBook.{gives_new, wire_sending_refusal};
+ghost use Rattle.capture.specs.declared.event.Event.TheVariants as events;
 ghost use Rattle.ddcmp_station.specs.Permit.{is_first, send_permit};
 ghost use Rattle.pair_judge.specs.inner.Memory.{IfNoMemory};
 ghost use Rattle.pair_judge.specs.inner.Packets.{lent_content};
@@ -101,6 +102,27 @@ impl Layers {
                 link: sent.label,
             },
             Err(AllocError) => unreachable!(),
+        }
+    }
+
+    /// A packet was composed that is never sent: it is read and goes to the links as if it were first sent, and is nothing to the station.
+    ///
+    /// `Refused`, in this order: `BadPacket`, `BadNsp`; as the links refuse. Then both layers are as they were. `OutOfMemory`: memory for the piece of
+    /// a message was refused.
+    pub fn composed<const QUEUES: u8>(&mut self, packet: &[u8]) -> Result<(), StepFault>
+        ensures ok { OnOk result ((layers_run_by (queues_of QUEUES)).user self.old (events.Composed packet.now) ≡ Ok self.new) }
+        ensures refused { IfErr result (IfRefused (λ refusal.
+            (layers_run_by (queues_of QUEUES)).user self.old (events.Composed packet.now) ≡ Err refusal)) }
+        ensures still { IfErr result (IfRefused (λ refusal. self.new ≡ self.old)) }
+        ensures station { self.new.station ≡ self.old.station }
+    {
+        match content(packet) {
+            Ok(Some(carried)) => match self.send::<QUEUES>(carried) {
+                Ok(_) => Ok(()),
+                Err(fault) => Err(fault),
+            },
+            Ok(None) => Ok(()),
+            Err(refusal) => Err(StepFault::Refused(refusal)),
         }
     }
 

@@ -1,10 +1,13 @@
 //! What the user of a side does.
 
 ghost use Rattle.std.specs.Prelude.{◌≡◌, ◌+◌, ◌^◌, ◌<◌, ◌≤◌, Ok, Err, Some, OnOk, OnErr, IfErr};
+ghost use Rattle.capture.specs.declared.event.Event.TheVariants as events;
+ghost use Rattle.dna_station.specs.PeriodRule.{of_period};
+ghost use Rattle.dna_station.specs.WireNode.{wire_machine};
 ghost use Rattle.dna_links.specs.User.{view};
 ghost use Rattle.nsp_link.specs.Kinds.{queues_of};
 ghost use Rattle.dna_station.specs.WireStation.{load};
-ghost use Rattle.pair_judge.specs.Events.{event_of_station, event_of_links};
+ghost use Rattle.pair_judge.specs.Events.{IsOfOneLink, event_of_station, event_of_links};
 ghost use Rattle.pair_judge.specs.inner.Memory.{IfNoMemory, MayEnter};
 ghost use Rattle.pair_judge.specs.inner.Steps.{IfRefused};
 ghost use Rattle.pair_judge.specs.inner.Tops.{layers_run, layers_run_by};
@@ -31,10 +34,36 @@ impl Layers {
         }
     }
 
+    /// The station is halted, in whatever state it is. Takes no memory.
+    pub fn halt(&mut self)
+        requires { load self.old.station < 2 ^ 63 }
+        ensures station { (wire_machine of_period).user self.old.station events.Boot ≡ Ok self.new.station }
+        ensures links { self.new.links ≡ self.old.links }
+        ensures load { load self.new.station ≤ load self.old.station + 1 }
+    {
+        match self.station.user(StationEvent::Halt) {
+            Ok(()) => {}
+            Err(_) => unreachable!(),
+        }
+    }
+
+    /// The node starts anew: its station is halted, and its links are over. Takes no memory.
+    pub fn boot<const QUEUES: u8>(&mut self)
+        requires { load self.old.station < 2 ^ 63 }
+        ensures boot { (layers_run_by (queues_of QUEUES)).user self.old events.Boot ≡ Ok self.new }
+        ensures load { load self.new.station ≤ load self.old.station + 1 }
+    {
+        self.halt();
+        match self.links.user::<QUEUES>(LinkEvent::Boot) {
+            Ok(()) => {}
+            Err(_) => unreachable!(),
+        }
+    }
+
     /// The user of the links does this, and is refused as they refuse it. `OutOfMemory`: memory for a link, an address or a message was
     /// refused. `Up` and `Close` take none, nor does what is refused.
-    #[tactic(auto, using(crate::proofs::LinkEvents::made_by_links))]
     pub fn at_links<const QUEUES: u8>(&mut self, event: LinkEvent) -> Result<(), StepFault>
+        requires { IsOfOneLink (view event) }
         ensures ok { OnOk result ((layers_run_by (queues_of QUEUES)).user self.old (event_of_links (view event.entry)) ≡ Ok self.new) }
         ensures refused { IfErr result (IfRefused (λ refusal.
             (layers_run_by (queues_of QUEUES)).user self.old (event_of_links (view event.entry)) ≡ Err refusal)) }

@@ -1,6 +1,7 @@
 //! A receipt at an end whose other side is not known: what came is taken as what the other end sent.
 
 ghost use Rattle.std.specs.Prelude.{◌≡◌, ◌+◌, ◌^◌, ◌<◌, ◌≤◌, IfOk};
+ghost use Rattle.capture.specs.Fates.{is_met};
 ghost use Rattle.ddcmp_msg.specs.Message.{view};
 ghost use Rattle.ddcmp_msg.specs.Reading.{reading};
 ghost use Rattle.dna_node.specs.Alone as alone;
@@ -12,6 +13,7 @@ use crate::end_verdict::Accused;
 use crate::layers::Layers;
 use crate::step_fault::StepFault;
 use crate::top::Top;
+use capture::Fate;
 use ddcmp_msg::{Message, Reading, read_unit};
 use ddcmp_station::Arrival;
 use dna_station::{StepRefusal, Tag};
@@ -39,16 +41,16 @@ pub enum Came {
 
 /// Receives these bytes. It fails, in this order: by the other end, where they are no message of a right one in this state; by this end, as the
 /// station refuses; and, of a packet that is taken, by the other end. An error: there is no memory for what the links keep of it.
-pub fn receive<T: Top>(layers: &mut Layers, kept: bool, bytes: &[u8]) -> Result<Came, AllocError>
+pub fn receive<T: Top>(layers: &mut Layers, fate: Fate, bytes: &[u8]) -> Result<Came, AllocError>
     requires { load layers.old.station < 2 ^ 63 }
-    ensures came { IfOk result (λ came. CameIs T.top came layers.old layers.new kept (reading bytes.now)) }
+    ensures came { IfOk result (λ came. CameIs T.top came layers.old layers.new fate (reading bytes.now)) }
     ensures still { IfOk result (λ came. IfCameFails came (layers.new ≡ layers.old)) }
     ensures load { load layers.new.station ≤ load layers.old.station + 1 }
 {
     match read_unit(bytes) {
-        Reading::Sound(message) => receive_sound::<T>(layers, kept, message),
-        Reading::HeaderBad => met(T::arrived_unknown(layers, Arrival::HeaderBad, kept), true),
-        Reading::DataBad => met(T::arrived_unknown(layers, Arrival::DataBad, kept), true),
+        Reading::Sound(message) => receive_sound::<T>(layers, fate, message),
+        Reading::HeaderBad => met(T::arrived_unknown(layers, Arrival::HeaderBad, fate), true),
+        Reading::DataBad => met(T::arrived_unknown(layers, Arrival::DataBad, fate), true),
         Reading::Malformed(_) => Ok(Came::Fails {
             accused: Accused::OtherEnd,
             refusal: StepRefusal::NotAMessage,
@@ -59,11 +61,11 @@ pub fn receive<T: Top>(layers: &mut Layers, kept: bool, bytes: &[u8]) -> Result<
 // A sound message comes.
 fn receive_sound<T: Top>(
     layers: &mut Layers,
-    kept: bool,
+    fate: Fate,
     message: Message,
 ) -> Result<Came, AllocError>
     requires { load layers.old.station < 2 ^ 63 }
-    ensures came { IfOk result (λ came. SoundIs T.top came layers.old layers.new kept (view message.entry)) }
+    ensures came { IfOk result (λ came. SoundIs T.top came layers.old layers.new fate (view message.entry)) }
     ensures still { IfOk result (λ came. IfCameFails came (layers.new ≡ layers.old)) }
     ensures load { load layers.new.station ≤ load layers.old.station + 1 }
 {
@@ -71,22 +73,22 @@ fn receive_sound<T: Top>(
     if let Some(refusal) = T::wrong_unit(layers, &message) {
         return Ok(by_the_other(refusal));
     }
-    let Some(refusal) = wrong_if_kept::<T>(layers, kept, &message) else {
+    let Some(refusal) = wrong_if_met::<T>(layers, fate, &message) else {
         return met(
-            T::arrived_unknown(layers, Arrival::Sound(message, UNKNOWN), kept),
+            T::arrived_unknown(layers, Arrival::Sound(message, UNKNOWN), fate),
             false,
         );
     };
-    match T::may_arrive_unknown(layers, Arrival::Sound(message, UNKNOWN), kept) {
+    match T::may_arrive_unknown(layers, Arrival::Sound(message, UNKNOWN), fate) {
         Ok(()) => Ok(by_the_other(refusal)),
         Err(first) => met(Err(StepFault::Refused(first)), false),
     }
 }
 
-fn wrong_if_kept<T: Top>(layers: &Layers, kept: bool, message: &Message) -> Option<StepRefusal>
-    ensures { result ≡ alone.if_kept kept (T.top.alone.wrong_taken layers.now (view message.now)) }
+fn wrong_if_met<T: Top>(layers: &Layers, fate: Fate, message: &Message) -> Option<StepRefusal>
+    ensures { result ≡ alone.if_met (is_met fate) (T.top.alone.wrong_taken layers.now (view message.now)) }
 {
-    if kept {
+    if fate.is_met() {
         T::wrong_taken(layers, message)
     } else {
         None

@@ -44,13 +44,13 @@ is_failed_read (Err fault) = is_read_fault fault
 
 -- ---- before the first step
 
--- Where a head was read: its ends stand as they do before a step, and the heads of both captures wait
+-- Where a head was read: its ends are as they are before a step, and the heads of both captures wait
 abbrev pub IsBegun : (text left : Option (List ℕ)) → ListState → Standing → Type 0
 IsBegun text left lines at =
     Opens script_form.first_words text left (Ok lines) × (at.pair ≡ new_pair lines.node_a lines.node_b)
-    × (at.a ≡ head_line One lines.node_a lines.node_b) × (at.b ≡ head_line One lines.node_b lines.node_a)
+    × (at.a ≡ head_line One lines.node_a lines.node_b) × (at.b ≡ head_line One lines.node_b lines.node_a) × (at.three ≡ false)
 
--- Where no head was read: this text departs from one, or can't be read further behind a piece of its first line, or memory was wanting
+-- Where no head was read: this text departs from one, or can't be read further after a piece of its first line, or there was not enough memory
 abbrev pub HeadFault : (text left : Option (List ℕ)) → PlayFault → Type 0
 HeadFault text left (faults.Departs kind line) = HeadDepartsAt text kind line
 HeadFault text left (faults.BadStep line) = ⊥

@@ -6,18 +6,20 @@ use Rattle.capture.specs.declared.fault.Departure.{Departure}
 use Rattle.capture.specs.declared.fault.Departure.TheVariants.{Syntax}
 use Rattle.capture.specs.Reading.{◌>>=◌, must, after, cut_at, or_else, number_at, positive_at, bytes_at, message_at}
 use Rattle.capture.specs.Sided.{side_at}
-use Rattle.dna_play.specs.Script.{StepValue, ScriptStep, Start, Halt, Timer, Send, Deliver, Refuse, Lose, Damage, Noise, Open, Accept, Reject, In}
-use Rattle.dna_play.specs.Script.{Close, Retry}
+use Rattle.dna_play.specs.Script.{StepValue, ScriptStep, Start, Halt, Boot, Timer, Send, Deliver, Refuse, Drop, Lose, Damage, Noise, Open, Accept}
+use Rattle.dna_play.specs.Script.{Reject, In, Close, Abort, Retry}
 
 -- a step of one word
 unfoldable pub plain_at : List ℕ → Option StepValue
 plain_at text =
     if bytes_eq text (codes "start") then Some Start
     else if bytes_eq text (codes "halt") then Some Halt
+    else if bytes_eq text (codes "boot") then Some Boot
     else if bytes_eq text (codes "timer") then Some Timer
     else if bytes_eq text (codes "send") then Some Send
     else if bytes_eq text (codes "deliver") then Some Deliver
     else if bytes_eq text (codes "refuse") then Some Refuse
+    else if bytes_eq text (codes "drop") then Some Drop
     else if bytes_eq text (codes "lose") then Some Lose
     else if bytes_eq text (codes "open") then Some Open
     else None
@@ -36,10 +38,11 @@ link_step_at text =
     or_else (after (codes "accept ") text) (λ rest. must (positive_at MAX_LINK rest) >>= λ partner. Ok (Accept partner))
     (or_else (after (codes "reject ") text) (λ rest. must (positive_at MAX_LINK rest) >>= λ partner. Ok (Reject partner))
     (or_else (after (codes "close ") text) (λ rest. must (positive_at MAX_LINK rest) >>= λ link. Ok (Close link))
+    (or_else (after (codes "abort ") text) (λ rest. must (positive_at MAX_LINK rest) >>= λ link. Ok (Abort link))
     (or_else (after (codes "retry ") text) (λ rest. must (positive_at MAX_LINK rest) >>= λ link. Ok (Retry link))
-    (Err Syntax))))
+    (Err Syntax)))))
 
--- the line behind the letter of its side
+-- the line after the letter of its side
 unfoldable pub step_at : List ℕ → Result StepValue Departure
 step_at text =
     or_else (plain_at text) (λ step. Ok step)

@@ -1,9 +1,11 @@
-//! How the states of a side go on to behind a unit that it sent.
+//! How the states of a side go on past a unit that it sent.
 
+use super::Search;
 use super::hypothesis::{Front, Hypothesis};
-use super::walk::{Room, View};
+use super::sent::Sent;
+use super::walk::{Room, View, Wanted};
 use super::way::Way;
-use super::{Search, Sent};
+use crate::explained::Explained;
 use crate::movement::Standing;
 use crate::said::Said;
 use crate::station::But;
@@ -12,23 +14,23 @@ use std::alloc::AllocError;
 use wire_base::Side;
 
 impl Search {
-    /// Where the side may stand behind this unit, or, where something is not asked of it, before it: in the room.
+    /// Where the side may be after this unit, or, where something is not asked of it, before it: in the room.
     pub(super) fn find(
         &mut self,
         hypothesis: &Hypothesis,
         side: Side,
-        said: Said,
-        but: Option<But>,
+        unit: Wanted,
     ) -> Result<(), AllocError> {
         let Hypothesis { a, b } = hypothesis;
         self.room.found.clear();
         match side {
-            Side::A => find_from(a, b, &mut self.a, &self.b, &mut self.room, said, but),
-            Side::B => find_from(b, a, &mut self.b, &self.a, &mut self.room, said, but),
+            Side::A => find_from(a, b, &mut self.a, &self.b, &mut self.room, unit),
+            Side::B => find_from(b, a, &mut self.b, &self.a, &mut self.room, unit),
         }
     }
 
-    /// The hypothesis goes on with the states in the room, one for each tag that the unit may have; or ends, where there are none.
+    /// The hypothesis goes on with the states in the room, one for each tag that the unit may have, if that matters; or ends, where
+    /// there are none.
     pub(super) fn go_on(
         &mut self,
         hypothesis: Hypothesis,
@@ -41,12 +43,12 @@ impl Search {
             return Ok(());
         };
         let tag = first.station.tag();
-        if self
+        let is_one = self
             .room
             .found
             .iter()
-            .all(|state| state.station.tag() == tag)
-        {
+            .all(|state| state.station.tag() == tag);
+        if is_one || self.explained == Explained::Apart {
             return self.go_on_alone(hypothesis, side, number);
         }
         for at in 0..self.room.found.len() {
@@ -60,7 +62,7 @@ impl Search {
         Ok(())
     }
 
-    // All states have one tag.
+    // All states have one tag, or the tags are not asked.
     fn go_on_alone(
         &mut self,
         mut hypothesis: Hypothesis,
@@ -111,13 +113,17 @@ impl Search {
     }
 
     /// No way was found for this unit: the side goes on as far as it can if something is not asked of the unit, so that the judge says what that is.
-    pub(super) fn give_up(&mut self, side: Side, said: Said) -> Result<(), AllocError> {
-        for but in [But::Response, But::Number, But::All] {
+    pub(super) fn give_up(&mut self, side: Side, unit: Wanted) -> Result<(), AllocError> {
+        for but in [But::Packet, But::Response, But::Number, But::All] {
             for _ in 0..self.dead.len() {
                 let Some(mut hypothesis) = self.dead.pop_front() else {
                     break;
                 };
-                self.find(&hypothesis, side, said, Some(but))?;
+                let asked = Wanted {
+                    but: Some(but),
+                    ..unit
+                };
+                self.find(&hypothesis, side, asked)?;
                 if let Some(state) = self.room.found.first().copied() {
                     let front = hypothesis.front_mut(side);
                     front.states.clear();
@@ -152,13 +158,12 @@ fn find_from(
     own: &mut Sent,
     other: &Sent,
     room: &mut Room,
-    said: Said,
-    but: Option<But>,
+    unit: Wanted,
 ) -> Result<(), AllocError> {
     let view = View {
-        said,
-        but,
+        unit,
         own: own.count(),
+        most_kept: own.most_kept(),
         units: &other.units,
         gone: other.gone,
         limit: other.count(),
@@ -169,25 +174,48 @@ fn find_from(
     for state in &front.states {
         view.go(&mut own.way, room, *state)?;
     }
+    if unit.explained == Explained::Together || !room.found.is_empty() {
+        return Ok(());
+    }
+    for state in &front.states {
+        view.go_anew(&mut own.way, room, *state)?;
+    }
     Ok(())
 }
 
 impl View<'_> {
-    // Adds where the side may stand behind the unit, from this state on.
+    // Adds where the side may be after the unit, from this state on.
     fn go(&self, way: &mut Way, room: &mut Room, standing: Standing) -> Result<(), AllocError> {
         room.begun.clear();
         match standing.station.state {
             State::Halted => self.begin(way, room, standing)?,
             State::Istrt => return self.go_started(way, room, standing),
-            State::Astrt => match self.said {
+            State::Astrt => match self.unit.said {
                 Said::Strt => self.restart(way, room, standing)?,
                 _ => return self.go_started(way, room, standing),
             },
-            State::Running => match self.said {
+            State::Running => match self.unit.said {
                 Said::Strt | Said::Stack => self.restart(way, room, standing)?,
                 _ => return self.go_running(way, room, standing),
             },
         }
+        self.go_begun(way, room)
+    }
+
+    // The same after a start of which no unit tells: a STACK came that was meant for an earlier one.
+    fn go_anew(
+        &self,
+        way: &mut Way,
+        room: &mut Room,
+        standing: Standing,
+    ) -> Result<(), AllocError> {
+        room.begun.clear();
+        self.restart(way, room, standing)?;
+        self.go_begun(way, room)
+    }
+
+    // The same from all states in which the station was started.
+    fn go_begun(&self, way: &mut Way, room: &mut Room) -> Result<(), AllocError> {
         for at in 0..room.begun.len() {
             if let Some(begun) = room.begun.get(at).copied() {
                 self.go_started(way, room, begun)?;
@@ -206,7 +234,7 @@ impl View<'_> {
         if self.is_ready(&standing) {
             return self.reach(way, room, standing);
         }
-        match self.said {
+        match self.unit.said {
             Said::Rep { num: _ } | Said::Nothing => Ok(()),
             _ => self.walk(way, room, standing, standing.come),
         }
@@ -225,7 +253,7 @@ impl View<'_> {
             self.reach(way, room, standing)?;
             from = from.max(self.seen);
         }
-        match self.said {
+        match self.unit.said {
             Said::Strt | Said::Nothing => Ok(()),
             Said::Stack => self.walk(way, room, standing, from),
             _ if is_ready => Ok(()),

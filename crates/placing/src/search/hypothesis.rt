@@ -13,14 +13,14 @@ pub(crate) struct Epoch {
     pub(crate) tag: Tag,
 }
 
-/// Where a side may stand, and the tags of its units. All ways that lead there have these tags.
+/// Where a side may be, and the tags of its units. All ways that lead there have these tags.
 #[derive(Drop)]
 pub(crate) struct Front {
     pub(crate) states: Vec<Standing>,
     pub(crate) epochs: VecDeque<Epoch>,
 }
 
-/// Where both sides may stand: any of these states of one goes with any of the other.
+/// Where both sides may be: any of these states of one goes with any of the other.
 #[derive(Drop)]
 pub(crate) struct Hypothesis {
     pub(crate) a: Front,
@@ -133,6 +133,18 @@ impl Front {
                 _ => return,
             }
         }
+    }
+
+    /// The last step of the way to the state that kept most packets, if there is a state.
+    pub(crate) fn last_of_best(&self) -> Option<u64> {
+        let mut best: Option<&Standing> = None;
+        for state in &self.states {
+            match best {
+                Some(other) if other.kept >= state.kept => {}
+                _ => best = Some(state),
+            }
+        }
+        Some(best?.last)
     }
 
     /// The fewest units of the other side that a state uses up.

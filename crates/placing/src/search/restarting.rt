@@ -1,23 +1,31 @@
-//! Where a side may stand when its user starts it anew.
+//! Where a side may be when its user starts it anew.
 
 use super::hypothesis::epoch_of;
-use super::walk::{Room, View, add, taken};
+use super::walk::{ANY, Room, View, add, taken};
 use super::way::Way;
+use crate::explained::Explained;
 use crate::movement::{Made, Standing};
 use dna_station::State;
 use std::alloc::AllocError;
 
 impl View<'_> {
-    /// Adds to what is begun where the side may stand when its user starts it anew before the unit: with all packets kept that may have come, and
-    /// with those alone that came before a STRT of the other side, which may still come.
+    /// Adds to what is begun where the side may be when its user starts it anew before the unit: with all packets kept that may have come, and
+    /// with those alone that came before a STRT of the other side, which may still come. By itself also with no more packets kept.
+    /// Where the start is turned, with no more kept than that says.
     pub(crate) fn restart(
         &self,
         way: &mut Way,
         room: &mut Room,
         standing: Standing,
     ) -> Result<(), AllocError> {
+        if self.unit.explained == Explained::Apart {
+            self.begin(way, room, standing)?;
+        }
         let period = standing.station.tag().period;
-        let from = self.first_answering(standing.come, period);
+        let from = match self.unit.explained {
+            Explained::Together => self.first_answering(standing.come, period),
+            Explained::Apart => standing.come,
+        };
         let mut stands = standing;
         let mut on = standing;
         let mut is_strt_past = from > standing.come;
@@ -30,10 +38,13 @@ impl View<'_> {
                 is_strt_past = true;
                 continue;
             }
-            if !on.station.meets(passing.said, passing.tag) {
+            if !self.is_met(on.station, passing) {
                 continue;
             }
             let kept = on.station.can_take(passing.said);
+            if kept && on.kept.saturating_sub(standing.kept) >= self.most_kept {
+                break;
+            }
             if kept && is_strt_past {
                 self.begin(way, room, stands)?;
                 is_strt_past = false;
@@ -58,6 +69,14 @@ impl View<'_> {
         self.limit
     }
 
+    // The period that begins before the unit.
+    fn next_period(&self) -> u64 {
+        match self.unit.explained {
+            Explained::Together => self.own.saturating_add(1),
+            Explained::Apart => ANY.period,
+        }
+    }
+
     // The user starts the station anew.
     pub(super) fn begin(
         &self,
@@ -72,7 +91,7 @@ impl View<'_> {
         };
         let last = way.step(halted, Made::Start)?;
         let begun = Standing {
-            station: standing.station.started(self.own.saturating_add(1)),
+            station: standing.station.started(self.next_period()),
             last,
             ..standing
         };

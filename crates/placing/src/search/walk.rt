@@ -2,21 +2,32 @@
 
 use super::hypothesis::{Epoch, epoch_of};
 use super::way::Way;
+use crate::explained::Explained;
 use crate::movement::{Made, Standing};
 use crate::said::Said;
-use crate::station::But;
+use crate::station::{But, Station};
 use dna_station::{State, Tag};
 use std::alloc::{AllocError, Global};
 use std::collections::VecDeque;
 
-/// The unit that is to be sent, and what passed of the other side.
+/// The unit that is to be sent, and what is asked of it.
 #[derive(Clone, Copy)]
-pub(crate) struct View<'a> {
+pub(crate) struct Wanted {
     pub(crate) said: Said,
+    // whether it may have the packet of the last data with its number
+    pub(crate) is_again: bool,
     // what is not asked of it, where no way is found otherwise
     pub(crate) but: Option<But>,
-    // its number among the side's units
+    pub(crate) explained: Explained,
+}
+
+/// The same, and what passed of the other side.
+#[derive(Clone, Copy)]
+pub(crate) struct View<'a> {
+    pub(crate) unit: Wanted,
+    // its number among the side's units, and how many of the packets that are under way are kept at most, where its user starts the station before it
     pub(crate) own: u64,
+    pub(crate) most_kept: u64,
     // the other side's units that may still come, how many there were before them, and before this unit in all
     pub(crate) units: &'a VecDeque<Said>,
     pub(crate) gone: u64,
@@ -28,7 +39,7 @@ pub(crate) struct View<'a> {
     pub(crate) last_data: &'a [u64],
 }
 
-/// Where the side stands behind the unit; and where it stands in the midst of a walk, before and behind one unit of the other side.
+/// Where the side is after the unit; and where it is in the midst of a walk, before and after one unit of the other side.
 #[derive(Drop)]
 pub(crate) struct Room {
     pub(crate) found: Vec<Standing>,
@@ -49,6 +60,12 @@ impl Room {
     }
 }
 
+/// The tag of all units where the periods are not asked.
+pub(super) const ANY: Tag = Tag {
+    period: 0,
+    partner: Some(0),
+};
+
 /// A unit of the other side.
 #[derive(Clone, Copy)]
 pub(crate) struct Passing {
@@ -58,28 +75,39 @@ pub(crate) struct Passing {
 }
 
 impl View<'_> {
-    /// The side may send the unit where it stands, or is behind what is wanted for that.
+    /// The side may send the unit where it is, or is past what is wanted for that.
     pub(crate) fn is_ready(&self, standing: &Standing) -> bool {
-        match self.but {
-            Some(but) => standing.station.may_send_but(self.said, but),
-            None => standing.station.may_send(self.said),
+        match self.unit.but {
+            Some(but) => standing.station.may_send_but(self.unit.said, but),
+            None => self.may_be_sent(standing.station),
         }
     }
 
-    /// Adds where it stands behind the unit; or, where something is not asked, before it.
+    // Data that are sent again have the same packet.
+    fn may_be_sent(&self, station: Station) -> bool {
+        if !station.may_send(self.unit.said) {
+            return false;
+        }
+        if self.unit.is_again {
+            return true;
+        }
+        station.is_new(self.unit.said)
+    }
+
+    /// Adds where it is after the unit; or, where something is not asked, before it.
     pub(crate) fn reach(
         &self,
         way: &mut Way,
         room: &mut Room,
         standing: Standing,
     ) -> Result<(), AllocError> {
-        if self.but.is_some() {
+        if self.unit.but.is_some() {
             return add(&mut room.found, standing);
         }
-        let is_new = standing.station.is_new(self.said);
+        let is_new = standing.station.is_new(self.unit.said);
         let last = way.step(standing.last, Made::Send { is_new })?;
         let behind = Standing {
-            station: standing.station.sent(self.said),
+            station: standing.station.sent(self.unit.said),
             last,
             ..standing
         };
@@ -123,8 +151,20 @@ impl View<'_> {
                 *epoch = epoch.saturating_add(1);
             }
         }
-        let tag = self.epochs.get(*epoch)?.tag;
+        let tag = match self.unit.explained {
+            Explained::Together => self.epochs.get(*epoch)?.tag,
+            Explained::Apart => ANY,
+        };
         Some(Passing { number, said, tag })
+    }
+
+    /// Whether a side with this station acts on the unit. By itself it takes no response for one that acknowledges what it never sent: the other side
+    /// is not to be accused either.
+    pub(super) fn is_met(&self, station: Station, passing: Passing) -> bool {
+        if self.unit.explained == Explained::Apart && !station.may_be_answered(passing.said) {
+            return false;
+        }
+        station.meets(passing.said, passing.tag)
     }
 
     // What may become of this unit.
@@ -136,7 +176,7 @@ impl View<'_> {
         passing: Passing,
     ) -> Result<(), AllocError> {
         let station = state.station;
-        if !station.meets(passing.said, passing.tag) {
+        if !self.is_met(station, passing) {
             return add(&mut room.next, state);
         }
         if station.can_take(passing.said) {
@@ -167,7 +207,7 @@ impl View<'_> {
         let may_keep = self.may_keep(station.received());
         if may_keep {
             self.take(way, room, state, passing, true)?;
-            if !self.said.is_of_no_buffer() && !self.comes_again(passing) {
+            if !self.unit.said.is_of_no_buffer() && !self.comes_again(passing) {
                 if station.state == State::Running {
                     return Ok(());
                 }
@@ -186,13 +226,13 @@ impl View<'_> {
 
     // Whether a packet more may be kept, where this is the last that was received.
     fn may_keep(&self, received: u8) -> bool {
-        if self.but == Some(But::Response) || self.but == Some(But::All) {
+        if self.unit.but == Some(But::Response) || self.unit.but == Some(But::All) {
             return true;
         }
-        self.said.resp() != Some(received)
+        self.unit.said.resp() != Some(received)
     }
 
-    // Whether data with the number of these passed behind them.
+    // Whether data with the number of these passed after them.
     fn comes_again(&self, passing: Passing) -> bool {
         let Said::Data { resp: _, num } = passing.said else {
             return false;
@@ -221,7 +261,7 @@ impl View<'_> {
     }
 }
 
-/// Where a side stands when the unit came, and its packet was kept or not.
+/// Where a side is once the unit has come, and its packet was kept or not.
 pub(super) fn taken(
     way: &mut Way,
     state: Standing,

@@ -39,7 +39,7 @@ impl Way {
         }
     }
 
-    /// A step more behind this one, with its number. `AllocError` where there is no memory for it.
+    /// One more step after this one, with its number. `AllocError` where there is no memory for it.
     pub(crate) fn step(&mut self, before: u64, made: Made) -> Result<u64, AllocError> {
         self.steps.reserve(1)?;
         self.steps.push_back_reserved(Step { before, made });

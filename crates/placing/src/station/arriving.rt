@@ -18,6 +18,16 @@ impl Station {
         }
     }
 
+    /// Whether the response in this is one that a right node may have sent to it: it acknowledges none but packets that were sent.
+    pub(crate) fn may_be_answered(self, said: Said) -> bool {
+        match (self.state, said.resp()) {
+            (State::Running, Some(resp)) => {
+                resp.wrapping_sub(self.acknowledged) <= self.outstanding
+            }
+            _ => true,
+        }
+    }
+
     /// Whether it can take the packet in this.
     pub(crate) fn can_take(self, said: Said) -> bool {
         let Some(message) = said.message() else {

@@ -8,6 +8,8 @@ use dna_station::State;
 /// What is not asked of a unit that can't be sent.
 #[derive(Clone, Copy, Debug, PartialEq, Eq)]
 pub(crate) enum But {
+    /// Whether data that are sent again have the same packet.
+    Packet,
     /// Its response.
     Response,
     /// Its number, or a cause.
@@ -74,12 +76,13 @@ impl Station {
         self.acknowledged.wrapping_add(self.ahead).wrapping_add(1)
     }
 
-    /// Whether it may send this but for one thing.
+    /// Whether it may send this, one thing aside.
     pub(crate) fn may_send_but(self, said: Said, but: But) -> bool {
         if self.state != State::Running {
             return false;
         }
         match but {
+            But::Packet => self.may_send_running(said),
             But::Response => self.may_send_running(said.with_resp(self.received)),
             But::Number => match said.resp() {
                 Some(resp) => resp == self.received,

@@ -4,7 +4,7 @@ ghost use Rattle.std.specs.Prelude.{◌≡◌, OnOk};
 ghost use Rattle.placing.specs.Placed.{Puts};
 
 use super::Waiting;
-use capture::Entry;
+use capture::{Entry, Fate};
 use std::alloc::AllocError;
 
 impl Waiting {
@@ -14,17 +14,18 @@ impl Waiting {
     {
         if kept {
             self.keep_packet()?;
+            return self.put_came(Fate::Kept);
         }
-        self.put_came(kept)
+        self.put_came(Fate::NotKept)
     }
 
     #[tactic(auto, using(crate::proofs::Puts::puts_nothing))]
-    fn put_came(&mut self, kept: bool) -> Result<(), AllocError>
+    fn put_came(&mut self, fate: Fate) -> Result<(), AllocError>
         ensures { OnOk result (Puts self.old self.new) }
     {
         let hint = self.next_hint();
         match self.take_other() {
-            Some(unit) => self.line(Entry::Received { kept, hint }, unit.as_slice()),
+            Some(unit) => self.line(Entry::Received { fate, hint }, unit.as_slice()),
             None => Ok(()),
         }
     }

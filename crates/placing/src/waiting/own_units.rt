@@ -7,7 +7,7 @@ use super::Waiting;
 use crate::carried::{message_of, next_number};
 use crate::numbering::Numbering;
 use crate::said::Said;
-use crate::user_links::UserAct;
+use crate::user_link::UserAct;
 use capture::{Entry, MAX_MESSAGE};
 use ddcmp_msg::{Flags, Message, NakReason, write_unit};
 use dna_packet::Nsp;
@@ -20,7 +20,7 @@ const BAD_HEADER: [u8; 1] = [0];
 const HEADER_LEN: usize = 8;
 
 impl Waiting {
-    /// Puts the line of the next unit of the side, behind what comes before it. `AllocError` where there is no memory for them.
+    /// Puts the line of the next unit of the side, after what comes before it. `AllocError` where there is no memory for them.
     #[tactic(auto, using(crate::proofs::Puts::puts_then))]
     pub(super) fn put_own(&mut self, is_new: bool) -> Result<(), AllocError>
         ensures puts { OnOk result (Puts self.old self.new) }
@@ -110,7 +110,7 @@ impl Waiting {
         self.put_aside(Entry::In { link }, message)
     }
 
-    // The message whose segments begin with this number. Where its last one did not pass, a byte more stands for what is missing.
+    // The message whose segments begin with this number. Where its last one did not pass, one more byte stands for what is missing.
     fn message(&self, link: u16, far: u16, number: u16) -> Result<Vec<u8>, AllocError> {
         let mut message = Vec::new(self.alloc);
         let mut wanted = number;
@@ -157,7 +157,7 @@ impl Waiting {
     }
 }
 
-// Bytes that a station reads as a good header and damaged data: a data message that ends behind its header. `AllocError` where there is no memory.
+// Bytes that a station reads as a good header and damaged data: a data message that ends after its header. `AllocError` where there is no memory.
 fn damaged_data(alloc: Global) -> Result<Vec<u8>, AllocError>
     ensures { IfOk result (λ noise. length noise.items ≤ 8) }
 {

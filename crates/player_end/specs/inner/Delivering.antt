@@ -1,4 +1,4 @@
--- What is delivered at once, as lines behind a text.
+-- What is delivered at once, as lines at the end of a text.
 use Rattle.std.specs.Prelude.{ℕ, ◌++◌, ◌<◌, if◌then◌else◌, Option, Some, None, List, [], length}
 use Rattle.std.specs.List.{flat_map}
 use Rattle.capture.specs.declared.event.Event.TheVariants.{Up}
@@ -26,11 +26,11 @@ delivers m text d = delivers_at (up_address (Some m)) text d
 abbrev pub arrives_as : Option NspValue → (text : List ℕ) → StoredLinks → Option (StoredLinks × List ℕ)
 arrives_as message text s = delivers_at (up_address message) text (arrived message s)
 
--- the text with the lines of the messages that stand whole before these pieces, if each has one
+-- the text with the lines of the messages that are whole at the front of these pieces, if each has one
 abbrev pub lines_of : (own : ℕ) → (text : List ℕ) → List (Option Piece) → Option (List ℕ)
 lines_of own text pieces = if all_short (complete [] pieces) then Some (text ++ record_lines Number (ups own (complete [] pieces))) else None
 
--- the data of pieces, one behind the other
+-- the data of pieces, one after the other
 abbrev pub body_in : Option Piece → List ℕ
 body_in None = []
 body_in (Some p) = p.body

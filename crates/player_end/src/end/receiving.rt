@@ -2,7 +2,7 @@
 
 ghost use Rattle.std.specs.Prelude.{◌≡◌, ◌≤◌, ℕ, [], Ok, Err, Some, length, OnOk, IsOk, IfErr, IfSome};
 ghost use Rattle.std.specs.Option.{option_map};
-ghost use Rattle.capture.specs.declared.limit.TheConstants.{MAX_MESSAGE};
+ghost use Rattle.capture.specs.declared.limit.TheConstants.{MAX_HINT, MAX_MESSAGE};
 ghost use Rattle.ddcmp_msg.specs.Message.{view};
 ghost use Rattle.ddcmp_msg.specs.Reading.{reading, reading_view};
 ghost use Rattle.dna_packet.specs.Packet as packets;
@@ -20,7 +20,7 @@ use crate::fault::StepFault;
 use crate::given_piece::GivenPiece;
 use crate::held_packet::HeldPacket;
 use crate::link_ends::LinkEnds;
-use capture::{Entry, MAX_HINT, MAX_UNIT};
+use capture::{Entry, Fate, MAX_HINT, MAX_UNIT};
 use ddcmp_msg::{Reading, read_unit};
 use dna_packet::{Nsp, Packet, read_nsp, read_packet};
 use dna_station::body_of;
@@ -30,7 +30,7 @@ impl<W: Window<HeldPacket, 256> + Drop, V: Window<GivenPiece, 4096> + Drop> End<
     /// These bytes come off the line, and their packet is kept where there is a buffer and it can be taken. What is whole of a link then
     /// goes to its user at once. `BadStep`: the unit's number has no line, or a message that becomes whole has more than 65,535 bytes. Memory
     /// is asked for where the number has a line.
-    #[tactic(auto, using(crate::proofs::Came::received))]
+    #[tactic(auto, using(crate::proofs::Came::read))]
     pub fn come(&mut self, buffer: bool, bytes: &[u8], text: &mut Vec<u8>) -> Result<(), StepFault>
         requires short { length bytes.now ≤ MAX_MESSAGE }
         ensures ok { OnOk result (with_lines text.old.items (steps.comes self.old buffer bytes.now) ≡ Ok (self.new, [], text.new.items)) }
@@ -41,11 +41,48 @@ impl<W: Window<HeldPacket, 256> + Drop, V: Window<GivenPiece, 4096> + Drop> End<
             return Err(StepFault::BadStep);
         }
         let reading = read_unit(bytes);
-        let kept = self.station.keeps(buffer, &reading);
+        let fate = kept_or_not(self.station.keeps(buffer, &reading));
+        self.receive(&reading, fate, bytes, text)
+    }
+
+    /// These bytes come off the line, and their packet is kept and then lost: the links do not meet it. `BadStep`: the packet can't be taken, or
+    /// the unit's number has no line.
+    #[tactic(auto, using(crate::proofs::Came::read))]
+    pub fn lose_above(&mut self, bytes: &[u8], text: &mut Vec<u8>) -> Result<(), StepFault>
+        requires short { length bytes.now ≤ MAX_MESSAGE }
+        ensures ok { OnOk result (with_lines text.old.items (steps.drops self.old bytes.now) ≡ Ok (self.new, [], text.new.items)) }
+        ensures stop { IfErr result (λ fault. StopMeans (steps.drops self.old bytes.now) fault) }
+        ensures memory { result ≡ Err StepFault.OutOfMemory → IsOk (steps.drops self.old bytes.now) }
+    {
+        if self.passed > MAX_HINT {
+            return Err(StepFault::BadStep);
+        }
+        let reading = read_unit(bytes);
+        if !self.station.keeps(true, &reading) {
+            return Err(StepFault::BadStep);
+        }
+        self.receive(&reading, Fate::Dropped, bytes, text)
+    }
+
+    // These bytes, which are read so, come off the line, and this becomes of their packet.
+    #[tactic(auto, using(crate::proofs::Came::received))]
+    fn receive(
+        &mut self,
+        reading: &Reading<'_>,
+        fate: Fate,
+        bytes: &[u8],
+        text: &mut Vec<u8>,
+    ) -> Result<(), StepFault>
+        requires short { length bytes.now ≤ MAX_MESSAGE }
+        requires few { self.old.passed ≤ MAX_HINT }
+        ensures ok { OnOk result (with_lines text.old.items (steps.receives self.old bytes.now (reading_view reading.now) fate)
+            ≡ Ok (self.new, [], text.new.items)) }
+        ensures stop { IfErr result (λ fault. StopMeans (steps.receives self.old bytes.now (reading_view reading.now) fate) fault) }
+    {
         let hint = self.passed;
-        put(text, Entry::Received { kept, hint }, bytes)?;
-        self.station.arrive(&reading, kept);
-        take(&mut self.links, carried(kept, &reading), text)?;
+        put(text, Entry::Received { fate, hint }, bytes)?;
+        self.station.arrive(reading, fate.is_kept());
+        take(&mut self.links, carried(fate.is_met(), reading), text)?;
         self.passed += 1;
         Ok(())
     }
@@ -104,12 +141,22 @@ fn take<V: Window<GivenPiece, 4096> + Drop>(
     }
 }
 
-// The message of the links in what came, where it was kept and has one.
-fn carried<'a>(kept: bool, reading: &Reading<'a>) -> Option<Nsp<'a>>
-    ensures message { option_map nsp.view result ≡ receipts.carried kept (reading_view reading.now) }
+// What becomes of the packet of a unit that comes, where the links meet what is kept.
+fn kept_or_not(kept: bool) -> Fate
+    ensures { result ≡ steps.kept_or_not kept }
+{
+    if kept {
+        return Fate::Kept;
+    }
+    Fate::NotKept
+}
+
+// The message of the links in what came, where they meet it and it has one.
+fn carried<'a>(met: bool, reading: &Reading<'a>) -> Option<Nsp<'a>>
+    ensures message { option_map nsp.view result ≡ receipts.carried met (reading_view reading.now) }
     ensures fits { IfSome result (λ message. nsp.IsInRange (nsp.view message)) }
 {
-    if !kept {
+    if !met {
         return None;
     }
     match reading {

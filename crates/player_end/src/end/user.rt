@@ -5,6 +5,7 @@ ghost use Rattle.capture.specs.declared.limit.TheConstants.{MAX_LINK, MAX_MESSAG
 ghost use Rattle.capture.specs.Entries.{record_with};
 ghost use Rattle.capture.specs.declared.hint.HintForm.TheVariants as HintForm;
 ghost use Rattle.capture.specs.Text.{record_line};
+ghost use Rattle.dna_links.specs.LookUps as tests;
 ghost use Rattle.dna_play.specs.StoredPlay as stored;
 ghost use Rattle.player_end.specs.Stepping.{StopMeans, with_lines};
 
@@ -13,6 +14,7 @@ use crate::duty::Duty;
 use crate::fault::StepFault;
 use crate::given_piece::GivenPiece;
 use crate::held_packet::HeldPacket;
+use crate::link_ends::LinkEnds;
 use capture::{Entry, MAX_LINK, MAX_MESSAGE, put_line};
 use dna_links::{LinkTest, Phase};
 use dna_station::State;
@@ -44,6 +46,18 @@ impl<W: Window<HeldPacket, 256> + Drop, V: Window<GivenPiece, 4096> + Drop> End<
     {
         put(text, Entry::Halt, &[])?;
         self.station.halt();
+        Ok(())
+    }
+
+    /// The node starts anew, in whatever state it is: the station is halted, all links are over, with what they owe, and no address is given.
+    pub fn boot(&mut self, text: &mut Vec<u8>) -> Result<(), StepFault>
+        ensures ok { OnOk result (with_lines text.old.items (stored.boots self.old) ≡ Ok (self.new, [], text.new.items)) }
+        ensures stop { IfErr result (λ fault. StopMeans (stored.boots self.old) fault) }
+    {
+        put(text, Entry::Boot, &[])?;
+        self.station.halt();
+        self.links = LinkEnds::new(self.alloc);
+        self.addresses = 0;
         Ok(())
     }
 
@@ -185,6 +199,25 @@ impl<W: Window<HeldPacket, 256> + Drop, V: Window<GivenPiece, 4096> + Drop> End<
         Ok(())
     }
 
+    /// The user gives up the call of the link with this address: the link is over, and nothing is sent. `BadStep`: no live link has it, or it is not
+    /// in Calling.
+    #[tactic(auto, using(crate::proofs::Searching::found_ends))]
+    pub fn abort(&mut self, link: u16, text: &mut Vec<u8>) -> Result<(), StepFault>
+        ensures ok { OnOk result (with_lines text.old.items (stored.aborts self.old link) ≡ Ok (self.new, [], text.new.items)) }
+        ensures stop { IfErr result (λ fault. StopMeans (stored.aborts self.old link) fault) }
+        ensures memory { result ≡ Err StepFault.OutOfMemory → IsOk (stored.aborts self.old link) }
+    {
+        let Some((number, found)) = self.links.found(LinkTest::LiveAt { own: link }) else {
+            return Err(StepFault::BadStep);
+        };
+        if !is_calling(found.port().phase) {
+            return Err(StepFault::BadStep);
+        }
+        put(text, Entry::Abort { link }, &[])?;
+        self.links.end_at(number);
+        Ok(())
+    }
+
     /// The timer of the link with this address runs out: it owes CI, CC or DI once more, by its phase, or all its segments that are not
     /// acknowledged go again. `BadStep`: no live link has it, or it is in Called. Takes no memory.
     #[tactic(auto, using(crate::proofs::Searching::found_ends))]
@@ -203,7 +236,13 @@ impl<W: Window<HeldPacket, 256> + Drop, V: Window<GivenPiece, 4096> + Drop> End<
     }
 }
 
-/// Puts the line of a record behind the text.
+fn is_calling(phase: Phase) -> bool
+    ensures { result ≡ tests.is_calling phase }
+{
+    matches!(phase, Phase::Calling)
+}
+
+/// Puts the line of a record at the end of the text.
 pub fn put(text: &mut Vec<u8>, entry: Entry, bytes: &[u8]) -> Result<(), StepFault>
     requires { length bytes.now ≤ MAX_MESSAGE }
     ensures ok { OnOk result (text.new.items ≡ text.old.items ++ record_line HintForm.Number (record_with entry bytes.now)) }

@@ -21,8 +21,8 @@ use std::alloc::{AllocError, Global};
 use wire_base::Window;
 
 impl<V: Window<GivenPiece, 4096> + Drop> LinkEnd<V> {
-    /// A segment comes, and what it makes whole goes to the user, with a line of each message behind the text. `BadStep`: one has more than
-    /// 65,535 bytes, and so no line. After any fault it has the addresses that it had, and lives if it lived.
+    /// A segment comes, and what it makes whole goes to the user, with a line of each message at the end of the text. `BadStep`: one has more
+    /// than 65,535 bytes, and so no line. After any fault it has the addresses that it had, and lives if it lived.
     pub fn receive(
         &mut self,
         alloc: Global,
@@ -47,7 +47,7 @@ impl<V: Window<GivenPiece, 4096> + Drop> LinkEnd<V> {
         self.deliver(alloc, segment.dstaddr, text)
     }
 
-    // Each message that is whole goes to the user, with its line behind the text, where `own` is the link's address here.
+    // Each message that is whole goes to the user, with its line at the end of the text, where `own` is the link's address here.
     fn deliver(&mut self, alloc: Global, own: u16, text: &mut Vec<u8>) -> Result<(), StepFault>
         ensures ok { OnOk result (lines_of own text.old.items self.old.variables.pieces ≡ Some text.new.items) }
         ensures left { OnOk result (self.new ≡ stored.without_whole self.old) }

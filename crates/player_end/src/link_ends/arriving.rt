@@ -33,7 +33,7 @@ const DISCONNECTED: u16 = 42;
 
 impl<V: Window<GivenPiece, 4096> + Drop> LinkEnds<V> {
     /// This message came and was kept: what it does to its link, and what that owes then. What is whole then goes to the user, with a
-    /// line of each message behind the text. `BadStep`: such a message has more than 65,535 bytes, and no line.
+    /// line of each message at the end of the text. `BadStep`: such a message has more than 65,535 bytes, and no line.
     pub fn arrive(&mut self, message: &Nsp<'_>, text: &mut Vec<u8>) -> Result<(), StepFault>
         requires { nsp.IsInRange (nsp.view message.now) }
         ensures ok { OnOk result (delivers (nsp.view message.now) text.old.items (arrives (nsp.view message.now) (live_of self.old)) ≡ Some

@@ -1,4 +1,4 @@
--- Two nodes that do nothing, which stand where a caller's proof picks its own
+-- Two nodes that do nothing, as placeholders where a caller's proof picks its own
 use Rattle.std.specs.Prelude.{None, false, List, refl}
 use Rattle.two_nodes.specs.Nodes.{Node, Nodes, World}
 use Rattle.two_nodes.specs.Nodes.Answer.{Goes}

@@ -44,7 +44,7 @@ pub record PutsAll (old new : Waiting) : Type 0 where
 
 -- ---- one side under way
 
--- Of the bytes that it sent these units were found; the first of them stand in these records, and the others wait. A part of the text behind the
+-- Of the bytes that it sent these units were found; the first of them are in these records, and the others wait. A part of the text after the
 -- head was written, and the rest waits.
 pub record IsUnderWay (bytes head : List ℕ) (old now : Option (List ℕ)) (side : SideState) : Type 0 where
   pub records : List Record

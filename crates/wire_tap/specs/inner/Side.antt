@@ -105,7 +105,7 @@ TakesTurn at bytes old new (next.Rest behind) = PassesUnit bytes behind.now old 
 TakesTurn at bytes old new next.UsedUp = PassesNone bytes old new
 TakesTurn at bytes old new (next.Ends ending) = EndsWithUnit at bytes old new ending
 
--- The units that were found in some bytes passed; what is to come behind them.
+-- The units that were found in some bytes passed; what is to come after them.
 pub record PassesFound (bytes come : List ℕ) (old new : SideState) : Type 0 where
   pub found : Framing
   pub framed : IsFramedSoFar bytes found come

@@ -5,8 +5,8 @@ use Rattle.capture.proofs.converting.put_receipt.Goals as goal
 
 pub returns-in_default-cut_at : goal.returns-in_default-cut_at
 returns-in_default-cut_at c =
-    λ from kept bytes fits small is. absurd
-    (second_space from c.args.hint kept bytes c.args.line.now c.in-Some.letter.now c.in-Some.rest.now c.in-Some.ensures c.in_default-cut_at.ensures
+    λ from fate bytes fits small is. absurd
+    (second_space from c.args.hint fate bytes c.args.line.now c.in-Some.letter.now c.in-Some.rest.now c.in-Some.ensures c.in_default-cut_at.ensures
     fits small is)
 
 pub put-requires : goal.put-requires
@@ -51,11 +51,11 @@ put-requires-5 c =
     )
 
 pub returns : goal.returns
-returns c = λ from kept bytes fits small is.
+returns c = λ from fate bytes fits small is.
     c.put-5.ensures.bytes
     ∙ ap (λ (x : List ℕ). x ++ 10 ∷ []) (c.put-4.ensures.bytes
     ∙ ap (λ (x : List ℕ). x ++ c.in-Some-cut_at.bytes.now) (c.put-3.ensures.bytes
     ∙ ap (λ (x : List ℕ). x ++ 32 ∷ []) (c.put_hint.ensures.bytes
     ∙ ap (λ (x : List ℕ). x ++ hint_text c.args.to c.args.hint) (c.put-2.ensures.bytes ∙ ap (λ (x : List ℕ). x ++ 32 ∷ []) c.put.ensures.bytes))))
-    ∙ receipt_line c.args.to from c.args.hint kept bytes c.args.line.now c.in-Some.letter.now c.in-Some.rest.now c.in-Some-cut_at.field-0-0.now
+    ∙ receipt_line c.args.to from c.args.hint fate bytes c.args.line.now c.in-Some.letter.now c.in-Some.rest.now c.in-Some-cut_at.field-0-0.now
     c.in-Some-cut_at.bytes.now c.args.page.now c.in-Some.ensures c.in-Some-cut_at.ensures fits small is

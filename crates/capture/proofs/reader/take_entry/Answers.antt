@@ -19,6 +19,7 @@ returns-in-Ok-clause-takes g c =
       omega arith,
       omega arith,
       rw c.skip.ensures.unread (line_consumed c.next.new.self.unread c.in-Ok-Some.len _ left _ found.1 found.2 read.1 found.3),
+      read.2,
     )
 
 pub returns-in-Ok-clause-line : goal.returns-in-Ok-clause-line

@@ -1,7 +1,7 @@
 -- Where there is no memory for the printed text, nothing is read or written.
-use Rattle.std.proofs.Common.{Err, refl}
+use Rattle.std.proofs.Common.{Err, refl, sym}
 use Rattle.std.proofs.KnownBytes.{Keeps-refl}
-use Rattle.capture.specs.declared.fault.ConvertFault.TheVariants.{Write, OutOfMemory}
+use Rattle.capture.specs.declared.fault.ConvertFault.TheVariants.{NotInFormat, Write, OutOfMemory}
 use Rattle.ddcap.proofs.convert.convert_to.Goals as goal
 
 pub returns-in_default : goal.returns-in_default
@@ -22,4 +22,14 @@ returns-in-Write g c = λ format is. record {
   reads = rw c.in-Write.is at c.in-Err.ensures.reads;
   writes = rw c.in-Write.is at c.in-Err.ensures.writes;
   tells = (c.print.ensures, refl);
+}
+
+pub returns-in-NotInFormat : goal.returns-in-NotInFormat
+returns-in-NotInFormat g c = λ format is. record {
+  answer = Err (NotInFormat c.in-NotInFormat.line);
+  converts = rw c.in-NotInFormat.is at c.in-Err.ensures.converts format is;
+  lines = tt;
+  reads = rw c.in-NotInFormat.is at c.in-Err.ensures.reads;
+  writes = rw c.in-NotInFormat.is at c.in-Err.ensures.writes;
+  tells = (rw is at c.print_not_in_format.ensures, refl);
 }

@@ -1,4 +1,4 @@
-use Rattle.std.proofs.Common.{◌≡◌, ◌+◌, refl, ap, ◌∙◌}
+use Rattle.std.proofs.Common.{◌≡◌, ◌+◌, refl, ap₂, ◌∙◌}
 use Rattle.ddcmp_msg.specs.Reading.{reading}
 use Rattle.capture.specs.declared.record.Record.TheVariants.{Received}
 use Rattle.pair_judge.specs.Counting.{shows_damage, more_if}
@@ -12,21 +12,16 @@ returns-in-Ok-Done-clause-made g c = λ mine theirs stands shows.
     let bytes = c.args.bytes.now in
     let came = (rw c.in-Ok-Done.field-0-is at c.in-Ok-Done.ensures.receipt) theirs.sent shows in
     let damaged : c.in-Ok-Done.damaged ≡ shows_damage (reading bytes) = came.1 in
-    let counts : c.with_receipt-own.result ≡ counted old (Received c.args.hint c.args.kept bytes) =
+    let counts : c.with_receipt-own.result ≡ counted old (Received c.args.hint c.args.fate bytes) =
     c.with_receipt-own.ensures ∙
-    ap (λ d. record old {
-      records = old.records + 1;
-      received = old.received + 1;
-      damaged = more_if d old.damaged;
-      kept =
-          more_if c.args.kept old.kept;
-    }) damaged in
-    receipt_made g.T.Top.top c.args.own.now _ c.args.incoming.now c.receive.new.line c.args.hint c.args.kept bytes mine theirs stands came.0 refl
+    ap₂ (λ d k. record old { records = old.records + 1; received = old.received + 1; damaged = more_if d old.damaged; kept = more_if k old.kept })
+    damaged c.is_kept-kept.ensures in
+    receipt_made g.T.Top.top c.args.own.now _ c.args.incoming.now c.receive.new.line c.args.hint c.args.fate bytes mine theirs stands came.0 refl
     refl counts
     c.receive.ensures.load
 
 pub returns-in-Ok-Fails-clause-made : goal.returns-in-Ok-Fails-clause-made
 returns-in-Ok-Fails-clause-made g c = λ mine theirs stands shows.
     let fails = (rw c.in-Ok-Fails.field-0-is at c.in-Ok-Fails.ensures.receipt) theirs.sent shows in
-    receipt_refused g.T.Top.top c.args.own.now c.args.incoming.now c.args.hint c.args.kept c.args.bytes.now mine theirs c.in-Ok-Fails.refusal stands
+    receipt_refused g.T.Top.top c.args.own.now c.args.incoming.now c.args.hint c.args.fate c.args.bytes.now mine theirs c.in-Ok-Fails.refusal stands
     fails

@@ -24,7 +24,7 @@ returns-then-hint-line-clause-receipt g c = λ sent shows.
     let item = item_within sent c.args.hint (omega (arith, shows.within)) in (
       item.0,
       item.1,
-      λ head. receives_back g.T.Top.top (node_of head c.args.layers.now c.args.line.now) c.args.hint c.args.kept c.args.bytes.now item.0
+      λ head. receives_back g.T.Top.top (node_of head c.args.layers.now c.args.line.now) c.args.hint c.args.fate c.args.bytes.now item.0
           c.if-hint-line.true,
     )
 
@@ -37,7 +37,7 @@ returns-in-None-coming-clause-receipt g c = λ sent shows.
     let unit = c.in-Some.unit in (
       unit,
       sym (sym c.in-Some.is ∙ c.unit.ensures ∙ held_at c.args.line.now sent c.args.hint shows c.if-hint-line.false),
-      λ head. receives_at g.T.Top.top (node_of head c.args.layers.now c.args.line.now) c.args.hint c.args.kept c.args.bytes.now unit None
+      λ head. receives_at g.T.Top.top (node_of head c.args.layers.now c.args.line.now) c.args.hint c.args.fate c.args.bytes.now unit None
           c.if-hint-line.false
           (ap (option_map (λ arrival. with_link unit.known.link (arrival_view arrival))) (sym c.in-None-coming.is) ∙ c.coming.ensures.coming),
     )
@@ -70,9 +70,9 @@ returns-in-Ok-clause-receipt g c = λ sent shows.
       record {
         unit = unit;
         was_sent = was_sent;
-        step = λ head. receives_at g.T.Top.top (n head) c.args.hint c.args.kept c.args.bytes.now unit (Some arrival) c.if-hint-line.false comes ∙
-            comes_met g.T.Top.top (n head) c.args.hint c.args.kept arrival c.arrived.new.layers
-            (at_link (λ link. g.T.Top.top.machine.arrives c.args.layers.now (with_link link (arrival_view c.in-Some-coming.arrival)) c.args.kept ≡ Ok
+        step = λ head. receives_at g.T.Top.top (n head) c.args.hint c.args.fate c.args.bytes.now unit (Some arrival) c.if-hint-line.false comes ∙
+            comes_met g.T.Top.top (n head) c.args.hint c.args.fate arrival c.arrived.new.layers
+            (at_link (λ link. g.T.Top.top.machine.arrives c.args.layers.now (with_link link (arrival_view c.in-Some-coming.arrival)) c.args.fate ≡ Ok
             c.arrived.new.layers) c.in-Ok.ensures.ok) ∙ ap Ok (stepped head);
         shows = released c.args.line.now c.release.new.self sent c.args.hint shows c.if-hint-line.false
             (slice_get_within sent c.args.hint unit was_sent) c.release.ensures.gone c.release.ensures.units;
@@ -92,9 +92,9 @@ returns-in-Err-Refused-clause-receipt g c = λ sent shows.
     ap (option_map (λ arrival. with_link unit.known.link (arrival_view arrival))) (sym c.in-Some-coming.is) ∙ c.coming.ensures.coming in (
       unit,
       was_sent,
-      λ head. receives_at g.T.Top.top (n head) c.args.hint c.args.kept c.args.bytes.now unit (Some arrival) c.if-hint-line.false comes ∙
-          comes_refused g.T.Top.top (n head) c.args.hint c.args.kept arrival c.in-Err-Refused.refusal
-          (at_link (λ link. g.T.Top.top.machine.arrives c.args.layers.now (with_link link (arrival_view c.in-Some-coming.arrival)) c.args.kept ≡ Err
+      λ head. receives_at g.T.Top.top (n head) c.args.hint c.args.fate c.args.bytes.now unit (Some arrival) c.if-hint-line.false comes ∙
+          comes_refused g.T.Top.top (n head) c.args.hint c.args.fate arrival c.in-Err-Refused.refusal
+          (at_link (λ link. g.T.Top.top.machine.arrives c.args.layers.now (with_link link (arrival_view c.in-Some-coming.arrival)) c.args.fate ≡ Err
           c.in-Err-Refused.refusal) (rw c.in-Err-Refused.field-0-is at c.in-Err-Refused.ensures.refused)),
     )
 

@@ -12,10 +12,10 @@ use Rattle.pair_player.proofs.playing.play_steps.Given as goal
 abbrev pub invariant-loop-steps : goal.invariant-loop-steps
 invariant-loop-steps g l =
     ((text : Option (List ℕ)) → IsBegun text (g.R.Read.remaining (tally_lent l.fn.script)) l.fn.begun.lines
-    (standing l.fn.begun.ends l.fn.begun.texts.a.items l.fn.begun.texts.b.items)
+    (standing l.fn.begun.ends l.fn.begun.texts.a.items l.fn.begun.texts.b.items l.fn.begun.texts.three)
     → IsUnderWay text (held (g.A.Write.contents (tally_lent l.fn.a)) (g.B.Write.contents (tally_lent l.fn.b)))
     (place l.begun.lines (to_come l.begun.lines.unread (g.R.Read.remaining (tally_lent l.script)))
-    (standing l.begun.ends l.begun.texts.a.items l.begun.texts.b.items)
+    (standing l.begun.ends l.begun.texts.a.items l.begun.texts.b.items l.begun.texts.three)
     (held (g.A.Write.contents (tally_lent l.a)) (g.B.Write.contents (tally_lent l.b))) l.steps))
     × (l.begun.lines.phase ≡ Reading)
     × (l.begun.lines.items ≡ l.steps)

@@ -7,7 +7,7 @@ returns-in-Sent c = sent_tested c.args.self.now c.as_slice.result.now c.in-Sent.
 pub returns-then-hint-le-MAX_HINT : goal.returns-then-hint-le-MAX_HINT
 returns-then-hint-le-MAX_HINT c =
     let slice = c.as_slice-then-hint-le-MAX_HINT in
-    received_tested c.args.self.now slice.result.now c.in-Received.bytes c.in-Received.hint c.in-Received.kept c.in-Received.is slice.ensures.value
+    received_tested c.args.self.now slice.result.now c.in-Received.bytes c.in-Received.hint c.in-Received.fate c.in-Received.is slice.ensures.value
     slice.ensures.bytes c.if-hint-le-MAX_HINT.true
 
 pub returns-in-Noise : goal.returns-in-Noise

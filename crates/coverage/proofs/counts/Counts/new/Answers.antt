@@ -8,5 +8,5 @@ use Rattle.coverage.proofs.counts.Counts.new.Goals as goal
 pub returns : goal.returns
 returns c row =
     let below = place_below row in
-    let long = length-replicate {A = ℕ} 80 0 in
-    slice_get-get_or (replicate 80 0) (place row) 0 (omega arith) ∙ ap (λ (n : ℕ). Some n) (get_or-replicate {A = ℕ} 80 (place row) 0 0 below)
+    let long = length-replicate {A = ℕ} 88 0 in
+    slice_get-get_or (replicate 88 0) (place row) 0 (omega arith) ∙ ap (λ (n : ℕ). Some n) (get_or-replicate {A = ℕ} 88 (place row) 0 0 below)

@@ -1,4 +1,4 @@
-use Rattle.std.proofs.Common.{◌≡◌, ◌<◌, ◌≤◌, length, take, drop, sym, ap, ◌∙◌, arith}
+use Rattle.std.proofs.Common.{◌≡◌, ◌≤◌, length, take, drop, sym, ap, arith}
 use Rattle.std.proofs.lemmas.List.{length-take, length-take-le}
 use Rattle.edited.specs.Reader.{edited_on}
 use Rattle.edited.proofs.LeftLaws.{consumes_known, front_given, lines_given}

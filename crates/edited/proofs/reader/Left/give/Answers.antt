@@ -1,4 +1,4 @@
-use Rattle.std.proofs.Common.{◌≤◌, length, drop, min, arith}
+use Rattle.std.proofs.Common.{◌≤◌, length, drop, arith}
 use Rattle.std.proofs.lemmas.List.{take_rest}
 use Rattle.edited.proofs.LeftLaws.{put_given}
 use Rattle.edited.proofs.reader.Left.give.Goals as goal

@@ -16,6 +16,7 @@ use Rattle.nsp_link.proofs.Giving.{one_link}
 use Rattle.nsp_link.proofs.Change.{in_place, link_there, link_found, ended_index, change_made}
 use Rattle.nsp_link.proofs.Settled.{drops_port, drops_use}
 use Rattle.nsp_link.proofs.Used.{link_some, released_with, used_end, used_if, used_same, used_with}
+use Rattle.nsp_link.proofs.Dead.{dead_lives}
 use Rattle.nsp_link.proofs.links.Links.drop_at.Goals as goal
 
 pub drop-requires : goal.drop-requires
@@ -24,7 +25,7 @@ drop-requires g c = c.requires.live _ (link_found (in_place c.self.view_is c.req
 pub forget-requires-clause-waits : goal.forget-requires-clause-waits
 forget-requires-clause-waits g c = λ calling.
     let k = c.index.result.now in
-    some_wait c.self.inside.links.items _ _ _ _ c.self.invariant.found c.args.number k k
+    some_wait c.self.inside.links.items _ _ _ _ c.self.invariant.indexed.found c.args.number k k
     (link_there (in_place c.self.view_is c.requires.within c.index.ensures))
     (sym (ap (λ (p : Port). is_calling p.phase) c.port-port.ensures.port) ∙ calling)
 
@@ -32,7 +33,8 @@ pub forget-requires-clause-reaches : goal.forget-requires-clause-reaches
 forget-requires-clause-reaches g c = λ far known.
     let at = in_place c.self.view_is c.requires.within c.index.ensures in
     let k = c.index.result.now in
-    some_reached c.self.inside.links.items _ _ _ _ c.self.invariant.found c.args.number k k (link_there at) far (c.requires.live k (link_found at))
+    some_reached c.self.inside.links.items _ _ _ _ c.self.invariant.indexed.found c.args.number k k (link_there at) far
+    (c.requires.live k (link_found at))
     (eq-is_at k.port.far far (sym (ap (λ (p : Port). p.far) c.port-port.ensures.port) ∙ known))
 
 pub end_use-requires : goal.end_use-requires
@@ -41,7 +43,7 @@ end_use-requires g c = λ on far known.
     let items = c.self.inside.links.items in
     link_some With refl items c.args.number k _
     (used_same With items items _ _
-    (used_with _ _ _ (sym c.forget.ensures.counts ∙ c.count_only_with.ensures.before on) c.self.invariant.used) refl (λ q.
+    (used_with _ _ _ (sym c.forget.ensures.counts ∙ c.count_only_with.ensures.before on) c.self.invariant.indexed.used) refl (λ q.
     ap (λ (m : HashMap ℕ ℕ _). times (hashed.get nat_eq m q)) (c.count_only_with.ensures.in_use ∙ c.forget.ensures.in_use)))
     (link_there (in_place c.self.view_is c.requires.within c.index-2.ensures)) far (sym c.begins_use-known.ensures ∙ known)
 
@@ -55,22 +57,29 @@ invariant_of-self g c =
     let other : c.index-2.result.now ≡ k = one_link items items c.args.number c.index-2.result.now k k refl c.index-2.ensures (link_there at) refl in
     let is = c.drop.ensures.drops ∙ ap (drops wire_segments (queues_of g.row.QUEUES)) same in
     record {
-      found = ended_index at c.self.invariant.found
-          (λ q. ap (λ (m : BTreeMap ℕ ℕ). get nat_cmp m q) (c.end_use.ensures.holders ∙ c.count_only_with.ensures.holders ∙ c.forget.ensures.holders))
-          (λ q. ap (λ (m : BTreeMap ℕ ℕ). get nat_cmp m q) (c.end_use.ensures.callers ∙ c.count_only_with.ensures.callers ∙ c.forget.ensures.callers))
-          c.drop.new.self c.port-port.ensures.port (c.requires.live k (link_found at))
-          (ap (λ (l : LinkOf WireSegments). l.port) is ∙ drops_port (queues_of g.row.QUEUES) k)
-          (ap (λ (n : ℕ). cond (is_calling c.port-port.result.phase) (suc n) n) (c.end_use.ensures.waiting ∙ c.count_only_with.ensures.waiting) ∙ c.forget.ensures.waiting)
-          (λ q. ap (λ (m : HashMap ℕ ℕ _). cond (is_at c.port-port.result.far q) (suc (times (hashed.get nat_eq m q))) (times (hashed.get nat_eq m q)))
-          (c.end_use.ensures.reached ∙ c.count_only_with.ensures.reached) ∙ c.forget.ensures.reached q);
-      used = used_if _ _ _ (λ on.
-          let counted = sym c.end_use.ensures.counts ∙ on in
-          used_end With items c.args.number k c.drop.new.self _ _
-          (used_same With items items _ _
-          (used_with _ _ _ (sym c.forget.ensures.counts ∙ c.count_only_with.ensures.before counted) c.self.invariant.used) refl (λ q.
-          ap (λ (m : HashMap ℕ ℕ _). times (hashed.get nat_eq m q)) (c.count_only_with.ensures.in_use ∙ c.forget.ensures.in_use)))
-          (link_there at) (λ with. ap begins_use is ∙ drops_use (queues_of g.row.QUEUES) k (c.count_only_with.ensures.kind counted))
-          (released_with _ _ _ _ counted (rw (c.begins_use-known.ensures ∙ ap begins_use other) at c.end_use.ensures.in_use)));
+      indexed = record {
+        found = ended_index at c.self.invariant.indexed.found
+            (λ q. ap (λ (m : BTreeMap ℕ ℕ). get nat_cmp m q)
+            (c.end_use.ensures.holders ∙ c.count_only_with.ensures.holders ∙ c.forget.ensures.holders))
+            (λ q. ap (λ (m : BTreeMap ℕ ℕ). get nat_cmp m q)
+            (c.end_use.ensures.callers ∙ c.count_only_with.ensures.callers ∙ c.forget.ensures.callers))
+            c.drop.new.self c.port-port.ensures.port (c.requires.live k (link_found at))
+            (ap (λ (l : LinkOf WireSegments). l.port) is ∙ drops_port (queues_of g.row.QUEUES) k)
+            (ap (λ (n : ℕ). cond (is_calling c.port-port.result.phase) (suc n) n)
+            (c.end_use.ensures.waiting ∙ c.count_only_with.ensures.waiting) ∙ c.forget.ensures.waiting)
+            (λ q. ap (λ (m : HashMap ℕ ℕ _).
+            cond (is_at c.port-port.result.far q) (suc (times (hashed.get nat_eq m q))) (times (hashed.get nat_eq m q)))
+            (c.end_use.ensures.reached ∙ c.count_only_with.ensures.reached) ∙ c.forget.ensures.reached q);
+        used = used_if _ _ _ (λ on.
+            let counted = sym c.end_use.ensures.counts ∙ on in
+            used_end With items c.args.number k c.drop.new.self _ _
+            (used_same With items items _ _
+            (used_with _ _ _ (sym c.forget.ensures.counts ∙ c.count_only_with.ensures.before counted) c.self.invariant.indexed.used) refl (λ q.
+            ap (λ (m : HashMap ℕ ℕ _). times (hashed.get nat_eq m q)) (c.count_only_with.ensures.in_use ∙ c.forget.ensures.in_use)))
+            (link_there at) (λ with. ap begins_use is ∙ drops_use (queues_of g.row.QUEUES) k (c.count_only_with.ensures.kind counted))
+            (released_with _ _ _ _ counted (rw (c.begins_use-known.ensures ∙ ap begins_use other) at c.end_use.ensures.in_use)));
+      };
+      dead = dead_lives at _ c.requires.live c.self.invariant.dead;
     }
 
 pub returns : goal.returns

@@ -12,7 +12,7 @@ returns-clause-number g c =
     let l = c.self.inside in
     rw (← c.self.view_is) (c.passing.ensures
     ∙ ap (λ (o : Option ℕ). passing (λ (k : LinkOf WireSegments). passes c.args.test k.port) l.links.items o) c.candidate.ensures
-    ∙ sym (one_found l.links.items _ _ _ _ c.self.invariant.found c.args.test c.requires))
+    ∙ sym (one_found l.links.items _ _ _ _ c.self.invariant.indexed.found c.args.test c.requires))
 
 pub returns-clause-within : goal.returns-clause-within
 returns-clause-within g c = found_number c.args.test c.args.self.now c.passing.result (returns-clause-number g c)

@@ -13,7 +13,7 @@ returns-clause-number g c =
     let l = c.self.inside in
     rw (← c.self.view_is) (c.waiting.ensures
     ∙ ap (λ (o : Option ℕ). passing (λ (k : LinkOf WireSegments). passes c.args.test (in_use With k)) l.links.items o) c.candidate.ensures
-    ∙ sym (waiting_found l.links.items _ _ _ _ c.self.invariant.found c.args.test c.requires.own))
+    ∙ sym (waiting_found l.links.items _ _ _ _ c.self.invariant.indexed.found c.args.test c.requires.own))
 
 pub returns-clause-within : goal.returns-clause-within
 returns-clause-within g c =

@@ -11,4 +11,4 @@ pub returns : goal.returns
 returns g c =
     rw (← c.self.view_is) (ap (λ (k : ℕ). not (eqb k 0)) c.uses.ensures ∙
     sym (used_found_as With refl c.self.inside.links.items _
-    (used_with _ _ _ (sym c.counts.ensures ∙ c.if-not-counts.false) c.self.invariant.used) c.args.far))
+    (used_with _ _ _ (sym c.counts.ensures ∙ c.if-not-counts.false) c.self.invariant.indexed.used) c.args.far))

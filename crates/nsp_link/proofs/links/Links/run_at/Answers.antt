@@ -4,13 +4,17 @@ use Rattle.nsp_link.specs.Kinds.{queues_of}
 use Rattle.nsp_link.specs.inner.Rows.{runs, takes_in}
 use Rattle.nsp_link.proofs.Change.{in_place, changes, change_made, link_found}
 use Rattle.nsp_link.proofs.Settled.{moves}
+use Rattle.nsp_link.proofs.Dead.{dead_lives}
 use Rattle.nsp_link.proofs.links.Links.run_at.Goals as goal
 
 pub run-requires : goal.run-requires
 run-requires g c = c.requires.live _ (link_found (in_place c.self.view_is c.requires.within c.index_mut.ensures.value))
 
 pub invariant_of-self : goal.invariant_of-self
-invariant_of-self g c = search (rules, changes)
+invariant_of-self g c = record {
+  indexed = search (rules, changes);
+  dead = dead_lives (in_place c.self.view_is c.requires.within c.index_mut.ensures.value) _ c.requires.live c.self.invariant.dead;
+}
 
 pub returns : goal.returns
 returns g c =

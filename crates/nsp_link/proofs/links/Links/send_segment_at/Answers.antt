@@ -6,10 +6,14 @@ use Rattle.nsp_link.specs.Kinds.{queues_of}
 use Rattle.nsp_link.specs.inner.Rows.{numbered, sent_by}
 use Rattle.nsp_link.proofs.Change.{in_place, changes, holds_there, sent_made}
 use Rattle.nsp_link.proofs.Numbered.{numbered_fault_in, numbered_made_in}
+use Rattle.nsp_link.proofs.Dead.{dead_kept}
 use Rattle.nsp_link.proofs.links.Links.send_segment_at.Goals as goal
 
 pub invariant_of-self : goal.invariant_of-self
-invariant_of-self g c = search (rules, changes)
+invariant_of-self g c = record {
+  indexed = search (rules, changes);
+  dead = dead_kept (in_place c.self.view_is c.requires.within c.index_mut.ensures.value) _ c.requires.kept c.self.invariant.dead;
+}
 
 pub returns-clause-ok : goal.returns-clause-ok
 returns-clause-ok g c = λ link found.

@@ -7,6 +7,7 @@ use Rattle.nsp_link.specs.Segments.{is_held}
 use Rattle.nsp_link.specs.inner.Rows.{runs, takes_in}
 use Rattle.nsp_link.proofs.Change.{in_place, changes, link_found, made_if_ok, map_ok, holds_there}
 use Rattle.nsp_link.proofs.Settled.{moves}
+use Rattle.nsp_link.proofs.Dead.{dead_lives}
 use Rattle.nsp_link.proofs.links.Links.take_segment_at.Goals as goal
 
 pub take_segment-requires : goal.take_segment-requires
@@ -17,7 +18,10 @@ take_segment-requires g c = record {
 }
 
 pub invariant_of-self : goal.invariant_of-self
-invariant_of-self g c = search (rules, changes)
+invariant_of-self g c = record {
+  indexed = search (rules, changes);
+  dead = dead_lives (in_place c.self.view_is c.requires.within c.index_mut.ensures.value) _ c.requires.live c.self.invariant.dead;
+}
 
 pub returns-clause-ok : goal.returns-clause-ok
 returns-clause-ok g c =

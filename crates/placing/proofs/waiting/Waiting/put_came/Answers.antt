@@ -7,6 +7,6 @@ pub returns-in-Some : goal.returns-in-Some
 returns-in-Some c =
     let first = c.in-Some.ensures.taken ∙ ap (λ (bytes : List ℕ). bytes ∷ c.take_other.new.self.units.other) (sym c.as_slice.ensures.bytes) in
     on_ok_weaker c.line.result
-    (puts_came c.args.self.now c.take_other.new.self c.line.new.self c.next_hint-hint.result c.args.kept c.as_slice.result.now
+    (puts_came c.args.self.now c.take_other.new.self c.line.new.self c.next_hint-hint.result c.args.fate c.as_slice.result.now
     c.next_hint-hint.ensures c.take_other.ensures.own first c.in-Some.ensures.counted c.take_other.ensures.text c.line.ensures.units)
     c.line.ensures.text
