@@ -91,6 +91,6 @@ pub record IsUnit (all : List (List ℕ)) (number : ℕ) (bytes : List ℕ) : Ty
 abbrev pub NameUnits : List (List ℕ) → List Record → Type 0
 NameUnits all [] = Unit {0}
 NameUnits all (Sent bytes ∷ rs) = NameUnits all rs
-NameUnits all (Received hint kept bytes ∷ rs) = IsUnit all hint bytes × NameUnits all rs
+NameUnits all (Received hint fate bytes ∷ rs) = IsUnit all hint bytes × NameUnits all rs
 NameUnits all (Noise bytes ∷ rs) = NameUnits all rs
 NameUnits all (User event ∷ rs) = NameUnits all rs
