@@ -9,7 +9,6 @@ use Rattle.pair_judge.specs.declared.fault.TextFault.TheVariants.{Departs, Read}
 use Rattle.pair_judge.specs.declared.verdict.Verdict.{Verdict}
 use Rattle.pair_judge.specs.Faulty.{is_failed_read_of}
 use Rattle.pair_judge.specs.Judged.{IsAnswer}
-use Rattle.wire_tap.specs.declared.tapped.Tapped.{Tapped}
 use Rattle.tap_answer.specs.Telling.{telling}
 use Rattle.tap_answer.specs.declared.told.Told.{Told}
 use Rattle.tap_answer.specs.declared.told.Told.TheVariants.{Accepted, Unexplained, Apart, UnexplainedEnd, TooWide}
@@ -21,17 +20,17 @@ use Rattle.ddcap.specs.inner.TapParts.{TellsNoMemory, TellsTold, both_streams}
 use Rattle.ddcap.proofs.Answering.{without_memory}
 
 -- what is told looks at both streams alone
-pub told_there : (words : List ℕ) (tapped : Tapped) (s : Streams) (said : Told) (status : ℕ) →
-    TellsTold words tapped (both_streams s.out s.err) said status → TellsTold words tapped s said status
-told_there words tapped s Accepted status told = told
-told_there words tapped s (Unexplained passed reason) status told = told
-told_there words tapped s (Apart passed reason) status told = told
-told_there words tapped s (UnexplainedEnd reason) status told = told
-told_there words tapped s (TooWide passed) status told = told
+pub told_there : (words : List ℕ) (captured : Captured) (s : Streams) (said : Told) (status : ℕ) →
+    TellsTold words captured (both_streams s.out s.err) said status → TellsTold words captured s said status
+told_there words captured s Accepted status told = told
+told_there words captured s (Unexplained passed reason) status told = told
+told_there words captured s (Apart passed reason) status told = told
+told_there words captured s (UnexplainedEnd reason) status told = told
+told_there words captured s (TooWide passed) status told = told
 
-pub told_as : (words : List ℕ) (tapped : Tapped) (out err : Moved) (status : ℕ) {said told : Told} → said ≡ told →
-    TellsTold words tapped (both_streams out err) said status → TellsTold words tapped (both_streams out err) told status
-told_as words tapped out err status is = subst (λ (each : Told). TellsTold words tapped (both_streams out err) each status) is
+pub told_as : (words : List ℕ) (captured : Captured) (out err : Moved) (status : ℕ) {said told : Told} → said ≡ told →
+    TellsTold words captured (both_streams out err) said status → TellsTold words captured (both_streams out err) told status
+told_as words captured out err status is = subst (λ (each : Told). TellsTold words captured (both_streams out err) each status) is
 
 module _ (nodes : NodeKind) (text : Verdict → List ℕ) (captured : Captured) (s : Streams) where
   abbrev pub CountsOf : Result Verdict JudgeFault → Type 0
@@ -50,7 +49,7 @@ module _ (nodes : NodeKind) (text : Verdict → List ℕ) (captured : Captured) 
 
   -- what is said of a verdict
   pub tells_verdict : (verdict : Verdict) (status : ℕ) → IsAnswer nodes s.a.old.bytes s.b.old.bytes (Ok verdict) → CountsOf (Ok verdict) →
-      TellsTold (text verdict) captured.tapped s (telling captured.is_apart captured.tapped.ending verdict) status → ChecksTap nodes text captured s (Ok status)
+      TellsTold (text verdict) captured s (telling captured.is_apart captured.tapped.ending verdict) status → ChecksTap nodes text captured s (Ok status)
   tells_verdict verdict status judged counts (inl told) =
       record { answer = Ok verdict; judged = judged; reads_a = counts.0; reads_b = counts.1; printed = told }
   tells_verdict verdict status judged counts (inr told) = tells_nothing status counts told

@@ -15,11 +15,10 @@ use Rattle.pair_judge.specs.declared.verdict.Verdict.{Verdict}
 use Rattle.pair_judge.specs.declared.verdict.Verdict.TheVariants.{Accepted, Refused}
 use Rattle.wire_tap.specs.declared.fault.TapFault.{TapFault}
 use Rattle.wire_tap.specs.declared.fault.TapFault.TheVariants as faults
-use Rattle.wire_tap.specs.declared.tapped.Tapped.{Tapped}
 use Rattle.tap_answer.specs.declared.told.Told.{Told}
 use Rattle.tap_answer.specs.declared.told.Told.TheVariants as says
 use Rattle.tap_answer.specs.Telling.{telling}
-use Rattle.tap_answer.specs.Words.{apart_words, premise_words, too_wide_words, unexplained_end_words, unexplained_words}
+use Rattle.tap_answer.specs.Words.{apart_words, assumed_words, premise_words, too_wide_words, unexplained_end_words, unexplained_words}
 use Rattle.ddcap.specs.declared.tap.Captured.{Captured}
 use Rattle.ddcap.specs.declared.tap.RefusedAt.{RefusedAt}
 use Rattle.ddcap.specs.Printed.{Moved, Writes, fault_status, fault_text}
@@ -70,17 +69,21 @@ pub record Streams : Type 0 where
 abbrev pub streams : (a b out err : Moved) → Streams
 streams a b out err = record { a = a; b = b; out = out; err = err }
 
--- What is said goes to standard output, with what it rests on after it, and the other stream stays as it is; too wide a choice goes to standard
--- error. `verdict` is the text of the verdict.
-abbrev pub TellsAs : (verdict : List ℕ) → Tapped → Streams → Told → ℕ → Type 0
-TellsAs verdict tapped s says.Accepted status = Writes s.out.old s.out.new (verdict ++ premise_words tapped) 0 status × (s.err.new ≡ s.err.old)
-TellsAs verdict tapped s (says.Unexplained passed reason) status =
-    Writes s.out.old s.out.new (unexplained_words passed reason ++ premise_words tapped) 1 status × (s.err.new ≡ s.err.old)
-TellsAs verdict tapped s (says.Apart passed reason) status =
-    Writes s.out.old s.out.new (apart_words passed reason ++ premise_words tapped) 1 status × (s.err.new ≡ s.err.old)
-TellsAs verdict tapped s (says.UnexplainedEnd reason) status =
-    Writes s.out.old s.out.new (unexplained_end_words reason ++ premise_words tapped) 1 status × (s.err.new ≡ s.err.old)
-TellsAs verdict tapped s (says.TooWide passed) status = Writes s.err.old s.err.new (too_wide_words passed) 2 status × (s.out.new ≡ s.out.old)
+-- the boots and aborts that are assumed, what an answer rests on, and what was skipped
+abbrev pub behind_words : Captured → List ℕ
+behind_words captured = assumed_words captured.turns.now ++ premise_words captured.tapped
+
+-- What is said goes to standard output, with what it assumes and rests on after it, and the other stream stays as it is; too wide a choice goes to
+-- standard error. `verdict` is the text of the verdict.
+abbrev pub TellsAs : (verdict : List ℕ) → Captured → Streams → Told → ℕ → Type 0
+TellsAs verdict captured s says.Accepted status = Writes s.out.old s.out.new (verdict ++ behind_words captured) 0 status × (s.err.new ≡ s.err.old)
+TellsAs verdict captured s (says.Unexplained passed reason) status =
+    Writes s.out.old s.out.new (unexplained_words passed reason ++ behind_words captured) 1 status × (s.err.new ≡ s.err.old)
+TellsAs verdict captured s (says.Apart passed reason) status =
+    Writes s.out.old s.out.new (apart_words passed reason ++ behind_words captured) 1 status × (s.err.new ≡ s.err.old)
+TellsAs verdict captured s (says.UnexplainedEnd reason) status =
+    Writes s.out.old s.out.new (unexplained_end_words reason ++ behind_words captured) 1 status × (s.err.new ≡ s.err.old)
+TellsAs verdict captured s (says.TooWide passed) status = Writes s.err.old s.err.new (too_wide_words passed) 2 status × (s.out.new ≡ s.out.old)
 
 -- the verdict refuses this record
 abbrev pub IsRefusedAt : Verdict → RefusedAt → Type 0
@@ -90,7 +93,7 @@ IsRefusedAt (Refused side place reason) refused = (refused.side ≡ side) × (re
 -- What is said of the verdict is printed, or nothing is, where the captures are to be cut at the refused record; or a fault is told, as by `check`.
 abbrev pub AnswersTap : (text : Verdict → List ℕ) → Captured → Streams → Answer → Result ℕ RefusedAt → Type 0
 AnswersTap text captured s (Ok verdict) (Ok status) =
-    TellsAs (text verdict) captured.tapped s (telling captured.is_apart captured.tapped.ending verdict) status
+    TellsAs (text verdict) captured s (telling captured.is_apart captured.tapped.ending verdict) status
 AnswersTap text captured s (Ok verdict) (Err refused) = IsRefusedAt verdict refused × (s.out.new ≡ s.out.old) × (s.err.new ≡ s.err.old)
 AnswersTap text captured s (Err fault) (Ok status) =
     Writes s.err.old s.err.new (fault_text fault) (fault_status fault) status × (s.out.new ≡ s.out.old)

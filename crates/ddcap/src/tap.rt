@@ -20,10 +20,12 @@ use crate::play::print_failed_write;
 use crate::text::{FAILED, FAULTY, FaultyLine, verdict_text};
 use capture::Departure;
 use pair_judge::Verdict;
+use placing::Turn;
 use std::alloc::{AllocError, Global};
 use std::io::{Read, Write};
 use tap_answer::{
-    Told, apart_text, premise_text, said_of, too_wide_text, unexplained_end_text, unexplained_text,
+    Told, apart_text, assumed_text, premise_text, said_of, too_wide_text, unexplained_end_text,
+    unexplained_text,
 };
 use wire_base::{Side, Tally};
 use wire_tap::{Ending, TapFault, Tapped};
@@ -36,13 +38,15 @@ pub const UNEXPLAINED: u8 = 1;
 
 /// Captures that a tap wrote.
 #[derive(Clone, Copy, Debug, PartialEq, Eq)]
-pub struct Captured {
+pub struct Captured<'a> {
     /// How they end, and what was skipped.
     pub tapped: Tapped,
     /// Whether they were cut at a unit that is named.
     pub is_cut: bool,
     /// Whether each side is explained by itself.
     pub is_apart: bool,
+    /// What is assumed.
+    pub turns: &'a [Turn],
 }
 
 /// A refused record of captures that are to be cut there, before anything is printed.
@@ -56,13 +60,13 @@ pub struct RefusedAt {
 /// prints the answer, and answers the status. Where they are refused, and were not cut for that, nothing is printed, and the answer is the refused
 /// record.
 ///
-/// Printed to `out`: the verdict as `check_to` prints it, status 0, or `unexplained ..` or `apart: ..`, status 1, each followed by what it rests on
-/// and what was skipped. To `err`: `.. too wide a choice`, status 2, and the faults that `check_to` tells, with their statuses.
+/// Printed to `out`: the verdict as `check_to` prints it, status 0, or `unexplained ..` or `apart: ..`, status 1, each followed by the boots and aborts
+/// that are assumed, by what it rests on, and what was skipped. To `err`: `.. too wide a choice`, status 2, and the faults that `check_to` tells, with their statuses.
 pub fn tap_to<A: Read, B: Read, O: Write, E: Write>(
     alloc: Global,
     a: &mut Tally<A>,
     b: &mut Tally<B>,
-    captured: Captured,
+    captured: Captured<'_>,
     out: &mut Tally<O>,
     err: &mut Tally<E>,
 ) -> Result<u8, RefusedAt>
@@ -78,7 +82,7 @@ pub fn tap_line_to<A: Read, B: Read, O: Write, E: Write>(
     alloc: Global,
     a: &mut Tally<A>,
     b: &mut Tally<B>,
-    captured: Captured,
+    captured: Captured<'_>,
     out: &mut Tally<O>,
     err: &mut Tally<E>,
 ) -> Result<u8, RefusedAt>
@@ -95,7 +99,7 @@ fn tap_over<A: Read, B: Read, O: Write, E: Write>(
     layers: Layers,
     a: &mut Tally<A>,
     b: &mut Tally<B>,
-    captured: Captured,
+    captured: Captured<'_>,
     out: &mut Tally<O>,
     err: &mut Tally<E>,
 ) -> Result<u8, RefusedAt>
@@ -152,32 +156,27 @@ fn print_told<O: Write, E: Write>(
     alloc: Global,
     verdict: Verdict,
     text: Result<String, AllocError>,
-    captured: Captured,
+    captured: Captured<'_>,
     out: &mut Tally<O>,
     err: &mut Tally<E>,
 ) -> u8
-    ensures { (words : List ℕ) → IfOk text (λ t. string_bytes t ≡ words) → TellsTold words captured.tapped
+    ensures { (words : List ℕ) → IfOk text (λ t. string_bytes t ≡ words) → TellsTold words captured
         (both_streams (moved O.contents out.old out.new) (moved E.contents err.old err.new))
         (telling captured.is_apart captured.tapped.ending verdict) result }
 {
-    let Captured {
-        tapped,
-        is_apart,
-        ..
-    } = captured;
-    match said_of(tapped.ending, verdict, is_apart) {
-        Told::Accepted => print_behind(alloc, text, tapped, ACCEPTED, out, err),
+    match said_of(captured.tapped.ending, verdict, captured.is_apart) {
+        Told::Accepted => print_behind(alloc, text, captured, ACCEPTED, out, err),
         Told::Unexplained { passed, reason } => {
             let text = unexplained_text(alloc, passed, reason);
-            print_behind(alloc, text, tapped, UNEXPLAINED, out, err)
+            print_behind(alloc, text, captured, UNEXPLAINED, out, err)
         }
         Told::Apart { passed, reason } => {
             let text = apart_text(alloc, passed, reason);
-            print_behind(alloc, text, tapped, UNEXPLAINED, out, err)
+            print_behind(alloc, text, captured, UNEXPLAINED, out, err)
         }
         Told::UnexplainedEnd { reason } => {
             let text = unexplained_end_text(alloc, reason);
-            print_behind(alloc, text, tapped, UNEXPLAINED, out, err)
+            print_behind(alloc, text, captured, UNEXPLAINED, out, err)
         }
         Told::TooWide(passed) => match too_wide_text(alloc, passed) {
             Ok(text) => print(err, text.as_bytes(), FAULTY),
@@ -186,25 +185,28 @@ fn print_told<O: Write, E: Write>(
     }
 }
 
-// Prints a text, if there was memory for it, with what it rests on after it, and answers the status.
+// Prints a text, if there was memory for it, with what it assumes and rests on after it, and answers the status.
 fn print_behind<O: Write, E: Write>(
     alloc: Global,
     text: Result<String, AllocError>,
-    tapped: Tapped,
+    captured: Captured<'_>,
     status: u8,
     out: &mut Tally<O>,
     err: &mut Tally<E>,
 ) -> u8
-    ensures { (words : List ℕ) → IfOk text (λ t. string_bytes t ≡ words) → WritesBehind words tapped
+    ensures { (words : List ℕ) → IfOk text (λ t. string_bytes t ≡ words) → WritesBehind words captured
         (moved O.contents out.old out.new) (moved E.contents err.old err.new) status result }
 {
     let Ok(text) = text else {
         return print_out_of_memory(err);
     };
-    let Ok(premise) = premise_text(alloc, tapped) else {
+    let Ok(assumed) = assumed_text(alloc, captured.turns) else {
         return print_out_of_memory(err);
     };
-    match format!(in alloc; "{text}{premise}") {
+    let Ok(premise) = premise_text(alloc, captured.tapped) else {
+        return print_out_of_memory(err);
+    };
+    match format!(in alloc; "{text}{assumed}{premise}") {
         Ok(all) => print(out, all.as_bytes(), status),
         Err(_) => print_out_of_memory(err),
     }

@@ -13,15 +13,15 @@ use crate::tap_files::{TapPaths, write_captures};
 use crate::tap_naming::Unit;
 use capture::CaptureFault;
 use pair_judge::EndVerdict;
-use placing::{Explained, Turn};
-use std::alloc::Global;
+use placing::{Assumed, Explained, Turn};
+use std::alloc::{AllocError, Global};
 use std::io::{Read, Write};
 use std::rt::Files;
 use wire_base::{Side, Tally};
 use wire_tap::{Ending, Tapped};
 
 /// Whether each side is explained by itself as far as this unit, with which captures of both are refused: captures of both are written once more that
-/// end with it, and each passes alone. `Err`: a fault, which was told.
+/// end with it, and each passes alone. Boots and aborts are assumed for that too. `Err`: a fault, which was told.
 pub fn are_apart<R: Files + AllocGlobal, E: Write>(
     rt: &R,
     paths: TapPaths<'_>,
@@ -32,7 +32,22 @@ pub fn are_apart<R: Files + AllocGlobal, E: Write>(
     if are_explained(rt, paths, Explained::Together, turns, unit, err)? {
         return Ok(true);
     }
-    are_explained(rt, paths, Explained::Apart, &[], unit, err)
+    let Ok(events) = events_of(rt.alloc(), turns) else {
+        return Err(FaultTold::out_of_memory(print_out_of_memory(err)));
+    };
+    are_explained(rt, paths, Explained::Apart, events.as_slice(), unit, err)
+}
+
+// The boots and aborts among these turns.
+fn events_of(alloc: Global, turns: &[Turn]) -> Result<Vec<Turn>, AllocError> {
+    let mut events = Vec::new(alloc);
+    for turn in turns {
+        match turn.what {
+            Assumed::Keeps { most: _ } => {}
+            Assumed::Boots | Assumed::GivesUp => events.push(*turn)?,
+        }
+    }
+    Ok(events)
 }
 
 // Whether the captures that are found so end with the unit, and pass alone.

@@ -10,13 +10,12 @@ use crate::tap::{Captured, RefusedAt, print_no_unit, print_tap_fault, tap_line_t
 use crate::tap_apart::are_apart;
 use crate::tap_naming::named_unit;
 use crate::tap_object::tap_json_to;
-use crate::tap_turning::turn_one;
+use crate::tap_turning::{MOST_ASSUMED, turn_one};
 use crate::telling::Form;
 use crate::written::{Beside, written_pair};
 use placing::{Explained, Turn};
 use std::io::Write;
 use std::rt::Files;
-use tap_answer::MOST_TURNS;
 use wire_base::{Side, Tally};
 use wire_tap::{Asked, Tapped, tap};
 
@@ -40,7 +39,7 @@ impl TapPaths<'_> {
 }
 
 /// Writes the captures of what passed, judges them as they were written, prints the answer, and answers the status. Where they are refused, and
-/// starts that are turned do not mend it, they are written once more, as far as the unit that is named, and judged again.
+/// nothing that is assumed mends it, they are written once more, as far as the unit that is named, and judged again.
 pub fn tap_files<R: Files + AllocGlobal, O: Write, E: Write>(
     rt: &R,
     form: Form,
@@ -64,7 +63,7 @@ fn tap_whole<R: Files + AllocGlobal, O: Write, E: Write>(
 ) -> Result<u8, FaultTold> {
     let mut turns = Vec::new(rt.alloc());
     let mut named = (Side::A, 0);
-    for _ in 0..=MOST_TURNS {
+    for _ in 0..=MOST_ASSUMED {
         let tapped = write_captures(rt, paths, Explained::Together, turns.as_slice(), None, err)?;
         if tapped.is_silent() {
             let status = print_no_unit(err);
@@ -74,6 +73,7 @@ fn tap_whole<R: Files + AllocGlobal, O: Write, E: Write>(
             tapped,
             is_cut: false,
             is_apart: false,
+            turns: turns.as_slice(),
         };
         match judge_captures(rt, form, paths, whole, out, err)? {
             Ok(status) => return Ok(status),
@@ -81,7 +81,7 @@ fn tap_whole<R: Files + AllocGlobal, O: Write, E: Write>(
                 named = named_unit(rt, paths, turns.as_slice(), tapped, refused, err)?;
             }
         }
-        if turns.len() >= MOST_TURNS || !turn_one(rt, paths, &mut turns, named, err)? {
+        if turns.len() >= MOST_ASSUMED || !turn_one(rt, paths, &mut turns, named, err)? {
             break;
         }
     }
@@ -104,6 +104,7 @@ fn tell_unit<R: Files + AllocGlobal, O: Write, E: Write>(
         tapped,
         is_cut: true,
         is_apart,
+        turns,
     };
     match judge_captures(rt, form, paths, cut, out, err)? {
         Ok(status) => Ok(status),
@@ -156,7 +157,7 @@ fn judge_captures<R: Files + AllocGlobal, O: Write, E: Write>(
     rt: &R,
     form: Form,
     paths: TapPaths<'_>,
-    captured: Captured,
+    captured: Captured<'_>,
     out: &mut Tally<O>,
     err: &mut Tally<E>,
 ) -> Result<Result<u8, RefusedAt>, FaultTold>

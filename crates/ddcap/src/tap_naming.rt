@@ -30,10 +30,18 @@ pub(crate) struct Reach {
 
 impl Reach {
     // How far captures of which this was told reach.
-    fn of(tapped: Tapped) -> Reach {
+    fn told(tapped: Tapped) -> Reach {
         Reach {
             a: tapped.units_a.count,
             b: tapped.units_b.count,
+        }
+    }
+
+    // How many units the capture of this side has.
+    fn of(self, side: Side) -> u64 {
+        match side {
+            Side::A => self.a,
+            Side::B => self.b,
         }
     }
 
@@ -53,14 +61,17 @@ pub fn named_unit<R: Files + AllocGlobal, E: Write>(
     refused: RefusedAt,
     err: &mut Tally<E>,
 ) -> Result<Unit, FaultTold> {
-    let mut high = Reach::of(tapped);
+    let mut high = Reach::told(tapped);
     let mut unit = unit_of(rt, paths, refused, err)?;
     for _ in 0..MOST_CUTS {
         let (cut, again) = judge_cut(rt, paths, turns, unit, err)?;
         let Some(refused) = again else {
             return unit_between(rt, paths, turns, cut, high, err);
         };
-        let earlier = unit_of(rt, paths, refused, err)?;
+        let mut earlier = unit_of(rt, paths, refused, err)?;
+        if earlier == unit {
+            earlier = unit_before(rt, paths, turns, unit, cut, err)?;
+        }
         if earlier == unit {
             return Ok(unit);
         }
@@ -68,6 +79,26 @@ pub fn named_unit<R: Files + AllocGlobal, E: Write>(
         unit = earlier;
     }
     Ok(unit)
+}
+
+// The unit of a refused record of the captures that end with the last unit of the other side before this one; or this one, where they are accepted.
+fn unit_before<R: Files + AllocGlobal, E: Write>(
+    rt: &R,
+    paths: TapPaths<'_>,
+    turns: &[Turn],
+    unit: Unit,
+    cut: Reach,
+    err: &mut Tally<E>,
+) -> Result<Unit, FaultTold> {
+    let other = unit.0.other();
+    let Some(last) = cut.of(other).checked_sub(1) else {
+        return Ok(unit);
+    };
+    let (_, refused) = judge_cut(rt, paths, turns, (other, last), err)?;
+    match refused {
+        Some(refused) => unit_of(rt, paths, refused, err),
+        None => Ok(unit),
+    }
 }
 
 // The first unit that was found, by halves, with which captures are refused, while those that end with the unit before it are accepted: `low` are
@@ -129,7 +160,7 @@ pub(crate) fn judge_cut<R: Files + AllocGlobal, E: Write>(
     let mut a = opened(rt, Wanted::by_path(Named::A, paths.a), err)?;
     let mut b = opened(rt, Wanted::by_path(Named::B, paths.b), err)?;
     match judge_over(rt.alloc(), paths.layers(), &mut a, &mut b) {
-        Ok(verdict) => Ok((Reach::of(tapped), refused_at(verdict))),
+        Ok(verdict) => Ok((Reach::told(tapped), refused_at(verdict))),
         Err(fault) => {
             let status = print_fault(rt.alloc(), fault, err);
             Err(FaultTold::of_judge(fault, status))

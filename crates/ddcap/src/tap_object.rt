@@ -14,6 +14,7 @@ use crate::objects::{begun, ended, put, put_counts, put_reason};
 use crate::tap::{ACCEPTED, Captured, RefusedAt, UNEXPLAINED, to_be_cut};
 use crate::text::FAULTY;
 use pair_judge::{Reason, Verdict};
+use placing::{Assumed, Turn};
 use std::alloc::{AllocError, Global};
 use std::io::{Read, Write};
 use tap_answer::{Told, said_of, too_wide_text};
@@ -28,7 +29,7 @@ pub fn tap_json_to<A: Read, B: Read, O: Write, E: Write>(
     name: &str,
     a: &mut Tally<A>,
     b: &mut Tally<B>,
-    captured: Captured,
+    captured: Captured<'_>,
     out: &mut Tally<O>,
     err: &mut Tally<E>,
 ) -> Result<u8, RefusedAt>
@@ -56,32 +57,27 @@ fn print_tapped<O: Write, E: Write>(
     layers: Layers,
     name: &str,
     verdict: Verdict,
-    captured: Captured,
+    captured: Captured<'_>,
     out: &mut Tally<O>,
     err: &mut Tally<E>,
 ) -> u8
     ensures { EndsWith (told_status (telling captured.is_apart captured.tapped.ending verdict)) result }
 {
-    let Captured {
-        tapped,
-        is_apart,
-        ..
-    } = captured;
-    match said_of(tapped.ending, verdict, is_apart) {
+    match said_of(captured.tapped.ending, verdict, captured.is_apart) {
         Told::Accepted => {
-            let object = accepted_object(alloc, layers, name, verdict, tapped);
+            let object = accepted_object(alloc, layers, name, verdict, captured);
             print_object(object, ACCEPTED, out, err)
         }
         Told::Unexplained { passed, reason } => {
-            let object = refused_object(alloc, "unexplained", name, Some(passed), reason, tapped);
+            let object = refused_object(alloc, "unexplained", name, Some(passed), reason, captured);
             print_object(object, UNEXPLAINED, out, err)
         }
         Told::Apart { passed, reason } => {
-            let object = refused_object(alloc, "apart", name, Some(passed), reason, tapped);
+            let object = refused_object(alloc, "apart", name, Some(passed), reason, captured);
             print_object(object, UNEXPLAINED, out, err)
         }
         Told::UnexplainedEnd { reason } => {
-            let object = refused_object(alloc, "unexplained", name, None, reason, tapped);
+            let object = refused_object(alloc, "unexplained", name, None, reason, captured);
             print_object(object, UNEXPLAINED, out, err)
         }
         Told::TooWide(passed) => {
@@ -106,14 +102,15 @@ fn accepted_object(
     layers: Layers,
     name: &str,
     verdict: Verdict,
-    tapped: Tapped,
+    captured: Captured<'_>,
 ) -> Result<Vec<u8>, AllocError> {
     let mut object = begun(alloc, "accepted", name)?;
     if let Verdict::Accepted(summary) = verdict {
         put_counts(alloc, &mut object, layers, Side::A, summary.a)?;
         put_counts(alloc, &mut object, layers, Side::B, summary.b)?;
     }
-    put_skipped(alloc, &mut object, tapped)?;
+    put_assumed(alloc, &mut object, captured.turns)?;
+    put_skipped(alloc, &mut object, captured.tapped)?;
     ended(object)
 }
 
@@ -124,7 +121,7 @@ fn refused_object(
     name: &str,
     passed: Option<Passed>,
     reason: Reason,
-    tapped: Tapped,
+    captured: Captured<'_>,
 ) -> Result<Vec<u8>, AllocError> {
     let mut object = begun(alloc, answer, name)?;
     match passed {
@@ -135,7 +132,8 @@ fn refused_object(
         )?,
     }
     put_reason(alloc, &mut object, reason)?;
-    put_skipped(alloc, &mut object, tapped)?;
+    put_assumed(alloc, &mut object, captured.turns)?;
+    put_skipped(alloc, &mut object, captured.tapped)?;
     ended(object)
 }
 
@@ -152,6 +150,39 @@ fn put_unit(alloc: Global, object: &mut Vec<u8>, passed: Passed) -> Result<(), A
     let Passed { side, unit, line } = passed;
     let part = format!(in alloc; ", \"side\": \"{side}\", \"unit\": {unit}, \"line\": {line}")?;
     put(object, part.as_str())
+}
+
+// The boots and aborts that are assumed.
+fn put_assumed(alloc: Global, object: &mut Vec<u8>, turns: &[Turn]) -> Result<(), AllocError> {
+    put(object, ", \"assumed\": [")?;
+    let mut is_first = true;
+    for turn in turns {
+        let event = match turn.what {
+            Assumed::Keeps { most: _ } => continue,
+            Assumed::Boots => "boot",
+            Assumed::GivesUp => "abort",
+        };
+        put(
+            object,
+            if is_first {
+                "{\"event\": \""
+            } else {
+                ", {\"event\": \""
+            },
+        )?;
+        put(object, event)?;
+        put(object, "\"")?;
+        let Turn {
+            side,
+            unit,
+            line,
+            ..
+        } = *turn;
+        put_unit(alloc, object, Passed { side, unit, line })?;
+        put(object, "}")?;
+        is_first = false;
+    }
+    put(object, "]")
 }
 
 // What was skipped of each side, and whether that was more than what was read.

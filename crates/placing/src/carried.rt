@@ -28,6 +28,26 @@ pub fn turns_a_link(unit: &[u8]) -> bool {
     }
 }
 
+/// The own address of the link that the message in this unit is sent on, if it is sent on one.
+///
+/// ```text
+/// a CC from link 7 to link 9      Some(7)
+/// a connect ACK, a STRT           None
+/// ```
+pub fn own_address(unit: &[u8]) -> Option<u16> {
+    match message_of(unit)? {
+        Nsp::ConnectInitiate(message) => Some(message.srcaddr),
+        Nsp::ConnectConfirm(message) => Some(message.srcaddr),
+        Nsp::DisconnectInitiate(message) => Some(message.srcaddr),
+        Nsp::DisconnectConfirm(message) => Some(message.srcaddr),
+        Nsp::DataSegment(message) => Some(message.srcaddr),
+        Nsp::DataAck(message) => Some(message.srcaddr),
+        Nsp::LinkService(message) => Some(message.srcaddr),
+        Nsp::OtherDataAck(message) => Some(message.srcaddr),
+        _ => None,
+    }
+}
+
 /// The message of the links in a unit, if it has one. Its checks are not asked: what has no message that says so is no packet.
 pub(crate) fn message_of(unit: &[u8]) -> Option<Nsp<'_>> {
     if *unit.first()? != DATA {

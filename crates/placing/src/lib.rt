@@ -18,14 +18,15 @@ mod said;
 mod search;
 mod station;
 mod turn;
+mod turned;
 mod user_link;
 mod user_links;
 mod waiting;
 
-pub use carried::turns_a_link;
+pub use carried::{own_address, turns_a_link};
 pub use explained::Explained;
 pub use laws::{put_receipts_name_units, put_units_were_sent};
 pub use limit::MOST_STATES;
 pub use placing::Placing;
 pub use search::{Reached, Search};
-pub use turn::Turn;
+pub use turn::{Assumed, Turn};

@@ -38,6 +38,12 @@ impl OpenMessages {
         }
     }
 
+    /// The node boots before the side's next unit: none is whole any more.
+    pub(crate) fn boot(&mut self) {
+        self.given.clear();
+        self.begun.clear();
+    }
+
     /// Whether the side's unit that has so many after it begins a message whose last segment has not passed.
     pub(crate) fn begins_one(&self, behind: u64) -> bool {
         if behind >= self.units {

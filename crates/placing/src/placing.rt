@@ -5,13 +5,15 @@ ghost use Rattle.capture.specs.declared.limit.TheConstants.{MAX_UNIT};
 ghost use Rattle.placing.specs.Placed.{Puts, nothing, with_other, with_own};
 
 use crate::search::Search;
+use crate::turn::Turn;
+use crate::turned::Turned;
 use crate::waiting::Waiting;
 use std::alloc::{AllocError, Global};
 use std::marker::Model;
 use wire_base::Side;
 
 /// One side of a line as a tap sees it: the units that it sent, and those of the other side, in the order in which they passed. It puts the lines of
-/// the side's capture, in format 1 and without the head: its units, and between them what a search found of what came and what its user did.
+/// the side's capture, without the head: its units, and between them what a search found of what came and what its user did.
 ///
 /// ```text
 /// the other side's STRT passes       sent_by_other
@@ -32,13 +34,19 @@ impl Model for Placing {
 }
 
 impl Placing {
-    /// Nothing passed yet. With `line_alone` no packet is read, and no event of a link is put. Takes no memory.
-    pub fn new(alloc: Global, line_alone: bool) -> Placing
-        ensures { result ≡ nothing }
+    /// Nothing passed yet of this side, of which these turns are assumed. With `line_alone` no packet is read, and no event of a link is put.
+    /// `AllocError` where there is no memory for it.
+    pub fn new(
+        alloc: Global,
+        line_alone: bool,
+        side: Side,
+        turns: &[Turn],
+    ) -> Result<Placing, AllocError>
+        ensures { IfOk result (λ placing. placing ≡ nothing) }
     {
-        Placing {
-            waiting: Waiting::new(alloc, line_alone),
-        }
+        let turned = Turned::of(alloc, side, turns)?;
+        let waiting = Waiting::new(alloc, line_alone, turned);
+        Ok(Placing { waiting })
     }
 
     /// A unit of the other side passed. `AllocError` where there is no memory for it; then no other call is right.

@@ -65,7 +65,7 @@ impl Search {
         })
     }
 
-    /// A start of a side is turned. `AllocError` as there.
+    /// This is assumed of a side. `AllocError` as there.
     pub fn turn(&mut self, turn: Turn) -> Result<(), AllocError> {
         match turn.side {
             Side::A => self.a.turn(turn),

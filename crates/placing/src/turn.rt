@@ -1,11 +1,23 @@
-//! Starts before which fewer packets were kept than may have come.
+//! What is assumed of a side at one of its units, where what is found without it is refused.
 
 use wire_base::Side;
 
-/// The user of this side starts its station before this unit of it, counted from 0; of the packets that were under way, this many were kept at most.
+/// What is assumed of this side at this unit of it, counted from 0. The line is told of it, and nothing goes by that.
 #[derive(Clone, Copy, Debug, PartialEq, Eq)]
 pub struct Turn {
     pub side: Side,
     pub unit: u64,
-    pub kept: u64,
+    pub line: u64,
+    pub what: Assumed,
+}
+
+/// What is assumed at a unit.
+#[derive(Clone, Copy, Debug, PartialEq, Eq)]
+pub enum Assumed {
+    /// The user starts the station before it; of the packets that were under way, this many were kept at most.
+    Keeps { most: u64 },
+    /// The node boots before the start that comes before it.
+    Boots,
+    /// It is a CI, and the user gives that call up before an answer to it is kept, or before its address is given again.
+    GivesUp,
 }

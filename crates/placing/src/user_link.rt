@@ -28,13 +28,14 @@ pub(crate) enum Sent {
     Disconnect,
 }
 
-/// The link that got an own address last, while something of it may still be sent: its far address, 0 while it calls; whether what came ended it,
-/// after which what waits in the queues of its node is still sent; of the segments the last number that was given, and whether a message is handed
-/// in whose last segment is not sent yet.
+/// The link that got an own address last, while something of it may still be sent: its far address, 0 while it calls; whether it is assumed that its
+/// user gives it up while it does; whether what came ended it, after which what waits in the queues of its node is still sent; of the segments the
+/// last number that was given, and whether a message is handed in whose last segment is not sent yet.
 #[derive(Clone, Copy, Debug, PartialEq, Eq)]
 pub(crate) struct UserLink {
     pub(crate) far: u16,
     pub(crate) phase: Phase,
+    pub(crate) is_given_up: bool,
     pub(crate) is_over: bool,
     pub(crate) sent: Sent,
     pub(crate) given: u16,

@@ -25,11 +25,52 @@ impl UserLinks {
         }
     }
 
-    /// What the user did before this unit was first sent, if its packet tells it. `AllocError` where there is no memory for another link.
-    pub(crate) fn before(&mut self, unit: &[u8]) -> Result<Option<UserAct>, AllocError> {
+    /// The node boots: all links are over, and their addresses are forgotten.
+    pub(crate) fn boot(&mut self) {
+        self.links.clear();
+        self.called.clear();
+        self.reached.clear();
+    }
+
+    /// The call that its user has given up by now, where this unit is sent next, which gives its address to another link. It is over.
+    pub(crate) fn given_up_before(&mut self, unit: &[u8]) -> Option<u16> {
+        let (own, far) = match message_of(unit)? {
+            Nsp::ConnectConfirm(message) => (message.srcaddr, message.dstaddr),
+            Nsp::DisconnectInitiate(message) => (message.srcaddr, message.dstaddr),
+            _ => return None,
+        };
+        let _ = self.called.get(&far)?;
+        self.give_up(own)
+    }
+
+    /// The same, where the packet in this unit is kept next, which answers it.
+    pub(crate) fn given_up_by_answer(&mut self, unit: &[u8]) -> Option<u16> {
+        match message_of(unit)? {
+            Nsp::ConnectConfirm(message) => self.give_up(message.dstaddr),
+            _ => None,
+        }
+    }
+
+    // The call from this address is over, if it is one that its user gives up.
+    fn give_up(&mut self, own: u16) -> Option<u16> {
+        let link = self.link(own)?;
+        if !link.is_given_up || link.is_over || link.phase != Phase::Calling {
+            return None;
+        }
+        self.links.remove(&own);
+        Some(own)
+    }
+
+    /// What the user did before this unit was first sent, if its packet tells it; a call that it begins may be one that is given up. `AllocError`
+    /// where there is no memory for another link.
+    pub(crate) fn before(
+        &mut self,
+        unit: &[u8],
+        is_given_up: bool,
+    ) -> Result<Option<UserAct>, AllocError> {
         match message_of(unit) {
             Some(Nsp::ConnectInitiate(message)) => {
-                self.calls(message.srcaddr, message.retransmitted)
+                self.calls(message.srcaddr, message.retransmitted, is_given_up)
             }
             Some(Nsp::ConnectConfirm(message)) => self.confirms(message.srcaddr, message.dstaddr),
             Some(Nsp::DisconnectInitiate(message)) => {
@@ -100,7 +141,12 @@ impl UserLinks {
 
     // A call goes again where the link has sent nothing else; where what came ended it meanwhile, its own mark tells. No link has the own address 0,
     // so what names one is nobody's act.
-    fn calls(&mut self, own: u16, again: bool) -> Result<Option<UserAct>, AllocError> {
+    fn calls(
+        &mut self,
+        own: u16,
+        again: bool,
+        is_given_up: bool,
+    ) -> Result<Option<UserAct>, AllocError> {
         if own == 0 {
             return Ok(None);
         }
@@ -110,6 +156,9 @@ impl UserLinks {
             }
         }
         self.put(own, 0, Phase::Calling)?;
+        if let Some(link) = self.links.get_mut(&own) {
+            link.is_given_up = is_given_up;
+        }
         Ok(Some(UserAct::Open { link: own }))
     }
 
@@ -264,6 +313,7 @@ impl UserLinks {
         let link = UserLink {
             far,
             phase,
+            is_given_up: false,
             is_over: false,
             sent: Sent::Nothing,
             given: 0,

@@ -14,6 +14,7 @@ mod own_units;
 use crate::movement::Move;
 use crate::open_messages::OpenMessages;
 use crate::passed_unit::PassedUnit;
+use crate::turned::Turned;
 use crate::user_links::UserLinks;
 use capture::{Entry, MAX_HINT, put_line};
 use std::alloc::{AllocError, Global};
@@ -32,6 +33,9 @@ pub(crate) struct Waiting {
     // the links that its packets tell of, and the messages on them that are under way, unless nobody asks for them
     links: Option<UserLinks>,
     messages: Option<OpenMessages>,
+    // how many of the side's units wait no more, and what is assumed of some
+    taken: u64,
+    turned: Turned,
     alloc: Global,
 }
 
@@ -48,8 +52,8 @@ impl Model for Waiting {
 }
 
 impl Waiting {
-    /// No unit and no line. With `line_alone` no packet is read, and no event of a link is put.
-    pub(crate) fn new(alloc: Global, line_alone: bool) -> Waiting
+    /// No unit and no line, of a side of which this is assumed. With `line_alone` no packet is read, and no event of a link is put.
+    pub(crate) fn new(alloc: Global, line_alone: bool, turned: Turned) -> Waiting
         ensures { result ≡ nothing }
     {
         let (links, messages) = if line_alone {
@@ -64,6 +68,8 @@ impl Waiting {
             text: Vec::new(alloc),
             links,
             messages,
+            taken: 0,
+            turned,
             alloc,
         }
     }
@@ -90,7 +96,11 @@ impl Waiting {
     {
         let copy = PassedUnit::of(self.alloc, unit)?;
         self.own.reserve(1)?;
+        let number = self.taken.saturating_add(self.own.len() as u64);
         if let Some(messages) = &mut self.messages {
+            if self.turned.boots_before(number) {
+                messages.boot();
+            }
             messages.sent(unit)?;
         }
         self.own.push_back_reserved(copy);
@@ -134,8 +144,51 @@ impl Waiting {
                 self.lose();
                 Ok(())
             }
-            Move::Start => self.put_aside(Entry::Start, &[]),
-            Move::Halt => self.put_aside(Entry::Halt, &[]),
+            Move::Start => self.put_start(),
+            Move::Halt => self.put_halt(),
+        }
+    }
+
+    // The user starts the station, after the node booted if that is assumed.
+    #[tactic(auto, using(crate::proofs::Puts::puts_then))]
+    fn put_start(&mut self) -> Result<(), AllocError>
+        ensures { OnOk result (Puts self.old self.new) }
+    {
+        if self.boots_now() {
+            self.put_boot()?;
+        }
+        self.put_aside(Entry::Start, &[])
+    }
+
+    // The user halts the station, unless the node boots, which halts it too.
+    fn put_halt(&mut self) -> Result<(), AllocError>
+        ensures { OnOk result (Puts self.old self.new) }
+    {
+        if self.boots_now() {
+            return self.put_nothing();
+        }
+        self.put_aside(Entry::Halt, &[])
+    }
+
+    // Whether it is assumed that the node boots before the next unit.
+    fn boots_now(&self) -> bool {
+        self.turned.boots_before(self.taken)
+    }
+
+    // The node boots.
+    fn put_boot(&mut self) -> Result<(), AllocError>
+        ensures { OnOk result (Puts self.old self.new) }
+    {
+        self.forget_links();
+        self.put_aside(Entry::Boot, &[])
+    }
+
+    // All links are over.
+    fn forget_links(&mut self)
+        ensures { self.new ≡ self.old }
+    {
+        if let Some(links) = &mut self.links {
+            links.boot();
         }
     }
 
@@ -167,6 +220,7 @@ impl Waiting {
         ensures gone { self.new.units.gone ≡ self.old.units.gone }
         ensures text { self.new.text ≡ self.old.text }
     {
+        self.taken = self.taken.saturating_add(1);
         self.own.pop_front()
     }
 

@@ -1,11 +1,15 @@
 -- The words of what is said of captures that a tap wrote.
 use Rattle.std.specs.Prelude.{ℕ, ◌+◌, ◌-◌, ◌==◌, if◌then◌else◌, List, [], ◌++◌, codes}
 use Rattle.std.specs.Fmt.{decimal}
+use Rattle.std.specs.List.{flat_map}
 use Rattle.wire_base.specs.declared.side.Side.{Side}
 use Rattle.wire_base.specs.declared.side.Side.TheVariants.{A, B}
 use Rattle.wire_base.specs.Side.{side_letter}
 use Rattle.pair_judge.specs.declared.reason.Reason.{Reason}
 use Rattle.pair_judge.specs.Reason.{reason_name, reason_number}
+use Rattle.placing.specs.declared.turn.Assumed.{Assumed}
+use Rattle.placing.specs.declared.turn.Assumed.TheVariants.{Keeps, Boots, GivesUp}
+use Rattle.placing.specs.declared.turn.Turn.{Turn}
 use Rattle.wire_tap.specs.declared.tapped.Passed.{Passed}
 use Rattle.wire_tap.specs.declared.tapped.Skipped.{Skipped}
 use Rattle.wire_tap.specs.declared.tapped.Tapped.{Tapped}
@@ -14,6 +18,18 @@ use Rattle.wire_tap.specs.declared.tapped.Tapped.{Tapped}
 abbrev pub unit_words : Passed → List ℕ
 unit_words passed =
     side_letter passed.side ++ (codes " unit " ++ (decimal passed.unit ++ (codes " line " ++ decimal passed.line)))
+
+-- `this assumes a boot before a unit 7 line 16`; of packets that were not kept nothing is said
+abbrev pub turn_words_of : Assumed → Passed → List ℕ
+turn_words_of (Keeps most) passed = []
+turn_words_of Boots passed = codes "this assumes a boot before " ++ (unit_words passed ++ codes "\n")
+turn_words_of GivesUp passed = codes "this assumes an abort of the call in " ++ (unit_words passed ++ codes "\n")
+
+abbrev pub turn_words : Turn → List ℕ
+turn_words turn = turn_words_of turn.what (record { side = turn.side; unit = turn.unit; line = turn.line })
+
+unfoldable pub assumed_words : List Turn → List ℕ
+assumed_words turns = flat_map turn_words turns
 
 -- `7 WrongNumber`
 abbrev pub numbered_words : Reason → List ℕ

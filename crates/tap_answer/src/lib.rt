@@ -4,14 +4,16 @@
 //! nothing, and prints nothing.
 #![tactic(auto)]
 
+mod assumed_text;
 mod counting;
 mod told;
 mod told_text;
 mod turning;
 
+pub use assumed_text::assumed_text;
 pub use counting::units_before;
 pub use told::{Told, said_of};
 pub use told_text::{
     apart_text, premise_text, too_wide_text, unexplained_end_text, unexplained_text,
 };
-pub use turning::{MOST_TURNS, turns_of};
+pub use turning::{Choices, MOST_TURNS, choices_of};

@@ -9,10 +9,10 @@ use std::fmt;
 use wire_base::Side;
 use wire_tap::{Passed, Skipped, Tapped};
 
-// A unit, as it is named.
+/// A unit, as it is named.
 #[derive(Clone, Copy)]
-struct UnitWords {
-    passed: Passed,
+pub(crate) struct UnitWords {
+    pub(crate) passed: Passed,
 }
 
 impl fmt::Display for UnitWords {

@@ -8,6 +8,7 @@ use Rattle.wire_base.specs.declared.side.Side.TheVariants.{A, B}
 use Rattle.capture.specs.declared.fault.CaptureFault.{CaptureFault}
 use Rattle.capture.specs.declared.fault.CaptureFault.TheVariants as of_text
 use Rattle.capture.specs.Lines.{to_come}
+use Rattle.capture.specs.declared.format.Format.{Format}
 use Rattle.capture.specs.Paged.{HandsOver}
 use Rattle.capture.specs.Reader.{FaultShows}
 use Rattle.framer.specs.SoFar.{IsFramedSoFar, nothing}
@@ -35,18 +36,18 @@ takes_nothing : (old : Held) → TakesNothing old old
 takes_nothing old = record { a = Keeps-refl old.a; b = Keeps-refl old.b }
 
 -- no head was read
-pub no_head : (last : Option (Side × ℕ)) (text : Option (List ℕ)) (old : Held) (fault : CaptureFault) → FaultShows WireHeadDeparts 1 text fault →
-    Taps last text old old (Err (fault_of fault))
-no_head last text old (of_text.Departs kind line) shows = inl (record { departs = shows.1; line_is = shows.0 }, takes_nothing old)
-no_head last text old of_text.Read shows = inl (takes_nothing old)
-no_head last text old of_text.OutOfMemory shows = inl (takes_nothing old)
-no_head last text old of_text.Failed shows = absurd shows
+pub no_head : (last : Option (Side × ℕ)) (format : Format) (text : Option (List ℕ)) (old : Held) (fault : CaptureFault) → FaultShows WireHeadDeparts 1 text fault →
+    Taps last format text old old (Err (fault_of fault))
+no_head last format text old (of_text.Departs kind line) shows = inl (record { departs = shows.1; line_is = shows.0 }, takes_nothing old)
+no_head last format text old of_text.Read shows = inl (takes_nothing old)
+no_head last format text old of_text.OutOfMemory shows = inl (takes_nothing old)
+no_head last format text old of_text.Failed shows = absurd shows
 
 -- memory is refused
-pub none_taken : (last : Option (Side × ℕ)) (text : Option (List ℕ)) (old : Held) → Taps last text old old (Err faults.OutOfMemory)
-none_taken last text old = inl (takes_nothing old)
+pub none_taken : (last : Option (Side × ℕ)) (format : Format) (text : Option (List ℕ)) (old : Held) → Taps last format text old old (Err faults.OutOfMemory)
+none_taken last format text old = inl (takes_nothing old)
 
-module _ (text left : Option (List ℕ)) (old : Held) (state : ListState) (opens : Opens wire_form.first_words text left (Ok state)) where
+module _ (format : Format) (text left : Option (List ℕ)) (old : Held) (state : ListState) (opens : Opens wire_form.first_words text left (Ok state)) where
   abbrev pub wire_begun : Wire
   wire_begun = no_items state.node_a state.node_b
 
@@ -60,27 +61,27 @@ module _ (text left : Option (List ℕ)) (old : Held) (state : ListState) (opens
   nothing_sent = record { wire = wire_begun; come = come_begun; a = []; b = [] }
 
   -- the writer of a side fails at its head
-  pub head_fails : (last : Option (Side × ℕ)) (side : Side) (n m : ℕ) (of_a of_b : List ℕ) (new : Outlet × Outlet) → of_a ≡ head_a wire_begun →
-      of_b ≡ head_b wire_begun → FailsAt side (outlet of_a old.a n, outlet of_b old.b m) new
-      → Taps last text old (held new.0.held new.1.held) (Err (faults.Write side))
+  pub head_fails : (last : Option (Side × ℕ)) (side : Side) (n m : ℕ) (of_a of_b : List ℕ) (new : Outlet × Outlet) → of_a ≡ head_a format wire_begun →
+      of_b ≡ head_b format wire_begun → FailsAt side (outlet of_a old.a n, outlet of_b old.b m) new
+      → Taps last format text old (held new.0.held new.1.held) (Err (faults.Write side))
   head_fails last side n m of_a of_b new is_a is_b f = (nothing_sent, read_begun, first, by_side side fails_at)
     where
-      fails_at : FailsAt side (outlet (head_a wire_begun) old.a n, outlet (head_b wire_begun) old.b m) new
-      fails_at = subst (λ (x : List ℕ). FailsAt side (outlet (head_a wire_begun) old.a n, outlet x old.b m) new) is_b
+      fails_at : FailsAt side (outlet (head_a format wire_begun) old.a n, outlet (head_b format wire_begun) old.b m) new
+      fails_at = subst (λ (x : List ℕ). FailsAt side (outlet (head_a format wire_begun) old.a n, outlet x old.b m) new) is_b
           (subst (λ (x : List ℕ). FailsAt side (outlet x old.a n, outlet of_b old.b m) new) is_a f)
 
       first : HaveFirst nothing_sent
       first = record { others_a = units_of A wire_begun; others_b = units_of B wire_begun; a = refl; b = refl }
 
-      by_side : (side : Side) → FailsAt side (outlet (head_a wire_begun) old.a n, outlet (head_b wire_begun) old.b m) new →
-          HasCut side old (held new.0.held new.1.held) nothing_sent
+      by_side : (side : Side) → FailsAt side (outlet (head_a format wire_begun) old.a n, outlet (head_b format wire_begun) old.b m) new →
+          HasCut side format old (held new.0.held new.1.held) nothing_sent
       by_side A f = (
-        subst (AppendsBeginning old.a new.0.held) (sym (append-nil (head_a wire_begun))) f.0.some,
-        subst (AppendsSome old.b new.1.held) (sym (append-nil (head_b wire_begun))) f.1.some,
+        subst (AppendsBeginning old.a new.0.held) (sym (append-nil (head_a format wire_begun))) f.0.some,
+        subst (AppendsSome old.b new.1.held) (sym (append-nil (head_b format wire_begun))) f.1.some,
       )
       by_side B f = (
-        subst (AppendsSome old.a new.0.held) (sym (append-nil (head_a wire_begun))) f.0.some,
-        subst (AppendsBeginning old.b new.1.held) (sym (append-nil (head_b wire_begun))) f.1.some,
+        subst (AppendsSome old.a new.0.held) (sym (append-nil (head_a format wire_begun))) f.0.some,
+        subst (AppendsBeginning old.b new.1.held) (sym (append-nil (head_b format wire_begun))) f.1.some,
       )
 
   side_begun : (head : List ℕ) (was now : Option (List ℕ)) (tap : SideTap) → IsNew tap → HandsOver head [] was now →
@@ -97,12 +98,12 @@ module _ (text left : Option (List ℕ)) (old : Held) (state : ListState) (opens
   }
 
   -- both heads are written
-  pub line_begun : (now : Held) (a b : SideTap) (of_a of_b : List ℕ) → IsNew a → IsNew b → of_a ≡ head_a wire_begun → of_b ≡ head_b wire_begun →
-      HandsOver of_a [] old.a now.a → HandsOver of_b [] old.b now.b → IsLineUnderWay text old (line_state state.items come_begun a b now)
+  pub line_begun : (now : Held) (a b : SideTap) (of_a of_b : List ℕ) → IsNew a → IsNew b → of_a ≡ head_a format wire_begun → of_b ≡ head_b format wire_begun →
+      HandsOver of_a [] old.a now.a → HandsOver of_b [] old.b now.b → IsLineUnderWay format text old (line_state state.items come_begun a b now)
   line_begun now a b of_a of_b new_a new_b is_a is_b over_a over_b = record {
     wire = wire_begun;
     read = read_begun;
     count = sym opens.2;
-    a = side_begun (head_a wire_begun) old.a now.a a new_a (subst (λ (x : List ℕ). HandsOver x [] old.a now.a) is_a over_a);
-    b = side_begun (head_b wire_begun) old.b now.b b new_b (subst (λ (x : List ℕ). HandsOver x [] old.b now.b) is_b over_b);
+    a = side_begun (head_a format wire_begun) old.a now.a a new_a (subst (λ (x : List ℕ). HandsOver x [] old.a now.a) is_a over_a);
+    b = side_begun (head_b format wire_begun) old.b now.b b new_b (subst (λ (x : List ℕ). HandsOver x [] old.b now.b) is_b over_b);
   }

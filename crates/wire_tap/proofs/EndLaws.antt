@@ -6,6 +6,7 @@ use Rattle.wire_base.specs.declared.side.Side.{Side}
 use Rattle.wire_base.specs.declared.side.Side.TheVariants.{A, B}
 use Rattle.capture.specs.declared.fault.CaptureFault.{CaptureFault}
 use Rattle.capture.specs.declared.fault.CaptureFault.TheVariants as of_text
+use Rattle.capture.specs.declared.format.Format.{Format}
 use Rattle.capture.specs.Paged.{HandsOver}
 use Rattle.capture.specs.Reader.{FaultShows}
 use Rattle.placing.specs.Placed.{Waiting, units_sent}
@@ -33,7 +34,7 @@ few_counted count same few = omega arith
 
 -- ---- both sides, where no more is read
 
-module _ (last : Option (Side × ℕ)) (text : Option (List ℕ)) (old : Held) (line : LineState) (h : IsLineOver text old line) where
+module _ (last : Option (Side × ℕ)) (format : Format) (text : Option (List ℕ)) (old : Held) (line : LineState) (h : IsLineOver format text old line) where
   abbrev reached : Reached
   reached = record { wire = h.wire; come = h.come; a = h.a.records; b = h.b.records }
 
@@ -46,13 +47,13 @@ module _ (last : Option (Side × ℕ)) (text : Option (List ℕ)) (old : Held) (
   }
 
   -- memory is refused
-  pub refused : Taps last text old line.now (Err faults.OutOfMemory)
+  pub refused : Taps last format text old line.now (Err faults.OutOfMemory)
   refused = inr (reached, h.read, have_first, record { a = begun_over _ _ _ _ h.a.over; b = begun_over _ _ _ _ h.b.over })
 
   -- a write fails
   pub fails : (side : Side) (n m : ℕ) (new : Outlet × Outlet) →
       FailsAt side (outlet line.a.units.waiting.text line.now.a n, outlet line.b.units.waiting.text line.now.b m) new
-      → Taps last text old (held new.0.held new.1.held) (Err (faults.Write side))
+      → Taps last format text old (held new.0.held new.1.held) (Err (faults.Write side))
   fails A n m new f =
       (reached, h.read, have_first, (beginning_over _ _ _ _ h.a.over new.0.held f.0.some, some_over _ _ _ _ h.b.over new.1.held f.1.some))
   fails B n m new f =
@@ -100,14 +101,14 @@ module _ (last : Option (Side × ℕ)) (text : Option (List ℕ)) (old : Held) (
 
     module _ (later : Held) (over_a : HandsOver line.a.units.waiting.text [] line.now.a later.a)
         (over_b : HandsOver line.b.units.waiting.text [] line.now.b later.b) where
-      written : HasWritten old later reached
+      written : HasWritten format old later reached
       written = record {
         a = all_over _ [] _ _ (on_over _ _ _ _ h.a.over [] later.a over_a) refl;
         b = all_over _ [] _ _ (on_over _ _ _ _ h.b.over [] later.b over_b) refl;
       }
 
       pub tapped_all : (tapped : Tapped) → StopsAs h last (stops.Ends tapped.ending) → tapped.units_a.count ≡ line.a.units.count →
-          tapped.units_b.count ≡ line.b.units.count → Taps last text old later (Ok tapped)
+          tapped.units_b.count ≡ line.b.units.count → Taps last format text old later (Ok tapped)
       tapped_all tapped stop count_a count_b = (reached, h.read, written, (by_ending tapped.ending stop, has_counted tapped count_a count_b))
         where
           by_ending : (ending : Ending) → StopsAs h last (stops.Ends ending) → EndsAs last ending reached
@@ -116,11 +117,11 @@ module _ (last : Option (Side × ℕ)) (text : Option (List ℕ)) (old : Held) (
           by_ending (TooWide passed) stop = end_with passed stop
           by_ending (Asked passed) stop = (end_with passed stop.0, stop.1)
 
-      pub text_fault : (fault : CaptureFault) → StopsAs h last (stops.Text fault) → Taps last text old later (Err (fault_of fault))
+      pub text_fault : (fault : CaptureFault) → StopsAs h last (stops.Text fault) → Taps last format text old later (Err (fault_of fault))
       text_fault fault stop = by_fault fault stop.1 stop.2
         where
           by_fault : (fault : CaptureFault) → FaultShows (PieceDeparts (length h.wire.items)) (length h.wire.items + 2) h.come fault →
-              (fault ≡ of_text.OutOfMemory → ⊥) → Taps last text old later (Err (fault_of fault))
+              (fault ≡ of_text.OutOfMemory → ⊥) → Taps last format text old later (Err (fault_of fault))
           by_fault (of_text.Departs kind at) shows memory =
               inr (reached, h.read, written, (have_all stop.0, record { departs = shows.1; line_is = shows.0 }))
           by_fault of_text.Read shows memory = inr (reached, h.read, written, have_all stop.0)
@@ -128,7 +129,7 @@ module _ (last : Option (Side × ℕ)) (text : Option (List ℕ)) (old : Held) (
           by_fault of_text.Failed shows memory = absurd shows
 
 -- the lines of all units were put
-module _ (last : Option (Side × ℕ)) (text : Option (List ℕ)) (old : Held) (line : LineState) (a b : Waiting) (h : IsLineOver text old line)
+module _ (last : Option (Side × ℕ)) (format : Format) (text : Option (List ℕ)) (old : Held) (line : LineState) (a b : Waiting) (h : IsLineOver format text old line)
     (put_a : PutsAll line.a.units.waiting a) (put_b : PutsAll line.b.units.waiting b) where
   abbrev pub put_line : LineState
   put_line = record line {
@@ -136,7 +137,7 @@ module _ (last : Option (Side × ℕ)) (text : Option (List ℕ)) (old : Held) (
     b = record line.b { units = record line.b.units { waiting = b } };
   }
 
-  pub put_over : IsLineOver text old put_line
+  pub put_over : IsLineOver format text old put_line
   put_over = record {
     wire = h.wire;
     come = h.come;
@@ -174,10 +175,10 @@ module _ (last : Option (Side × ℕ)) (text : Option (List ℕ)) (old : Held) (
   stops_put (stops.Text fault) s = (all_put s.0, s.1, s.2)
 
 -- the captures end with the last unit of a side, where of the other all passed
-pub stop_from : (last : Option (Side × ℕ)) (text : Option (List ℕ)) (old : Held) (line : LineState) (over : IsLineOver text old line) (side : Side)
+pub stop_from : (last : Option (Side × ℕ)) (format : Format) (text : Option (List ℕ)) (old : Held) (line : LineState) (over : IsLineOver format text old line) (side : Side)
     (ending : Ending) → others_at (other_side side) over ≡ [] → EndsAt (aim last side) (units_at side over) ending
     → StopsAs over last (stops.Ends ending)
-stop_from last text old line over side ending none ends = by_ending ending ends
+stop_from last format text old line over side ending none ends = by_ending ending ends
   where
     end_over : (passed : Passed) → IsUnitAt side (units_at side over) passed → EndsOver over passed
     end_over passed is = record {
@@ -193,12 +194,12 @@ stop_from last text old line over side ending none ends = by_ending ending ends
 
 -- ---- behind the last piece
 
-module _ (last : Option (Side × ℕ)) (text : Option (List ℕ)) (old : Held) (line : LineState) (a b : Waiting) (h : IsLineOver text old line)
+module _ (last : Option (Side × ℕ)) (format : Format) (text : Option (List ℕ)) (old : Held) (line : LineState) (a b : Waiting) (h : IsLineOver format text old line)
     (put_a : PutsAll line.a.units.waiting a) (put_b : PutsAll line.b.units.waiting b) where
   -- a write fails
   pub put_fails : (side : Side) (n m : ℕ) (new : Outlet × Outlet) → FailsAt side (outlet a.text line.now.a n, outlet b.text line.now.b m) new →
-      Taps last text old (held new.0.held new.1.held) (Err (faults.Write side))
-  put_fails side n m new f = fails last text old _ (put_over last text old line a b h put_a put_b) side n m new f
+      Taps last format text old (held new.0.held new.1.held) (Err (faults.Write side))
+  put_fails side n m new f = fails last format text old _ (put_over last format text old line a b h put_a put_b) side n m new f
 
   module _ (later : Held) (rest_a rest_b : List ℕ) (none_a : rest_a ≡ []) (none_b : rest_b ≡ []) (over_a : HandsOver a.text rest_a line.now.a later.a)
       (over_b : HandsOver b.text rest_b line.now.b later.b) where
@@ -209,13 +210,13 @@ module _ (last : Option (Side × ℕ)) (text : Option (List ℕ)) (old : Held) (
     all_b = subst (λ (x : List ℕ). HandsOver b.text x line.now.b later.b) none_b over_b
 
     pub tap_ends : (ending : Ending) (tapped : Tapped) → tapped.ending ≡ ending → StopsAs h last (stops.Ends ending) →
-        tapped.units_a.count ≡ line.a.units.count → tapped.units_b.count ≡ line.b.units.count → Taps last text old later (Ok tapped)
+        tapped.units_a.count ≡ line.a.units.count → tapped.units_b.count ≡ line.b.units.count → Taps last format text old later (Ok tapped)
     tap_ends ending tapped same stop count_a count_b =
-        tapped_all last text old _ (put_over last text old line a b h put_a put_b) put_a.all put_b.all later all_a all_b tapped
-        (subst (λ (e : Ending). StopsAs (put_over last text old line a b h put_a put_b) last (stops.Ends e)) (sym same)
-        (stops_put last text old line a b h put_a put_b (stops.Ends ending) stop)) count_a count_b
+        tapped_all last format text old _ (put_over last format text old line a b h put_a put_b) put_a.all put_b.all later all_a all_b tapped
+        (subst (λ (e : Ending). StopsAs (put_over last format text old line a b h put_a put_b) last (stops.Ends e)) (sym same)
+        (stops_put last format text old line a b h put_a put_b (stops.Ends ending) stop)) count_a count_b
 
-    pub tap_departs : (fault : CaptureFault) → StopsAs h last (stops.Text fault) → Taps last text old later (Err (fault_of fault))
+    pub tap_departs : (fault : CaptureFault) → StopsAs h last (stops.Text fault) → Taps last format text old later (Err (fault_of fault))
     tap_departs fault stop =
-        text_fault last text old _ (put_over last text old line a b h put_a put_b) put_a.all put_b.all later all_a all_b fault
-        (stops_put last text old line a b h put_a put_b (stops.Text fault) stop)
+        text_fault last format text old _ (put_over last format text old line a b h put_a put_b) put_a.all put_b.all later all_a all_b fault
+        (stops_put last format text old line a b h put_a put_b (stops.Text fault) stop)

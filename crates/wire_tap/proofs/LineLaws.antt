@@ -7,6 +7,7 @@ use Rattle.wire_base.specs.declared.side.Side.{Side}
 use Rattle.wire_base.specs.declared.side.Side.TheVariants.{A, B}
 use Rattle.capture.specs.declared.fault.CaptureFault.{CaptureFault}
 use Rattle.capture.specs.declared.fault.CaptureFault.TheVariants as of_text
+use Rattle.capture.specs.declared.format.Format.{Format}
 use Rattle.capture.specs.Paged.{HandsOver}
 use Rattle.capture.specs.Reader.{FaultShows}
 use Rattle.placing.specs.Placed.{Waiting}
@@ -30,20 +31,20 @@ use Rattle.wire_tap.proofs.EndLaws.{stop_from}
 
 -- ---- both sides, from one piece to the next
 
-module _ (text : Option (List ℕ)) (old : Held) (line : LineState) (h : IsLineUnderWay text old line) where
-  pub line_over : IsLineOver text old line
+module _ (format : Format) (text : Option (List ℕ)) (old : Held) (line : LineState) (h : IsLineUnderWay format text old line) where
+  pub line_over : IsLineOver format text old line
   line_over = record { wire = h.wire; come = line.come; read = h.read; a = over_all _ _ _ _ line.a h.a; b = over_all _ _ _ _ line.b h.b }
 
   all_over_line : IsAllOver line_over
   unfolding line_over over_all
   all_over_line = record { a = refl; b = refl }
 
-  pub line_ends : (last : Option (Side × ℕ)) → IsAtEnd line.come → Stopped last text old line (stops.Ends Whole)
+  pub line_ends : (last : Option (Side × ℕ)) → IsAtEnd line.come → Stopped last format text old line (stops.Ends Whole)
   unfolding line_over
   line_ends last end = (line_over, (all_over_line, end))
 
   pub line_departs : (last : Option (Side × ℕ)) (fault : CaptureFault) → FaultShows (PieceDeparts line.pieces) (line.pieces + 2) line.come fault →
-      (fault ≡ of_text.OutOfMemory → ⊥) → Stopped last text old line (stops.Text fault)
+      (fault ≡ of_text.OutOfMemory → ⊥) → Stopped last format text old line (stops.Text fault)
   unfolding line_over
   line_departs last fault shows memory =
       (line_over, (all_over_line, subst (λ (n : ℕ). FaultShows (PieceDeparts n) (n + 2) line.come fault) (sym h.count) shows, memory))
@@ -51,7 +52,7 @@ module _ (text : Option (List ℕ)) (old : Held) (line : LineState) (h : IsLineU
   -- the first of the lines that wait were written
   pub line_written : (later : Held) (a b : Waiting) → HandsOver line.a.units.waiting.text a.text line.now.a later.a →
       HandsOver line.b.units.waiting.text b.text line.now.b later.b → a.units ≡ line.a.units.waiting.units → b.units ≡ line.b.units.waiting.units
-      → IsLineUnderWay text old (record line {
+      → IsLineUnderWay format text old (record line {
         a = record line.a { units = record line.a.units { waiting = a } };
         b = record line.b { units = record line.b.units { waiting = b } };
         now = later;
@@ -91,7 +92,7 @@ module _ (text : Option (List ℕ)) (old : Held) (line : LineState) (h : IsLineU
   -- the piece passed
   pub line_goes : (last : Option (Side × ℕ)) (side : Side) (was now : ListState) (same : line.pieces ≡ was.items)
       (after : Option (List ℕ)) (a b : SideState) (advances : Advances wire_form was now line.come after (Ok (Some (piece side now.bytes))))
-      → PassesPiece last side now.bytes (line.a, line.b) (a, b) None → IsLineUnderWay text old (line_on side was now same after a b advances)
+      → PassesPiece last side now.bytes (line.a, line.b) (a, b) None → IsLineUnderWay format text old (line_on side was now same after a b advances)
   line_goes last A was now same after a b advances p = record {
     wire = wire_on A was now same after a b advances;
     read = read_on A was now same after a b advances;
@@ -111,12 +112,12 @@ module _ (text : Option (List ℕ)) (old : Held) (line : LineState) (h : IsLineU
   pub over_on : (last : Option (Side × ℕ)) (side : Side) (was now : ListState) (same : line.pieces ≡ was.items)
       (after : Option (List ℕ)) (a b : SideState) (advances : Advances wire_form was now line.come after (Ok (Some (piece side now.bytes))))
       (ending : Ending) → PassesPiece last side now.bytes (line.a, line.b) (a, b) (Some ending)
-      → Stopped last text old (line_on side was now same after a b advances) (stops.Ends ending)
+      → Stopped last format text old (line_on side was now same after a b advances) (stops.Ends ending)
   unfolding over_some over_all
   over_on last A was now same after a b advances ending p =
-      (over, stop_from last text old _ over A ending refl (ends_same _ _ _ ending same_a p.0.ends))
+      (over, stop_from last format text old _ over A ending refl (ends_same _ _ _ ending same_a p.0.ends))
     where
-      over : IsLineOver text old (line_on A was now same after a b advances)
+      over : IsLineOver format text old (line_on A was now same after a b advances)
       over = record {
         wire = wire_on A was now same after a b advances;
         come = after;
@@ -128,9 +129,9 @@ module _ (text : Option (List ℕ)) (old : Held) (line : LineState) (h : IsLineU
       same_a : units_at A over < 2 ^ 64 → units_at A over ≡ line.a.units.count + length (messages p.0.some.found.units)
       same_a = units_same _ _ _ _ line.a h.a now.bytes p.0.come a p.0.some
   over_on last B was now same after a b advances ending p =
-      (over, stop_from last text old _ over B ending refl (ends_same _ _ _ ending same_b p.1.ends))
+      (over, stop_from last format text old _ over B ending refl (ends_same _ _ _ ending same_b p.1.ends))
     where
-      over : IsLineOver text old (line_on B was now same after a b advances)
+      over : IsLineOver format text old (line_on B was now same after a b advances)
       over = record {
         wire = wire_on B was now same after a b advances;
         come = after;

@@ -1,5 +1,7 @@
 -- What a tap reads and writes.
-use Rattle.std.specs.Prelude.{◌≡◌, ℕ, ◌+◌, ◌<◌, ◌^◌, ◌⊎◌, List, ◌++◌, length, Option, Some, Result, Ok, Err, IfSome}
+use Rattle.std.specs.Prelude.{◌≡◌, ℕ, ◌+◌, ◌<◌, ◌^◌, ◌⊎◌, Bool, true, false, if◌then◌else◌, List, ◌++◌, length}
+use Rattle.std.specs.Prelude.{Option, Some, Result, Ok, Err, IfSome}
+use Rattle.std.specs.List.{list_all}
 use Rattle.std.specs.Io.KnownBytes.{Appends, IsAtEnd, Keeps}
 use Rattle.wire_base.specs.Side.{other_side}
 use Rattle.wire_base.specs.Tally.{AppendsBeginning, CountedFault}
@@ -7,12 +9,16 @@ use Rattle.wire_base.specs.declared.side.Side.{Side}
 use Rattle.wire_base.specs.declared.side.Side.TheVariants.{A, B}
 use Rattle.capture.specs.Passing.{AppendsSome}
 use Rattle.capture.specs.declared.fault.Departure.{Departure}
-use Rattle.capture.specs.declared.format.Format.TheVariants.{One}
+use Rattle.capture.specs.declared.format.Format.{Format}
+use Rattle.capture.specs.declared.format.Format.TheVariants.{One, Three}
 use Rattle.capture.specs.declared.record.Record.{Record}
 use Rattle.capture.specs.Text.{capture_text}
 use Rattle.capture.specs.Listed.{IsListSoFar}
 use Rattle.wire_text.specs.WireText.{PieceDeparts, Wire, WireHeadDeparts, wire_form}
 use Rattle.placing.specs.Placed.{units_sent}
+use Rattle.placing.specs.declared.turn.Assumed.{Assumed}
+use Rattle.placing.specs.declared.turn.Assumed.TheVariants.{Keeps, Boots, GivesUp}
+use Rattle.placing.specs.declared.turn.Turn.{Turn}
 use Rattle.wire_tap.specs.Units.{units_of}
 use Rattle.wire_tap.specs.declared.fault.TapFault.{TapFault}
 use Rattle.wire_tap.specs.declared.fault.TapFault.TheVariants as faults
@@ -80,12 +86,25 @@ pub record HasCounted (tapped : Tapped) (r : Reached) : Type 0 where
 
 -- ---- what is written
 
--- the texts of both captures, in format 1
-abbrev pub text_a : Reached → List ℕ
-text_a r = capture_text One r.wire.node_a r.wire.node_b r.a
+-- what is assumed needs no line that format 1 has not
+abbrev pub is_in_one : Assumed → Bool
+is_in_one (Keeps most) = true
+is_in_one Boots = false
+is_in_one GivesUp = false
 
-abbrev pub text_b : Reached → List ℕ
-text_b r = capture_text One r.wire.node_b r.wire.node_a r.b
+abbrev pub turn_is_in_one : Turn → Bool
+turn_is_in_one turn = is_in_one turn.what
+
+-- the format of both captures: 1; or 3, where a node boots or gives a call up
+abbrev pub format_of : List Turn → Format
+format_of turns = if list_all turn_is_in_one turns then One else Three
+
+-- the texts of both captures
+abbrev pub text_a : Format → Reached → List ℕ
+text_a format r = capture_text format r.wire.node_a r.wire.node_b r.a
+
+abbrev pub text_b : Format → Reached → List ℕ
+text_b format r = capture_text format r.wire.node_b r.wire.node_a r.b
 
 -- neither writer took anything
 pub record TakesNothing (old new : Held) : Type 0 where
@@ -93,19 +112,19 @@ pub record TakesNothing (old new : Held) : Type 0 where
   pub b : Keeps old.b new.b
 
 -- each writer took the text of its capture
-pub record HasWritten (old new : Held) (r : Reached) : Type 0 where
-  pub a : Appends old.a new.a (text_a r)
-  pub b : Appends old.b new.b (text_b r)
+pub record HasWritten (format : Format) (old new : Held) (r : Reached) : Type 0 where
+  pub a : Appends old.a new.a (text_a format r)
+  pub b : Appends old.b new.b (text_b format r)
 
 -- each took a beginning of it
-pub record HasBegun (old new : Held) (r : Reached) : Type 0 where
-  pub a : AppendsSome old.a new.a (text_a r)
-  pub b : AppendsSome old.b new.b (text_b r)
+pub record HasBegun (format : Format) (old new : Held) (r : Reached) : Type 0 where
+  pub a : AppendsSome old.a new.a (text_a format r)
+  pub b : AppendsSome old.b new.b (text_b format r)
 
 -- the writer of one side took a beginning of its text that is not all of it, and the other a beginning
-abbrev pub HasCut : Side → Held → Held → Reached → Type 0
-HasCut A old new r = AppendsBeginning old.a new.a (text_a r) × AppendsSome old.b new.b (text_b r)
-HasCut B old new r = AppendsSome old.a new.a (text_a r) × AppendsBeginning old.b new.b (text_b r)
+abbrev pub HasCut : Side → Format → Held → Held → Reached → Type 0
+HasCut A format old new r = AppendsBeginning old.a new.a (text_a format r) × AppendsSome old.b new.b (text_b format r)
+HasCut B format old new r = AppendsSome old.a new.a (text_a format r) × AppendsBeginning old.b new.b (text_b format r)
 
 -- ---- how it ends
 
@@ -127,19 +146,19 @@ pub record DepartsBehind (kind : Departure) (line : ℕ) (r : Reached) : Type 0 
   pub line_is : line ≡ length r.wire.items + 2
 
 -- some of the text was read, both captures were written, and this holds of them
-abbrev pub TapsTo : Option (List ℕ) → Held → Held → (Reached → Type 0) → Type 0
-TapsTo text old new Behind = (r : Reached) × IsListSoFar wire_form text r.wire r.come × HasWritten old new r × Behind r
+abbrev pub TapsTo : Format → Option (List ℕ) → Held → Held → (Reached → Type 0) → Type 0
+TapsTo format text old new Behind = (r : Reached) × IsListSoFar wire_form text r.wire r.come × HasWritten format old new r × Behind r
 
 -- One call, where this text was to come, by its answer. At each fault what was written is a beginning of both captures: of all that passed before a
 -- line that departs or that can't be read; or as far as there was memory, or as the writers took it.
-abbrev pub Taps : Option (Side × ℕ) → Option (List ℕ) → Held → Held → Result Tapped TapFault → Type 0
-Taps last text old new (Ok tapped) = TapsTo text old new (λ r. EndsAs last tapped.ending r × HasCounted tapped r)
-Taps last text old new (Err (faults.Departs kind line)) = (HeadDepartsAt text kind line × TakesNothing old new)
-    ⊎ TapsTo text old new (λ r. HaveAll r × DepartsBehind kind line r)
-Taps last text old new (Err faults.Read) = TakesNothing old new ⊎ TapsTo text old new HaveAll
-Taps last text old new (Err (faults.Write side)) = (r : Reached) × IsListSoFar wire_form text r.wire r.come × HaveFirst r × HasCut side old new r
-Taps last text old new (Err faults.OutOfMemory) = TakesNothing old new
-    ⊎ ((r : Reached) × IsListSoFar wire_form text r.wire r.come × HaveFirst r × HasBegun old new r)
+abbrev pub Taps : Option (Side × ℕ) → Format → Option (List ℕ) → Held → Held → Result Tapped TapFault → Type 0
+Taps last format text old new (Ok tapped) = TapsTo format text old new (λ r. EndsAs last tapped.ending r × HasCounted tapped r)
+Taps last format text old new (Err (faults.Departs kind line)) = (HeadDepartsAt text kind line × TakesNothing old new)
+    ⊎ TapsTo format text old new (λ r. HaveAll r × DepartsBehind kind line r)
+Taps last format text old new (Err faults.Read) = TakesNothing old new ⊎ TapsTo format text old new HaveAll
+Taps last format text old new (Err (faults.Write side)) = (r : Reached) × IsListSoFar wire_form text r.wire r.come × HaveFirst r × HasCut side format old new r
+Taps last format text old new (Err faults.OutOfMemory) = TakesNothing old new
+    ⊎ ((r : Reached) × IsListSoFar wire_form text r.wire r.come × HaveFirst r × HasBegun format old new r)
 
 -- ---- counts of failed calls
 

@@ -1,10 +1,11 @@
 //! What passed on a line, and the two captures that it stands for.
 //!
 //! The crate reads the text of what passed piece by piece, has the units of each direction found in it (`framer`) and each of them placed
-//! (`placing`), and writes both captures, in format 1. It decides nothing of what it writes: that is judged by `pair_judge`.
+//! (`placing`), and writes both captures. It decides nothing of what it writes: that is judged by `pair_judge`.
 #![tactic(auto)]
 
 mod fault;
+mod format;
 mod outlet;
 mod side_tap;
 mod stop;

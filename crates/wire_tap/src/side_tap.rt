@@ -7,7 +7,7 @@ ghost use Rattle.wire_tap.specs.inner.Side.{IsNew, MayEndAt, MovesOn, PassUnits,
 use crate::tapped::{Ending, Passed, Skipped, Units};
 use capture::MAX_UNIT;
 use framer::{Found, Framer, Kind};
-use placing::{Placing, Reached, Search};
+use placing::{Placing, Reached, Search, Turn};
 use std::alloc::{AllocError, Global};
 use wire_base::Side;
 
@@ -49,14 +49,19 @@ pub(crate) enum Next<'a> {
 }
 
 impl SideTap {
-    /// Nothing passed yet. `AllocError` where there is no memory for it.
-    pub(crate) fn new(alloc: Global, line_alone: bool) -> Result<SideTap, AllocError>
+    /// Nothing passed yet of this side, of which these turns are assumed. `AllocError` where there is no memory for it.
+    pub(crate) fn new(
+        alloc: Global,
+        line_alone: bool,
+        side: Side,
+        turns: &[Turn],
+    ) -> Result<SideTap, AllocError>
         ensures { IfOk result IsNew }
     {
         Ok(SideTap {
             framer: Framer::new(alloc)?,
             units: SideUnits {
-                placing: Placing::new(alloc, line_alone),
+                placing: Placing::new(alloc, line_alone, side, turns)?,
                 count: 0,
                 bytes: 0,
                 skipped: Skipped {

@@ -5,18 +5,19 @@ ghost use Rattle.std.specs.Io.KnownBytes.{Appends};
 ghost use Rattle.wire_base.specs.Tally.{tally_faults, tally_lent};
 ghost use Rattle.wire_base.specs.declared.side.Side.TheVariants as of_side;
 ghost use Rattle.capture.specs.declared.phase.Phase.TheVariants as Phase;
-ghost use Rattle.capture.specs.declared.format.Format.TheVariants as Layout;
+ghost use Rattle.capture.specs.declared.format.Format.{Format};
 ghost use Rattle.capture.specs.Faulty.{CountsReads};
 ghost use Rattle.capture.specs.Lines.{to_come};
 ghost use Rattle.capture.specs.Text.{head_line};
 ghost use Rattle.capture.specs.ListReader.{Advances, ListState};
 ghost use Rattle.wire_text.specs.WireText.{piece, wire_form};
 ghost use Rattle.wire_text.specs.declared.limit.TheConstants.{MAX_PIECES};
-ghost use Rattle.wire_tap.specs.Tapping.{CountsReadsOf, CountsWritesOf, Held, Taps, held};
+ghost use Rattle.wire_tap.specs.Tapping.{CountsReadsOf, CountsWritesOf, Held, Taps, format_of, held};
 ghost use Rattle.wire_tap.specs.inner.Side.{IsNew, side_state};
 ghost use Rattle.wire_tap.specs.inner.Moving.{IsLineUnderWay, PassesPiece, PutsAll, Stops, Turns, is_failed_reading, is_failed_turn, line_state};
 
 use crate::fault::{TapFault, reading_fault};
+use crate::format::format_of;
 use crate::outlet::{write_both, write_full, write_heads};
 use crate::side_tap::{At, SideTap};
 use crate::stop::Stop;
@@ -36,12 +37,12 @@ struct Sides {
     search: Search,
 }
 
-/// Reads the text of what passed to its end, places the units of both sides, and writes both captures, in format 1. With a `last` unit they end with
-/// it, and with `line_alone` no packet is read.
+/// Reads the text of what passed to its end, places the units of both sides, and writes both captures: in format 1, or in format 3 where it is assumed
+/// that a node boots or gives a call up. With a `last` unit they end with it, and with `line_alone` no packet is read.
 ///
 /// Each unit that was sent has passed here, and before the first of them neither side was started. Where a unit has no placing, or there are too
 /// many states to try, both captures end with it: the side's own has it as its last unit, and the other's what passed before it. Where each side is
-/// explained by itself, each capture is one of a node alone, and both need not go together. At starts that are turned fewer packets were kept.
+/// explained by itself, each capture is one of a node alone, and both need not go together. `turns` are what is assumed besides.
 ///
 /// Faults: `Departs` at the first line that departs from the format (`WireReader::open` and `advance` say how), and `Read` where a call of the text's
 /// reader failed: both writers then took the captures of all lines before, and nothing where there was no head. `Write`, a call of the writer of that
@@ -54,7 +55,7 @@ pub fn tap<W: Read, A: Write, B: Write>(
     asked: Asked,
     turns: &[Turn],
 ) -> Result<Tapped, TapFault>
-    ensures taps { Taps asked.last (W.remaining (tally_lent wire.old)) (held (A.contents (tally_lent a.old)) (B.contents (tally_lent b.old)))
+    ensures taps { Taps asked.last (format_of turns.now) (W.remaining (tally_lent wire.old)) (held (A.contents (tally_lent a.old)) (B.contents (tally_lent b.old)))
         (held (A.contents (tally_lent a.new)) (B.contents (tally_lent b.new))) result }
     ensures reads { CountsReadsOf result (tally_faults wire.old) (tally_faults wire.new) }
     ensures writes_a { CountsWritesOf of_side.A result (tally_faults a.old) (tally_faults a.new) }
@@ -67,7 +68,8 @@ pub fn tap<W: Read, A: Write, B: Write>(
     let Ok(mut sides) = Sides::new(alloc, asked, turns) else {
         return Err(TapFault::OutOfMemory);
     };
-    let Ok((head_a, head_b)) = heads(alloc, reader.node_a(), reader.node_b()) else {
+    let format = format_of(turns);
+    let Ok((head_a, head_b)) = heads(alloc, format, reader.node_a(), reader.node_b()) else {
         return Err(TapFault::OutOfMemory);
     };
     if let Err(side) = write_heads(head_a.as_slice(), head_b.as_slice(), a, b) {
@@ -86,13 +88,18 @@ fn search_with(alloc: Global, explained: Explained, turns: &[Turn]) -> Result<Se
 }
 
 // The heads of both captures.
-fn heads(alloc: Global, node_a: u16, node_b: u16) -> Result<(Vec<u8>, Vec<u8>), AllocError>
-    ensures { IfOk result (λ heads. (heads.0.items ≡ head_line Layout.One node_a node_b) × (heads.1.items ≡ head_line Layout.One node_b node_a)) }
+fn heads(
+    alloc: Global,
+    format: Format,
+    node_a: u16,
+    node_b: u16,
+) -> Result<(Vec<u8>, Vec<u8>), AllocError>
+    ensures { IfOk result (λ heads. (heads.0.items ≡ head_line format node_a node_b) × (heads.1.items ≡ head_line format node_b node_a)) }
 {
     let mut of_a = Vec::new(alloc);
-    put_head_line(&mut of_a, Format::One, node_a, node_b)?;
+    put_head_line(&mut of_a, format, node_a, node_b)?;
     let mut of_b = Vec::new(alloc);
-    put_head_line(&mut of_b, Format::One, node_b, node_a)?;
+    put_head_line(&mut of_b, format, node_b, node_a)?;
     Ok((of_a, of_b))
 }
 
@@ -102,8 +109,8 @@ impl Sides {
         ensures a { IfOk result (λ sides. IsNew sides.a) }
         ensures b { IfOk result (λ sides. IsNew sides.b) }
     {
-        let a = SideTap::new(alloc, asked.line_alone)?;
-        let b = SideTap::new(alloc, asked.line_alone)?;
+        let a = SideTap::new(alloc, asked.line_alone, Side::A, turns)?;
+        let b = SideTap::new(alloc, asked.line_alone, Side::B, turns)?;
         let search = search_with(alloc, asked.explained, turns)?;
         Ok(Sides { a, b, search })
     }
@@ -164,10 +171,10 @@ fn tap_rest<W: Read, A: Write, B: Write>(
     b: &mut Tally<B>,
 ) -> Result<Tapped, TapFault>
     requires { (reader.old.phase ≡ Phase.Reading) × (reader.old.items ≡ 0) }
-    ensures taps { (text : Option (List ℕ)) (old : Held) → IsLineUnderWay text old (line_state reader.old.items
+    ensures taps { (format : Format) (text : Option (List ℕ)) (old : Held) → IsLineUnderWay format text old (line_state reader.old.items
         (to_come reader.old.unread (W.remaining (tally_lent wire.old))) sides.old.a sides.old.b
         (held (A.contents (tally_lent a.old)) (B.contents (tally_lent b.old))))
-        → Taps last text old (held (A.contents (tally_lent a.new)) (B.contents (tally_lent b.new))) result
+        → Taps last format text old (held (A.contents (tally_lent a.new)) (B.contents (tally_lent b.new))) result
         × CountsReadsOf result (tally_faults wire.old) (tally_faults wire.new) }
     ensures writes_a { CountsWritesOf of_side.A result (tally_faults a.old) (tally_faults a.new) }
     ensures writes_b { CountsWritesOf of_side.B result (tally_faults b.old) (tally_faults b.new) }
@@ -198,10 +205,10 @@ fn pass_pieces<W: Read, A: Write, B: Write>(
     b: &mut Tally<B>,
 ) -> Result<Stop, TapFault>
     requires { (reader.old.phase ≡ Phase.Reading) × (reader.old.items ≡ 0) }
-    ensures stops { (text : Option (List ℕ)) (old : Held) → IsLineUnderWay text old (line_state reader.old.items
+    ensures stops { (format : Format) (text : Option (List ℕ)) (old : Held) → IsLineUnderWay format text old (line_state reader.old.items
         (to_come reader.old.unread (W.remaining (tally_lent wire.old))) sides.old.a sides.old.b
         (held (A.contents (tally_lent a.old)) (B.contents (tally_lent b.old))))
-        → Stops last text old (line_state reader.new.items
+        → Stops last format text old (line_state reader.new.items
         (to_come reader.new.unread (W.remaining (tally_lent wire.new))) sides.new.a sides.new.b
         (held (A.contents (tally_lent a.new)) (B.contents (tally_lent b.new)))) result }
     ensures reads { CountsReads (is_failed_reading result) (tally_faults wire.old) (tally_faults wire.new) }
@@ -228,10 +235,10 @@ fn turn<W: Read, A: Write, B: Write>(
     b: &mut Tally<B>,
 ) -> Result<Option<Stop>, TapFault>
     requires { reader.old.phase ≡ Phase.Reading }
-    ensures turns { (text : Option (List ℕ)) (old : Held) → IsLineUnderWay text old (line_state reader.old.items
+    ensures turns { (format : Format) (text : Option (List ℕ)) (old : Held) → IsLineUnderWay format text old (line_state reader.old.items
         (to_come reader.old.unread (W.remaining (tally_lent wire.old))) sides.old.a sides.old.b
         (held (A.contents (tally_lent a.old)) (B.contents (tally_lent b.old))))
-        → Turns last text old (line_state reader.new.items
+        → Turns last format text old (line_state reader.new.items
         (to_come reader.new.unread (W.remaining (tally_lent wire.new))) sides.new.a sides.new.b
         (held (A.contents (tally_lent a.new)) (B.contents (tally_lent b.new)))) result }
     ensures on { result ≡ Ok None → (reader.new.phase ≡ Phase.Reading) × (reader.old.items < MAX_PIECES)
@@ -258,11 +265,11 @@ fn pass_on<A: Write, B: Write>(
     a: &mut Tally<A>,
     b: &mut Tally<B>,
 ) -> Result<Option<Stop>, TapFault>
-    ensures turns { (was : ListState) (before after text : Option (List ℕ)) (old : Held) →
-        IsLineUnderWay text old (line_state was.items before sides.old.a sides.old.b
+    ensures turns { (was : ListState) (before after : Option (List ℕ)) (format : Format) (text : Option (List ℕ)) (old : Held) →
+        IsLineUnderWay format text old (line_state was.items before sides.old.a sides.old.b
         (held (A.contents (tally_lent a.old)) (B.contents (tally_lent b.old))))
         → Advances wire_form was reader.now before after (Ok (Some (piece at.side reader.now.bytes)))
-        → Turns at.last text old (line_state reader.now.items after sides.new.a sides.new.b
+        → Turns at.last format text old (line_state reader.now.items after sides.new.a sides.new.b
         (held (A.contents (tally_lent a.new)) (B.contents (tally_lent b.new)))) result }
     ensures reads { is_failed_turn result ≡ false }
     ensures writes_a { CountsWritesOf of_side.A result (tally_faults a.old) (tally_faults a.new) }

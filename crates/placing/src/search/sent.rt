@@ -2,7 +2,7 @@
 
 use super::way::Way;
 use crate::said::Said;
-use crate::turn::Turn;
+use crate::turn::{Assumed, Turn};
 use std::alloc::{AllocError, Global};
 use std::collections::VecDeque;
 
@@ -55,7 +55,7 @@ impl Sent {
         }
     }
 
-    /// A start is turned. `AllocError` as there.
+    /// This is assumed. `AllocError` as there.
     pub(crate) fn turn(&mut self, turn: Turn) -> Result<(), AllocError> {
         self.turns.push(turn)?;
         Ok(())
@@ -66,8 +66,10 @@ impl Sent {
         let unit = self.count();
         let mut most = u64::MAX;
         for turn in &self.turns {
-            if turn.unit == unit {
-                most = most.min(turn.kept);
+            if let Assumed::Keeps { most: kept } = turn.what {
+                if turn.unit == unit {
+                    most = most.min(kept);
+                }
             }
         }
         most

@@ -8,15 +8,37 @@ use capture::{Entry, Fate};
 use std::alloc::AllocError;
 
 impl Waiting {
-    /// Puts the line of the next unit of the other side, which came. `AllocError` where there is no memory for it.
+    /// Puts the line of the next unit of the other side, which came, after that of a call that was given up before. `AllocError` where there is no
+    /// memory for them.
+    #[tactic(auto, using(crate::proofs::Puts::puts_then))]
     pub(super) fn put_other(&mut self, kept: bool) -> Result<(), AllocError>
         ensures { OnOk result (Puts self.old self.new) }
     {
         if kept {
+            self.put_abort()?;
             self.keep_packet()?;
             return self.put_came(Fate::Kept);
         }
         self.put_came(Fate::NotKept)
+    }
+
+    // A call that was given up before the packet of the next unit of the other side, which answers it.
+    fn put_abort(&mut self) -> Result<(), AllocError>
+        ensures { OnOk result (Puts self.old self.new) }
+    {
+        match self.next_given_up() {
+            Some(link) => self.put_aside(Entry::Abort { link }, &[]),
+            None => self.put_nothing(),
+        }
+    }
+
+    fn next_given_up(&mut self) -> Option<u16>
+        ensures { self.new ≡ self.old }
+    {
+        let (Some(unit), Some(links)) = (self.other.front(), &mut self.links) else {
+            return None;
+        };
+        links.given_up_by_answer(unit.as_slice())
     }
 
     #[tactic(auto, using(crate::proofs::Puts::puts_nothing))]

@@ -42,11 +42,13 @@ impl Waiting {
     }
 
     // What comes before the next unit: what the user did with a link; or noise, where it is a NAK that tells of damage.
+    #[tactic(auto, using(crate::proofs::Puts::puts_then))]
     fn put_before(&mut self, is_new: bool) -> Result<(), AllocError>
         ensures puts { OnOk result (Puts self.old self.new) }
         ensures same { self.new.units ≡ self.old.units }
     {
         if is_new {
+            self.put_abort_before()?;
             return self.put_act();
         }
         match self.next_damage() {
@@ -66,6 +68,26 @@ impl Waiting {
             Said::Nak { reason, resp: _ } => Some(reason),
             _ => None,
         }
+    }
+
+    // A call that was given up before the next unit, which gives its address to another link.
+    fn put_abort_before(&mut self) -> Result<(), AllocError>
+        ensures puts { OnOk result (Puts self.old self.new) }
+        ensures same { self.new.units ≡ self.old.units }
+    {
+        match self.given_up_address() {
+            Some(link) => self.put_aside(Entry::Abort { link }, &[]),
+            None => self.put_nothing(),
+        }
+    }
+
+    fn given_up_address(&mut self) -> Option<u16>
+        ensures { self.new ≡ self.old }
+    {
+        let (Some(unit), Some(links)) = (self.own.front(), &mut self.links) else {
+            return None;
+        };
+        links.given_up_before(unit.as_slice())
     }
 
     // What the user did with a link before the next unit.
@@ -96,7 +118,7 @@ impl Waiting {
         let (Some(unit), Some(links)) = (self.own.front(), &mut self.links) else {
             return Ok(None);
         };
-        links.before(unit.as_slice())
+        links.before(unit.as_slice(), self.turned.gives_up(self.taken))
     }
 
     // A message that is handed in. One that is too long has no line; the judge will say so.

@@ -6,7 +6,7 @@ use Rattle.wire_base.specs.declared.side.Side.{Side}
 use Rattle.wire_base.specs.declared.side.Side.TheVariants.{A, B}
 use Rattle.capture.specs.declared.fault.CaptureFault.{CaptureFault}
 use Rattle.capture.specs.declared.fault.CaptureFault.TheVariants as of_text
-use Rattle.capture.specs.declared.format.Format.TheVariants.{One}
+use Rattle.capture.specs.declared.format.Format.{Format}
 use Rattle.capture.specs.declared.hint.HintForm.TheVariants.{Number}
 use Rattle.capture.specs.declared.record.Record.{Record}
 use Rattle.capture.specs.Faulty.{is_read_fault}
@@ -53,7 +53,7 @@ pub record IsUnderWay (bytes head : List ℕ) (old now : Option (List ℕ)) (sid
   pub left : framing side.held ≡ only_left side.held
   pub sent : units_sent records ++ side.units.waiting.units.own ≡ messages found.units
   pub count : side.units.count ≡ counted 0 (length (messages found.units))
-  pub over : HandsOver (head ++ record_lines Number records) side.units.waiting.text old now
+  pub over : HandsOver (head ++ record_lines Number records) side.units.waiting.format text old now
 
 -- The same where no more is read: these units have no record, and don't wait.
 pub record IsOver (bytes head : List ℕ) (old now : Option (List ℕ)) (units : UnitsState) : Type 0 where
@@ -61,7 +61,7 @@ pub record IsOver (bytes head : List ℕ) (old now : Option (List ℕ)) (units :
   pub others : List (List ℕ)
   pub sent : (units_sent records ++ units.waiting.units.own) ++ others ≡ messages (framing bytes).units
   pub count : units.count ≡ counted 0 (length (units_sent records ++ units.waiting.units.own))
-  pub over : HandsOver (head ++ record_lines Number records) units.waiting.text old now
+  pub over : HandsOver (head ++ record_lines Number records) units.waiting.format text old now
 
 -- ---- both sides
 
@@ -76,38 +76,38 @@ pub record LineState : Type 0 where
 abbrev pub line_state : ℕ → Option (List ℕ) → SideTap → SideTap → Held → LineState
 line_state pieces come a b now = record { pieces = pieces; come = come; a = side_state a; b = side_state b; now = now }
 
-abbrev pub head_a : Wire → List ℕ
-head_a wire = head_line One wire.node_a wire.node_b
+abbrev pub head_a : Format → Wire → List ℕ
+head_a format wire = head_line format wire.node_a wire.node_b
 
-abbrev pub head_b : Wire → List ℕ
-head_b wire = head_line One wire.node_b wire.node_a
+abbrev pub head_b : Format → Wire → List ℕ
+head_b format wire = head_line format wire.node_b wire.node_a
 
-pub record IsLineUnderWay (text : Option (List ℕ)) (old : Held) (line : LineState) : Type 0 where
+pub record IsLineUnderWay (format : Format) (text : Option (List ℕ)) (old : Held) (line : LineState) : Type 0 where
   pub wire : Wire
   pub read : IsListSoFar wire_form text wire line.come
   pub count : length wire.items ≡ line.pieces
-  pub a : IsUnderWay (bytes_of A wire.items) (head_a wire) old.a line.now.a line.a
-  pub b : IsUnderWay (bytes_of B wire.items) (head_b wire) old.b line.now.b line.b
+  pub a : IsUnderWay (bytes_of A wire.items) (head_a format wire) old.a line.now.a line.a
+  pub b : IsUnderWay (bytes_of B wire.items) (head_b format wire) old.b line.now.b line.b
 
 -- where no more is read, and this is to come
-pub record IsLineOver (text : Option (List ℕ)) (old : Held) (line : LineState) : Type 0 where
+pub record IsLineOver (format : Format) (text : Option (List ℕ)) (old : Held) (line : LineState) : Type 0 where
   pub wire : Wire
   pub come : Option (List ℕ)
   pub read : IsListSoFar wire_form text wire come
-  pub a : IsOver (bytes_of A wire.items) (head_a wire) old.a line.now.a line.a.units
-  pub b : IsOver (bytes_of B wire.items) (head_b wire) old.b line.now.b line.b.units
+  pub a : IsOver (bytes_of A wire.items) (head_a format wire) old.a line.now.a line.a.units
+  pub b : IsOver (bytes_of B wire.items) (head_b format wire) old.b line.now.b line.b.units
 
 -- the units of a side that have no record and don't wait
-abbrev pub others_at : {text : Option (List ℕ)} → {old : Held} → {line : LineState} → Side → IsLineOver text old line → List (List ℕ)
+abbrev pub others_at : {format : Format} → {text : Option (List ℕ)} → {old : Held} → {line : LineState} → Side → IsLineOver format text old line → List (List ℕ)
 others_at A over = over.a.others
 others_at B over = over.b.others
 
 -- how many units of a side have a record, or wait
-abbrev pub units_at : {text : Option (List ℕ)} → {old : Held} → {line : LineState} → Side → IsLineOver text old line → ℕ
+abbrev pub units_at : {format : Format} → {text : Option (List ℕ)} → {old : Held} → {line : LineState} → Side → IsLineOver format text old line → ℕ
 units_at {line = line} A over = length (units_sent over.a.records ++ line.a.units.waiting.units.own)
 units_at {line = line} B over = length (units_sent over.b.records ++ line.b.units.waiting.units.own)
 
-module _ {text : Option (List ℕ)} {old : Held} {line : LineState} (over : IsLineOver text old line) where
+module _ {format : Format} {text : Option (List ℕ)} {old : Held} {line : LineState} (over : IsLineOver format text old line) where
   -- all that was read passed
   pub record IsAllOver : Type 0 where
     pub a : over.a.others ≡ []
@@ -129,22 +129,22 @@ module _ {text : Option (List ℕ)} {old : Held} {line : LineState} (over : IsLi
 
 -- ---- one turn
 
-abbrev pub Stopped : Option (Side × ℕ) → Option (List ℕ) → Held → LineState → Stop → Type 0
-Stopped last text old line stop = (over : IsLineOver text old line) × StopsAs over last stop
+abbrev pub Stopped : Option (Side × ℕ) → Format → Option (List ℕ) → Held → LineState → Stop → Type 0
+Stopped last format text old line stop = (over : IsLineOver format text old line) × StopsAs over last stop
 
 -- the same wherever the reader is by now
-abbrev pub StoppedBefore : Option (Side × ℕ) → Option (List ℕ) → Held → LineState → Stop → Type 0
-StoppedBefore last text old line stop =
-    (pieces : ℕ) × (come : Option (List ℕ)) × Stopped last text old (record line { pieces = pieces; come = come }) stop
+abbrev pub StoppedBefore : Option (Side × ℕ) → Format → Option (List ℕ) → Held → LineState → Stop → Type 0
+StoppedBefore last format text old line stop =
+    (pieces : ℕ) × (come : Option (List ℕ)) × Stopped last format text old (record line { pieces = pieces; come = come }) stop
 
-abbrev pub Turns : Option (Side × ℕ) → Option (List ℕ) → Held → LineState → Result (Option Stop) TapFault → Type 0
-Turns last text old line (Ok None) = IsLineUnderWay text old line
-Turns last text old line (Ok (Some stop)) = StoppedBefore last text old line stop
-Turns last text old line (Err fault) = Taps last text old line.now (Err fault)
+abbrev pub Turns : Option (Side × ℕ) → Format → Option (List ℕ) → Held → LineState → Result (Option Stop) TapFault → Type 0
+Turns last format text old line (Ok None) = IsLineUnderWay format text old line
+Turns last format text old line (Ok (Some stop)) = StoppedBefore last format text old line stop
+Turns last format text old line (Err fault) = Taps last format text old line.now (Err fault)
 
-abbrev pub Stops : Option (Side × ℕ) → Option (List ℕ) → Held → LineState → Result Stop TapFault → Type 0
-Stops last text old line (Ok stop) = StoppedBefore last text old line stop
-Stops last text old line (Err fault) = Taps last text old line.now (Err fault)
+abbrev pub Stops : Option (Side × ℕ) → Format → Option (List ℕ) → Held → LineState → Result Stop TapFault → Type 0
+Stops last format text old line (Ok stop) = StoppedBefore last format text old line stop
+Stops last format text old line (Err fault) = Taps last format text old line.now (Err fault)
 
 -- another unit passed on the other side
 pub record StandsBeside (old new : SideState) : Type 0 where

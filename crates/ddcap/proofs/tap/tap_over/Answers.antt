@@ -15,7 +15,7 @@ returns-in_default-clause-checks g c =
     let verdict = c.in-Ok.verdict in
     let known = c.in-Ok.ensures in
     tells_verdict (nodes_of c.args.layers) text c.args.captured s verdict c.print_told.result known.judged (known.reads_a, known.reads_b)
-    (told_there (text verdict) c.args.captured.tapped s (telling c.args.captured.is_apart c.args.captured.tapped.ending verdict)
+    (told_there (text verdict) c.args.captured s (telling c.args.captured.is_apart c.args.captured.tapped.ending verdict)
     c.print_told.result
     (c.print_told.ensures (text verdict) c.verdict_text-text.ensures))
 

@@ -1,5 +1,6 @@
 use Rattle.std.proofs.Common.{◌≡◌, ◌≤◌, List, ℕ, Option}
 use Rattle.wire_base.specs.Tally.{tally_faults, tally_lent}
+use Rattle.capture.specs.declared.format.Format.{Format}
 use Rattle.capture.specs.declared.phase.Phase.TheVariants.{Reading}
 use Rattle.capture.specs.Lines.{to_come}
 use Rattle.wire_text.specs.declared.limit.TheConstants.{MAX_PIECES}
@@ -9,10 +10,10 @@ use Rattle.wire_tap.proofs.tapping.pass_pieces.Given as goal
 
 abbrev pub invariant-loop : goal.invariant-loop
 invariant-loop g l = record {
-  line : (text : Option (List ℕ)) (old : Held) → IsLineUnderWay text old (line_state l.fn.reader.items
+  line : (format : Format) (text : Option (List ℕ)) (old : Held) → IsLineUnderWay format text old (line_state l.fn.reader.items
       (to_come l.fn.reader.unread (g.W.Read.remaining (tally_lent l.fn.wire))) l.fn.sides.a l.fn.sides.b
       (held (g.A.Write.contents (tally_lent l.fn.a)) (g.B.Write.contents (tally_lent l.fn.b))))
-      → IsLineUnderWay text old (line_state l.reader.items
+      → IsLineUnderWay format text old (line_state l.reader.items
       (to_come l.reader.unread (g.W.Read.remaining (tally_lent l.wire))) l.sides.a l.sides.b
       (held (g.A.Write.contents (tally_lent l.a)) (g.B.Write.contents (tally_lent l.b))));
   reading : l.reader.phase ≡ Reading;

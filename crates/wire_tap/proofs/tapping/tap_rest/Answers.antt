@@ -10,18 +10,18 @@ use Rattle.wire_tap.proofs.EndLaws.{put_fails, refused, tap_departs, tap_ends}
 use Rattle.wire_tap.proofs.tapping.tap_rest.Goals as goal
 
 pub returns-in-Err-clause-taps : goal.returns-in-Err-clause-taps
-returns-in-Err-clause-taps g c text old h =
-    (c.in-Err.ensures.stops text old h, reads_fault _ _ _ refl c.in-Err.fault c.in-Err.ensures.reads)
+returns-in-Err-clause-taps g c format text old h =
+    (c.in-Err.ensures.stops format text old h, reads_fault _ _ _ refl c.in-Err.fault c.in-Err.ensures.reads)
 
 pub returns-in_default-clause-taps : goal.returns-in_default-clause-taps
-returns-in_default-clause-taps g c text old h =
-    let stopped = c.in-Ok.ensures.stops text old h in
-    (refused c.args.last text old _ stopped.2.0, reads_any _ _ _ refl (is_failed_stop c.in-Ok.stop) c.in-Ok.ensures.reads)
+returns-in_default-clause-taps g c format text old h =
+    let stopped = c.in-Ok.ensures.stops format text old h in
+    (refused c.args.last format text old _ stopped.2.0, reads_any _ _ _ refl (is_failed_stop c.in-Ok.stop) c.in-Ok.ensures.reads)
 
 pub returns-in-Err-write_both-clause-taps : goal.returns-in-Err-write_both-clause-taps
-returns-in-Err-write_both-clause-taps g c text old h =
-    let stopped = c.in-Ok.ensures.stops text old h in (
-      put_fails c.args.last text old _ _ _ stopped.2.0 c.in-Ok-finish.ensures.a c.in-Ok-finish.ensures.b c.in-Err-write_both.side
+returns-in-Err-write_both-clause-taps g c format text old h =
+    let stopped = c.in-Ok.ensures.stops format text old h in (
+      put_fails c.args.last format text old _ _ _ stopped.2.0 c.in-Ok-finish.ensures.a c.in-Ok-finish.ensures.b c.in-Err-write_both.side
           (tally_faults c.pass_pieces.new.a) (tally_faults c.pass_pieces.new.b) (
             outlet c.write_both.new.of_a.text (g.A.Write.contents (tally_lent c.write_both.new.a)) (tally_faults c.write_both.new.a),
             outlet c.write_both.new.of_b.text (g.B.Write.contents (tally_lent c.write_both.new.b)) (tally_faults c.write_both.new.b),
@@ -30,10 +30,10 @@ returns-in-Err-write_both-clause-taps g c text old h =
     )
 
 pub returns-in-Ends-clause-taps : goal.returns-in-Ends-clause-taps
-returns-in-Ends-clause-taps g c text old h =
-    let stopped = rw c.in-Ends.is at c.in-Ok.ensures.stops text old h in
+returns-in-Ends-clause-taps g c format text old h =
+    let stopped = rw c.in-Ends.is at c.in-Ok.ensures.stops format text old h in
     let passes = c.in_default-write_both.ensures.writes in (
-      tap_ends c.args.last text old _ _ _ stopped.2.0 c.in-Ok-finish.ensures.a c.in-Ok-finish.ensures.b
+      tap_ends c.args.last format text old _ _ _ stopped.2.0 c.in-Ok-finish.ensures.a c.in-Ok-finish.ensures.b
           (held (g.A.Write.contents (tally_lent c.write_both.new.a)) (g.B.Write.contents (tally_lent c.write_both.new.b)))
           c.write_both.new.of_a.text c.write_both.new.of_b.text c.in_default-write_both.ensures.empty_a c.in_default-write_both.ensures.empty_b
           passes.0.over passes.1.over c.in-Ends.ending c.tapped.result c.tapped.ensures.ending stopped.2.1
@@ -42,10 +42,10 @@ returns-in-Ends-clause-taps g c text old h =
     )
 
 pub returns-in-Text-clause-taps : goal.returns-in-Text-clause-taps
-returns-in-Text-clause-taps g c text old h =
-    let stopped = rw c.in-Text.is at c.in-Ok.ensures.stops text old h in
+returns-in-Text-clause-taps g c format text old h =
+    let stopped = rw c.in-Text.is at c.in-Ok.ensures.stops format text old h in
     let passes = c.in_default-write_both.ensures.writes in (
-      rw c.reading_fault.ensures (tap_departs c.args.last text old _ _ _ stopped.2.0 c.in-Ok-finish.ensures.a c.in-Ok-finish.ensures.b
+      rw c.reading_fault.ensures (tap_departs c.args.last format text old _ _ _ stopped.2.0 c.in-Ok-finish.ensures.a c.in-Ok-finish.ensures.b
           (held (g.A.Write.contents (tally_lent c.write_both.new.a)) (g.B.Write.contents (tally_lent c.write_both.new.b)))
           c.write_both.new.of_a.text c.write_both.new.of_b.text c.in_default-write_both.ensures.empty_a c.in_default-write_both.ensures.empty_b
           passes.0.over passes.1.over c.in-Text.fault stopped.2.1),
