@@ -155,6 +155,31 @@ impl Search {
                 hypothesis.front_mut(side.other()).forget_before(least);
             }
         }
+        self.prune(side)
+    }
+
+    // Steps of the side that lead to none of its states are dropped.
+    fn prune(&mut self, side: Side) -> Result<(), AllocError> {
+        self.ends.clear();
+        for hypothesis in self.hypotheses.iter() {
+            for state in &hypothesis.front(side).states {
+                self.ends.push(state.last)?;
+            }
+        }
+        let alloc = self.alloc;
+        match side {
+            Side::A => self.a.way.drop_dead(alloc, &mut self.ends)?,
+            Side::B => self.b.way.drop_dead(alloc, &mut self.ends)?,
+        }
+        let mut at: usize = 0;
+        for hypothesis in self.hypotheses.iter_mut() {
+            for state in hypothesis.front_mut(side).states.iter_mut() {
+                if let Some(end) = self.ends.get(at) {
+                    state.last = *end;
+                }
+                at = at.saturating_add(1);
+            }
+        }
         Ok(())
     }
 

@@ -90,6 +90,74 @@ impl Way {
         Ok(())
     }
 
+    /// Steps that are on no way to one of these are dropped, and the others numbered anew, in the same order. Each of these is then the new number of
+    /// its step. `AllocError` where there is no memory for it; then nothing changed.
+    pub(crate) fn drop_dead(&mut self, alloc: Global, ends: &mut [u64]) -> Result<(), AllocError> {
+        let mut numbers = self.marked(alloc, ends)?;
+        let mut live: usize = 0;
+        for place in 0..numbers.len() {
+            if !is_marked(numbers.as_slice(), place) {
+                continue;
+            }
+            let Some(step) = self.steps.get(place).copied() else {
+                break;
+            };
+            let before = self.numbered_anew(numbers.as_slice(), step.before);
+            if let Some(kept) = self.steps.get_mut(live) {
+                *kept = Step { before, ..step };
+            }
+            live = live.saturating_add(1);
+            if let Some(number) = numbers.get_mut(place) {
+                *number = self.gone.saturating_add(live as u64);
+            }
+        }
+        for end in ends.iter_mut() {
+            *end = self.numbered_anew(numbers.as_slice(), *end);
+        }
+        for _ in live..self.steps.len() {
+            let _ = self.steps.pop_back();
+        }
+        self.due = self.steps.len().saturating_mul(2).saturating_add(FEW_STEPS);
+        Ok(())
+    }
+
+    // For each step whether it is on a way to one of these: not 0 where it is.
+    fn marked(&self, alloc: Global, ends: &[u64]) -> Result<Vec<u64>, AllocError> {
+        let count = self.steps.len();
+        let mut marks = vec![in alloc; 0u64; count]?;
+        for end in ends {
+            self.mark(&mut marks, *end);
+        }
+        for behind in 0..count {
+            let place = count - behind - 1;
+            if is_marked(marks.as_slice(), place) {
+                if let Some(step) = self.steps.get(place).copied() {
+                    self.mark(&mut marks, step.before);
+                }
+            }
+        }
+        Ok(marks)
+    }
+
+    fn mark(&self, marks: &mut Vec<u64>, number: u64) {
+        if number > self.gone {
+            if let Some(mark) = marks.get_mut((number - self.gone - 1) as usize) {
+                *mark = 1;
+            }
+        }
+    }
+
+    // The new number of a step, where those of all before it are known.
+    fn numbered_anew(&self, numbers: &[u64], number: u64) -> u64 {
+        if number <= self.gone {
+            return number;
+        }
+        match numbers.get((number - self.gone - 1) as usize) {
+            Some(anew) => *anew,
+            None => number,
+        }
+    }
+
     /// How many settled moves wait.
     pub(crate) fn settled(&self) -> usize {
         self.settled.len()
@@ -146,6 +214,13 @@ impl Way {
                 self.gone = self.gone.saturating_add(1);
             }
         }
+    }
+}
+
+fn is_marked(marks: &[u64], place: usize) -> bool {
+    match marks.get(place) {
+        Some(mark) => *mark != 0,
+        None => false,
     }
 }
 
