@@ -43,6 +43,7 @@ mod objects;
 mod path_text;
 mod picture;
 mod play;
+mod play_files;
 mod queued_too;
 mod recorder;
 mod right_units;

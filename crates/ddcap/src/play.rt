@@ -1,13 +1,13 @@
 //! `play`: a script, and the captures of both sides that it stands for.
 
-ghost use Rattle.std.specs.Prelude.{◌≤◌, length};
-ghost use Rattle.ddcap.specs.Playing.{IsPlaying, failed_write_text, play_fault_status, play_fault_text, script_line_text, steps_text};
+ghost use Rattle.std.specs.Prelude.{◌≡◌, ◌≤◌, length, None, IfSome};
+ghost use Rattle.ddcap.specs.Playing.{IsPlaying, TellsPlayed, failed_write_text, play_fault_status, play_fault_text, script_line_text, steps_text};
 ghost use Rattle.ddcap.specs.Printed.{Writes, moved, stream_of};
 
 use crate::check::{print, print_out_of_memory};
 use crate::text::{FAILED, FAULTY};
 use capture::Page;
-use pair_player::{PlayFault, play};
+use pair_player::{NeedsFormat3, PlayFault, Played, play, play_at_once};
 use std::alloc::Global;
 use std::io::{Read, Write};
 use wire_base::{Side, Tally};
@@ -38,9 +38,47 @@ pub fn play_to<S: Read, A: Write, B: Write, O: Write, E: Write>(
     let Ok(mut page) = Page::new(alloc) else {
         return print_out_of_memory(err);
     };
-    match play(alloc, script, a, b) {
-        Ok(played) => print_steps(&mut page, out, played.steps),
-        Err(fault) => print_play_fault(&mut page, err, fault),
+    let answer = play(alloc, script, a, b);
+    print_answer(&mut page, answer, out, err)
+}
+
+/// The same, where few lines wait in memory. `None`: a step needs format 3, and lines were written in format 1. Then nothing was printed, and the
+/// script is to be played again, by `play_to`, into files that hold nothing.
+pub fn play_at_once_to<S: Read, A: Write, B: Write, O: Write, E: Write>(
+    alloc: Global,
+    script: &mut Tally<S>,
+    a: &mut Tally<A>,
+    b: &mut Tally<B>,
+    out: &mut Tally<O>,
+    err: &mut Tally<E>,
+) -> Option<u8>
+    ensures played { IfSome result (IsPlaying (moved S.remaining script.old script.new)
+        (moved A.contents a.old a.new, moved B.contents b.old b.new)
+        (moved O.contents out.old out.new) (moved E.contents err.old err.new)) }
+    ensures out { result ≡ None → out.new ≡ out.old }
+    ensures err { result ≡ None → err.new ≡ err.old }
+{
+    let Ok(mut page) = Page::new(alloc) else {
+        return Some(print_out_of_memory(err));
+    };
+    match play_at_once(alloc, script, a, b) {
+        Ok(answer) => Some(print_answer(&mut page, answer, out, err)),
+        Err(NeedsFormat3) => None,
+    }
+}
+
+// Prints what the player answers, put together on the page, and answers the status.
+fn print_answer<O: Write, E: Write>(
+    page: &mut Page,
+    answer: Result<Played, PlayFault>,
+    out: &mut Tally<O>,
+    err: &mut Tally<E>,
+) -> u8
+    ensures { TellsPlayed (moved O.contents out.old out.new) (moved E.contents err.old err.new) answer result }
+{
+    match answer {
+        Ok(played) => print_steps(page, out, played.steps),
+        Err(fault) => print_play_fault(page, err, fault),
     }
 }
 

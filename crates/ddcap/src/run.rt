@@ -16,14 +16,14 @@ use crate::explanations::explanation_of;
 use crate::fault_told::FaultTold;
 use crate::files::{Named, Wanted, opened, opened_plain};
 use crate::help::help_to;
-use crate::play::play_to;
+use crate::play_files::{PlayPaths, play_files};
 use crate::show::show_to;
 use crate::tap_files::tap_files;
 use crate::telling::{Printout, why_to};
 use crate::text::FAULTY;
 use crate::usages::advice_on;
 use crate::words::{Task, WordsFault, task_of};
-use crate::written::{Beside, written, written_pair};
+use crate::written::{Beside, written};
 use capture::Format;
 use pair_judge::Reason;
 use std::env;
@@ -188,25 +188,8 @@ impl<R: Files + AllocGlobal, O: Write, E: Write> Program<'_, '_, '_, R, O, E> {
     }
 
     // Plays the script into both captures.
-    fn play(&mut self, path: &str, path_a: &str, path_b: &str) -> Result<u8, FaultTold> {
-        let script = opened_plain(self.rt, Wanted::by_name(Named::Script, path), self.err)?;
-        let beside = Beside {
-            named: Named::Script,
-            file: &script,
-        };
-        let (wanted_a, wanted_b) = (
-            Wanted::by_name(Named::A, path_a),
-            Wanted::by_name(Named::B, path_b),
-        );
-        let (mut a, mut b) = written_pair(self.rt, &beside, wanted_a, wanted_b, self.err)?;
-        Ok(play_to(
-            self.rt.alloc(),
-            &mut Tally::new(script),
-            &mut a,
-            &mut b,
-            self.out,
-            self.err,
-        ))
+    fn play(&mut self, script: &str, a: &str, b: &str) -> Result<u8, FaultTold> {
+        play_files(self.rt, PlayPaths { script, a, b }, self.out, self.err)
     }
 
     fn explain(&mut self, reason: Reason) -> Result<u8, FaultTold> {

@@ -146,6 +146,15 @@ fn is_same<F: OpenFile>(file: &F, other: &F) -> io::Result<bool> {
     Ok(node_of(other)? == Some(node))
 }
 
+/// Whether it is a file on a disk, which holds what was written into it; not a pipe, a terminal or another device, and not one of which the system
+/// doesn't tell.
+pub fn is_on_disk<F: OpenFile>(file: &F) -> bool {
+    match node_of(file) {
+        Ok(node) => node.is_some(),
+        Err(_) => false,
+    }
+}
+
 // `None` of a pipe, a terminal or another device, which holds nothing that could be lost.
 fn node_of<F: OpenFile>(file: &F) -> io::Result<Option<Node>> {
     let metadata = file.metadata()?;

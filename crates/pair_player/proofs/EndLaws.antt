@@ -112,7 +112,7 @@ module _ (text : Option (List ℕ)) (old : Held) (p : Place) (h : IsUnderWay tex
   -- the same where the lines that wait are seen behind it
   pub stopped : (step : ScriptStep) (lines : ListState) (after : Option (List ℕ)) (at : Standing) (fault : StepFault)
       (answer : Result Played PlayFault) (n m : ℕ) (new : Outlet × Outlet)
-      → Advances script_form p.lines lines p.come after (Ok (Some step)) → StopsStep step (standing p.pair p.a p.b p.three) at fault →
+      → Advances script_form p.lines lines p.come after (Ok (Some step)) → StopsStep step (standing p.pair p.a p.b p.three p.is_begun) at fault →
       EndsAll (Err (fault_at (p.steps + 2) fault)) (outlet at.a p.now.a n, outlet at.b p.now.b m) new answer
       → Plays text old (held new.0.held new.1.held) answer
   stopped step lines after at fault answer n m new advances stops ends =

@@ -82,26 +82,36 @@ none_taken whole rest old now h same = subst (Appends old now) (go h.written (
     go (x ∷ xs) e = absurd (omega arith)
 
 -- one side's text after a step, where the format is 3 from this step on, or was before
-pub record HeadedOn (three now : Bool) (own peer : ℕ) (rs : List Record) (new : List ℕ) (old later : Option (List ℕ)) : Type 0 where
+pub record HeadedOn (is_begun three now : Bool) (own peer : ℕ) (rs : List Record) (new : List ℕ) (old later : Option (List ℕ)) : Type 0 where
   pub over : HandsOver (capture_text (format_by (three || now)) own peer rs) new old later
-  pub waits : three || now ≡ false → new ≡ capture_text (format_by (three || now)) own peer rs
+  pub waits : is_begun ≡ false → new ≡ capture_text (format_by (three || now)) own peer rs
 
-pub headed_on : (three now : Bool) (own peer : ℕ) (rs : List Record) (put new : List ℕ) (old later : Option (List ℕ)) →
+-- a head that was written is not changed any more
+abbrev pub IsInTime : (is_begun three now : Bool) → Type 0
+IsInTime is_begun three now = is_begun && (not three && now) ≡ false
+
+in_time : (is_begun : Bool) → is_begun && true ≡ false → is_begun ≡ false
+in_time true e = e
+in_time false e = refl
+
+pub headed_on : (is_begun three now : Bool) → IsInTime is_begun three now →
+    (own peer : ℕ) (rs : List Record) (put new : List ℕ) (old later : Option (List ℕ)) →
     HandsOver (capture_text (format_by three) own peer rs) put old later →
-    (three ≡ false → put ≡ capture_text (format_by three) own peer rs) → HasHead (not three && now) put new →
-    HeadedOn three now own peer rs new old later
-headed_on true now own peer rs put new old later over all is = record {
+    (is_begun ≡ false → put ≡ capture_text (format_by three) own peer rs) → HasHead (not three && now) put new →
+    HeadedOn is_begun three now own peer rs new old later
+headed_on is_begun true now early own peer rs put new old later over all is = record {
   over = subst (λ (x : List ℕ). HandsOver (capture_text Three own peer rs) x old later) (sym is) over;
-  waits = λ e. absurd cc;
+  waits = λ e. is ∙ all e;
 }
-headed_on false false own peer rs put new old later over all is = record {
+headed_on is_begun false false early own peer rs put new old later over all is = record {
   over = subst (λ (x : List ℕ). HandsOver (capture_text One own peer rs) x old later) (sym is) over;
-  waits = λ e. is ∙ all refl;
+  waits = λ e. is ∙ all e;
 }
-headed_on false true own peer rs put new old later over all is =
-    let whole = is own peer (record_lines Number rs) (all refl) ∙ sym (text_is true own peer rs) in
+headed_on is_begun false true early own peer rs put new old later over all is =
+    let none = in_time is_begun early in
+    let whole = is own peer (record_lines Number rs) (all none) ∙ sym (text_is true own peer rs) in
     record {
       over = subst (λ (x : List ℕ). HandsOver (capture_text Three own peer rs) x old later) (sym whole)
-          (record { written = []; parts = refl; taken = none_taken _ put old later over (all refl) });
-      waits = λ e. absurd cc;
+          (record { written = []; parts = refl; taken = none_taken _ put old later over (all none) });
+      waits = λ e. whole;
     }

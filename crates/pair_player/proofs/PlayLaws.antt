@@ -1,6 +1,6 @@
 -- What was played of a script, from one step to the next.
 use Rattle.std.proofs.Common.{◌≡◌, ℕ, ◌+◌, ◌<◌, Bool, false, List, [], ◌∷◌, ◌++◌, length, Option, Some, Ok, Err, refl}
-use Rattle.std.proofs.Common.{sym, ap, subst, ◌∙◌, arith, length-append, append-nil}
+use Rattle.std.proofs.Common.{true, sym, ap, ap₂, subst, ◌∙◌, arith, length-append, append-nil}
 use Rattle.std.specs.Prelude.{◌&&◌, ◌||◌, not}
 use Rattle.std.specs.Io.KnownBytes.{Consumes}
 use Rattle.wire_base.specs.declared.side.Side.{Side}
@@ -28,7 +28,7 @@ use Rattle.pair_player.specs.inner.Making.{HasHead, PutsLines, Standing, Steps, 
 use Rattle.capture.specs.inner.Outlets.{FailsAt, Outlet, outlet}
 use Rattle.capture.proofs.ListedSoFar.{opened, one_more}
 use Rattle.capture.proofs.OverLaws.{all_over, beginning_over, more_over, nothing_over, on_over, some_over}
-use Rattle.pair_player.proofs.Headed.{format_by, headed_on, text-more, three-append}
+use Rattle.pair_player.proofs.Headed.{IsInTime, format_by, headed_on, text-more, three-append}
 
 -- ---- between two steps
 
@@ -40,12 +40,23 @@ pub record Place : Type 0 where
   pub a : List ℕ
   pub b : List ℕ
   pub three : Bool
+  pub is_begun : Bool
   pub now : Held
   pub steps : ℕ
 
 abbrev pub place : ListState → Option (List ℕ) → Standing → Held → ℕ → Place
 place lines come at now steps =
-    record { lines = lines; come = come; pair = at.pair; a = at.a; b = at.b; three = at.three; now = now; steps = steps }
+    record {
+      lines = lines;
+      come = come;
+      pair = at.pair;
+      a = at.a;
+      b = at.b;
+      three = at.three;
+      is_begun = at.is_begun;
+      now = now;
+      steps = steps;
+    }
 
 -- so many steps were read and made; a part of both texts was written, and the rest waits
 pub record IsUnderWay (text : Option (List ℕ)) (old : Held) (p : Place) : Type 0 where
@@ -59,8 +70,8 @@ pub record IsUnderWay (text : Option (List ℕ)) (old : Held) (p : Place) : Type
   pub over_a : HandsOver (text_a reached) p.a old.a p.now.a
   pub over_b : HandsOver (text_b reached) p.b old.b p.now.b
   pub three_is : has_of_three reached.script.steps ≡ p.three
-  -- all waits until a record is not in format 1
-  pub waits : p.three ≡ false → (p.a ≡ text_a reached) × (p.b ≡ text_b reached)
+  -- all waits until a head is written
+  pub waits : p.is_begun ≡ false → (p.a ≡ text_a reached) × (p.b ≡ text_b reached)
 
 abbrev no_step : ListState → Option (List ℕ) → Reached
 no_step lines left = let script = no_steps lines.node_a lines.node_b in record { script = script; played = stored_not_begun script; come = left }
@@ -132,7 +143,7 @@ module _ (text : Option (List ℕ)) (old : Held) (p : Place) (h : IsUnderWay tex
 
   -- and all waits still, where it did
   put_waits : (side : Side) (step : StepValue) (made : StoredStepped) (put : List ℕ × List ℕ) →
-      PutsLines side (p.a, p.b) put (record_lines Number made.records) → p.three ≡ false →
+      PutsLines side (p.a, p.b) put (record_lines Number made.records) → p.is_begun ≡ false →
       let script = h.reached.script in let after = played_after h.reached.played side step made in
       (put.0 ≡ capture_text (format_of script.steps) script.node_a script.node_b after.of_a)
       × (put.1 ≡ capture_text (format_of script.steps) script.node_b script.node_a after.of_b)
@@ -152,9 +163,9 @@ module _ (text : Option (List ℕ)) (old : Held) (p : Place) (h : IsUnderWay tex
 
   -- the step that was read is made
   pub step_on : (step : ScriptStep) (lines : ListState) (after : Option (List ℕ)) (at : Standing) →
-      Advances script_form p.lines lines p.come after (Ok (Some step))
-      → Steps step (standing p.pair p.a p.b p.three) at → IsUnderWay text old (place lines after at p.now (p.steps + 1))
-  step_on step lines after at advances steps =
+      Advances script_form p.lines lines p.come after (Ok (Some step)) → IsInTime p.is_begun p.three (is_of_three step.step)
+      → Steps step (standing p.pair p.a p.b p.three p.is_begun) at → IsUnderWay text old (place lines after at p.now (p.steps + 1))
+  step_on step lines after at advances early steps =
       let count = h.count in
       let counted = h.counted in
       let script = h.reached.script in
@@ -163,11 +174,14 @@ module _ (text : Option (List ℕ)) (old : Held) (p : Place) (h : IsUnderWay tex
       let puts = put_on step.side step.step steps.made steps.put steps.puts in
       let all = put_waits step.side step.step steps.made steps.put steps.puts in
       let same = three-append script.steps step in
-      let a = headed_on (has_of_three script.steps) now script.node_a script.node_b made.of_a steps.put.0 at.a old.a p.now.a puts.0
-      (λ none. (all (sym h.three_is ∙ none)).0)
+      let in_time = subst (λ (b : Bool). IsInTime p.is_begun b now) (sym h.three_is) early in
+      let a = headed_on p.is_begun (has_of_three script.steps) now in_time
+      script.node_a script.node_b made.of_a steps.put.0 at.a old.a p.now.a puts.0
+      (λ none. (all none).0)
       (subst (λ (b : Bool). HasHead (not b && now) steps.put.0 at.a) (sym h.three_is) steps.head_a) in
-      let b = headed_on (has_of_three script.steps) now script.node_b script.node_a made.of_b steps.put.1 at.b old.b p.now.b puts.1
-      (λ none. (all (sym h.three_is ∙ none)).1)
+      let b = headed_on p.is_begun (has_of_three script.steps) now in_time
+      script.node_b script.node_a made.of_b steps.put.1 at.b old.b p.now.b puts.1
+      (λ none. (all none).1)
       (subst (λ (b : Bool). HasHead (not b && now) steps.put.1 at.b) (sym h.three_is) steps.head_b) in
       let three : has_of_three script.steps || now ≡ at.three = ap (λ (b : Bool). b || now) h.three_is ∙ sym steps.three in
       record {
@@ -184,17 +198,17 @@ module _ (text : Option (List ℕ)) (old : Held) (p : Place) (h : IsUnderWay tex
         over_b = subst (λ (b : Bool). HandsOver (capture_text (format_by b) script.node_b script.node_a made.of_b) at.b old.b p.now.b) (sym same)
             b.over;
         three_is = same ∙ three;
-        waits = λ none. let still = three ∙ none in (
+        waits = λ none. let still = sym steps.is_begun ∙ none in (
           a.waits still ∙ ap (λ (b : Bool). capture_text (format_by b) script.node_a script.node_b made.of_a) (sym same),
           b.waits still ∙ ap (λ (b : Bool). capture_text (format_by b) script.node_b script.node_a made.of_b) (sym same),
         );
       }
 
   -- some of the lines that waited were written
-  pub moved_on : (later : Held) (a b : List ℕ) (three : Bool) → HandsOver p.a a p.now.a later.a → HandsOver p.b b p.now.b later.b →
-      three ≡ p.three → (p.three ≡ false → a ≡ p.a) → (p.three ≡ false → b ≡ p.b) →
-      IsUnderWay text old (place p.lines p.come (standing p.pair a b three) later p.steps)
-  moved_on later a b three over_a over_b same stays_a stays_b = record {
+  pub moved_on : (later : Held) (a b : List ℕ) (three is_begun : Bool) → HandsOver p.a a p.now.a later.a → HandsOver p.b b p.now.b later.b →
+      three ≡ p.three → (is_begun ≡ false → p.is_begun ≡ false) → (is_begun ≡ false → a ≡ p.a) → (is_begun ≡ false → b ≡ p.b) →
+      IsUnderWay text old (place p.lines p.come (standing p.pair a b three is_begun) later p.steps)
+  moved_on later a b three is_begun over_a over_b same before stays_a stays_b = record {
     reached = h.reached;
     played = h.played;
     come_is = h.come_is;
@@ -205,7 +219,7 @@ module _ (text : Option (List ℕ)) (old : Held) (p : Place) (h : IsUnderWay tex
     over_a = on_over _ _ _ _ h.over_a a later.a over_a;
     over_b = on_over _ _ _ _ h.over_b b later.b over_b;
     three_is = h.three_is ∙ sym same;
-    waits = λ none. let before = sym same ∙ none in let w = h.waits before in (stays_a before ∙ w.0, stays_b before ∙ w.1);
+    waits = λ none. let w = h.waits (before none) in (stays_a none ∙ w.0, stays_b none ∙ w.1);
   }
 
   -- ---- where a write fails, or the rest is written
@@ -221,3 +235,16 @@ module _ (text : Option (List ℕ)) (old : Held) (p : Place) (h : IsUnderWay tex
     a = all_over _ _ _ _ (on_over _ _ _ _ h.over_a a later.a over_a) none_a;
     b = all_over _ _ _ _ (on_over _ _ _ _ h.over_b b later.b over_b) none_b;
   }
+
+-- ---- where lines may not be written before the format is known
+
+first_is_false : (a b : Bool) → a || b ≡ false → a ≡ false
+first_is_false true b e = e
+first_is_false false b e = refl
+
+-- no head is written then, as long as no step needs format 3
+pub held_back : (step : ScriptStep) (old at : Standing) (streams now begun : Bool) → Steps step old at → streams ≡ false → at.three ≡ false →
+    (at.three || streams ≡ false → now ≡ at.is_begun) → (old.three ≡ false → old.is_begun ≡ begun) → now ≡ begun
+held_back step old at streams now begun steps holds none writes before =
+    writes (ap₂ (λ (x y : Bool). x || y) none holds) ∙ steps.is_begun
+    ∙ before (first_is_false old.three (is_of_three step.step) (sym steps.three ∙ none))

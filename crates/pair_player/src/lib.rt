@@ -23,7 +23,7 @@ pub use laws::played_whole;
 pub use limit::MAX_STEPS;
 pub use played::Played;
 pub use player_end::StepFault;
-pub use playing::play;
+pub use playing::{NeedsFormat3, play, play_at_once};
 pub use run_laws::{
     answered_as_true_ends, starts_once_throughout, stopped_by_its_rule, what_an_end_may_send,
     written_captures_are_a_run, written_captures_are_texts,

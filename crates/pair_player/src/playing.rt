@@ -1,6 +1,6 @@
 //! A script is read, its steps are made, and both captures are written.
 
-ghost use Rattle.std.specs.Prelude.{◌≡◌, ℕ, List, Option, IfOk, IfErr};
+ghost use Rattle.std.specs.Prelude.{◌≡◌, ℕ, List, Option, true, false, IfOk, IfErr, OnErr};
 ghost use Rattle.wire_base.specs.Tally.{tally_faults, tally_lent};
 ghost use Rattle.wire_base.specs.declared.side.Side.TheVariants as of_side;
 ghost use Rattle.capture.specs.declared.phase.Phase.TheVariants as Phase;
@@ -25,6 +25,10 @@ use std::alloc::Global;
 use std::io::{Read, Write};
 use wire_base::{Side, Tally};
 
+/// A step needs format 3, and lines were written in format 1.
+#[derive(Clone, Copy, Debug, PartialEq, Eq)]
+pub struct NeedsFormat3;
+
 // A script whose head was read, both ends before its first step, and the heads of both captures.
 #[derive(Drop)]
 struct Begun {
@@ -42,6 +46,8 @@ struct Begun {
 /// it is line 1. `Read`, a call of the script's reader failed: they took those of all whole lines that it had given, or nothing where it had
 /// given no head. `OutOfMemory`, memory was refused: those of all steps before the one that was refused it, or nothing where the head was.
 /// `Write`, a call of the writer of that side failed: each took a beginning of its capture, and the one that failed not all of it.
+///
+/// All lines wait in memory until a step needs format 3 or the script ends: `play_at_once` writes before that.
 pub fn play<R: Read, A: Write, B: Write>(
     alloc: Global,
     script: &mut Tally<R>,
@@ -58,9 +64,38 @@ pub fn play<R: Read, A: Write, B: Write>(
     ensures writes_a { CountsWritesOf of_side.A result (tally_faults a.old) (tally_faults a.new) }
     ensures writes_b { CountsWritesOf of_side.B result (tally_faults b.old) (tally_faults b.new) }
 {
-    match begin(alloc, script) {
-        Ok(mut begun) => play_steps(&mut begun, script, a, b),
+    match begin(alloc, script, false) {
+        Ok(mut begun) => match play_steps(&mut begun, script, a, b) {
+            Ok(answer) => answer,
+            Err(NeedsFormat3) => unreachable!(),
+        },
         Err(fault) => Err(fault),
+    }
+}
+
+/// The same, where few lines wait in memory: they are written, in format 1, before it is known whether a step needs format 3.
+///
+/// `NeedsFormat3`: such a step came after lines were written. Nothing is said of what the writers took, and the script is to be played again,
+/// by `play`, to writers that took nothing.
+pub fn play_at_once<R: Read, A: Write, B: Write>(
+    alloc: Global,
+    script: &mut Tally<R>,
+    a: &mut Tally<A>,
+    b: &mut Tally<B>,
+) -> Result<Result<Played, PlayFault>, NeedsFormat3>
+    ensures plays { IfOk result (Plays (R.remaining (tally_lent script.old))
+        (held (A.contents (tally_lent a.old)) (B.contents (tally_lent b.old)))
+        (held (A.contents (tally_lent a.new)) (B.contents (tally_lent b.new)))) }
+    ensures lines { IfOk result (PlaysWholeLines (R.remaining (tally_lent script.old)) (R.remaining (tally_lent script.new))
+        (held (A.contents (tally_lent a.old)) (B.contents (tally_lent b.old)))
+        (held (A.contents (tally_lent a.new)) (B.contents (tally_lent b.new)))) }
+    ensures reads { IfOk result (λ answer. CountsReadsOf answer (tally_faults script.old) (tally_faults script.new)) }
+    ensures writes_a { IfOk result (λ answer. CountsWritesOf of_side.A answer (tally_faults a.old) (tally_faults a.new)) }
+    ensures writes_b { IfOk result (λ answer. CountsWritesOf of_side.B answer (tally_faults b.old) (tally_faults b.new)) }
+{
+    match begin(alloc, script, true) {
+        Ok(mut begun) => play_steps(&mut begun, script, a, b),
+        Err(fault) => Ok(Err(fault)),
     }
 }
 
@@ -70,51 +105,58 @@ fn play_steps<R: Read, A: Write, B: Write>(
     script: &mut Tally<R>,
     a: &mut Tally<A>,
     b: &mut Tally<B>,
-) -> Result<Played, PlayFault>
+) -> Result<Result<Played, PlayFault>, NeedsFormat3>
     requires { (begun.now.lines.phase ≡ Phase.Reading) × (begun.now.lines.items ≡ 0) }
     ensures plays { (text : Option (List ℕ)) → IsBegun text (R.remaining (tally_lent script.old)) begun.old.lines
-        (standing begun.old.ends begun.old.texts.a.items begun.old.texts.b.items begun.old.texts.three)
-        → Plays text (held (A.contents (tally_lent a.old)) (B.contents (tally_lent b.old)))
-        (held (A.contents (tally_lent a.new)) (B.contents (tally_lent b.new))) result }
+        (standing begun.old.ends begun.old.texts.a.items begun.old.texts.b.items begun.old.texts.three begun.old.texts.is_begun)
+        → IfOk result (Plays text (held (A.contents (tally_lent a.old)) (B.contents (tally_lent b.old)))
+        (held (A.contents (tally_lent a.new)) (B.contents (tally_lent b.new)))) }
     ensures lines { (text : Option (List ℕ)) → IsBegun text (R.remaining (tally_lent script.old)) begun.old.lines
-        (standing begun.old.ends begun.old.texts.a.items begun.old.texts.b.items begun.old.texts.three)
-        → PlaysWholeLines text (R.remaining (tally_lent script.new))
-        (held (A.contents (tally_lent a.old)) (B.contents (tally_lent b.old))) (held (A.contents (tally_lent a.new)) (B.contents (tally_lent b.new)))
-        result }
-    ensures reads { CountsReadsOf result (tally_faults script.old) (tally_faults script.new) }
-    ensures writes_a { CountsWritesOf of_side.A result (tally_faults a.old) (tally_faults a.new) }
-    ensures writes_b { CountsWritesOf of_side.B result (tally_faults b.old) (tally_faults b.new) }
+        (standing begun.old.ends begun.old.texts.a.items begun.old.texts.b.items begun.old.texts.three begun.old.texts.is_begun)
+        → IfOk result (PlaysWholeLines text (R.remaining (tally_lent script.new))
+        (held (A.contents (tally_lent a.old)) (B.contents (tally_lent b.old)))
+        (held (A.contents (tally_lent a.new)) (B.contents (tally_lent b.new)))) }
+    ensures holds { begun.old.texts.streams ≡ false → OnErr result (begun.old.texts.is_begun ≡ true) }
+    ensures reads { IfOk result (λ answer. CountsReadsOf answer (tally_faults script.old) (tally_faults script.new)) }
+    ensures writes_a { IfOk result (λ answer. CountsWritesOf of_side.A answer (tally_faults a.old) (tally_faults a.new)) }
+    ensures writes_b { IfOk result (λ answer. CountsWritesOf of_side.B answer (tally_faults b.old) (tally_faults b.new)) }
 {
     for steps in 0..MAX_STEPS + 1 {
         match begun.lines.advance(script) {
-            Ok(Some(line)) => match make_step(
-                line,
-                &begun.lines,
-                &mut begun.ends,
-                &mut begun.texts,
-            ) {
-                Ok(()) => {
-                    if let Err(side) = begun.texts.write_full(a, b) {
-                        return Err(PlayFault::Write { side });
-                    }
+            Ok(Some(line)) => {
+                if begun.texts.is_too_late_for(line.step) {
+                    return Err(NeedsFormat3);
                 }
-                Err(stop) => return end(&mut begun.texts, a, b, Err(stop_fault(stop, steps + 2))),
-            },
-            Ok(None) => return end(&mut begun.texts, a, b, Ok(Played { steps })),
-            Err(fault) => return end(&mut begun.texts, a, b, Err(play_fault(fault))),
+                match make_step(line, &begun.lines, &mut begun.ends, &mut begun.texts) {
+                    Ok(()) => {
+                        if let Err(side) = begun.texts.write_full(a, b) {
+                            return Ok(Err(PlayFault::Write { side }));
+                        }
+                    }
+                    Err(stop) => return Ok(end(
+                        &mut begun.texts,
+                        a,
+                        b,
+                        Err(stop_fault(stop, steps + 2)),
+                    )),
+                }
+            }
+            Ok(None) => return Ok(end(&mut begun.texts, a, b, Ok(Played { steps }))),
+            Err(fault) => return Ok(end(&mut begun.texts, a, b, Err(play_fault(fault)))),
         }
     }
     unreachable!()
 }
 
 // Reads the head, and takes the memory for both ends and for the heads of both captures.
-fn begin<R: Read>(alloc: Global, script: &mut Tally<R>) -> Result<Begun, PlayFault>
+fn begin<R: Read>(alloc: Global, script: &mut Tally<R>, streams: bool) -> Result<Begun, PlayFault>
     ensures begins { IfOk result (λ begun. IsBegun (R.remaining (tally_lent script.old)) (R.remaining (tally_lent script.new)) begun.lines
-        (standing begun.ends begun.texts.a.items begun.texts.b.items begun.texts.three)) }
+        (standing begun.ends begun.texts.a.items begun.texts.b.items begun.texts.three begun.texts.is_begun)) }
+    ensures streams { IfOk result (λ begun. begun.texts.streams ≡ streams) }
     ensures fault { IfErr result (HeadFault (R.remaining (tally_lent script.old)) (R.remaining (tally_lent script.new))) }
     ensures reads { CountsReads (is_failed_read result) (tally_faults script.old) (tally_faults script.new) }
 {
-    let Ok(mut texts) = Texts::new(alloc) else {
+    let Ok(mut texts) = Texts::new(alloc, streams) else {
         return Err(PlayFault::OutOfMemory);
     };
     let lines = match ScriptReader::open(alloc, script) {
@@ -137,9 +179,10 @@ fn make_step(
     ends: &mut Ends,
     texts: &mut Texts,
 ) -> Result<(), StepFault>
-    ensures { StepsOrStops (line_with line lines.now.bytes)
-        (standing ends.old texts.old.a.items texts.old.b.items texts.old.three)
-        (standing ends.new texts.new.a.items texts.new.b.items texts.new.three) result }
+    ensures step { StepsOrStops (line_with line lines.now.bytes)
+        (standing ends.old texts.old.a.items texts.old.b.items texts.old.three texts.old.is_begun)
+        (standing ends.new texts.new.a.items texts.new.b.items texts.new.three texts.new.is_begun) result }
+    ensures streams { texts.new.streams ≡ texts.old.streams }
 {
     let step = line.with(lines.bytes());
     texts.step.clear();

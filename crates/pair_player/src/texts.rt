@@ -24,8 +24,8 @@ const ROOM: usize = 131_072;
 // The place of a format's number in a head.
 const NUMBER: usize = 6;
 
-/// The lines of both captures that are not written yet. All wait until it is known that format 1 has no line for one of the records, or
-/// the script ends: only then is the format of their heads known.
+/// The lines of both captures that are not written yet. Unless they may be written in format 1 before it is known that no record needs format 3, all
+/// wait until one does, or the script ends: only then is the format of their heads known.
 #[derive(Drop)]
 pub struct Texts {
     pub a: Vec<u8>,
@@ -34,12 +34,17 @@ pub struct Texts {
     pub step: Vec<u8>,
     // Whether they are in format 3.
     pub three: bool,
+    // Whether a head was written, which can't be changed any more.
+    pub is_begun: bool,
+    // Whether they may be written before that is known.
+    pub streams: bool,
 }
 
 impl Texts {
     /// No lines. `AllocError` where there is no memory for them.
-    pub fn new(alloc: Global) -> Result<Texts, AllocError>
-        ensures { IfOk result (λ texts. (texts.a.items ≡ []) × (texts.b.items ≡ []) × (texts.three ≡ false)) }
+    pub fn new(alloc: Global, streams: bool) -> Result<Texts, AllocError>
+        ensures lines { IfOk result (λ texts. (texts.a.items ≡ []) × (texts.b.items ≡ [])) }
+        ensures heads { IfOk result (λ texts. (texts.three ≡ false) × (texts.is_begun ≡ false) × (texts.streams ≡ streams)) }
     {
         let a = Vec::with_capacity(alloc, ROOM)?;
         let b = Vec::with_capacity(alloc, ROOM)?;
@@ -49,6 +54,8 @@ impl Texts {
             b,
             step,
             three: false,
+            is_begun: false,
+            streams,
         })
     }
 
@@ -57,6 +64,8 @@ impl Texts {
         ensures a { OnOk result (self.new.a.items ≡ self.old.a.items ++ head_line Layout.One node_a node_b) }
         ensures b { OnOk result (self.new.b.items ≡ self.old.b.items ++ head_line Layout.One node_b node_a) }
         ensures three { self.new.three ≡ self.old.three }
+        ensures begun { self.new.is_begun ≡ self.old.is_begun }
+        ensures streams { self.new.streams ≡ self.old.streams }
     {
         put_head_line(&mut self.a, Format::One, node_a, node_b)?;
         put_head_line(&mut self.b, Format::One, node_b, node_a)
@@ -68,6 +77,8 @@ impl Texts {
         ensures err_a { OnErr result (self.new.a.items ≡ self.old.a.items) }
         ensures err_b { OnErr result (self.new.b.items ≡ self.old.b.items) }
         ensures three { self.new.three ≡ self.old.three }
+        ensures begun { self.new.is_begun ≡ self.old.is_begun }
+        ensures streams { self.new.streams ≡ self.old.streams }
     {
         match side {
             Side::A => self.a.extend_from_slice(self.step.as_slice()),
@@ -75,11 +86,20 @@ impl Texts {
         }
     }
 
+    /// Whether this step needs a head in format 3, and one in format 1 was written.
+    pub fn is_too_late_for(&self, step: Step) -> bool
+        ensures { (bytes : List ℕ) → result ≡ (self.now.is_begun && (not self.now.three && is_of_three (step_with step bytes))) }
+    {
+        self.is_begun && (!self.three && step.is_of_three())
+    }
+
     /// After a step was made: where it is the first for whose record format 1 has no line, the captures are in format 3.
     pub fn go_by(&mut self, step: Step)
         ensures three { (bytes : List ℕ) → self.new.three ≡ (self.old.three || is_of_three (step_with step bytes)) }
         ensures a { (bytes : List ℕ) → HasHead (not self.old.three && is_of_three (step_with step bytes)) self.old.a.items self.new.a.items }
         ensures b { (bytes : List ℕ) → HasHead (not self.old.three && is_of_three (step_with step bytes)) self.old.b.items self.new.b.items }
+        ensures begun { self.new.is_begun ≡ self.old.is_begun }
+        ensures streams { self.new.streams ≡ self.old.streams }
     {
         if self.three {
             return;
@@ -119,17 +139,21 @@ impl Texts {
         Ok(())
     }
 
-    /// In format 3 it writes the lines of each side that has many, so that few wait. `Err`: the writer of this side failed in this call.
+    /// In format 3, or where lines may be written before the format is known, it writes the lines of each side where one has many, so that few wait.
+    /// `Err`: the writer of this side failed in this call.
     pub fn write_full<A: Write, B: Write>(
         &mut self,
         a: &mut Tally<A>,
         b: &mut Tally<B>,
     ) -> Result<(), Side>
-        ensures few_a { self.old.three ≡ true → OnOk result (length self.new.a.items < 65536) }
-        ensures few_b { self.old.three ≡ true → OnOk result (length self.new.b.items < 65536) }
-        ensures waits_a { self.old.three ≡ false → self.new.a.items ≡ self.old.a.items }
-        ensures waits_b { self.old.three ≡ false → self.new.b.items ≡ self.old.b.items }
+        ensures few_a { self.old.three || self.old.streams ≡ true → OnOk result (length self.new.a.items < 65536) }
+        ensures few_b { self.old.three || self.old.streams ≡ true → OnOk result (length self.new.b.items < 65536) }
+        ensures waits_a { self.new.is_begun ≡ false → self.new.a.items ≡ self.old.a.items }
+        ensures waits_b { self.new.is_begun ≡ false → self.new.b.items ≡ self.old.b.items }
+        ensures begun { self.new.is_begun ≡ false → self.old.is_begun ≡ false }
+        ensures holds { self.old.three || self.old.streams ≡ false → self.new.is_begun ≡ self.old.is_begun }
         ensures three { self.new.three ≡ self.old.three }
+        ensures streams { self.new.streams ≡ self.old.streams }
         ensures writes { PassBoth (
           outlet self.old.a.items (A.contents (tally_lent a.old)) (tally_faults a.old),
           outlet self.old.b.items (B.contents (tally_lent b.old))
@@ -140,9 +164,13 @@ impl Texts {
               (tally_faults b.new),
         ) result }
     {
-        if !self.three {
+        if !(self.three || self.streams) {
             return Ok(());
         }
+        if self.a.len() < FULL && self.b.len() < FULL {
+            return Ok(());
+        }
+        self.is_begun = true;
         let Ok(()) = write_if_full(&mut self.a, a) else {
             return Err(Side::A);
         };

@@ -49,6 +49,7 @@ abbrev pub IsBegun : (text left : Option (List ℕ)) → ListState → Standing 
 IsBegun text left lines at =
     Opens script_form.first_words text left (Ok lines) × (at.pair ≡ new_pair lines.node_a lines.node_b)
     × (at.a ≡ head_line One lines.node_a lines.node_b) × (at.b ≡ head_line One lines.node_b lines.node_a) × (at.three ≡ false)
+    × (at.is_begun ≡ false)
 
 -- Where no head was read: this text departs from one, or can't be read further after a piece of its first line, or there was not enough memory
 abbrev pub HeadFault : (text left : Option (List ℕ)) → PlayFault → Type 0

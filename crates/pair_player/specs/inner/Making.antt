@@ -11,15 +11,16 @@ use Rattle.dna_play.specs.StoredPlayed.{StoredPair, pair_after, stored_plays_ste
 use Rattle.player_end.specs.declared.fault.StepFault.{StepFault}
 use Rattle.player_end.specs.Stepping.{StopMeans}
 
--- both ends, the lines of both captures that are not written yet, and whether these are in format 3
+-- both ends, the lines of both captures that are not written yet, whether these are in format 3, and whether a head was written
 pub record Standing : Type 0 where
   pub pair : StoredPair
   pub a : List ℕ
   pub b : List ℕ
   pub three : Bool
+  pub is_begun : Bool
 
-abbrev pub standing : StoredPair → List ℕ → List ℕ → Bool → Standing
-standing pair a b three = record { pair = pair; a = a; b = b; three = three }
+abbrev pub standing : StoredPair → List ℕ → List ℕ → (three is_begun : Bool) → Standing
+standing pair a b three is_begun = record { pair = pair; a = a; b = b; three = three; is_begun = is_begun }
 
 -- the lines of one side come after those that waited, and the other side's stay
 abbrev pub PutsLines : Side → (old new : List ℕ × List ℕ) → List ℕ → Type 0
@@ -41,6 +42,7 @@ pub record Steps (step : ScriptStep) (old new : Standing) : Type 0 where
   pub head_a : HasHead (not old.three && is_of_three step.step) put.0 new.a
   pub head_b : HasHead (not old.three && is_of_three step.step) put.1 new.b
   pub three : new.three ≡ (old.three || is_of_three step.step)
+  pub is_begun : new.is_begun ≡ old.is_begun
 
 -- it isn't made, for this reason, and no line is put
 pub record StopsStep (step : ScriptStep) (old new : Standing) (fault : StepFault) : Type 0 where
