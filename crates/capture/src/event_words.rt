@@ -116,6 +116,7 @@ fn wide_event_of(text: &[u8]) -> Option<(Entry, &[u8])>
 /// The event that the text spells, as it follows `u ` in a line, and the text of its BYTES, where it has any; `None`
 /// where it spells none. `open 1` and `in 7 -` are events, `open 0` is none; `boot` is one where the lines of format 3 are there too.
 #[tactic(auto, unfolding(crate::specs::Reading::event_at))]
+#[inline(never)]
 pub fn event_of(wide: bool, text: &[u8]) -> Option<(Entry, &[u8])>
     ensures { as_record (event_at wide text.now) ≡ told (option_map (λ parts. (parts.0, parts.1.now)) result) }
 {

@@ -1,4 +1,4 @@
-//! Of the two formats a verdict tells nothing, as a function that does nothing.
+//! Of the formats of its captures a verdict tells nothing, as a function that does nothing.
 
 ghost use Rattle.std.specs.Prelude.{◌≡◌, ℕ, List, Some, Ok};
 ghost use Rattle.pair_judge.specs.declared.verdict.Verdict.{Verdict as Judgement};

@@ -33,7 +33,7 @@ a received unit has a hint that is not above all earlier ones on its
 side.",
     rule: "\
 a line neither repeats nor reorders units, so hints only rise. The hint
-is the number that `ddcap show` prints, in either format.",
+is the number that `ddcap show` prints, in every format.",
     allowed: "\
 the hint of a later unit.",
     fault: "the hints",

@@ -61,7 +61,7 @@ impl Layers {
                         Err(fault) => Err(fault),
                     },
                     None => {
-                        self.station.arrive(arrival, permit.row, kept);
+                        self.station.arrive_apart(arrival, permit.row, kept);
                         Ok(())
                     }
                 }

@@ -36,4 +36,4 @@ returns-in-None-clause-ok g c =
     rw (← c.self.view_is)
     (arrives_untaken (rules_by _ _) old c.args.link.now c.args.fate (arrival_view c.args.arrival) (rw c.is_kept-kept.ensures at c.in-Ok.ensures.allowed)
     (rw c.is_kept-kept.ensures at (sym c.in-Ok.ensures.taken ∙ ap option_copied c.in-None.is))
-    ∙ ap (λ (w : WireStation LinkTag). Ok (record old { station = w })) (sym (rw c.is_kept-kept.ensures at c.arrive-in-None.ensures.step)))
+    ∙ ap (λ (w : WireStation LinkTag). Ok (record old { station = w })) (sym (rw c.is_kept-kept.ensures at c.arrive_apart-in-None.ensures.step)))
