@@ -53,7 +53,7 @@ pub record IsUnderWay (bytes head : List ℕ) (old now : Option (List ℕ)) (sid
   pub left : framing side.held ≡ only_left side.held
   pub sent : units_sent records ++ side.units.waiting.units.own ≡ messages found.units
   pub count : side.units.count ≡ counted 0 (length (messages found.units))
-  pub over : HandsOver (head ++ record_lines Number records) side.units.waiting.format text old now
+  pub over : HandsOver (head ++ record_lines Number records) side.units.waiting.text old now
 
 -- The same where no more is read: these units have no record, and don't wait.
 pub record IsOver (bytes head : List ℕ) (old now : Option (List ℕ)) (units : UnitsState) : Type 0 where
@@ -61,7 +61,7 @@ pub record IsOver (bytes head : List ℕ) (old now : Option (List ℕ)) (units :
   pub others : List (List ℕ)
   pub sent : (units_sent records ++ units.waiting.units.own) ++ others ≡ messages (framing bytes).units
   pub count : units.count ≡ counted 0 (length (units_sent records ++ units.waiting.units.own))
-  pub over : HandsOver (head ++ record_lines Number records) units.waiting.format text old now
+  pub over : HandsOver (head ++ record_lines Number records) units.waiting.text old now
 
 -- ---- both sides
 
