@@ -43,6 +43,29 @@ ANSWERS = (
     ('cc_lost_at_restart', 'accepted\n'),
     # a DC was under way at a restart, and its link address calls again
     ('called_again_at_restart', 'accepted\n'),
+    # the address of a link that lives is opened again after a restart; and a segment of it is answered by a DC
+    ('opened_again_after_boot', 'accepted\na records 17 sent 7 received 4 damaged 0 kept 1 periods 2 links 2 up 0\n'
+     'b records 16 sent 5 received 7 damaged 0 kept 3 periods 2 links 1 up 0\nthis assumes a boot before a unit 4 line 9\nthis holds only'),
+    ('no_link_after_boot', 'accepted\na records 22 sent 9 received 6 damaged 0 kept 3 periods 2 links 2 up 0\n'
+     'b records 22 sent 7 received 9 damaged 0 kept 5 periods 2 links 2 up 0\nthis assumes a boot before a unit 4 line 9\nthis holds only'),
+    # both nodes boot, and each one's address is used again
+    ('both_boot', 'accepted\na records 20 sent 8 received 5 damaged 0 kept 2 periods 2 links 3 up 0\n'
+     'b records 19 sent 6 received 8 damaged 0 kept 4 periods 2 links 3 up 0\n'
+     'this assumes a boot before a unit 4 line 9\nthis assumes a boot before b unit 3 line 10\nthis holds only'),
+    # what is assumed is told of an answer that is no acceptance too
+    ('skipped_number_after_boot', 'unexplained a unit 7 line 14: 7 WrongNumber\nno consistent explanation was found; this alone accuses neither node\n'
+     'ddcap why shows the unit, but whom it accuses depends on what tap assumed\nthis assumes a boot before a unit 4 line 9\nthis holds only'),
+    ('earlier_stack_after_boot', 'apart: b unit 7 line 18: 7 WrongNumber\neach side is explained by itself; this accuses neither node\n'
+     'this assumes a boot before a unit 4 line 9\nthis holds only'),
+    # a CC is answered by a DC; and the address of a call is given to another link
+    ('call_given_up', 'accepted\na records 9 sent 4 received 2 damaged 0 kept 1 periods 1 links 1 up 0\n'
+     'b records 9 sent 3 received 4 damaged 0 kept 2 periods 1 links 1 up 0\nthis assumes an abort of the call in a unit 2 line 5\nthis holds only'),
+    ('address_answers_after_call', 'accepted\na records 10 sent 4 received 2 damaged 0 kept 1 periods 1 links 2 up 0\n'
+     'b records 9 sent 3 received 4 damaged 0 kept 2 periods 1 links 2 up 0\nthis assumes an abort of the call in a unit 2 line 5\nthis holds only'),
+    # there was no restart; the link was used after it; the link was used
+    ('opened_again_without_restart', 'unexplained a unit 4 line 9: 19 LinkState\n'),
+    ('used_after_restart', 'unexplained a unit 7 line 13: 19 LinkState\n'),
+    ('no_link_of_used_call', 'unexplained a unit 4 line 8: 19 LinkState\n'),
     # the units before the named one have a placing
     ('other_unit_named', 'apart: b unit 3 line 9: 6 WrongState\n'),
     # a station that was started anew takes the STACK that answered its earlier start

@@ -2,11 +2,11 @@
 
 use capture::CaptureFault;
 use pair_judge::{Reason, Verdict};
-use placing::Turn;
+use placing::{Assumed, Turn};
 use std::alloc::AllocError;
 use tap_answer::{
-    Told, apart_text, premise_text, said_of, too_wide_text, turns_of, unexplained_end_text,
-    unexplained_text, units_before,
+    Told, apart_text, assumed_text, choices_of, premise_text, said_of, too_wide_text,
+    unexplained_end_text, unexplained_text, units_before,
 };
 use wire_base::{Side, Tally};
 use wire_tap::{Ending, Passed, Skipped, Tapped, Units};
@@ -113,6 +113,33 @@ fn the_units_before_a_record_are_counted(rt: HostRuntime) {
     );
 }
 
+#[test]
+fn what_is_assumed_has_a_line_each(rt: HostRuntime) -> Result<(), AllocError> {
+    let turn = Turn {
+        side: Side::A,
+        unit: 4,
+        line: 9,
+        what: Assumed::Boots,
+    };
+    let keeps = Turn {
+        what: Assumed::Keeps { most: 0 },
+        ..turn
+    };
+    let gives_up = Turn {
+        side: Side::B,
+        what: Assumed::GivesUp,
+        ..turn
+    };
+    let text = assumed_text(rt.alloc(), &[turn, keeps, gives_up])?;
+    assert_eq!(rt;
+        text.as_str(),
+        "this assumes a boot before a unit 4 line 9
+this assumes an abort of the call in b unit 4 line 9
+"
+    );
+    Ok(())
+}
+
 // A DC comes after the second unit, and then the user starts the station anew.
 const RESTARTED: &str = "ddcap 1 1.1 1.2
 u start
@@ -126,16 +153,23 @@ s 0506c00000017595
 ";
 
 #[test]
-fn a_start_after_a_disconnect_confirm_may_be_turned(rt: HostRuntime) -> Result<(), CaptureFault> {
-    let text = RESTARTED;
-    let mut capture = Tally::new(text.as_bytes());
-    let mut turns = turns_of(rt.alloc(), &mut capture, Side::A)?;
-    let turn = Turn {
+fn at_a_start_fewer_may_be_kept_or_the_node_boots(rt: HostRuntime) -> Result<(), CaptureFault> {
+    let mut capture = Tally::new(RESTARTED.as_bytes());
+    let mut choices = choices_of(rt.alloc(), &mut capture, Side::A)?;
+    let keeps = Turn {
         side: Side::A,
         unit: 2,
-        kept: 0,
+        line: 0,
+        what: Assumed::Keeps { most: 0 },
     };
-    assert_eq!(rt; turns.pop_front(), Some(turn));
-    assert_eq!(rt; turns.pop_front(), None);
+    assert_eq!(rt; choices.keeps.pop_front(), Some(keeps));
+    assert_eq!(rt; choices.keeps.pop_front(), None);
+    assert_eq!(rt; choices.gives_up, None);
+    let boots = Turn {
+        what: Assumed::Boots,
+        ..keeps
+    };
+    assert_eq!(rt; choices.boots.pop_front(), Some(boots));
+    assert_eq!(rt; choices.boots.pop_front(), None);
     Ok(())
 }

@@ -1,8 +1,8 @@
 //! Both captures of what passed on a line.
 
-use placing::Explained;
+use placing::{Assumed, Explained, Turn};
 use std::alloc::Global;
-use wire_base::Tally;
+use wire_base::{Side, Tally};
 use wire_tap::{Asked, Ending, Skipped, TapFault, Tapped, Units, tap};
 
 const STARTUP: &str = "ddwire 1 1.1 1.2
@@ -25,7 +25,11 @@ r 0 0506c00000017595
 s 0507c00000014855
 ";
 
-fn tapped(alloc: Global, text: &str) -> Result<(Tapped, Vec<u8>, Vec<u8>), TapFault> {
+fn tapped(
+    alloc: Global,
+    text: &str,
+    turns: &[Turn],
+) -> Result<(Tapped, Vec<u8>, Vec<u8>), TapFault> {
     let mut wire = Tally::new(text.as_bytes());
     let mut a = Tally::new(Vec::new(alloc));
     let mut b = Tally::new(Vec::new(alloc));
@@ -34,13 +38,13 @@ fn tapped(alloc: Global, text: &str) -> Result<(Tapped, Vec<u8>, Vec<u8>), TapFa
         explained: Explained::Together,
         last: None,
     };
-    let tapped = tap(alloc, &mut wire, &mut a, &mut b, asked, &[])?;
+    let tapped = tap(alloc, &mut wire, &mut a, &mut b, asked, turns)?;
     Ok((tapped, a.into_inner(), b.into_inner()))
 }
 
 #[test]
 fn a_startup_that_passed_gives_both_captures(rt: HostRuntime) -> Result<(), TapFault> {
-    let (tapped, a, b) = tapped(rt.alloc(), STARTUP)?;
+    let (tapped, a, b) = tapped(rt.alloc(), STARTUP, &[])?;
     assert_eq!(rt; tapped.ending, Ending::Whole);
     let skipped = Skipped {
         maintenance: 0,
@@ -55,5 +59,23 @@ fn a_startup_that_passed_gives_both_captures(rt: HostRuntime) -> Result<(), TapF
     assert!(rt; !tapped.is_silent());
     assert_eq!(rt; a.as_slice(), LINES_A.as_bytes());
     assert_eq!(rt; b.as_slice(), LINES_B.as_bytes());
+    Ok(())
+}
+
+#[test]
+fn captures_with_a_boot_are_in_format_three(rt: HostRuntime) -> Result<(), TapFault> {
+    let mut turn = Turn {
+        side: Side::A,
+        unit: 1,
+        line: 0,
+        what: Assumed::Keeps { most: 0 },
+    };
+    let (_, a, b) = tapped(rt.alloc(), STARTUP, &[turn])?;
+    assert_eq!(rt; a.as_slice(), LINES_A.as_bytes());
+    assert_eq!(rt; b.as_slice(), LINES_B.as_bytes());
+    turn.what = Assumed::GivesUp;
+    let (_, a, b) = tapped(rt.alloc(), STARTUP, &[turn])?;
+    assert!(rt; a.starts_with(b"ddcap 3 1.1 1.2\nu start\n"));
+    assert!(rt; b.starts_with(b"ddcap 3 1.2 1.1\nu start\n"));
     Ok(())
 }

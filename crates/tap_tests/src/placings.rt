@@ -1,7 +1,7 @@
 //! One side of a line, as a tap places its units.
 
 use ddcmp_msg::{Reading, read_unit};
-use placing::{Explained, Placing, Reached, Search, Turn, turns_a_link};
+use placing::{Assumed, Explained, Placing, Reached, Search, Turn, own_address, turns_a_link};
 use std::alloc::{AllocError, Global};
 use wire_base::Side;
 
@@ -20,13 +20,17 @@ struct Line {
 
 impl Line {
     fn new(alloc: Global) -> Result<Line, AllocError> {
-        Line::of(alloc, Explained::Together)
+        Line::of(alloc, Explained::Together, &[])
     }
 
-    fn of(alloc: Global, explained: Explained) -> Result<Line, AllocError> {
+    fn of(alloc: Global, explained: Explained, turns: &[Turn]) -> Result<Line, AllocError> {
+        let mut search = Search::new(alloc, explained)?;
+        for turn in turns {
+            search.turn(*turn)?;
+        }
         Ok(Line {
-            b: Placing::new(alloc, false),
-            search: Search::new(alloc, explained)?,
+            b: Placing::new(alloc, false, Side::B, turns)?,
+            search,
         })
     }
 
@@ -78,7 +82,7 @@ const OTHER: [u8; 11] = [
 #[test]
 fn a_side_by_itself_asks_no_period(rt: HostRuntime) -> Result<(), AllocError> {
     for explained in [Explained::Together, Explained::Apart] {
-        let mut line = Line::of(rt.alloc(), explained)?;
+        let mut line = Line::of(rt.alloc(), explained, &[])?;
         line.from_b(&STRT)?;
         line.from_a(&STACK)?;
         line.from_a(&STACK)?;
@@ -89,15 +93,41 @@ fn a_side_by_itself_asks_no_period(rt: HostRuntime) -> Result<(), AllocError> {
     Ok(())
 }
 
+const BOOTED: &str = "u start
+s 0506c00000017595
+r 0 0507c00000014855
+s 050100000001fc55
+u boot
+u start
+s 0506c00000017595
+";
+
+fn at_unit(unit: u64, what: Assumed) -> Turn {
+    Turn {
+        side: Side::B,
+        unit,
+        line: 0,
+        what,
+    }
+}
+
+#[test]
+fn a_node_boots_in_the_place_of_a_halt(rt: HostRuntime) -> Result<(), AllocError> {
+    let turn = at_unit(2, Assumed::Boots);
+    let mut line = Line::of(rt.alloc(), Explained::Together, &[turn])?;
+    line.from_b(&STRT)?;
+    line.from_a(&STACK)?;
+    line.from_b(&ACK)?;
+    assert_eq!(rt; line.from_b(&STRT)?, Reached::Way);
+    assert_eq!(rt; line.lines(rt.alloc())?.as_slice(), BOOTED.as_bytes());
+    Ok(())
+}
+
 #[test]
 fn a_start_that_is_turned_keeps_fewer_packets(rt: HostRuntime) -> Result<(), AllocError> {
-    for (kept, wanted) in [(1, true), (0, false)] {
-        let mut line = Line::new(rt.alloc())?;
-        line.search.turn(Turn {
-            side: Side::B,
-            unit: 1,
-            kept,
-        })?;
+    for (most, wanted) in [(1, true), (0, false)] {
+        let turn = at_unit(1, Assumed::Keeps { most });
+        let mut line = Line::of(rt.alloc(), Explained::Together, &[turn])?;
         line.from_a(&STRT)?;
         line.from_b(&STACK)?;
         line.b.sent_by_other(&HELLO)?;
@@ -110,6 +140,7 @@ fn a_start_that_is_turned_keeps_fewer_packets(rt: HostRuntime) -> Result<(), All
         assert_eq!(rt; is_kept, wanted);
     }
     assert!(rt; !turns_a_link(&HELLO));
+    assert_eq!(rt; own_address(&HELLO), None);
     Ok(())
 }
 

@@ -1,5 +1,5 @@
 -- What a tap wrote before the first piece.
-use Rattle.std.proofs.Common.{◌≡◌, ℕ, inl, List, [], Option, Ok, Err, refl, sym, ap, subst}
+use Rattle.std.proofs.Common.{◌≡◌, ℕ, Bool, true, false, inl, List, [], Option, Ok, Err, refl, sym, ap, subst}
 use Rattle.std.proofs.Common.{append-nil}
 use Rattle.std.proofs.KnownBytes.{Keeps-refl}
 use Rattle.wire_base.specs.Tally.{AppendsBeginning}
@@ -9,7 +9,9 @@ use Rattle.capture.specs.declared.fault.CaptureFault.{CaptureFault}
 use Rattle.capture.specs.declared.fault.CaptureFault.TheVariants as of_text
 use Rattle.capture.specs.Lines.{to_come}
 use Rattle.capture.specs.declared.format.Format.{Format}
+use Rattle.capture.specs.declared.format.Format.TheVariants.{One, Three}
 use Rattle.capture.specs.Paged.{HandsOver}
+use Rattle.placing.specs.declared.turn.Turn.{Turn}
 use Rattle.capture.specs.Reader.{FaultShows}
 use Rattle.framer.specs.SoFar.{IsFramedSoFar, nothing}
 use Rattle.framer.proofs.Framings.{framing-nil}
@@ -19,16 +21,27 @@ use Rattle.capture.specs.ListReader.{ListState, Opens}
 use Rattle.capture.specs.Listed.{IsListSoFar, no_items}
 use Rattle.wire_text.specs.WireText.{Wire, WireHeadDeparts, wire_form}
 use Rattle.capture.proofs.ListedSoFar as read
-use Rattle.wire_tap.specs.Tapping.{HasCut, HaveFirst, Held, Reached, Taps, TakesNothing, held}
+use Rattle.capture.proofs.WideLaws.{wide_lines}
+use Rattle.std.specs.Prelude.{if◌then◌else◌}
+use Rattle.std.specs.List.{list_all}
+use Rattle.wire_tap.specs.Tapping.{HasCut, HaveFirst, Held, Reached, Taps, TakesNothing, format_of, held, turn_is_in_one}
 use Rattle.capture.specs.Passing.{AppendsSome}
 use Rattle.capture.specs.inner.Outlets.{FailsAt, Outlet, outlet}
 use Rattle.wire_tap.specs.Units.{units_of}
 use Rattle.wire_tap.specs.declared.fault.TapFault.TheVariants as faults
-use Rattle.wire_tap.specs.inner.Moving.{IsLineUnderWay, IsUnderWay}
+use Rattle.wire_tap.specs.inner.Moving.{IsLineUnderWay, IsUnderWay, SpellsNumbers}
 use Rattle.wire_tap.specs.inner.Moving.{fault_of, head_a, head_b}
 use Rattle.wire_tap.specs.inner.Moving.{line_state}
 use Rattle.wire_tap.specs.declared.side_tap.SideTap.{SideTap}
 use Rattle.wire_tap.specs.inner.Side.{IsNew, side_state}
+
+-- lines are spelled in the format of these captures as in format 1
+pub spelled : (turns : List Turn) → SpellsNumbers (format_of turns)
+spelled turns = either (list_all turn_is_in_one turns)
+  where
+    either : (all : Bool) → SpellsNumbers (if all then One else Three)
+    either true = λ rs. refl
+    either false = wide_lines
 
 -- ---- before the first piece
 
@@ -98,9 +111,10 @@ module _ (format : Format) (text left : Option (List ℕ)) (old : Held) (state :
   }
 
   -- both heads are written
-  pub line_begun : (now : Held) (a b : SideTap) (of_a of_b : List ℕ) → IsNew a → IsNew b → of_a ≡ head_a format wire_begun → of_b ≡ head_b format wire_begun →
+  pub line_begun : SpellsNumbers format → (now : Held) (a b : SideTap) (of_a of_b : List ℕ) → IsNew a → IsNew b → of_a ≡ head_a format wire_begun → of_b ≡ head_b format wire_begun →
       HandsOver of_a [] old.a now.a → HandsOver of_b [] old.b now.b → IsLineUnderWay format text old (line_state state.items come_begun a b now)
-  line_begun now a b of_a of_b new_a new_b is_a is_b over_a over_b = record {
+  line_begun spells now a b of_a of_b new_a new_b is_a is_b over_a over_b = record {
+    spells = spells;
     wire = wire_begun;
     read = read_begun;
     count = sym opens.2;

@@ -1,18 +1,23 @@
 -- Both sides of what a tap wrote, where no more is read, and behind the last line.
 use Rattle.std.proofs.Common.{◌≡◌, ℕ, ◌+◌, ◌<◌, ◌^◌, inr, List, [], ◌++◌, length, Option, Ok, Err, refl, sym, ap, subst}
 use Rattle.std.proofs.Common.{◌∙◌, append_assoc, append-nil, arith}
+use Rattle.std.specs.Io.KnownBytes.{Appends}
 use Rattle.wire_base.specs.Side.{other_side}
+use Rattle.wire_base.specs.Tally.{AppendsBeginning}
 use Rattle.wire_base.specs.declared.side.Side.{Side}
 use Rattle.wire_base.specs.declared.side.Side.TheVariants.{A, B}
 use Rattle.capture.specs.declared.fault.CaptureFault.{CaptureFault}
 use Rattle.capture.specs.declared.fault.CaptureFault.TheVariants as of_text
 use Rattle.capture.specs.declared.format.Format.{Format}
+use Rattle.capture.specs.declared.hint.HintForm.TheVariants.{Number}
+use Rattle.capture.specs.Passing.{AppendsSome}
 use Rattle.capture.specs.Paged.{HandsOver}
+use Rattle.capture.specs.Text.{record_lines}
 use Rattle.capture.specs.Reader.{FaultShows}
 use Rattle.placing.specs.Placed.{Waiting, units_sent}
 use Rattle.wire_text.specs.WireText.{PieceDeparts}
 use Rattle.wire_tap.specs.Tapping.{EndWith, HasWritten, HaveAll, HaveFirst, Held, Reached, Taps, held}
-use Rattle.wire_tap.specs.Tapping.{EndsAs, HasCounted, sent_at}
+use Rattle.wire_tap.specs.Tapping.{EndsAs, HasCounted, sent_at, text_a, text_b}
 use Rattle.wire_tap.specs.Units.{units_of}
 use Rattle.wire_tap.specs.declared.fault.TapFault.TheVariants as faults
 use Rattle.wire_tap.specs.declared.stop.Stop.{Stop}
@@ -24,7 +29,7 @@ use Rattle.wire_tap.specs.declared.tapped.Tapped.{Tapped}
 use Rattle.wire_tap.specs.inner.Moving.{IsLineOver, LineState, others_at, units_at}
 use Rattle.capture.specs.inner.Outlets.{FailsAt, Outlet, outlet}
 use Rattle.capture.proofs.OverLaws.{all_over, beginning_over, begun_over, on_over, some_over}
-use Rattle.wire_tap.specs.inner.Moving.{EndsOver, IsAllOver, PutsAll, StopsAs, fault_of}
+use Rattle.wire_tap.specs.inner.Moving.{EndsOver, IsAllOver, PutsAll, StopsAs, fault_of, head_a, head_b}
 use Rattle.wire_tap.specs.inner.Side.{EndsAt, IsUnitAt, aim, counted}
 use Rattle.wire_tap.proofs.SideLaws.{over_put, same_units}
 
@@ -46,18 +51,47 @@ module _ (last : Option (Side × ℕ)) (format : Format) (text : Option (List �
     b = sym (append_assoc (units_sent h.b.records) line.b.units.waiting.units.own h.b.others) ∙ h.b.sent;
   }
 
+  -- the texts of what was put
+  shown_a : head_a format h.wire ++ record_lines Number h.a.records ≡ text_a format reached
+  shown_a = ap (λ (lines : List ℕ). head_a format h.wire ++ lines) (sym (h.spells h.a.records))
+
+  shown_b : head_b format h.wire ++ record_lines Number h.b.records ≡ text_b format reached
+  shown_b = ap (λ (lines : List ℕ). head_b format h.wire ++ lines) (sym (h.spells h.b.records))
+
   -- memory is refused
   pub refused : Taps last format text old line.now (Err faults.OutOfMemory)
-  refused = inr (reached, h.read, have_first, record { a = begun_over _ _ _ _ h.a.over; b = begun_over _ _ _ _ h.b.over })
+  refused = inr (
+    reached,
+    h.read,
+    have_first,
+    record {
+      a = subst (AppendsSome old.a line.now.a) shown_a (begun_over _ _ _ _ h.a.over);
+      b = subst (AppendsSome old.b line.now.b) shown_b (begun_over _ _ _ _ h.b.over);
+    },
+  )
 
   -- a write fails
   pub fails : (side : Side) (n m : ℕ) (new : Outlet × Outlet) →
       FailsAt side (outlet line.a.units.waiting.text line.now.a n, outlet line.b.units.waiting.text line.now.b m) new
       → Taps last format text old (held new.0.held new.1.held) (Err (faults.Write side))
-  fails A n m new f =
-      (reached, h.read, have_first, (beginning_over _ _ _ _ h.a.over new.0.held f.0.some, some_over _ _ _ _ h.b.over new.1.held f.1.some))
-  fails B n m new f =
-      (reached, h.read, have_first, (some_over _ _ _ _ h.a.over new.0.held f.0.some, beginning_over _ _ _ _ h.b.over new.1.held f.1.some))
+  fails A n m new f = (
+    reached,
+    h.read,
+    have_first,
+    (
+      subst (AppendsBeginning old.a new.0.held) shown_a (beginning_over _ _ _ _ h.a.over new.0.held f.0.some),
+      subst (AppendsSome old.b new.1.held) shown_b (some_over _ _ _ _ h.b.over new.1.held f.1.some),
+    ),
+  )
+  fails B n m new f = (
+    reached,
+    h.read,
+    have_first,
+    (
+      subst (AppendsSome old.a new.0.held) shown_a (some_over _ _ _ _ h.a.over new.0.held f.0.some),
+      subst (AppendsBeginning old.b new.1.held) shown_b (beginning_over _ _ _ _ h.b.over new.1.held f.1.some),
+    ),
+  )
 
   -- ---- all lines were put
 
@@ -103,8 +137,8 @@ module _ (last : Option (Side × ℕ)) (format : Format) (text : Option (List �
         (over_b : HandsOver line.b.units.waiting.text [] line.now.b later.b) where
       written : HasWritten format old later reached
       written = record {
-        a = all_over _ [] _ _ (on_over _ _ _ _ h.a.over [] later.a over_a) refl;
-        b = all_over _ [] _ _ (on_over _ _ _ _ h.b.over [] later.b over_b) refl;
+        a = subst (Appends old.a later.a) shown_a (all_over _ [] _ _ (on_over _ _ _ _ h.a.over [] later.a over_a) refl);
+        b = subst (Appends old.b later.b) shown_b (all_over _ [] _ _ (on_over _ _ _ _ h.b.over [] later.b over_b) refl);
       }
 
       pub tapped_all : (tapped : Tapped) → StopsAs h last (stops.Ends tapped.ending) → tapped.units_a.count ≡ line.a.units.count →
@@ -139,6 +173,7 @@ module _ (last : Option (Side × ℕ)) (format : Format) (text : Option (List �
 
   pub put_over : IsLineOver format text old put_line
   put_over = record {
+    spells = h.spells;
     wire = h.wire;
     come = h.come;
     read = h.read;

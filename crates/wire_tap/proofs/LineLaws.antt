@@ -33,7 +33,7 @@ use Rattle.wire_tap.proofs.EndLaws.{stop_from}
 
 module _ (format : Format) (text : Option (List ℕ)) (old : Held) (line : LineState) (h : IsLineUnderWay format text old line) where
   pub line_over : IsLineOver format text old line
-  line_over = record { wire = h.wire; come = line.come; read = h.read; a = over_all _ _ _ _ line.a h.a; b = over_all _ _ _ _ line.b h.b }
+  line_over = record { spells = h.spells; wire = h.wire; come = line.come; read = h.read; a = over_all _ _ _ _ line.a h.a; b = over_all _ _ _ _ line.b h.b }
 
   all_over_line : IsAllOver line_over
   unfolding line_over over_all
@@ -58,6 +58,7 @@ module _ (format : Format) (text : Option (List ℕ)) (old : Held) (line : LineS
         now = later;
       })
   line_written later a b over_a over_b same_a same_b = record {
+    spells = h.spells;
     wire = h.wire;
     read = h.read;
     count = h.count;
@@ -94,6 +95,7 @@ module _ (format : Format) (text : Option (List ℕ)) (old : Held) (line : LineS
       (after : Option (List ℕ)) (a b : SideState) (advances : Advances wire_form was now line.come after (Ok (Some (piece side now.bytes))))
       → PassesPiece last side now.bytes (line.a, line.b) (a, b) None → IsLineUnderWay format text old (line_on side was now same after a b advances)
   line_goes last A was now same after a b advances p = record {
+    spells = h.spells;
     wire = wire_on A was now same after a b advances;
     read = read_on A was now same after a b advances;
     count = count_on A was now same after a b advances;
@@ -101,6 +103,7 @@ module _ (format : Format) (text : Option (List ℕ)) (old : Held) (line : LineS
     b = beside _ _ _ _ line.b h.b _ b (beside_b h.wire.items now.bytes) p.1;
   }
   line_goes last B was now same after a b advances p = record {
+    spells = h.spells;
     wire = wire_on B was now same after a b advances;
     read = read_on B was now same after a b advances;
     count = count_on B was now same after a b advances;
@@ -119,6 +122,7 @@ module _ (format : Format) (text : Option (List ℕ)) (old : Held) (line : LineS
     where
       over : IsLineOver format text old (line_on A was now same after a b advances)
       over = record {
+        spells = h.spells;
         wire = wire_on A was now same after a b advances;
         come = after;
         read = read_on A was now same after a b advances;
@@ -133,6 +137,7 @@ module _ (format : Format) (text : Option (List ℕ)) (old : Held) (line : LineS
     where
       over : IsLineOver format text old (line_on B was now same after a b advances)
       over = record {
+        spells = h.spells;
         wire = wire_on B was now same after a b advances;
         come = after;
         read = read_on B was now same after a b advances;

@@ -17,7 +17,7 @@ use Rattle.capture.specs.Listed.{IsListSoFar}
 use Rattle.wire_text.specs.WireText.{PieceDeparts, Wire, WireHeadDeparts, wire_form}
 use Rattle.placing.specs.Placed.{units_sent}
 use Rattle.placing.specs.declared.turn.Assumed.{Assumed}
-use Rattle.placing.specs.declared.turn.Assumed.TheVariants.{Keeps, Boots, GivesUp}
+use Rattle.placing.specs.declared.turn.Assumed.TheVariants as assumes
 use Rattle.placing.specs.declared.turn.Turn.{Turn}
 use Rattle.wire_tap.specs.Units.{units_of}
 use Rattle.wire_tap.specs.declared.fault.TapFault.{TapFault}
@@ -88,9 +88,9 @@ pub record HasCounted (tapped : Tapped) (r : Reached) : Type 0 where
 
 -- what is assumed needs no line that format 1 has not
 abbrev pub is_in_one : Assumed → Bool
-is_in_one (Keeps most) = true
-is_in_one Boots = false
-is_in_one GivesUp = false
+is_in_one (assumes.Keeps most) = true
+is_in_one assumes.Boots = false
+is_in_one assumes.GivesUp = false
 
 abbrev pub turn_is_in_one : Turn → Bool
 turn_is_in_one turn = is_in_one turn.what

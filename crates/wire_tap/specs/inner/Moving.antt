@@ -12,7 +12,7 @@ use Rattle.capture.specs.declared.record.Record.{Record}
 use Rattle.capture.specs.Faulty.{is_read_fault}
 use Rattle.capture.specs.Paged.{HandsOver}
 use Rattle.capture.specs.Reader.{FaultShows}
-use Rattle.capture.specs.Text.{head_line, record_lines}
+use Rattle.capture.specs.Text.{first_form, head_line, record_lines}
 use Rattle.framer.specs.Framing.{Framing, framing, only_left}
 use Rattle.framer.specs.SoFar.{IsFramedSoFar}
 use Rattle.placing.specs.Placed.{Waiting, units_sent}
@@ -53,7 +53,7 @@ pub record IsUnderWay (bytes head : List ℕ) (old now : Option (List ℕ)) (sid
   pub left : framing side.held ≡ only_left side.held
   pub sent : units_sent records ++ side.units.waiting.units.own ≡ messages found.units
   pub count : side.units.count ≡ counted 0 (length (messages found.units))
-  pub over : HandsOver (head ++ record_lines Number records) side.units.waiting.format text old now
+  pub over : HandsOver (head ++ record_lines Number records) side.units.waiting.text old now
 
 -- The same where no more is read: these units have no record, and don't wait.
 pub record IsOver (bytes head : List ℕ) (old now : Option (List ℕ)) (units : UnitsState) : Type 0 where
@@ -61,7 +61,7 @@ pub record IsOver (bytes head : List ℕ) (old now : Option (List ℕ)) (units :
   pub others : List (List ℕ)
   pub sent : (units_sent records ++ units.waiting.units.own) ++ others ≡ messages (framing bytes).units
   pub count : units.count ≡ counted 0 (length (units_sent records ++ units.waiting.units.own))
-  pub over : HandsOver (head ++ record_lines Number records) units.waiting.format text old now
+  pub over : HandsOver (head ++ record_lines Number records) units.waiting.text old now
 
 -- ---- both sides
 
@@ -82,7 +82,12 @@ head_a format wire = head_line format wire.node_a wire.node_b
 abbrev pub head_b : Format → Wire → List ℕ
 head_b format wire = head_line format wire.node_b wire.node_a
 
+-- lines are spelled in this format as in format 1
+abbrev pub SpellsNumbers : Format → Type 0
+SpellsNumbers format = (rs : List Record) → record_lines (first_form format) rs ≡ record_lines Number rs
+
 pub record IsLineUnderWay (format : Format) (text : Option (List ℕ)) (old : Held) (line : LineState) : Type 0 where
+  pub spells : SpellsNumbers format
   pub wire : Wire
   pub read : IsListSoFar wire_form text wire line.come
   pub count : length wire.items ≡ line.pieces
@@ -91,6 +96,7 @@ pub record IsLineUnderWay (format : Format) (text : Option (List ℕ)) (old : He
 
 -- where no more is read, and this is to come
 pub record IsLineOver (format : Format) (text : Option (List ℕ)) (old : Held) (line : LineState) : Type 0 where
+  pub spells : SpellsNumbers format
   pub wire : Wire
   pub come : Option (List ℕ)
   pub read : IsListSoFar wire_form text wire come
