@@ -84,7 +84,8 @@ export function countsOf(text) {
 
 // On what an answer of `tap` rests, and what it skipped, in sentences; of another answer nothing.
 export function conditionsOf(text) {
-  const rests = [...text.matchAll(/^(?:this assumes|this holds only|more bytes were skipped) .*$/gm)].map(([line]) => `${line[0].toUpperCase()}${line.slice(1)}.`);
+  const lines = [...text.matchAll(/^(?:this assumes|this holds only|more bytes were skipped) .*$/gm)];
+  const rests = lines.map(([line]) => `${line[0].toUpperCase()}${line.slice(1)}.`);
   const rows = [...text.matchAll(/^([ab]) skipped maintenance messages (\d+) bytes between units (\d+)$/gm)];
   return [...rests, ...rows.filter(([, , messages, bytes]) => messages !== '0' || bytes !== '0')
     .map(([, side, messages, bytes]) => `Skipped of what ${side} sent: ${messages} maintenance messages, ${bytes} bytes between units.`)];

@@ -60,8 +60,9 @@ pub struct RefusedAt {
 /// prints the answer, and answers the status. Where they are refused, and were not cut for that, nothing is printed, and the answer is the refused
 /// record.
 ///
-/// Printed to `out`: the verdict as `check_to` prints it, status 0, or `unexplained ..` or `apart: ..`, status 1, each followed by the boots and aborts
-/// that are assumed, by what it rests on, and what was skipped. To `err`: `.. too wide a choice`, status 2, and the faults that `check_to` tells, with their statuses.
+/// Printed to `out`: the verdict as `check_to` prints it, status 0, or `unexplained ..` or `apart: ..`, status 1, each followed by the boots and
+/// aborts that are assumed, by what it rests on, and what was skipped. To `err`: `.. too wide a choice`, status 2, and the faults that `check_to`
+/// tells, with their statuses.
 pub fn tap_to<A: Read, B: Read, O: Write, E: Write>(
     alloc: Global,
     a: &mut Tally<A>,

@@ -1,5 +1,5 @@
-//! What is assumed besides, where the judge refuses what the search found: that fewer of the packets under way at a start were kept than may have been,
-//! that a call was given up, or that a node booted.
+//! What is assumed besides, where the judge refuses what the search found: that of the packets under way at a start fewer were kept than may have
+//! been, that a call was given up, or that a node booted.
 
 use crate::check::{print_failed_read, print_out_of_memory};
 use crate::fault_told::FaultTold;

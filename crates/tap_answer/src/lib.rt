@@ -4,13 +4,13 @@
 //! nothing, and prints nothing.
 #![tactic(auto)]
 
-mod assumed_text;
+mod assuming;
 mod counting;
 mod told;
 mod told_text;
 mod turning;
 
-pub use assumed_text::assumed_text;
+pub use assuming::assumed_text;
 pub use counting::units_before;
 pub use told::{Told, said_of};
 pub use told_text::{

@@ -37,8 +37,8 @@ struct Sides {
     search: Search,
 }
 
-/// Reads the text of what passed to its end, places the units of both sides, and writes both captures: in format 1, or in format 3 where it is assumed
-/// that a node boots or gives a call up. With a `last` unit they end with it, and with `line_alone` no packet is read.
+/// Reads the text of what passed to its end, places the units of both sides, and writes both captures: in format 1, or in format 3 where it is
+/// assumed that a node boots or gives a call up. With a `last` unit they end with it, and with `line_alone` no packet is read.
 ///
 /// Each unit that was sent has passed here, and before the first of them neither side was started. Where a unit has no placing, or there are too
 /// many states to try, both captures end with it: the side's own has it as its last unit, and the other's what passed before it. Where each side is
