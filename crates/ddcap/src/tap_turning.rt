@@ -16,8 +16,8 @@ use tap_answer::{Choices, MOST_TURNS, choices_of};
 use wire_base::{Side, Tally};
 use wire_tap::{Ending, Tapped};
 
-/// The most that is assumed.
-pub const MOST_ASSUMED: usize = 512;
+/// The most that is assumed: each costs about seven passes over the text.
+pub const MOST_ASSUMED: usize = 64;
 
 /// Assumes one thing more, if captures that end with this unit are accepted then, which are refused now; whether there is such a thing. `Err`: a
 /// fault, which was told.
@@ -110,6 +110,7 @@ fn put_events(
     put_all(choices, own)?;
     put_all(choices, other)
 }
+
 // How often it is assumed that fewer packets were kept.
 fn keeps_in(turns: &[Turn]) -> usize {
     let mut count: usize = 0;
