@@ -71,9 +71,9 @@ pub fn tap_to<A: Read, B: Read, O: Write, E: Write>(
     out: &mut Tally<O>,
     err: &mut Tally<E>,
 ) -> Result<u8, RefusedAt>
-    ensures checks { ChecksTap (layers_kind With) verdict_text_of captured (streams (moved A.remaining a.old a.new) (moved B.remaining b.old b.new)
+    ensures checks { ChecksTap (layers_kind With) verdict_text_of captured.entry (streams (moved A.remaining a.old a.new) (moved B.remaining b.old b.new)
         (moved O.contents out.old out.new) (moved E.contents err.old err.new)) result }
-    ensures cut { captured.is_cut ≡ true → is_ok result ≡ true }
+    ensures cut { captured.entry.is_cut ≡ true → is_ok result ≡ true }
 {
     tap_over(alloc, Layers::Queued, a, b, captured, out, err)
 }
@@ -87,9 +87,9 @@ pub fn tap_line_to<A: Read, B: Read, O: Write, E: Write>(
     out: &mut Tally<O>,
     err: &mut Tally<E>,
 ) -> Result<u8, RefusedAt>
-    ensures checks { ChecksTap stations_alone line_verdict_text_of captured (streams (moved A.remaining a.old a.new) (moved B.remaining b.old b.new)
+    ensures checks { ChecksTap stations_alone line_verdict_text_of captured.entry (streams (moved A.remaining a.old a.new) (moved B.remaining b.old b.new)
         (moved O.contents out.old out.new) (moved E.contents err.old err.new)) result }
-    ensures cut { captured.is_cut ≡ true → is_ok result ≡ true }
+    ensures cut { captured.entry.is_cut ≡ true → is_ok result ≡ true }
 {
     tap_over(alloc, Layers::Station, a, b, captured, out, err)
 }
@@ -104,9 +104,9 @@ fn tap_over<A: Read, B: Read, O: Write, E: Write>(
     out: &mut Tally<O>,
     err: &mut Tally<E>,
 ) -> Result<u8, RefusedAt>
-    ensures checks { ChecksTap (nodes_of layers) (verdict_text_over layers) captured (streams (moved A.remaining a.old a.new)
+    ensures checks { ChecksTap (nodes_of layers) (verdict_text_over layers) captured.entry (streams (moved A.remaining a.old a.new)
         (moved B.remaining b.old b.new) (moved O.contents out.old out.new) (moved E.contents err.old err.new)) result }
-    ensures cut { captured.is_cut ≡ true → is_ok result ≡ true }
+    ensures cut { captured.entry.is_cut ≡ true → is_ok result ≡ true }
 {
     match judge_over(alloc, layers, a, b) {
         Ok(verdict) => {
@@ -161,7 +161,7 @@ fn print_told<O: Write, E: Write>(
     out: &mut Tally<O>,
     err: &mut Tally<E>,
 ) -> u8
-    ensures { (words : List ℕ) → IfOk text (λ t. string_bytes t ≡ words) → TellsTold words captured
+    ensures { (words : List ℕ) → IfOk text (λ t. string_bytes t ≡ words) → TellsTold words captured.entry
         (both_streams (moved O.contents out.old out.new) (moved E.contents err.old err.new))
         (telling captured.is_apart captured.tapped.ending verdict) result }
 {
@@ -195,7 +195,7 @@ fn print_behind<O: Write, E: Write>(
     out: &mut Tally<O>,
     err: &mut Tally<E>,
 ) -> u8
-    ensures { (words : List ℕ) → IfOk text (λ t. string_bytes t ≡ words) → WritesBehind words captured
+    ensures { (words : List ℕ) → IfOk text (λ t. string_bytes t ≡ words) → WritesBehind words captured.entry
         (moved O.contents out.old out.new) (moved E.contents err.old err.new) status result }
 {
     let Ok(text) = text else {

@@ -161,7 +161,7 @@ fn judge_captures<R: Files + AllocGlobal, O: Write, E: Write>(
     out: &mut Tally<O>,
     err: &mut Tally<E>,
 ) -> Result<Result<u8, RefusedAt>, FaultTold>
-    ensures { IfOk result (λ told. captured.is_cut ≡ true → is_ok told ≡ true) }
+    ensures { IfOk result (λ told. captured.entry.is_cut ≡ true → is_ok told ≡ true) }
 {
     let mut a = opened(rt, Wanted::by_path(Named::A, paths.a), err)?;
     let mut b = opened(rt, Wanted::by_path(Named::B, paths.b), err)?;

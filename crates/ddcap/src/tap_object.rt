@@ -33,8 +33,8 @@ pub fn tap_json_to<A: Read, B: Read, O: Write, E: Write>(
     out: &mut Tally<O>,
     err: &mut Tally<E>,
 ) -> Result<u8, RefusedAt>
-    ensures ends { IfOk result (EndsAsTapped (nodes_of layers) captured (A.remaining (tally_lent a.old)) (B.remaining (tally_lent b.old))) }
-    ensures cut { captured.is_cut ≡ true → is_ok result ≡ true }
+    ensures ends { IfOk result (EndsAsTapped (nodes_of layers) captured.entry (A.remaining (tally_lent a.old)) (B.remaining (tally_lent b.old))) }
+    ensures cut { captured.entry.is_cut ≡ true → is_ok result ≡ true }
 {
     match judge_over(alloc, layers, a, b) {
         Ok(verdict) => {
@@ -61,7 +61,7 @@ fn print_tapped<O: Write, E: Write>(
     out: &mut Tally<O>,
     err: &mut Tally<E>,
 ) -> u8
-    ensures { EndsWith (told_status (telling captured.is_apart captured.tapped.ending verdict)) result }
+    ensures { EndsWith (told_status (telling captured.entry.is_apart captured.entry.tapped.ending verdict)) result }
 {
     match said_of(captured.tapped.ending, verdict, captured.is_apart) {
         Told::Accepted => {
