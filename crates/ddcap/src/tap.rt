@@ -163,7 +163,7 @@ fn print_told<O: Write, E: Write>(
 ) -> u8
     ensures { (words : List ℕ) → IfOk text (λ t. string_bytes t ≡ words) → TellsTold words captured.entry
         (both_streams (moved O.contents out.old out.new) (moved E.contents err.old err.new))
-        (telling captured.is_apart captured.tapped.ending verdict) result }
+        (telling captured.entry.is_apart captured.entry.tapped.ending verdict) result }
 {
     match said_of(captured.tapped.ending, verdict, captured.is_apart) {
         Told::Accepted => print_behind(alloc, text, captured, ACCEPTED, out, err),
