@@ -17,7 +17,7 @@ use wire_base::{Side, Tally};
 use wire_tap::{Ending, Tapped};
 
 /// The most that is assumed: each costs about seven passes over the text.
-pub const MOST_ASSUMED: usize = 64;
+pub const MOST_ASSUMED: usize = 512;
 
 /// Assumes one thing more, if captures that end with this unit are accepted then, which are refused now; whether there is such a thing. `Err`: a
 /// fault, which was told.
