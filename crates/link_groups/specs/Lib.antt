@@ -1,0 +1,4 @@
+pub mod Place
+pub mod Groups
+pub mod LeftOut
+pub mod inner
