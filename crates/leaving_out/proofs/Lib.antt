@@ -1,0 +1,4 @@
+pub mod Returned
+pub mod Kept
+pub mod Walk
+pub mod Made

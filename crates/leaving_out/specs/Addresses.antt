@@ -1,0 +1,41 @@
+-- The own addresses of both ends, and which of them are left out.
+use Rattle.std.specs.Prelude.{ℕ, ◌+◌, ◌==◌, Bool, false, if◌then◌else◌, get_or}
+use Rattle.wire_base.specs.declared.side.Side.{Side}
+use Rattle.wire_base.specs.declared.side.Side.TheVariants.{A, B}
+use Rattle.wire_base.specs.Side.{other_side}
+use Rattle.leaving_out.specs.declared.own_address.OwnAddress.{OwnAddress}
+use Rattle.leaving_out.specs.declared.leaving.Head.{Head}
+use Rattle.leaving_out.specs.declared.leaving.Leaving.{Leaving}
+
+-- an address that this side gave
+abbrev pub own : Side → ℕ → OwnAddress
+own side address = record { side = side; address = address }
+
+-- the places of those of side a come first
+abbrev pub place_in : Side → ℕ → ℕ
+place_in A address = address
+place_in B address = 65536 + address
+
+abbrev pub place_of : OwnAddress → ℕ
+place_of address = place_in address.side address.address
+
+-- whether it is left out
+abbrev pub is_left : Leaving → OwnAddress → Bool
+is_left leaving address = get_or leaving.left_out.now (place_of address) false
+
+-- the head of this side's capture
+abbrev pub head_of : Leaving → Side → Head
+head_of leaving A = leaving.head_of_a
+head_of leaving B = leaving.head_of_b
+
+-- What a message with this SRCADDR and DSTADDR is about at its sender: its own address, or else the other end's, or else no link
+abbrev pub at_sender : Side → (src dst : ℕ) → OwnAddress
+at_sender sender src dst =
+    if src == 0 then (if dst == 0 then own sender 0 else own (other_side sender) dst)
+    else own sender src
+
+-- and at its receiver: the receiver's own address, or else the sender's, or else no link
+abbrev pub at_receiver : Side → (src dst : ℕ) → OwnAddress
+at_receiver sender src dst =
+    if dst == 0 then (if src == 0 then own sender 0 else own sender src)
+    else own (other_side sender) dst

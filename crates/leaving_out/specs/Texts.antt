@@ -1,0 +1,87 @@
+-- The text in which what is left out is carried, and what is found in a text.
+use Rattle.std.specs.Prelude.{◌≡◌, ℕ, ◌+◌, ◌≤◌, ◌⊎◌, Bool, Option, Some, None, List, [], ◌∷◌, ◌++◌, length, replicate, codes, Result, Ok, Err}
+use Rattle.std.specs.Global.{Vec}
+use Rattle.wire_base.specs.declared.side.Side.{Side}
+use Rattle.capture.specs.declared.fault.CaptureFault.{CaptureFault}
+use Rattle.capture.specs.declared.fault.CaptureFault.TheVariants.{Departs, Read, OutOfMemory, Failed}
+use Rattle.capture.specs.declared.fault.Departure.{Departure}
+use Rattle.capture.specs.declared.fault.Departure.TheVariants.{Syntax, TooLong, TooMany}
+use Rattle.capture.specs.declared.format.Format.TheVariants.{Three}
+use Rattle.capture.specs.declared.limit.TheConstants.{MAX_LINE}
+use Rattle.capture.specs.declared.record.Record.{Record}
+use Rattle.capture.specs.SoFar.{ReadSoFar, TheEnd, IsReadSoFar, DepartsBehind, HeadDepartsAt, read_on}
+use Rattle.capture.specs.Text.{capture_text}
+use Rattle.leaving_out.specs.declared.own_address.OwnAddress.{OwnAddress}
+use Rattle.leaving_out.specs.declared.leaving.Leaving.{Leaving}
+use Rattle.leaving_out.specs.declared.binding.Binding.{Binding}
+use Rattle.leaving_out.specs.About.{about, bindings_of}
+use Rattle.leaving_out.specs.Records.{records_left}
+
+-- ---- a text as far as it can be read
+
+-- the line after what was read departs in this way
+abbrev pub DepartsNext : ReadSoFar → Departure → Type 0
+DepartsNext read kind = DepartsBehind read kind (length read.records + 2)
+
+-- all was read: the text has ended, or its next line departs
+abbrev pub EndsOrDeparts : ReadSoFar → Type 0
+EndsOrDeparts read = (read.behind ≡ TheEnd) ⊎ ((kind : Departure) × DepartsNext read kind)
+
+-- ---- the text that is made
+
+-- a line that is longer than a line may be
+unfoldable pub too_long_line : List ℕ
+too_long_line = replicate (MAX_LINE + 1) 63 ++ 10 ∷ []
+
+-- A line that departs in this way; one after as many as a text may have departs whatever it is.
+abbrev pub departing : Departure → List ℕ
+departing Syntax = codes "?\n"
+departing TooLong = too_long_line
+departing TooMany = codes "?\n"
+
+-- the text, in format 3, of what becomes of the records that were read
+abbrev pub text_left : Leaving → Side → ReadSoFar → List ℕ
+text_left leaving side read = capture_text Three read.own read.peer (records_left leaving side read.records)
+
+-- The text that was made of a text: of all its records; and where this departs, a line that departs in the same way.
+abbrev pub MadeOf : Leaving → Side → ReadSoFar → List ℕ → Type 0
+MadeOf leaving side read made =
+    ((read.behind ≡ TheEnd) × (made ≡ text_left leaving side read))
+    ⊎ ((kind : Departure) × DepartsNext read kind × (made ≡ text_left leaving side read ++ departing kind))
+
+-- What is made of this text. Only its head's departure is answered as one; a failed read, and want of memory, as such.
+abbrev pub LeavesOut : Leaving → Side → Option (List ℕ) → Result (Vec ℕ) CaptureFault → Type 0
+LeavesOut leaving side text (Ok made) = (read : ReadSoFar) × IsReadSoFar text read × MadeOf leaving side read made.items
+LeavesOut leaving side text (Err (Departs kind line)) = HeadDepartsAt text kind line
+LeavesOut leaving side text (Err Read) = Unit {0}
+LeavesOut leaving side text (Err OutOfMemory) = Unit {0}
+LeavesOut leaving side text (Err Failed) = ⊥
+
+-- ---- what is found in a text
+
+-- this is what its record at this place is about
+abbrev pub FoundAt : Side → ℕ → Option (List ℕ) → Option OwnAddress → Type 0
+FoundAt side place text address =
+    (read : ReadSoFar) × (r : Record) × (rest : Option (List ℕ)) ×
+    IsReadSoFar text (read_on read r rest) × (length read.records ≡ place) × (address ≡ about side r)
+
+-- the text has no record there that can be read
+abbrev pub EndsBefore : ℕ → Option (List ℕ) → Type 0
+EndsBefore place text = (read : ReadSoFar) × IsReadSoFar text read × EndsOrDeparts read × (length read.records ≤ place)
+
+abbrev pub FindsAt : Side → ℕ → Option (List ℕ) → Result (Option OwnAddress) CaptureFault → Type 0
+FindsAt side place text (Ok address) = FoundAt side place text address ⊎ (EndsBefore place text × (address ≡ None))
+FindsAt side place text (Err (Departs kind line)) = HeadDepartsAt text kind line
+FindsAt side place text (Err Read) = Unit {0}
+FindsAt side place text (Err OutOfMemory) = Unit {0}
+FindsAt side place text (Err Failed) = ⊥
+
+-- the bindings of all its records; none where its head departs
+abbrev pub FindsBindings : Side → (alone : Bool) → Option (List ℕ) → Result (Vec Binding) CaptureFault → Type 0
+FindsBindings side alone text (Ok found) =
+    ((read : ReadSoFar) × IsReadSoFar text read × EndsOrDeparts read × (found.items ≡ bindings_of side alone read.records))
+    ⊎ ((kind : Departure) × HeadDepartsAt text kind 1 × (found.items ≡ []))
+FindsBindings side alone text (Err (Departs kind line)) = ⊥
+FindsBindings side alone text (Err Read) = Unit {0}
+FindsBindings side alone text (Err OutOfMemory) = Unit {0}
+FindsBindings side alone text (Err Failed) = ⊥

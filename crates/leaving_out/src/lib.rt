@@ -1,0 +1,26 @@
+//! The text of a capture in which what is left out is carried, so that no link meets it: an end is judged by what is left. And which own
+//! address a record is about, and which own addresses belong together.
+//!
+//! The crate decides by what a record says alone; it judges nothing, keeps no groups, and touches no file.
+#![tactic(auto)]
+
+mod binding;
+mod carried;
+mod leaving;
+mod located;
+mod message;
+mod naming;
+mod own_address;
+mod packet_left;
+mod record_left;
+#[cfg(test)]
+mod tests;
+mod text_left;
+mod unit_left;
+
+pub use binding::{Binding, binding_of, bindings};
+pub use leaving::{Head, Leaving};
+pub use located::address_at;
+pub use naming::about;
+pub use own_address::{ADDRESSES, OwnAddress};
+pub use text_left::left_out;

@@ -1,0 +1,337 @@
+//! What becomes of lines, each with what it was.
+
+use crate::{ADDRESSES, Binding, Head, Leaving, OwnAddress, address_at, bindings, left_out};
+use capture::{CaptureFault, Departure};
+use std::alloc::{AllocError, Global};
+use wire_base::{Side, Tally};
+
+const A: u16 = 1_025;
+
+const B: u16 = 1_026;
+
+const HEAD_OF_A: &str = "ddcap 3 1.1 1.2\n";
+
+const HEAD_OF_B: &str = "ddcap 3 1.2 1.1\n";
+
+/// A segment from link 1 of a to link 2 of b.
+const SEGMENT: &str = "810e00000101b7800202040104006002000100010005398d";
+
+const SEGMENT_CARRIED: &str = "810e00000101b7800302040104006002000100010005394c";
+
+/// A packet of circuits, whose first byte is padding.
+const PADDED: &str = "8107000001016b818202040104000813d1";
+
+const PADDED_CARRIED: &str = "8107000001016b810302040104000882d9";
+
+/// Its message has no flag byte of NSP.
+const NO_MESSAGE: &str = "8107000001016b81020204010400ffd39f";
+
+const NO_MESSAGE_CARRIED: &str = "8107000001016b81030204010400ffc35f";
+
+fn own(side: Side, address: u16) -> OwnAddress {
+    OwnAddress { side, address }
+}
+
+// What is left out, as the places say.
+fn places(alloc: Global, left: &[OwnAddress]) -> Result<Vec<bool>, AllocError> {
+    let mut places = vec![in alloc; false; ADDRESSES]?;
+    for address in left {
+        if let Some(place) = places.get_mut(address.place()) {
+            *place = true;
+        }
+    }
+    Ok(places)
+}
+
+// The text of this side where these are left out, and all that is unread is carried if that is so.
+fn made(
+    alloc: Global,
+    side: Side,
+    left: &[OwnAddress],
+    unread: bool,
+    text: &str,
+) -> Result<Vec<u8>, CaptureFault> {
+    let Ok(places) = places(alloc, left) else {
+        return Err(CaptureFault::OutOfMemory);
+    };
+    let leaving = Leaving {
+        left_out: &places,
+        unread_packets: unread,
+        unread_messages: unread,
+        head_of_a: Head { own: A, peer: B },
+        head_of_b: Head { own: B, peer: A },
+    };
+    let mut reader = Tally::new(text.as_bytes());
+    left_out(alloc, side, &leaving, &mut reader)
+}
+
+// Whether the text with this head and line becomes that with this line, at side a where link 1 is left out, and b's 2 with it.
+fn becomes(alloc: Global, line: &str, left: &str) -> Result<bool, AllocError> {
+    let link = [own(Side::A, 1), own(Side::B, 2)];
+    let text = format!(in alloc; "{HEAD_OF_A}{line}\n")?;
+    let wanted = format!(in alloc; "{HEAD_OF_A}{left}\n")?;
+    match made(alloc, Side::A, &link, false, &text) {
+        Ok(text) => Ok(text.as_slice() == wanted.as_bytes()),
+        Err(_) => Ok(false),
+    }
+}
+
+#[test]
+fn events_of_a_link_are_carried(rt: HostRuntime) -> Result<(), AllocError> {
+    let alloc = rt.alloc();
+    let carried = "u interrupt 1 -";
+    assert!(rt; becomes(alloc, "u open 1", carried)?);
+    assert!(rt; becomes(alloc, "u accept 9 1", carried)?);
+    assert!(rt; becomes(alloc, "u reject 9 1", carried)?);
+    assert!(rt; becomes(alloc, "u in 1 0506", carried)?);
+    assert!(rt; becomes(alloc, "u up 1 05", carried)?);
+    assert!(rt; becomes(alloc, "u close 1", carried)?);
+    assert!(rt; becomes(alloc, "u abort 1", carried)?);
+    assert!(rt; becomes(alloc, "u interrupt 1 05", carried)?);
+    assert!(rt; becomes(alloc, "u interrupted 1 05", carried)?);
+    Ok(())
+}
+
+#[test]
+fn other_events_stay(rt: HostRuntime) -> Result<(), AllocError> {
+    let alloc = rt.alloc();
+    for line in [
+        "u start",
+        "u halt",
+        "u boot",
+        "u open 2",
+        "u accept 1 3",
+        "u in 3 -",
+        "u up 2 0506",
+        "n 05",
+        "s 0506c00000017595",
+        "r 7 0506c00000017595",
+    ] {
+        assert!(rt; becomes(alloc, line, line)?);
+    }
+    Ok(())
+}
+
+#[test]
+fn packets_of_a_link_are_carried(rt: HostRuntime) -> Result<(), AllocError> {
+    let alloc = rt.alloc();
+    let sent = format!(in alloc; "s {SEGMENT}")?;
+    let carried = format!(in alloc; "s {SEGMENT_CARRIED}")?;
+    assert!(rt; becomes(alloc, &sent, &carried)?);
+    // a CI, and a connect ack of one that came, by DSTADDR at the other end
+    assert!(rt;
+        becomes(
+            alloc,
+            "s 810f000001018a40020204010400180000010001020002ed98",
+            "s 810f000001018a400302040104001800000100010200022c98",
+        )?
+    );
+    assert!(rt;
+        becomes(
+            alloc,
+            "s 81090000010102400202040104002402006c03",
+            "s 81090000010102400302040104002402006193",
+        )?
+    );
+    // a packet that was composed
+    assert!(rt;
+        becomes(
+            alloc,
+            "x 0202040104006002000100010005",
+            "x 0302040104006002000100010005",
+        )?
+    );
+    // no operation is of no link, and what is returned is met by none
+    let same = "s 8107000001016b81020204010400089219";
+    assert!(rt; becomes(alloc, same, same)?);
+    let same = "s 810e00000101b7801202040104006002000100010005285d";
+    assert!(rt; becomes(alloc, same, same)?);
+    Ok(())
+}
+
+#[test]
+fn what_ends_a_call_becomes_a_disconnect_confirm(rt: HostRuntime) -> Result<(), AllocError> {
+    let alloc = rt.alloc();
+    // with REASON 7, and without its data
+    assert!(rt;
+        becomes(
+            alloc,
+            "s 810f000001018a400202040104003802000100070001025558",
+            "s 810d00000101f38002020401040048020001000700429a",
+        )?
+    );
+    let same = "s 810d00000101f38002020401040048020001000700429a";
+    assert!(rt; becomes(alloc, same, same)?);
+    // DSTADDR 0
+    assert!(rt;
+        becomes(
+            alloc,
+            "s 810d00000101f3800202040104003800000100070032bf",
+            "s 810d00000101f38003020401040038000001000700303e",
+        )?
+    );
+    // another node
+    assert!(rt;
+        becomes(
+            alloc,
+            "s 810d00000101f38002030401040038020001000700ce9e",
+            "s 810d00000101f38003030401040038020001000700cc1f",
+        )?
+    );
+    Ok(())
+}
+
+#[test]
+fn what_comes_is_changed_as_it_was_sent(rt: HostRuntime) -> Result<(), CaptureFault> {
+    let alloc = rt.alloc();
+    let link = [own(Side::A, 1), own(Side::B, 2)];
+    let there = [own(Side::A, 1)];
+    let here = [own(Side::B, 2)];
+    let Ok(text) = format!(in alloc; "{HEAD_OF_B}k 3 {SEGMENT}\nr 4 {SEGMENT}\nd 5 {SEGMENT}\n")
+    else {
+        return Err(CaptureFault::OutOfMemory);
+    };
+    let Ok(both) = format!(in alloc;
+        "{HEAD_OF_B}d 3 {SEGMENT_CARRIED}\nr 4 {SEGMENT_CARRIED}\nd 5 {SEGMENT_CARRIED}\n"
+    ) else {
+        return Err(CaptureFault::OutOfMemory);
+    };
+    assert_eq!(rt;
+        made(alloc, Side::B, &link, false, &text)?.as_slice(),
+        both.as_bytes()
+    );
+    let Ok(kept) = format!(in alloc;
+        "{HEAD_OF_B}k 3 {SEGMENT_CARRIED}\nr 4 {SEGMENT_CARRIED}\nd 5 {SEGMENT_CARRIED}\n"
+    ) else {
+        return Err(CaptureFault::OutOfMemory);
+    };
+    assert_eq!(rt;
+        made(alloc, Side::B, &there, false, &text)?.as_slice(),
+        kept.as_bytes()
+    );
+    let Ok(lost) = format!(in alloc; "{HEAD_OF_B}d 3 {SEGMENT}\nr 4 {SEGMENT}\nd 5 {SEGMENT}\n")
+    else {
+        return Err(CaptureFault::OutOfMemory);
+    };
+    assert_eq!(rt;
+        made(alloc, Side::B, &here, false, &text)?.as_slice(),
+        lost.as_bytes()
+    );
+    Ok(())
+}
+
+#[test]
+fn what_cannot_be_read_is_carried(rt: HostRuntime) -> Result<(), CaptureFault> {
+    let alloc = rt.alloc();
+    let Ok(text) = format!(in alloc; "{HEAD_OF_A}s {PADDED}\ns {NO_MESSAGE}\nx -\n") else {
+        return Err(CaptureFault::OutOfMemory);
+    };
+    assert_eq!(rt;
+        made(alloc, Side::A, &[], false, &text)?.as_slice(),
+        text.as_bytes()
+    );
+    let Ok(carried) = format!(in alloc;
+        "{HEAD_OF_A}s {PADDED_CARRIED}\ns {NO_MESSAGE_CARRIED}\nx 01\n"
+    ) else {
+        return Err(CaptureFault::OutOfMemory);
+    };
+    assert_eq!(rt;
+        made(alloc, Side::A, &[], true, &text)?.as_slice(),
+        carried.as_bytes()
+    );
+    Ok(())
+}
+
+#[test]
+fn any_format_becomes_format_3(rt: HostRuntime) -> Result<(), CaptureFault> {
+    let alloc = rt.alloc();
+    let text = "ddcap 2 1.1 1.2\nr 3 05\nr 0 05\nr -2 05\n";
+    let wanted = b"ddcap 3 1.1 1.2\nr 3 05\nr 4 05\nr 3 05\n".as_slice();
+    assert_eq!(rt; made(alloc, Side::A, &[], false, text)?.as_slice(), wanted);
+    Ok(())
+}
+
+#[test]
+fn a_faulty_text_departs_at_the_same_line(rt: HostRuntime) -> Result<(), CaptureFault> {
+    let alloc = rt.alloc();
+    let text = "ddcap 1 1.1 1.2\nu start\nu boot\nu halt\n";
+    let made_of = made(alloc, Side::A, &[], false, text)?;
+    assert_eq!(rt;
+        made_of.as_slice(),
+        b"ddcap 3 1.1 1.2\nu start\n?\n".as_slice()
+    );
+    let cut = "ddcap 1 1.1 1.2\nu start\nu halt";
+    let made_of = made(alloc, Side::A, &[], false, cut)?;
+    assert_eq!(rt;
+        made_of.as_slice(),
+        b"ddcap 3 1.1 1.2\nu start\n?\n".as_slice()
+    );
+    let head = CaptureFault::Departs {
+        kind: Departure::Syntax,
+        line: 1,
+    };
+    assert_eq!(rt;
+        made(alloc, Side::A, &[], false, "ddcap 4\n").map(|_| ()),
+        Err(head)
+    );
+    // an interrupt of 17 bytes
+    let long = "ddcap 3 1.1 1.2\nu interrupt 1 0505050505050505050505050505050505\n";
+    assert_eq!(rt;
+        made(alloc, Side::A, &[], false, long)?.len(),
+        16 + 131_082 + 1
+    );
+    Ok(())
+}
+
+#[test]
+fn records_name_own_addresses(rt: HostRuntime) -> Result<(), CaptureFault> {
+    let alloc = rt.alloc();
+    let Ok(text) = format!(in alloc;
+        "{HEAD_OF_A}u start\nu accept 7 3\ns {SEGMENT}\nk 0 {SEGMENT}\nr 1 {NO_MESSAGE}\n?"
+    ) else {
+        return Err(CaptureFault::OutOfMemory);
+    };
+    let wanted = [
+        None,
+        Some(own(Side::A, 3)),
+        Some(own(Side::A, 1)),
+        Some(own(Side::A, 2)),
+        None,
+        None,
+    ];
+    let mut place = 0;
+    for address in wanted {
+        let mut reader = Tally::new(text.as_bytes());
+        assert_eq!(rt; address_at(alloc, Side::A, place, &mut reader)?, address);
+        place += 1;
+    }
+    Ok(())
+}
+
+#[test]
+fn texts_bind_both_ends(rt: HostRuntime) -> Result<(), CaptureFault> {
+    let alloc = rt.alloc();
+    let confirm = "810f000001018a400202040104002802000100010200023840";
+    let Ok(text) = format!(in alloc;
+        "{HEAD_OF_A}u accept 7 3\nu reject 8 4\ns {confirm}\nk 0 {confirm}\ns {SEGMENT}\n?\nu accept 5 5\n"
+    ) else {
+        return Err(CaptureFault::OutOfMemory);
+    };
+    let wanted = [
+        bound(own(Side::A, 3), own(Side::B, 7)),
+        bound(own(Side::A, 4), own(Side::B, 8)),
+        bound(own(Side::A, 1), own(Side::B, 2)),
+        bound(own(Side::B, 1), own(Side::A, 2)),
+    ];
+    let mut reader = Tally::new(text.as_bytes());
+    let found = bindings(alloc, Side::A, true, &mut reader)?;
+    assert_eq!(rt; found.as_slice(), wanted.as_slice());
+    let mut reader = Tally::new(text.as_bytes());
+    let found = bindings(alloc, Side::A, false, &mut reader)?;
+    assert_eq!(rt; found.as_slice(), &wanted[..3]);
+    Ok(())
+}
+
+fn bound(one: OwnAddress, other: OwnAddress) -> Binding {
+    Binding { one, other }
+}
