@@ -30,6 +30,9 @@ pub mod Seen
 pub mod Alone
 pub mod LineToo
 pub mod QueuedToo
+pub mod AnyPeriodToo
+pub mod Unasked
+pub mod UnaskedLayers
 pub mod FirstFailed
 pub mod FailsThere
 pub mod Ends

@@ -1,7 +1,7 @@
 -- What becomes of a record on true numbers, from what is seen of it; and how many links are seen.
 use Rattle.std.proofs.Common.{◌≡◌, List, length, refl, sym, ap, ◌∙◌}
 use Rattle.std.proofs.lemmas.List.{length-map}
-use Rattle.two_nodes.specs.Nodes.{Outcome, advance}
+use Rattle.two_nodes.specs.Nodes.{Outcome, Run, advance}
 use Rattle.two_nodes.specs.Nodes.Outcome.{Made, Waits, Refused}
 use Rattle.two_nodes.specs.Cutting.{Cut, cut_outcome, cut_world}
 use Rattle.capture.specs.declared.record.Record.{Record}
@@ -12,9 +12,10 @@ use Rattle.dna_node.specs.CutLayers.{cut_layers_unit, layers_seen_by}
 use Rattle.dna_links.specs.CutLinks.{cut_link}
 use Rattle.dna_node.specs.LayersPair.{layers_pair_by}
 use Rattle.dna_node.specs.Seen.{IsSeenLayersBy}
+use Rattle.dna_node.specs.WireLayers.{wire_layers_start}
 use Rattle.pair_judge.specs.inner.Reached.{IsShown}
-use Rattle.pair_judge.specs.inner.Tops.{links_on_top_by}
-use Rattle.pair_judge.specs.inner.Wire.{JudgeWorld}
+use Rattle.pair_judge.specs.inner.Tops.{links_of_any_period, links_on_top_by}
+use Rattle.pair_judge.specs.inner.Wire.{JudgeWorld, judge_pair}
 
 module _ {S U T V : Type 0} (cut : Cut S U T V) where
   pub refused_there : (outcome : Outcome S U StepRefusal) (refusal : StepRefusal) →
@@ -57,3 +58,20 @@ pub shown_is_cut : (queues : Queues) (head_a head_b : Head) (w : JudgeWorld) (of
     w ≡ cut_world (layers_seen_by queues) (shown queues head_a head_b w of_a of_b s).world
 unfolding shown
 shown_is_cut queues head_a head_b w of_a of_b s = s.is_cut
+
+-- where no period is asked, the run is shown by itself
+pub shown_as_run : (queues : Queues) (head_a head_b : Head) (w : JudgeWorld) (of_a of_b : List Record) →
+    Run (judge_pair (links_of_any_period queues)) (wire_layers_start head_a head_b) of_a of_b w →
+    IsShown (links_of_any_period queues) head_a head_b w of_a of_b
+shown_as_run queues head_a head_b w of_a of_b run = record {
+  world = w;
+  run = run;
+  refused_a = λ r refusal is. is;
+  refused_b = λ r refusal is. is;
+  waits_a = λ r is. is;
+  waits_b = λ r is. is;
+  links_a = refl;
+  links_b = refl;
+  shows_a = record { station = refl; front = refl; sent = refl };
+  shows_b = record { station = refl; front = refl; sent = refl };
+}

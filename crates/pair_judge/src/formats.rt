@@ -6,13 +6,19 @@ ghost use Rattle.pair_judge.specs.declared.verdict.Verdict.TheVariants.{Accepted
 ghost use Rattle.pair_judge.specs.declared.summary.Summary.{Summary};
 ghost use Rattle.pair_judge.specs.declared.reason.Reason.{Reason as Why};
 ghost use Rattle.wire_base.specs.declared.side.Side.{Side as Of};
-ghost use Rattle.dna_links.specs.declared.queue.Queues.TheVariants.{With};
+ghost use Rattle.dna_links.specs.declared.queue.Queues.TheVariants.{Without, With};
 ghost use Rattle.dna_node.specs.Kind.{both_layers, layers_kind, stations_alone};
+ghost use Rattle.pair_judge.specs.AnyPeriod.{layers_of_any_period, stations_of_any_period};
 ghost use Rattle.pair_judge.specs.Judged.{AcceptsAsOrFails, AcceptsOrFails, Answer, IsAnswer, JudgesOrFails, RefusesOrFails};
 ghost use Rattle.pair_judge.specs.Refusal.{AreTexts, WholeCapture};
 
 use capture::{one_head_and_list, whole_text};
-use dna_node::{layers_run_as_stations, layers_with_queues_do_as_much};
+use dna_links::LinkTag;
+use dna_node::{
+    layers_run_as_stations, layers_with_queues_do_as_much, queued_wire_layers_see_right,
+    wire_layers_see_right,
+};
+use dna_station::wire_nodes_see_right;
 
 /// The same two captures are judged alike in whichever format their texts are, as of a capture and of what it was converted to. What `judge`
 /// (and `judge_line`) answers of two such texts is a verdict, want of memory or a failed read; and all their verdicts are one: `Accepted` with the
@@ -58,5 +64,25 @@ pub fn judged_with_queues_too()
         IsAnswer (layers_kind With) (Some bytes_a) (Some bytes_b) queued → AcceptsAsOrFails summary queued }
 {
     layers_with_queues_do_as_much();
+    one_head_and_list();
+}
+
+/// What is judged of nodes that ask for periods and of nodes that ask for none, of the same two texts. Where `judge` accepts them,
+/// `judge_any_period` does, with the same counts, unless memory runs out or a read fails; and so with `judge_queued` and `judge_queued_any_period`,
+/// and with `judge_line` and `judge_line_any_period`. So what is refused without periods is never accepted with them.
+pub fn judged_of_any_period_too()
+    ensures nodes { (bytes_a bytes_b : List ℕ) (summary : Summary) (other : Answer) →
+        IsAnswer both_layers (Some bytes_a) (Some bytes_b) (Ok (Accepted summary)) →
+        IsAnswer (layers_of_any_period Without) (Some bytes_a) (Some bytes_b) other → AcceptsAsOrFails summary other }
+    ensures queued { (bytes_a bytes_b : List ℕ) (summary : Summary) (other : Answer) →
+        IsAnswer (layers_kind With) (Some bytes_a) (Some bytes_b) (Ok (Accepted summary)) →
+        IsAnswer (layers_of_any_period With) (Some bytes_a) (Some bytes_b) other → AcceptsAsOrFails summary other }
+    ensures line { (bytes_a bytes_b : List ℕ) (summary : Summary) (other : Answer) →
+        IsAnswer stations_alone (Some bytes_a) (Some bytes_b) (Ok (Accepted summary)) →
+        IsAnswer stations_of_any_period (Some bytes_a) (Some bytes_b) other → AcceptsAsOrFails summary other }
+{
+    wire_layers_see_right();
+    queued_wire_layers_see_right();
+    wire_nodes_see_right::<LinkTag>();
     one_head_and_list();
 }

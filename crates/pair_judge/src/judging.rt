@@ -16,6 +16,7 @@ ghost use Rattle.pair_judge.specs.inner.Answer.{verdict_of};
 ghost use Rattle.pair_judge.specs.inner.Opened.{OpensAt};
 ghost use Rattle.pair_judge.specs.inner.Stopped.{AreShownIn, IsStoppedIn, ends_of};
 
+mod any_period;
 mod queued;
 mod told;
 mod with_ends;
@@ -33,6 +34,7 @@ use crate::summary::{SideSummary, Summary};
 use crate::top::Top;
 use crate::turn::{side_fault, turn};
 use crate::verdict::Verdict;
+pub use any_period::{judge_any_period, judge_line_any_period, judge_queued_any_period};
 use capture::{CaptureReader, MAX_RECORDS, text_read_on, whole_text};
 use dna_node::Finding;
 use dna_station::Head;

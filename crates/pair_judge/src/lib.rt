@@ -51,11 +51,14 @@ pub use end_verdict::{Accused, EndVerdict};
 pub use failed_check::{Awaited, FailedCheck, NotSound};
 pub use failed_laws::failed_check_as_refused;
 pub use fault::{JudgeFault, TextFault};
-pub use formats::{judged_in_any_format, judged_with_queues_too, line_is_judged_too};
+pub use formats::{
+    judged_in_any_format, judged_of_any_period_too, judged_with_queues_too, line_is_judged_too,
+};
 pub use judged_ends::JudgedEnds;
 pub use judging::{
-    Watched, judge, judge_line, judge_line_told, judge_queued, judge_queued_told, judge_told,
-    judge_watched, judge_with_ends,
+    Watched, judge, judge_any_period, judge_line, judge_line_any_period, judge_line_told,
+    judge_queued, judge_queued_any_period, judge_queued_told, judge_told, judge_watched,
+    judge_with_ends,
 };
 pub use judging_end::{
     WatchedEnd, judge_end, judge_end_watched, judge_line_end, judge_line_end_watched,

@@ -7,6 +7,8 @@ mod failed_checks;
 #[cfg(test)]
 mod observers;
 #[cfg(test)]
+mod periods_unasked;
+#[cfg(test)]
 mod queued_judges;
 #[cfg(test)]
 mod refusals;

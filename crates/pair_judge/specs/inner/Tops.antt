@@ -15,7 +15,7 @@ use Rattle.dna_station.specs.Cut.{cut}
 use Rattle.dna_station.specs.WireNode.{unlabelled, wire_machine}
 use Rattle.dna_node.specs.Alone.{EndOf, layers_end_by, station_end, unknown_tag}
 use Rattle.dna_node.specs.CutLayers.{cut_layers_by}
-use Rattle.dna_node.specs.Kind.{layers_kind, stations_alone}
+use Rattle.dna_node.specs.Kind.{NodeKind, layers_kind, stations_alone}
 use Rattle.dna_node.specs.Layers.{Layers}
 use Rattle.dna_node.specs.TagRules.{Rules, judged_by}
 use Rattle.ddcmp_station.specs.PeriodRules.{period_rule}
@@ -24,29 +24,34 @@ use Rattle.nsp_link.specs.Kinds.{queues_of}
 use Rattle.dna_links.specs.declared.queue.Queues.{Queues}
 use Rattle.dna_links.specs.declared.queue.Queues.TheVariants.{Without}
 use Rattle.dna_node.specs.WireLayers.{WireLayers, LayersTag, to_wire_station, wire_layers_machine, with_wire_station}
+use Rattle.pair_judge.specs.AnyPeriod.{any_period_by, layers_of_any_period, stations_of_any_period}
 use Rattle.pair_judge.specs.EndKind.{layers_alone_by, station_alone}
 use Rattle.pair_judge.specs.inner.Wire.{JudgeTop}
 
 -- ---- the rules on tags
 
--- of a pair that is judged, or of one end, which goes by bytes; and whether its NSP has queues
-abbrev pub rules_by : (of_pair : Bool) → (kind : ℕ) → Rules
-rules_by of_pair kind = record { periods = period_rule of_pair; partners = partner_rule of_pair; queues = queues_of kind }
+-- whether each is asked: both of a pair that is judged, neither of one end, which goes by bytes; and whether its NSP has queues
+abbrev pub rules_by : (of_period of_link : Bool) → (kind : ℕ) → Rules
+rules_by of_period of_link kind = record { periods = period_rule of_period; partners = partner_rule of_link; queues = queues_of kind }
 
 -- ---- the links
 
 abbrev pub layers_run_by : Queues → Machine WireLayers LayersTag
 layers_run_by queues = wire_layers_machine (judged_by queues)
 
-abbrev pub links_on_top_by : Queues → JudgeTop
-links_on_top_by queues = record {
-  kind = layers_kind queues;
-  machine = layers_run_by queues;
+-- the links on top of stations that make this of a record, taken for nodes of this kind
+abbrev pub links_for : (kind : NodeKind) → (WireLayers → kind.Keeps → Type 0) → Machine WireLayers LayersTag → Queues → JudgeTop
+links_for kind Shows machine queues = record {
+  kind = kind;
+  machine = machine;
   links = λ (s : WireLayers). length s.links.links;
   alone = layers_end_by queues;
   end = layers_alone_by queues;
-  Shows = λ (w : WireLayers) (s : Layers). w ≡ cut_layers_by queues s;
+  Shows = Shows;
 }
+
+abbrev pub links_on_top_by : Queues → JudgeTop
+links_on_top_by queues = links_for (layers_kind queues) (λ (w : WireLayers) (s : Layers). w ≡ cut_layers_by queues s) (layers_run_by queues) queues
 
 -- without queues
 abbrev pub layers_run : Machine WireLayers LayersTag
@@ -54,6 +59,11 @@ layers_run = layers_run_by Without
 
 abbrev pub links_on_top : JudgeTop
 links_on_top = links_on_top_by Without
+
+-- where no period is asked, what is run is the node of the kind
+abbrev pub links_of_any_period : Queues → JudgeTop
+links_of_any_period queues =
+    links_for (layers_of_any_period queues) (λ (w s : WireLayers). w ≡ s) (wire_layers_machine (any_period_by queues)) queues
 
 -- ---- nothing: the links stay as they were before any record
 
@@ -82,12 +92,21 @@ line_end = record {
   wrong_taken = λ (s : WireLayers) (m : MessageValue). station_end.wrong_taken s.station m;
 }
 
-abbrev pub nothing_on_top : JudgeTop
-nothing_on_top = record {
-  kind = stations_alone;
-  machine = line_machine;
+-- stations that make this of a record, taken for nodes of this kind
+abbrev pub nothing_for : (kind : NodeKind) → (WireLayers → kind.Keeps → Type 0) → Machine WireLayers LayersTag → JudgeTop
+nothing_for kind Shows machine = record {
+  kind = kind;
+  machine = machine;
   links = λ (s : WireLayers). 0;
   alone = line_end;
   end = station_alone;
-  Shows = λ (w : WireLayers) (s : Station). w.station ≡ cut (unlabelled s.packets) s;
+  Shows = Shows;
 }
+
+abbrev pub nothing_on_top : JudgeTop
+nothing_on_top = nothing_for stations_alone (λ (w : WireLayers) (s : Station). w.station ≡ cut (unlabelled s.packets) s) line_machine
+
+-- where no period is asked, what is run is the node of the kind with links that nothing meets
+abbrev pub nothing_of_any_period : JudgeTop
+nothing_of_any_period =
+    nothing_for stations_of_any_period (λ (w : WireLayers) (s : WireStation LinkTag). w.station ≡ s) (line_by of_any_period)

@@ -24,36 +24,40 @@ use nsp_link::LinkFault;
 
 impl Layers {
     /// This came, with the tag of its packet, and the node kept the packet or did not. A packet that is kept, and not lost then, is read again and
-    /// goes to the links, whose NSP has queues or has none (`QUEUES`). Of an end whose other side is not known, no period and no link of what comes is known, so
-    /// neither rule on those is asked: not `OF_PAIR`.
+    /// goes to the links, whose NSP has queues or has none (`QUEUES`). The station asks the rule on periods where `OF_PERIOD`, and the links ask that
+    /// on partners where `OF_LINK`. Of an end whose other side is not known, no period and no link of what comes is known, so neither is asked.
     ///
     /// `Refused`, in this order: as the station refuses; as the links refuse. Then both layers are as they were. `OutOfMemory`: memory for a
     /// link or for the piece of a message was refused; the layers have no use after that. What is damaged or not kept takes none.
     #[inline(always)]
-    pub fn arrived<const OF_PAIR: bool, const QUEUES: u8>(
+    pub fn arrived<const OF_PERIOD: bool, const OF_LINK: bool, const QUEUES: u8>(
         &mut self,
         arrival: Arrival,
         link: &HeldLink,
         fate: Fate,
     ) -> Result<(), StepFault>
         requires { load self.old.station < 2 ^ 63 }
-        ensures ok { OnOk result ((wire_layers_machine (rules_by OF_PAIR QUEUES)).arrives self.old (with_link link.now (arrival_view arrival.entry)) fate
-            ≡ Ok self.new) }
+        ensures ok { OnOk result ((wire_layers_machine (rules_by OF_PERIOD OF_LINK QUEUES)).arrives self.old
+            (with_link link.now (arrival_view arrival.entry)) fate ≡ Ok self.new) }
         ensures refused { IfErr result (IfRefused (λ refusal.
-            (wire_layers_machine (rules_by OF_PAIR QUEUES)).arrives self.old (with_link link.now (arrival_view arrival.entry)) fate ≡ Err refusal)) }
+            (wire_layers_machine (rules_by OF_PERIOD OF_LINK QUEUES)).arrives self.old
+            (with_link link.now (arrival_view arrival.entry)) fate ≡ Err refusal)) }
         ensures still { IfErr result (IfRefused (λ refusal. self.new ≡ self.old)) }
         ensures memory { IfErr result (IfNoMemory (MayKeep fate (is_damage (arrival_view arrival.entry)))) }
         ensures load { load self.new.station ≤ load self.old.station + 1 }
     {
         let kept = fate.is_kept();
-        match self.station.ask_arrival::<OF_PAIR>(arrival, kept) {
+        match self.station.ask_arrival::<OF_PERIOD>(arrival, kept) {
             Ok(permit) => {
                 if !fate.is_met() {
                     self.station.arrive(arrival, permit.row, kept);
                     return Ok(());
                 }
                 match permit.packet {
-                    Some(packet) => match self.keep::<OF_PAIR, QUEUES>(packet, tag_of(link)) {
+                    Some(packet) => match self.keep::<OF_PERIOD, OF_LINK, QUEUES>(
+                        packet,
+                        tag_of(link),
+                    ) {
                         Ok(()) => {
                             self.station.arrive_apart(arrival, permit.row, kept);
                             Ok(())
@@ -72,19 +76,19 @@ impl Layers {
 
     // This packet is kept, with this tag: it goes to the links.
     #[inline(never)]
-    fn keep<const OF_PAIR: bool, const QUEUES: u8>(
+    fn keep<const OF_PERIOD: bool, const OF_LINK: bool, const QUEUES: u8>(
         &mut self,
         packet: &[u8],
         tag: LinkTag,
     ) -> Result<(), StepFault>
-        ensures ok { OnOk result (wire_keeps_packet (rules_by OF_PAIR QUEUES) self.old tag (spec.content packet.now) ≡ Ok self.new) }
-        ensures refused { IfErr result (IfRefused (λ refusal. wire_keeps_packet (rules_by OF_PAIR QUEUES) self.old tag (spec.content packet.now)
-            ≡ Err refusal)) }
+        ensures ok { OnOk result (wire_keeps_packet (rules_by OF_PERIOD OF_LINK QUEUES) self.old tag (spec.content packet.now) ≡ Ok self.new) }
+        ensures refused { IfErr result (IfRefused (λ refusal.
+            wire_keeps_packet (rules_by OF_PERIOD OF_LINK QUEUES) self.old tag (spec.content packet.now) ≡ Err refusal)) }
         ensures station { self.new.station ≡ self.old.station }
         ensures err { OnErr result (self.new ≡ self.old) }
     {
         match content(packet) {
-            Ok(Some(carried)) => self.take::<OF_PAIR, QUEUES>(carried, tag),
+            Ok(Some(carried)) => self.take::<OF_PERIOD, OF_LINK, QUEUES>(carried, tag),
             Ok(None) => Ok(()),
             Err(refusal) => Err(StepFault::Refused(refusal)),
         }
@@ -92,21 +96,21 @@ impl Layers {
 
     // The message that a packet carries is read, and the links take it, with this tag.
     #[inline(always)]
-    fn take<const OF_PAIR: bool, const QUEUES: u8>(
+    fn take<const OF_PERIOD: bool, const OF_LINK: bool, const QUEUES: u8>(
         &mut self,
         carried: Carried,
         tag: LinkTag,
     ) -> Result<(), StepFault>
-        ensures ok { OnOk result (wire_keeps_packet (rules_by OF_PAIR QUEUES) self.old tag (lent_content carried.entry) ≡ Ok self.new) }
-        ensures refused { IfErr result (IfRefused (λ refusal. wire_keeps_packet (rules_by OF_PAIR QUEUES) self.old tag (lent_content carried.entry)
-            ≡ Err refusal)) }
+        ensures ok { OnOk result (wire_keeps_packet (rules_by OF_PERIOD OF_LINK QUEUES) self.old tag (lent_content carried.entry) ≡ Ok self.new) }
+        ensures refused { IfErr result (IfRefused (λ refusal.
+            wire_keeps_packet (rules_by OF_PERIOD OF_LINK QUEUES) self.old tag (lent_content carried.entry) ≡ Err refusal)) }
         ensures station { self.new.station ≡ self.old.station }
         ensures err { OnErr result (self.new ≡ self.old) }
     {
         match &read_nsp(carried.message) {
             Ok(message) => match self
                 .links
-                .arrived::<OF_PAIR, QUEUES>(carried.dst, carried.src, message, tag)
+                .arrived::<OF_LINK, QUEUES>(carried.dst, carried.src, message, tag)
             {
                 Ok(()) => Ok(()),
                 Err(LinkFault::Refused(refusal)) => Err(StepFault::Refused(StepRefusal::Links(

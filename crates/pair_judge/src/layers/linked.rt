@@ -56,11 +56,11 @@ impl<const QUEUES: u8> Top for LinksOnTop<QUEUES> {
         link: &HeldLink,
         fate: Fate,
     ) -> Result<(), StepFault> {
-        layers.arrived::<true, QUEUES>(arrival, link, fate)
+        layers.arrived::<true, true, QUEUES>(arrival, link, fate)
     }
 
     fn arrived_unknown(layers: &mut Layers, arrival: Arrival, fate: Fate) -> Result<(), StepFault> {
-        layers.arrived::<false, QUEUES>(arrival, &HeldLink::new(&Some(OF_NO_LINK)), fate)
+        layers.arrived::<false, false, QUEUES>(arrival, &HeldLink::new(&Some(OF_NO_LINK)), fate)
     }
 
     fn may_arrive_unknown(

@@ -17,16 +17,17 @@ use dna_packet::read_nsp;
 use dna_station::{LinkRefusal, StepRefusal};
 
 impl Layers {
-    /// What `arrived::<false, QUEUES>` would refuse of this, asked without any change. Takes no memory.
+    /// What `arrived::<false, false, QUEUES>` would refuse of this, asked without any change. Takes no memory.
     pub fn may_arrive_unknown<const QUEUES: u8>(
         &self,
         arrival: Arrival,
         fate: Fate,
     ) -> Result<(), StepRefusal>
-        ensures ok { OnOk result (IsOk ((wire_layers_machine (rules_by false QUEUES)).arrives self.now (with_link (Some of_no_link)
+        ensures ok { OnOk result (IsOk ((wire_layers_machine (rules_by false false QUEUES)).arrives self.now (with_link (Some of_no_link)
             (arrival_view arrival.entry)) fate)) }
         ensures refused { IfErr result (λ refusal.
-            (wire_layers_machine (rules_by false QUEUES)).arrives self.now (with_link (Some of_no_link) (arrival_view arrival.entry)) fate ≡ Err refusal) }
+            (wire_layers_machine (rules_by false false QUEUES)).arrives self.now
+            (with_link (Some of_no_link) (arrival_view arrival.entry)) fate ≡ Err refusal) }
     {
         let kept = fate.is_kept();
         match self.station.ask_arrival::<false>(arrival, kept) {
@@ -45,8 +46,9 @@ impl Layers {
 
     // What the links would refuse of this packet.
     fn may_keep_unknown<const QUEUES: u8>(&self, packet: &[u8]) -> Result<(), StepRefusal>
-        ensures ok { OnOk result (IsOk (wire_keeps_packet (rules_by false QUEUES) self.now of_no_link (spec.content packet.now))) }
-        ensures refused { IfErr result (λ refusal. wire_keeps_packet (rules_by false QUEUES) self.now of_no_link (spec.content packet.now) ≡ Err refusal) }
+        ensures ok { OnOk result (IsOk (wire_keeps_packet (rules_by false false QUEUES) self.now of_no_link (spec.content packet.now))) }
+        ensures refused { IfErr result (λ refusal.
+            wire_keeps_packet (rules_by false false QUEUES) self.now of_no_link (spec.content packet.now) ≡ Err refusal) }
     {
         match content(packet) {
             Ok(Some(carried)) => self.may_take_unknown::<QUEUES>(carried),
@@ -57,8 +59,9 @@ impl Layers {
 
     // What they would refuse of the message that a packet carries.
     fn may_take_unknown<const QUEUES: u8>(&self, carried: Carried) -> Result<(), StepRefusal>
-        ensures ok { OnOk result (IsOk (wire_keeps_packet (rules_by false QUEUES) self.now of_no_link (lent_content carried.entry))) }
-        ensures refused { IfErr result (λ refusal. wire_keeps_packet (rules_by false QUEUES) self.now of_no_link (lent_content carried.entry) ≡ Err refusal) }
+        ensures ok { OnOk result (IsOk (wire_keeps_packet (rules_by false false QUEUES) self.now of_no_link (lent_content carried.entry))) }
+        ensures refused { IfErr result (λ refusal.
+            wire_keeps_packet (rules_by false false QUEUES) self.now of_no_link (lent_content carried.entry) ≡ Err refusal) }
     {
         match &read_nsp(carried.message) {
             Ok(_) => {

@@ -13,7 +13,8 @@ returns-in-Some-clause-ok g c =
     let allowed = rw c.is_kept-kept.ensures at c.in-Ok.ensures.allowed in
     let taken = rw c.is_kept-kept.ensures at (sym c.in-Ok.ensures.taken ∙ ap option_copied c.in-Some.is) in
     rw (← c.self.view_is)
-    (on_ok c.may_keep_unknown.result (meets_ok (rules_by false _) (record { station = c.self.inside.station; links = c.self.inside.links }) (Some of_no_link)
+    (on_ok c.may_keep_unknown.result (meets_ok (rules_by false false _)
+    (record { station = c.self.inside.station; links = c.self.inside.links }) (Some of_no_link)
     c.args.fate (arrival_view c.args.arrival) c.in-Some.packet.now of_no_link (sym c.is_met.ensures ∙ c.if-not-is_met.false) allowed taken refl)
     (rw (← c.self.view_is) at c.may_keep_unknown.ensures.ok))
 
@@ -22,7 +23,7 @@ returns-in-Some-clause-refused g c =
     let allowed = rw c.is_kept-kept.ensures at c.in-Ok.ensures.allowed in
     let taken = rw c.is_kept-kept.ensures at (sym c.in-Ok.ensures.taken ∙ ap option_copied c.in-Some.is) in
     rw (← c.self.view_is)
-    (IfErr-weaker c.may_keep_unknown.result _ _ (λ refusal refuses. meets_refused (rules_by false _)
+    (IfErr-weaker c.may_keep_unknown.result _ _ (λ refusal refuses. meets_refused (rules_by false false _)
     (record { station = c.self.inside.station; links = c.self.inside.links }) (Some of_no_link) c.args.fate (arrival_view c.args.arrival)
     c.in-Some.packet.now of_no_link (sym c.is_met.ensures ∙ c.if-not-is_met.false) allowed taken refl refusal refuses)
     (rw (← c.self.view_is) at c.may_keep_unknown.ensures.refused))

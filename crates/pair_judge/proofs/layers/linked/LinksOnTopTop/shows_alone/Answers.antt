@@ -3,4 +3,4 @@ use Rattle.pair_judge.proofs.EndsAlone.{layers_end_alike}
 use Rattle.pair_judge.proofs.layers.linked.LinksOnTopTop.shows_alone.Goals as goal
 
 pub returns-clause-ends : goal.returns-clause-ends
-returns-clause-ends g c = layers_end_alike (queues_of g.row.QUEUES)
+returns-clause-ends g c = layers_end_alike _ _ _ (queues_of g.row.QUEUES)
