@@ -329,6 +329,15 @@ def judged(rules, a, b, queued=False, line=False):
         sides[1].links.node, sides[1].links.other = sides[0].peer, sides[0].own
     if (sides[0].own, sides[0].peer) != (sides[1].peer, sides[1].own) and rules['not judged'].turned('heads that do not pair'):
         return 'refused a 0 line 2: 16 WrongNode\n'
+    refused = first_refused(rules, sides)
+    if refused is None:
+        return 'accepted\na %s\nb %s\n' % (sides[0].ends(), sides[1].ends())
+    side, reason = refused
+    return 'refused %s %d line %d: %d %s\n' % ('ab'[sides.index(side)], side.next, side.next + 2, reason, NAMES[reason - 1])
+
+
+def first_refused(rules, sides):
+    """Both sides make their records: the side whose next one is refused and the reason, or None where all are made."""
     while not all(side.has_ended() for side in sides):
         able = [letter for letter in (0, 1) if not sides[letter].has_ended() and not sides[letter].waits(sides[1 - letter])]
         letter = able[0] if able else min(letter for letter in (0, 1) if not sides[letter].has_ended())
@@ -339,9 +348,8 @@ def judged(rules, a, b, queued=False, line=False):
             else:
                 side.make(sides[1 - letter])
         except Refused as refusal:
-            place, reason = side.next, refusal.reason
-            return 'refused %s %d line %d: %d %s\n' % ('ab'[letter], place, place + 2, reason, NAMES[reason - 1])
-    return 'accepted\na %s\nb %s\n' % (sides[0].ends(), sides[1].ends())
+            return side, refusal.reason
+    return None
 
 
 def passes_over(side, reason):

@@ -170,10 +170,22 @@ class StationAlone(WithoutLinks, Alone):
 
 def judged_alone(text, line=False, turn=None, queued=False):
     side = (StationAlone if line else Alone)(FREE, text, turn, queued)
+    return said_alone(side, first_refused_alone(side))
+
+
+def first_refused_alone(side):
+    """The side makes its records: the refusal of the first that it can't make, or None."""
     while not side.has_ended():
         try:
             side.make(None)
         except Refused as refusal:
-            other = ' by the other end' if isinstance(refusal, ByOther) else ''
-            return 'refused a %d line %d: %d %s%s\n' % (side.next, side.next + 2, refusal.reason, NAMES[refusal.reason - 1], other)
-    return 'passed\na %s\n' % side.ends()
+            return refusal
+    return None
+
+
+def said_alone(side, refusal):
+    """What is printed for this refusal of the side's next record, or for none."""
+    if refusal is None:
+        return 'passed\na %s\n' % side.ends()
+    other = ' by the other end' if isinstance(refusal, ByOther) else ''
+    return 'refused a %d line %d: %d %s%s\n' % (side.next, side.next + 2, refusal.reason, NAMES[refusal.reason - 1], other)

@@ -66,6 +66,7 @@ def number(two):
     return two[0] + 256 * two[1]
 
 
+@lru_cache(maxsize=None)
 def read_packet(packet):
     """The packet, or None where it can't be read."""
     if not packet or packet[0] & 0x80:
@@ -129,6 +130,7 @@ def words_at(kind, message, place):
     return tuple(words), place
 
 
+@lru_cache(maxsize=None)
 def read_nsp(message):
     """The message, or None where it can't be read."""
     try:

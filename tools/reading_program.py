@@ -1,8 +1,8 @@
 #!/usr/bin/env python3
 """The second reading of the rules as a program, which prints what ddcap prints and has its status:
 
-reading_program.py check [--line] [--queued] A B
-reading_program.py alone [--line] [--queued] A
+reading_program.py check [--line] [--queued] [--all] A B
+reading_program.py alone [--line] [--queued] [--all] A
 reading_program.py play SCRIPT A B
 
 reading_program.py show A
@@ -15,6 +15,7 @@ sys.dont_write_bytecode = True  # leaves no file beside the modules
 from play_reading import HEAD as SCRIPT_HEAD
 from play_reading import played
 from reading import RULES, judged
+from reading_all import alone_all, check_all
 from reading_alone import judged_alone
 from reading_rows import Departs
 from reading_texts import converted, read, shown
@@ -25,6 +26,8 @@ def answered(words, paths):
     queued, line = '--queued' in words, '--line' in words
     try:
         texts = [read(path, letter) for letter, path in zip('ab', paths)]
+        if '--all' in words:
+            return (alone_all if words[0] == 'alone' else check_all)(*texts, line, queued), ''
         return judged_alone(*texts, line, queued=queued) if words[0] == 'alone' else judged(RULES, *texts, queued, line), ''
     except Departs as departs:
         return '', '%s\n' % departs
@@ -58,7 +61,7 @@ def printed(command, options, words):
 
 def main():
     words = sys.argv[1:]
-    options = [word for word in words[1:] if word in ('--queued', '--line')]
+    options = [word for word in words[1:] if word in ('--queued', '--line', '--all')]
     others = [word for word in words[1:] if word not in options]
     counts = {'check': 2, 'alone': 1, 'play': 3, 'show': 1, 'convert': 3}
     if not words or len(others) != counts.get(words[0]):

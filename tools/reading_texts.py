@@ -102,7 +102,11 @@ def text_of(path, letter):
 
 def read(path, letter):
     """The text of a file. Its first line that departs from the format, and all after it, are a record that says so; of a head it is said at once."""
-    text = text_of(path, letter)
+    return as_read(text_of(path, letter))
+
+
+def as_read(text):
+    """The same of a text."""
     if text.said and not text.lines:
         raise Departs(text.said)
     return ''.join(line + '\n' for line in text.lines) + ('! ' + text.said if text.said else '')
