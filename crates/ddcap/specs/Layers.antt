@@ -3,6 +3,7 @@ use Rattle.std.specs.Prelude.{ℕ, List}
 use Rattle.dna_links.specs.declared.queue.Queues.{Queues}
 use Rattle.dna_links.specs.declared.queue.Queues.TheVariants.{Without, With}
 use Rattle.dna_node.specs.Kind.{NodeKind, both_layers, layers_kind, stations_alone}
+use Rattle.pair_judge.specs.AnyPeriod.{layers_of_any_period, stations_of_any_period}
 use Rattle.pair_judge.specs.declared.verdict.Verdict.{Verdict}
 use Rattle.ddcap.specs.declared.layers.Layers.{Layers}
 use Rattle.ddcap.specs.declared.layers.Layers.TheVariants.{Both, Queued, Station}
@@ -14,6 +15,12 @@ abbrev pub nodes_of : Layers → NodeKind
 nodes_of Both = both_layers
 nodes_of Queued = layers_kind With
 nodes_of Station = stations_alone
+
+-- the same nodes where periods are not asked any more
+abbrev pub any_period_nodes_of : Layers → NodeKind
+any_period_nodes_of Both = layers_of_any_period Without
+any_period_nodes_of Queued = layers_of_any_period With
+any_period_nodes_of Station = stations_of_any_period
 
 -- whether the nodes have queues
 abbrev pub queues_of : Layers → Queues

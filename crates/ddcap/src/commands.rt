@@ -23,18 +23,26 @@ pub fn program<'a>(alloc: Global) -> Result<Command<'a>, AllocError> {
         .subcommand(explain(alloc)?)
 }
 
-// `check [--line | --queued] [--json] A B [A B ..]`
+// `check [--all] [--line | --queued] [--json] A B [A B ..]`
 fn check<'a>(alloc: Global) -> Result<Command<'a>, AllocError> {
-    of_pairs(alloc, "check")
+    of_pairs(alloc, "check")?.arg(all_refusals(alloc))
 }
 
-// `alone [--line | --queued] [--json] A`
+// `alone [--all] [--line | --queued] [--json] A`
 fn alone<'a>(alloc: Global) -> Result<Command<'a>, AllocError> {
     Command::new(alloc, "alone")
         .arg(Arg::new(alloc, "A").required(true))?
         .arg(line_alone(alloc))?
         .arg(with_queues(alloc))?
-        .arg(as_json(alloc))
+        .arg(as_json(alloc))?
+        .arg(all_refusals(alloc))
+}
+
+// `--all`, before or after the files
+fn all_refusals<'a>(alloc: Global) -> Arg<'a> {
+    Arg::new(alloc, "all")
+        .long("all")
+        .action(ArgAction::SetTrue)
 }
 
 // `why [--line | --queued] [--full] [--json] A [B]`

@@ -27,6 +27,11 @@ With --queued the nodes may have queues between NSP and DDCMP, as most real
 nodes have: docs/LINKS.md says what differs. Without it a link has to act at
 once. It can't be combined with --line.
 
+With --all it does not end at the first refusal. It leaves out the link of the
+refused record, with all that share an address with it, and judges the rest:
+one line for each refusal, at most 50, and then else and the last answer, or
+and more. Only for one pair, without --json.
+
 With --json the answer is one JSON object; docs/KEYS.md has its keys.
 
 More pairs may follow, as A B C D: each is answered in turn, with the name of
@@ -60,8 +65,8 @@ sent what was received there. Then: ./ddcap explain 8
 passed, and a line of counts: this end broke no rule, as far as one end shows.
 
 A recorder that counts no units writes r 0 BYTES and k 0 BYTES in format 2.
-With --line only DDCMP is judged, and with --queued a node with queues between
-NSP and DDCMP, as ddcap help check says.
+With --line only DDCMP is judged, with --queued a node with queues between NSP
+and DDCMP, and with --all all refusals are listed, as ddcap help check says.
 
 With --json the answer is one JSON object; docs/KEYS.md has its keys.
 

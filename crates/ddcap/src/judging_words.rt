@@ -1,5 +1,6 @@
 //! The words after those that judge captures.
 
+use crate::check_files::PairPaths;
 use crate::cover_files::Listed;
 use crate::layers::Layers;
 use crate::tap_files::TapPaths;
@@ -13,6 +14,9 @@ pub fn checked_of<'a>(alloc: Global, found: &ArgMatches<'a>) -> Result<Task<'a>,
     let Some(layers) = judged_layers_of(found) else {
         return Err(WordsFault::BadWords);
     };
+    if found.get_flag("all") {
+        return all_checked_of(found, layers);
+    }
     match pairs_named(alloc, found) {
         Ok(files) => Ok(Task::Check {
             form: form_of(found),
@@ -23,15 +27,29 @@ pub fn checked_of<'a>(alloc: Global, found: &ArgMatches<'a>) -> Result<Task<'a>,
     }
 }
 
-/// The capture that the words after `alone` name.
-pub fn judged_alone_of<'a>(found: &ArgMatches<'a>) -> Result<Task<'a>, WordsFault> {
-    match (found.get_str("A"), judged_layers_of(found)) {
-        (Some(a), Some(layers)) => Ok(Task::Alone {
-            form: form_of(found),
+// The pair of which all refusals are asked for: a single one, as rows.
+fn all_checked_of<'a>(found: &ArgMatches<'a>, layers: Layers) -> Result<Task<'a>, WordsFault> {
+    if found.get_flag("json") || found.get_strs("MORE").is_some() {
+        return Err(WordsFault::BadWords);
+    }
+    match (found.get_str("A"), found.get_str("B")) {
+        (Some(a), Some(b)) => Ok(Task::CheckAll {
             layers,
-            a,
+            paths: PairPaths { a, b },
         }),
         _ => Err(WordsFault::BadWords),
+    }
+}
+
+/// The capture that the words after `alone` name.
+pub fn judged_alone_of<'a>(found: &ArgMatches<'a>) -> Result<Task<'a>, WordsFault> {
+    let (Some(a), Some(layers)) = (found.get_str("A"), judged_layers_of(found)) else {
+        return Err(WordsFault::BadWords);
+    };
+    match (found.get_flag("all"), form_of(found)) {
+        (true, Form::Json) => Err(WordsFault::BadWords),
+        (true, Form::Rows) => Ok(Task::AloneAll { layers, a }),
+        (false, form) => Ok(Task::Alone { form, layers, a }),
     }
 }
 

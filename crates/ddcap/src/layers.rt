@@ -12,16 +12,17 @@ ghost use Rattle.pair_judge.specs.Judged.{IsAnswer};
 ghost use Rattle.pair_judge.specs.Watched.{only};
 ghost use Rattle.wire_base.specs.Tally.{tally_faults, tally_lent};
 ghost use Rattle.ddcap.specs.PrintedAlone.{end_of};
-ghost use Rattle.ddcap.specs.Layers.{nodes_of, queues_of};
+ghost use Rattle.ddcap.specs.Layers.{any_period_nodes_of, nodes_of, queues_of};
 ghost use Rattle.ddcap.specs.PrintedWhy.{StandsOver};
 
 use capture::CaptureFault;
 use nsp_link::{WITH_QUEUES, WITHOUT_QUEUES};
 use pair_judge::{
     EndVerdict, FailedCheck, JudgeFault, JudgedEnds, Observer, Reason, SideEnd, Verdict, Watched,
-    WatchedEnd, judge, judge_end, judge_end_watched, judge_line, judge_line_end,
-    judge_line_end_watched, judge_line_told, judge_queued, judge_queued_end,
-    judge_queued_end_watched, judge_queued_told, judge_watched,
+    WatchedEnd, judge, judge_any_period, judge_end, judge_end_watched, judge_line,
+    judge_line_any_period, judge_line_end, judge_line_end_watched, judge_line_told, judge_queued,
+    judge_queued_any_period, judge_queued_end, judge_queued_end_watched, judge_queued_told,
+    judge_watched,
 };
 use std::alloc::Global;
 use std::io::Read;
@@ -73,6 +74,22 @@ pub fn judge_over<A: Read, B: Read>(
         Layers::Both => judge(alloc, a, b),
         Layers::Queued => judge_queued(alloc, a, b),
         Layers::Station => judge_line(alloc, a, b),
+    }
+}
+
+/// Judges them without asking for periods: stations act on what comes by its bytes.
+pub fn judge_any_period_over<A: Read, B: Read>(
+    alloc: Global,
+    layers: Layers,
+    a: &mut Tally<A>,
+    b: &mut Tally<B>,
+) -> Result<Verdict, JudgeFault>
+    ensures judged { IsAnswer (any_period_nodes_of layers) (A.remaining (tally_lent a.old)) (B.remaining (tally_lent b.old)) result }
+{
+    match layers {
+        Layers::Both => judge_any_period(alloc, a, b),
+        Layers::Queued => judge_queued_any_period(alloc, a, b),
+        Layers::Station => judge_line_any_period(alloc, a, b),
     }
 }
 

@@ -10,6 +10,11 @@ use wire_base::Tally;
 
 mod align;
 mod align_files;
+mod all_end;
+mod all_files;
+mod all_left;
+mod all_pair;
+mod all_text;
 mod alone;
 mod answers;
 mod check;

@@ -4,6 +4,7 @@ ghost use Rattle.ddcap.specs.Printed.{Writes, stream_of, words_fault_status, wor
 ghost use Rattle.ddcap.specs.inner.Statuses.{EndsWith};
 
 use crate::align_files::align_files;
+use crate::all_files::{alone_all_file, check_all_files};
 use crate::check::{print, print_out_of_memory};
 use crate::check_files::{How, alone_file, check_files};
 use crate::convert::convert_to;
@@ -75,6 +76,10 @@ impl<R: Files + AllocGlobal, O: Write, E: Write> Program<'_, '_, '_, R, O, E> {
                 let how = How { form, layers };
                 Ok(check_files(self.rt, how, files.as_slice(), self.out, self.err))
             }
+            Task::CheckAll { layers, paths } => {
+                check_all_files(self.rt, layers, paths, self.out, self.err)
+            }
+            Task::AloneAll { layers, a } => alone_all_file(self.rt, layers, a, self.out, self.err),
             Task::Alone { form, layers, a } => {
                 Ok(alone_file(self.rt, How { form, layers }, a, self.out, self.err))
             }

@@ -3,9 +3,9 @@
 /// Where to read of all words.
 const HELP: &str = "try: ddcap help\n";
 
-const CHECK: &str = "usage: ddcap check [--line | --queued] [--json] A B [A B ..]\n";
+const CHECK: &str = "usage: ddcap check [--all] [--line | --queued] [--json] A B [A B ..]\n";
 
-const ALONE: &str = "usage: ddcap alone [--line | --queued] [--json] A\n";
+const ALONE: &str = "usage: ddcap alone [--all] [--line | --queued] [--json] A\n";
 
 const WHY: &str = "usage: ddcap why [--line | --queued] [--full] [--json] A [B]\n";
 
@@ -51,7 +51,7 @@ fn asks_for_more(words: &[String]) -> bool {
     let mut files = 0usize;
     for word in words {
         match word.as_str() {
-            "--line" | "--queued" | "--json" => return true,
+            "--all" | "--line" | "--queued" | "--json" => return true,
             other => {
                 if !is_option(other) {
                     files = files.saturating_add(1);

@@ -1,6 +1,7 @@
 //! The words that the program is given.
 
 use crate::align_files::AlignPaths;
+use crate::check_files::PairPaths;
 use crate::commands::program;
 use crate::cover_files::Listed;
 use crate::draw_files::Asked;
@@ -30,6 +31,16 @@ pub enum Task<'a> {
     /// To judge the capture in a file without that of the other end.
     Alone {
         form: Form,
+        layers: Layers,
+        a: &'a str,
+    },
+    /// To find all that refuses a pair of captures, and not the first alone.
+    CheckAll {
+        layers: Layers,
+        paths: PairPaths<'a>,
+    },
+    /// To find all that refuses the capture in a file without that of the other end.
+    AloneAll {
         layers: Layers,
         a: &'a str,
     },

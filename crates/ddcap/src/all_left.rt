@@ -1,0 +1,126 @@
+//! What is not judged any more of a pair, or of one end, after its refusals.
+
+use leaving_out::{Binding, Head, Leaving, OwnAddress};
+use link_groups::{Groups, LeftOut};
+use pair_judge::Reason;
+use std::alloc::{AllocError, Global};
+
+/// What a refusal for a reason leads to.
+#[derive(Clone, Copy, Debug, PartialEq, Eq)]
+pub enum Beyond {
+    /// The judgement ends.
+    Ends,
+    /// From there on periods are not asked.
+    AnyPeriod,
+    /// From there on packets that can't be read are carried.
+    UnreadPackets,
+    /// From there on messages that can't be read are carried.
+    UnreadMessages,
+    /// The links that the record is about are left out, with all that are bound to them.
+    Links,
+}
+
+impl Beyond {
+    /// What a refusal for this reason leads to: of a station or of the line, to the end.
+    pub fn of(reason: Reason) -> Beyond {
+        match reason {
+            Reason::CrossedPeriod => Beyond::AnyPeriod,
+            Reason::BadPacket => Beyond::UnreadPackets,
+            Reason::BadNsp => Beyond::UnreadMessages,
+            Reason::WrongNode | Reason::NoLink | Reason::LinkState | Reason::WrongSegment => {
+                Beyond::Links
+            }
+            Reason::WrongAck | Reason::SegmentTooLong | Reason::LinkWindowFull => Beyond::Links,
+            Reason::WrongDelivery | Reason::CrossedLink | Reason::AddressInUse => Beyond::Links,
+            _ => Beyond::Ends,
+        }
+    }
+
+    /// The line that is told after such a refusal, if one is.
+    pub fn words(self) -> &'static str {
+        match self {
+            Beyond::AnyPeriod => "from here periods are not asked\n",
+            Beyond::UnreadPackets => "from here packets that cannot be read are carried\n",
+            Beyond::UnreadMessages => "from here messages that cannot be read are carried\n",
+            Beyond::Ends | Beyond::Links => "",
+        }
+    }
+}
+
+/// What is not judged any more.
+#[derive(Drop)]
+pub struct NotJudged {
+    groups: Groups,
+    left: LeftOut,
+    unread_packets: bool,
+    unread_messages: bool,
+    any_period: bool,
+    head_of_a: Head,
+    head_of_b: Head,
+}
+
+impl NotJudged {
+    /// All is judged. The heads are those of both captures; of one end alone the other's is the same, seen from there.
+    pub fn nothing(alloc: Global, head_of_a: Head, head_of_b: Head) -> Result<NotJudged, AllocError> {
+        Ok(NotJudged {
+            groups: Groups::new(alloc)?,
+            left: LeftOut::new(alloc)?,
+            unread_packets: false,
+            unread_messages: false,
+            any_period: false,
+            head_of_a,
+            head_of_b,
+        })
+    }
+
+    /// These own addresses belong together, two by two.
+    pub fn bind(&mut self, bindings: &[Binding]) {
+        for binding in bindings {
+            self.groups.bind(binding.one, binding.other);
+        }
+    }
+
+    /// What is left out of the texts.
+    pub fn leaving(&self) -> Leaving<'_> {
+        Leaving {
+            left_out: self.left.as_slice(),
+            unread_packets: self.unread_packets,
+            unread_messages: self.unread_messages,
+            head_of_a: self.head_of_a,
+            head_of_b: self.head_of_b,
+        }
+    }
+
+    /// Whether stations are not asked for periods any more.
+    pub fn any_period(&self) -> bool {
+        self.any_period
+    }
+
+    /// From here on what a refusal leads to is not judged. `address` is that of the links which the refused record is about. Whether anything
+    /// more is left out by it, so that the judgement goes on.
+    pub fn leave(&mut self, beyond: Beyond, address: Option<OwnAddress>) -> bool {
+        match beyond {
+            Beyond::Ends => false,
+            Beyond::AnyPeriod => is_new(&mut self.any_period),
+            Beyond::UnreadPackets => is_new(&mut self.unread_packets),
+            Beyond::UnreadMessages => is_new(&mut self.unread_messages),
+            Beyond::Links => {
+                let Some(address) = address else {
+                    return false;
+                };
+                if self.left.has(address) {
+                    return false;
+                }
+                self.left.leave(&self.groups, address);
+                true
+            }
+        }
+    }
+}
+
+// Sets what may be set already; whether it was not.
+fn is_new(flag: &mut bool) -> bool {
+    let was = *flag;
+    *flag = true;
+    !was
+}
