@@ -1,5 +1,5 @@
-"""The pairs of tools/all.txt, each a conversation of both sides, item by item: `texts_of(items)` are both captures; and whether an answer of that list
-is what was printed. A part of tools/test_all."""
+"""The pairs of tools/all.txt, each a conversation of both sides, item by item: `texts_of(items)` are both captures; and what is printed where an
+answer of that list is right. A part of tools/test_all."""
 import os
 import re
 import sys
@@ -9,7 +9,7 @@ from pair_units import FROM_A, FROM_B, data_of, packet_of
 from pairs import NEAR, SIDES, lines_of
 from program import TOP
 from reading import NAMES
-from reading_all import FROM_HERE, OTHER
+from reading_groups import FROM_HERE, OTHER
 
 LIST = 'tools/all.txt'
 START = 'a = u start; b = u start; a = s STRT; b = r 0 STRT; b = s STACK; a = r 0 STACK; a = s ACK0; b = r 1 ACK0'
@@ -130,6 +130,7 @@ def lines_listed():
 FAULT = re.compile(r'(else )?([ab]) line (\d+): syntax')
 REFUSAL = re.compile(r'(else )?([ab]) (\d+)(?: to (\d+) by (\d+))?: (\d+)( other end)?')
 COUNTS = re.compile(r'links (\d+) up (\d+)')
+STATION_COUNTS = r'records \d+ sent \d+ received \d+ damaged \d+ kept \d+ periods \d+'
 
 
 def pattern_of(answer):
@@ -142,9 +143,9 @@ def pattern_of(answer):
         elif refusal:
             patterns += refused_patterns(*refusal.groups())
         elif counts:
-            patterns.append(r'%s records \d+ sent \d+ received \d+ damaged \d+ kept \d+ periods \d+ links %s up %s' % (next(letters), *counts.groups()))
+            patterns.append('%s %s links %s up %s' % (next(letters), STATION_COUNTS, *counts.groups()))
         elif part == 'counts':
-            patterns.append(r'%s records \d+ sent \d+ received \d+ damaged \d+ kept \d+ periods \d+' % next(letters))
+            patterns.append('%s %s' % (next(letters), STATION_COUNTS))
         elif part in ('accepted', 'passed', 'else accepted', 'else passed', 'and more'):
             patterns.append(part)
         else:
@@ -154,8 +155,8 @@ def pattern_of(answer):
 
 def refused_patterns(ends, letter, first, last, step, reason, other):
     """The lines of a refusal, or of several like it, and what is said behind them."""
-    number = int(reason)
+    number, ends, other = int(reason), ends or '', ' by the other end' if other else ''
     for place in range(int(first), int(last or first) + 1, int(step or 1)):
-        yield '%srefused %s %d line %d: %d %s%s' % (ends or '', letter, place, place + 2, number, NAMES[number - 1], ' by the other end' if other else '')
+        yield '%srefused %s %d line %d: %d %s%s' % (ends, letter, place, place + 2, number, NAMES[number - 1], other)
     if not ends and number in FROM_HERE:
         yield 'from here ' + FROM_HERE[number]

@@ -1,6 +1,6 @@
-"""Pairs of captures for `check --all` that nobody chose. `random_pair(seed)` is a random run of two nodes (tools/near_nodes.py) that send some messages
-wrongly, with recorders that forget events, and of some of them a record changed or a text cut. `faulty_links(seed)` is a run of right nodes, and faults
-of its links, each of another link. A part of tools/test_all."""
+"""Pairs of captures for `check --all` that nobody chose. `random_pair(seed)` is a random run of two nodes (tools/near_nodes.py) that send some
+messages wrongly, with recorders that forget events, and of some of them a record changed or a text cut. `faulty_links(seed)` is a run of right
+nodes, with the lines that can be changed so that one link is wrong. A part of tools/test_all."""
 import random
 import re
 
@@ -9,7 +9,7 @@ from near_nodes import NearNode
 from near_pairs import change
 from pairs import NEAR
 from play_units import data_reading, data_unit
-from reading_all import Grouping, message_of, why_unread
+from reading_groups import Grouping, message_of, why_unread
 
 MOST_LINKS = 8  # of a node at one time
 OF_LINKS = (('talks', 12), ('opens', 8), ('closes', 4), ('says_hello', 2), ('link_timer', 4), ('wait', 5))

@@ -1,5 +1,5 @@
 -- The text that is made, with one record more.
-use Rattle.std.proofs.Common.{◌≡◌, ℕ, List, [], ◌∷◌, ◌++◌, refl, ap, ap₂, ◌∙◌}
+use Rattle.std.proofs.Common.{◌≡◌, ℕ, Bool, Option, Some, None, List, [], ◌∷◌, ◌++◌, append-nil, refl, sym, ap, ◌∙◌}
 use Rattle.wire_base.specs.declared.side.Side.{Side}
 use Rattle.capture.specs.declared.format.Format.TheVariants.{Three}
 use Rattle.capture.specs.declared.hint.HintForm.{HintForm}
@@ -27,3 +27,26 @@ module _ (leaving : Leaving) (side : Side) where
       ap (capture_text Three own peer) (records_more rs r) ∙ text-push Three own peer (records_left leaving side rs) (record_left leaving side r)
       ∙ ap (λ (f : HintForm). capture_text Three own peer (records_left leaving side rs) ++ record_line f (record_left leaving side r))
       (wide (records_left leaving side rs))
+
+module _ (side : Side) (alone : Bool) where
+  if_bound-append : (o : Option Binding) (xs ys : List Binding) → if_bound o (xs ++ ys) ≡ if_bound o xs ++ ys
+  if_bound-append (Some b) xs ys = refl
+  if_bound-append None xs ys = refl
+
+  bindings_more : (rs : List Record) (r : Record) →
+      bindings_of side alone (rs ++ r ∷ []) ≡ bindings_of side alone rs ++ if_bound (binding_of side alone r) []
+  bindings_more [] r = refl
+  bindings_more (s ∷ rs) r =
+      ap (if_bound (binding_of side alone s)) (bindings_more rs r)
+      ∙ if_bound-append (binding_of side alone s) (bindings_of side alone rs) (if_bound (binding_of side alone r) [])
+
+  pub one_bound : (found : List Binding) (rs : List Record) (r : Record) (b : Binding) → found ≡ bindings_of side alone rs →
+      Some b ≡ binding_of side alone r → found ++ b ∷ [] ≡ bindings_of side alone (rs ++ r ∷ [])
+  one_bound found rs r b is one =
+      ap (λ (x : List Binding). x ++ b ∷ []) is ∙ ap (λ (o : Option Binding). bindings_of side alone rs ++ if_bound o []) one ∙ sym (bindings_more rs r)
+
+  pub none_bound : (found : List Binding) (rs : List Record) (r : Record) → found ≡ bindings_of side alone rs →
+      None ≡ binding_of side alone r → found ≡ bindings_of side alone (rs ++ r ∷ [])
+  none_bound found rs r is none =
+      is ∙ sym (append-nil (bindings_of side alone rs)) ∙ ap (λ (o : Option Binding). bindings_of side alone rs ++ if_bound o []) none
+      ∙ sym (bindings_more rs r)

@@ -1,5 +1,5 @@
 -- From one record of a text to the next.
-use Rattle.std.proofs.Common.{◌≡◌, ℕ, ◌+◌, ◌<◌, ◌≤◌, List, [], ◌∷◌, ◌++◌, length, Option, Some, None, Ok, Err, refl, sym, ap, subst, ◌∙◌, arith, length-append}
+use Rattle.std.proofs.Common.{◌≡◌, ℕ, ◌+◌, ◌≤◌, List, [], ◌∷◌, ◌++◌, length, Option, Some, Ok, refl, subst, arith, length-append}
 use Rattle.std.specs.Option.{IfSome}
 use Rattle.std.specs.Io.KnownBytes.{IsAtEnd}
 use Rattle.capture.specs.declared.fault.CaptureFault.TheVariants.{Departs}
@@ -10,7 +10,7 @@ use Rattle.capture.specs.declared.record.Record.{Record}
 use Rattle.capture.specs.Departing.{RecordDeparts}
 use Rattle.capture.specs.Lines.{to_come}
 use Rattle.capture.specs.Reader.{CaptureState, FaultShows, NextGives, Opens}
-use Rattle.capture.specs.SoFar.{DepartsBehind, IsReadSoFar, ReadSoFar, TheEnd, ToCome, so_far}
+use Rattle.capture.specs.SoFar.{DepartsBehind, IsReadSoFar, ReadSoFar, TheEnd, ToCome, read_on, so_far}
 use Rattle.capture.proofs.SoFarLaws.{ended, one_more, opened}
 
 -- these records were read of the text, and no more
@@ -55,3 +55,10 @@ module _ (text : Option (List ℕ)) (capture : CaptureState) (come : Option (Lis
   -- so never more than a text may have
   pub few : count ≤ MAX_RECORDS
   few = subst (λ (n : ℕ). n ≤ MAX_RECORDS) h.count_is h.read.fits.few
+
+  -- with its next record
+  pub next_read : (new : CaptureState) (after : Option (List ℕ)) (r : Record) → NextGives capture new come after (Ok (Some r)) →
+      IsReadSoFar text (read_on (by_then capture come rs) r after)
+  next_read new after r gives =
+      let counted = h.counted in
+      one_more text come after capture.form capture.own capture.peer rs r h.read (omega (arith, gives.1)) gives.0 gives.4 gives.6

@@ -1,5 +1,5 @@
 -- Which own address a record is about: the one that its own side names, else one of the other side. And which of them belong together.
-use Rattle.std.specs.Prelude.{ℕ, ◌==◌, Bool, true, false, if◌then◌else◌, Option, Some, None, List, [], ◌∷◌}
+use Rattle.std.specs.Prelude.{ℕ, ◌==◌, Bool, if◌then◌else◌, Option, Some, None, List, [], ◌∷◌}
 use Rattle.wire_base.specs.declared.side.Side.{Side}
 use Rattle.wire_base.specs.Side.{other_side}
 use Rattle.capture.specs.declared.event.Event.{Event}
@@ -8,7 +8,7 @@ use Rattle.capture.specs.declared.record.Record.{Record}
 use Rattle.capture.specs.declared.record.Record.TheVariants.{Sent, Received, Noise, User}
 use Rattle.dna_packet.specs.Nsp.{NspValue, DataSegment, LinkService, DataAck, OtherDataAck, ConnectAck, NoOperation, ConnectInitiate, ConnectConfirm}
 use Rattle.dna_packet.specs.Nsp.{DisconnectInitiate, DisconnectConfirm}
-use Rattle.leaving_out.specs.declared.own_address.OwnAddress.{OwnAddress}
+use Rattle.link_groups.specs.declared.own_address.OwnAddress.{OwnAddress}
 use Rattle.leaving_out.specs.declared.binding.Binding.{Binding}
 use Rattle.leaving_out.specs.Addresses.{at_receiver, at_sender, own}
 use Rattle.leaving_out.specs.Messages.{destination_of, message_in_packet, message_in_unit, source_of}

@@ -3,21 +3,14 @@ use Rattle.std.specs.Prelude.{ℕ, ◌+◌, ◌==◌, Bool, false, if◌then◌e
 use Rattle.wire_base.specs.declared.side.Side.{Side}
 use Rattle.wire_base.specs.declared.side.Side.TheVariants.{A, B}
 use Rattle.wire_base.specs.Side.{other_side}
-use Rattle.leaving_out.specs.declared.own_address.OwnAddress.{OwnAddress}
+use Rattle.link_groups.specs.declared.own_address.OwnAddress.{OwnAddress}
+use Rattle.link_groups.specs.Place.{place_of}
 use Rattle.leaving_out.specs.declared.leaving.Head.{Head}
 use Rattle.leaving_out.specs.declared.leaving.Leaving.{Leaving}
 
 -- an address that this side gave
 abbrev pub own : Side → ℕ → OwnAddress
 own side address = record { side = side; address = address }
-
--- the places of those of side a come first
-abbrev pub place_in : Side → ℕ → ℕ
-place_in A address = address
-place_in B address = 65536 + address
-
-abbrev pub place_of : OwnAddress → ℕ
-place_of address = place_in address.side address.address
 
 -- whether it is left out
 abbrev pub is_left : Leaving → OwnAddress → Bool

@@ -1,5 +1,5 @@
 -- What becomes of a record, and of the text of a capture.
-use Rattle.std.specs.Prelude.{◌≡◌, ℕ, ◌+◌, Bool, if◌then◌else◌, Option, Some, None, List, [], ◌∷◌, ◌++◌, length, codes, Result, Ok, Err}
+use Rattle.std.specs.Prelude.{ℕ, if◌then◌else◌, Option, Some, None, List, [], ◌∷◌}
 use Rattle.wire_base.specs.declared.side.Side.{Side}
 use Rattle.wire_base.specs.Side.{other_side}
 use Rattle.capture.specs.declared.event.Event.{Event}
@@ -8,7 +8,7 @@ use Rattle.capture.specs.declared.fate.Fate.{Fate}
 use Rattle.capture.specs.declared.fate.Fate.TheVariants.{NotKept, Kept, Dropped}
 use Rattle.capture.specs.declared.record.Record.{Record}
 use Rattle.capture.specs.declared.record.Record.TheVariants.{Sent, Received, Noise, User}
-use Rattle.leaving_out.specs.declared.own_address.OwnAddress.{OwnAddress}
+use Rattle.link_groups.specs.declared.own_address.OwnAddress.{OwnAddress}
 use Rattle.leaving_out.specs.declared.leaving.Leaving.{Leaving}
 use Rattle.leaving_out.specs.Addresses.{is_left, own}
 use Rattle.leaving_out.specs.About.{about_at_receiver}

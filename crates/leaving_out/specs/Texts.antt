@@ -1,5 +1,5 @@
 -- The text in which what is left out is carried, and what is found in a text.
-use Rattle.std.specs.Prelude.{◌≡◌, ℕ, ◌+◌, ◌≤◌, ◌⊎◌, Bool, Option, Some, None, List, [], ◌∷◌, ◌++◌, length, replicate, codes, Result, Ok, Err}
+use Rattle.std.specs.Prelude.{◌≡◌, ℕ, ◌+◌, ◌≤◌, ◌⊎◌, Bool, Option, None, List, [], ◌∷◌, ◌++◌, length, replicate, codes, Result, Ok, Err}
 use Rattle.std.specs.Global.{Vec}
 use Rattle.wire_base.specs.declared.side.Side.{Side}
 use Rattle.capture.specs.declared.fault.CaptureFault.{CaptureFault}
@@ -11,7 +11,8 @@ use Rattle.capture.specs.declared.limit.TheConstants.{MAX_LINE}
 use Rattle.capture.specs.declared.record.Record.{Record}
 use Rattle.capture.specs.SoFar.{ReadSoFar, TheEnd, IsReadSoFar, DepartsBehind, HeadDepartsAt, read_on}
 use Rattle.capture.specs.Text.{capture_text}
-use Rattle.leaving_out.specs.declared.own_address.OwnAddress.{OwnAddress}
+use Rattle.link_groups.specs.declared.own_address.OwnAddress.{OwnAddress}
+use Rattle.leaving_out.specs.declared.leaving.Head.{Head}
 use Rattle.leaving_out.specs.declared.leaving.Leaving.{Leaving}
 use Rattle.leaving_out.specs.declared.binding.Binding.{Binding}
 use Rattle.leaving_out.specs.About.{about, bindings_of}
@@ -58,6 +59,14 @@ LeavesOut leaving side text (Err OutOfMemory) = Unit {0}
 LeavesOut leaving side text (Err Failed) = ⊥
 
 -- ---- what is found in a text
+
+-- the addresses of its head
+abbrev pub IsHeadOf : Option (List ℕ) → Result Head CaptureFault → Type 0
+IsHeadOf text (Ok head) = (read : ReadSoFar) × IsReadSoFar text read × (head.own ≡ read.own) × (head.peer ≡ read.peer)
+IsHeadOf text (Err (Departs kind line)) = HeadDepartsAt text kind line
+IsHeadOf text (Err Read) = Unit {0}
+IsHeadOf text (Err OutOfMemory) = Unit {0}
+IsHeadOf text (Err Failed) = ⊥
 
 -- this is what its record at this place is about
 abbrev pub FoundAt : Side → ℕ → Option (List ℕ) → Option OwnAddress → Type 0

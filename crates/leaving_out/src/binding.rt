@@ -9,7 +9,7 @@ ghost use Rattle.leaving_out.specs.Messages.{message_in_unit};
 ghost use Rattle.leaving_out.specs.Texts.{FindsBindings};
 
 use crate::message::message_in_unit;
-use crate::own_address::OwnAddress;
+use link_groups::OwnAddress;
 use capture::{CaptureFault, CaptureReader, Entry, MAX_RECORDS};
 use dna_packet::Nsp;
 use std::alloc::Global;

@@ -3,7 +3,7 @@
 ghost use Rattle.std.specs.Prelude.{◌≡◌};
 ghost use Rattle.leaving_out.specs.Addresses.{head_of, is_left};
 
-use crate::own_address::OwnAddress;
+use link_groups::{LeftOut, OwnAddress};
 use wire_base::Side;
 
 /// Both node addresses of a capture's head: its area times 1,024, plus the node.
@@ -14,10 +14,10 @@ pub struct Head {
 }
 
 /// What is not judged of two captures.
-#[derive(Clone, Copy, Debug)]
+#[derive(Clone, Copy)]
 pub struct Leaving<'a> {
-    /// Whether the own address with this place (`OwnAddress::place`) is left out; one behind the last is not.
-    pub left_out: &'a [bool],
+    /// The own addresses that are left out.
+    pub left_out: &'a LeftOut,
     /// Packets that can't be read are carried.
     pub unread_packets: bool,
     /// Messages that can't be read are carried.
@@ -33,10 +33,7 @@ impl Leaving<'_> {
     pub fn has(&self, address: OwnAddress) -> bool
         ensures { result ≡ is_left self.now address }
     {
-        match self.left_out.get(address.place()) {
-            Some(is_left) => *is_left,
-            None => false,
-        }
+        self.left_out.has(address)
     }
 
     /// The head of this side's capture. Takes no memory.

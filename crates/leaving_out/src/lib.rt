@@ -10,7 +10,6 @@ mod leaving;
 mod located;
 mod message;
 mod naming;
-mod own_address;
 mod packet_left;
 mod record_left;
 #[cfg(test)]
@@ -20,7 +19,6 @@ mod unit_left;
 
 pub use binding::{Binding, binding_of, bindings};
 pub use leaving::{Head, Leaving};
-pub use located::address_at;
+pub use located::{address_at, head};
 pub use naming::about;
-pub use own_address::{ADDRESSES, OwnAddress};
 pub use text_left::left_out;

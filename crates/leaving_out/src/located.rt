@@ -1,11 +1,12 @@
-//! Which own address a record of a text is about.
+//! The head of a text, and which own address a record of it is about.
 
 ghost use Rattle.wire_base.specs.Tally.{tally_faults, tally_lent};
 ghost use Rattle.capture.specs.Faulty.{CountsReads, is_failed_read};
-ghost use Rattle.leaving_out.specs.Texts.{FindsAt};
+ghost use Rattle.leaving_out.specs.Texts.{FindsAt, IsHeadOf};
 
+use crate::leaving::Head;
 use crate::naming::about;
-use crate::own_address::OwnAddress;
+use link_groups::OwnAddress;
 use capture::{CaptureFault, CaptureReader, MAX_RECORDS};
 use std::alloc::Global;
 use std::io::Read;
@@ -38,4 +39,20 @@ pub fn address_at<R: Read>(
         }
     }
     unreachable!()
+}
+
+/// Both node addresses of a text's head.
+///
+/// `Departs`: the head's line departs, which is line 1. `Read` and `OutOfMemory` are those of the reader.
+pub fn head<R: Read>(alloc: Global, reader: &mut Tally<R>) -> Result<Head, CaptureFault>
+    ensures head { IsHeadOf (R.remaining (tally_lent reader.old)) result }
+    ensures reads { CountsReads (is_failed_read result) (tally_faults reader.old) (tally_faults reader.new) }
+{
+    match CaptureReader::open(alloc, reader) {
+        Ok(capture) => Ok(Head {
+            own: capture.own(),
+            peer: capture.peer(),
+        }),
+        Err(fault) => Err(fault),
+    }
 }

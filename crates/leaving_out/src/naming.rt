@@ -7,7 +7,7 @@ ghost use Rattle.leaving_out.specs.Messages.{message_in_packet, message_in_unit}
 ghost use Rattle.leaving_out.specs.About.{about, about_at_receiver, about_at_sender};
 
 use crate::message::{Ends, ends_of, message_in_packet, message_in_unit};
-use crate::own_address::OwnAddress;
+use link_groups::OwnAddress;
 use capture::Entry;
 use wire_base::Side;
 

@@ -13,7 +13,7 @@ ghost use Rattle.leaving_out.specs.Records as spec;
 
 use crate::leaving::Leaving;
 use crate::naming::came_about;
-use crate::own_address::OwnAddress;
+use link_groups::OwnAddress;
 use crate::packet_left::packet_left;
 use crate::unit_left::unit_left;
 use capture::{Entry, Fate, put_line};

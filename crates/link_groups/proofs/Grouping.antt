@@ -15,7 +15,8 @@ use Rattle.link_groups.specs.Groups.AreTogether.{Same, Bound, Back, Along}
 use Rattle.link_groups.specs.inner.Labels.{AreNumbered, AreRelabelled, relabelled}
 
 -- more bindings keep together what is together
-pub together_still : (bindings more : List Binding) {one other : OwnAddress} → AreTogether bindings one other → AreTogether (bindings ++ more) one other
+pub together_still : (bindings more : List Binding) {one other : OwnAddress} → AreTogether bindings one other
+    → AreTogether (bindings ++ more) one other
 together_still bindings more (Same one) = Same one
 together_still bindings more (Bound {one} {other} h) = Bound (Contains-append_left bindings more (one, other) h)
 together_still bindings more (Back h) = Back (together_still bindings more h)
@@ -84,7 +85,8 @@ groups_of_none labels h = record { together = together; apart = apart }
         let within : place_of one < length labels = omega (arith, h.count) in
         slice_get-get_or labels (place_of one) 0 within ∙ ap Some (h.numbered (place_of one) inside)
 
-    apart : (one other : OwnAddress) → one.address < 2 ^ 16 → other.address < 2 ^ 16 → label labels one ≡ label labels other → AreTogether [] one other
+    apart : (one other : OwnAddress) → one.address < 2 ^ 16 → other.address < 2 ^ 16 → label labels one ≡ label labels other
+        → AreTogether [] one other
     apart one other low less e =
         let places : Some (place_of one) ≡ Some (place_of other) = sym (at_place one low) ∙ e ∙ at_place other less in
         let place : place_of one ≡ place_of other = cc in
@@ -150,7 +152,8 @@ groups_of_merged bindings binding old new gone kept of_gone of_kept is count mov
 
     apart : (a b : OwnAddress) → a.address < 2 ^ 16 → b.address < 2 ^ 16 → label new a ≡ label new b → AreTogether (bindings ++ binding ∷ []) a b
     apart a b low less e =
-        let both : Some (relabelled of_gone of_kept (label_in old a)) ≡ Some (relabelled of_gone of_kept (label_in old b)) = sym (becomes a low) ∙ e ∙ becomes b less in
+        let both : Some (relabelled of_gone of_kept (label_in old a)) ≡ Some (relabelled of_gone of_kept (label_in old b)) =
+        sym (becomes a low) ∙ e ∙ becomes b less in
         let same : relabelled of_gone of_kept (label_in old a) ≡ relabelled of_gone of_kept (label_in old b) = cc in
         elim (same_relabelled of_gone of_kept (label_in old a) (label_in old b) same) [
           | inl equal ↦ with a b low less (label_in old b) equal (was_at b less)
@@ -166,7 +169,8 @@ pub same_label : (labels : List ℕ) (one other : OwnAddress) → length labels 
 same_label labels one other count low less e =
     let inside : place_of one < 131072 = has_place one low in
     let within : place_of other < 131072 = has_place other less in
-    slice_get-get_or labels (place_of one) 0 (omega (arith, count)) ∙ ap Some e ∙ sym (slice_get-get_or labels (place_of other) 0 (omega (arith, count)))
+    slice_get-get_or labels (place_of one) 0 (omega (arith, count)) ∙ ap Some e
+    ∙ sym (slice_get-get_or labels (place_of other) 0 (omega (arith, count)))
 
 -- the same of labels of places: what `bind` makes, whichever end keeps its label
 pub groups_of_joined : (bindings : List Binding) (binding : Binding) (old new : List ℕ) (gone kept : OwnAddress)
@@ -189,7 +193,8 @@ groups_of_joined bindings binding old new gone kept count moved gone_low kept_lo
     becomes : (a : OwnAddress) → a.address < 2 ^ 16 → label new a ≡ Some (relabelled (label_in old gone) (label_in old kept) (label_in old a))
     becomes a low = relabelled_get _ _ old new moved (place_of a) ∙ ap (option_map (relabelled (label_in old gone) (label_in old kept))) (at a low)
 
-    one_label : relabelled (label_in old gone) (label_in old kept) (label_in old gone) ≡ relabelled (label_in old gone) (label_in old kept) (label_in old kept)
+    one_label : relabelled (label_in old gone) (label_in old kept) (label_in old gone)
+        ≡ relabelled (label_in old gone) (label_in old kept) (label_in old kept)
     one_label = grind (arith, nat_tests)
 
     both : label new gone ≡ label new kept

@@ -70,7 +70,8 @@ module _ (labels next after : List ℕ) (a b : ℕ) (rings : AreRings labels nex
   -- all of the ring is led to from b
   from_b : (to : ℕ) → a < 131072 → to < 131072 → slice_index labels to ≡ slice_index labels a → LeadsTo after b to
   from_b to low less h =
-      elim (or_from_b (rings.around (slice_index next a) to (rings.within a low) less (rings.along a low ∙ sym h)) (rings.within a low) (rings.along a low)) [
+      let around = rings.around (slice_index next a) to (rings.within a low) less (rings.along a low ∙ sym h) in
+      elim (or_from_b around (rings.within a low) (rings.along a low)) [
         | inl r ↦ On (subst (λ (n : ℕ). LeadsTo after n to) (sym exchanged.at_b) r)
         | inr r ↦ r
       ]
@@ -130,13 +131,15 @@ module _ (labels new next after : List ℕ) (a b : ℕ) (rings : AreRings labels
   becomes p low = moved.each p (omega (arith, rings.labelled))
 
   both_alike : (p q : ℕ) → slice_index labels p ≡ slice_index labels a → slice_index labels q ≡ slice_index labels b
-      → relabelled (slice_index labels b) (slice_index labels a) (slice_index labels p) ≡ relabelled (slice_index labels b) (slice_index labels a) (slice_index labels q)
+      → relabelled (slice_index labels b) (slice_index labels a) (slice_index labels p)
+      ≡ relabelled (slice_index labels b) (slice_index labels a) (slice_index labels q)
   both_alike p q h g = grind (arith, nat_tests)
 
   joined_around : (p to : ℕ) → p < 131072 → to < 131072 → slice_index new p ≡ slice_index new to → LeadsTo after p to
   joined_around p to low less e =
-      elim (same_relabelled (slice_index labels b) (slice_index labels a) (slice_index labels p) (slice_index labels to) (sym (becomes p low) ∙ e ∙ becomes to less)) [
-        | inl same ↦ leads_alike p to low less same
+      let same = sym (becomes p low) ∙ e ∙ becomes to less in
+      elim (same_relabelled (slice_index labels b) (slice_index labels a) (slice_index labels p) (slice_index labels to) same) [
+        | inl equal ↦ leads_alike p to low less equal
         | inr either ↦ elim either [
           | inl (x, y) ↦ of_b_to p to low less x (inl y)
           | inr (x, y) ↦ of_a_to p to low less x (inr y)
@@ -154,7 +157,8 @@ module _ (labels new next after : List ℕ) (a b : ℕ) (rings : AreRings labels
       ]
 
   was_along : (p q r : ℕ) → q < 131072 → r < 131072 → slice_index after p ≡ q
-      → relabelled (slice_index labels b) (slice_index labels a) (slice_index labels q) ≡ relabelled (slice_index labels b) (slice_index labels a) (slice_index labels r)
+      → relabelled (slice_index labels b) (slice_index labels a) (slice_index labels q)
+      ≡ relabelled (slice_index labels b) (slice_index labels a) (slice_index labels r)
       → slice_index new (slice_index after p) ≡ slice_index new r
   was_along p q r low less e same = ap (slice_index new) e ∙ becomes q low ∙ same ∙ sym (becomes r less)
 

@@ -14,7 +14,8 @@ pub record IsOnTheWay (old now next : List ℕ) (start place kept : ℕ) : Type 
   pub at : place < 131072
   pub same : slice_index old place ≡ slice_index old start
   pub begun : (place ≡ start) ⊎ (slice_index now start ≡ kept)
-  pub changed : (p : ℕ) → p < 131072 → (slice_index now p ≡ slice_index old p) ⊎ ((slice_index old p ≡ slice_index old start) × (slice_index now p ≡ kept))
+  pub changed : (p : ℕ) → p < 131072
+      → (slice_index now p ≡ slice_index old p) ⊎ ((slice_index old p ≡ slice_index old start) × (slice_index now p ≡ kept))
   pub behind : (p : ℕ) → p < 131072 → slice_index old p ≡ slice_index old start → slice_index now p ≡ kept
       → (slice_index next p ≡ place) ⊎ (slice_index now (slice_index next p) ≡ kept)
 
@@ -82,7 +83,8 @@ module _ (old now next : List ℕ) (start place kept : ℕ) (rings : AreRings ol
       omega (arith, sums, counts (slice_index now place) kept differ, counts_not kept)
 
 -- Behind one that has the new label, all have it once the walk comes to one that has it
-all_kept : (old now next : List ℕ) (start place kept : ℕ) → AreRings old next → IsOnTheWay old now next start place kept → slice_index now place ≡ kept
+all_kept : (old now next : List ℕ) (start place kept : ℕ) → AreRings old next → IsOnTheWay old now next start place kept
+    → slice_index now place ≡ kept
     → {from to : ℕ} → LeadsTo next from to → from < 131072 → slice_index old from ≡ slice_index old start → slice_index now from ≡ kept
     → slice_index now to ≡ kept
 all_kept old now next start place kept rings way over (Here to) low was is = is

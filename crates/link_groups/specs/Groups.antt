@@ -7,7 +7,7 @@ use Rattle.link_groups.specs.Place.{place_of}
 abbrev pub Binding : Type 0
 Binding = OwnAddress × OwnAddress
 
--- Bound to each other, one after another
+-- bound to each other, one after another
 pub data AreTogether (bindings : List Binding) : OwnAddress → OwnAddress → Type 0 where
   -- an address with itself
   Same : (one : OwnAddress) → AreTogether bindings one one
@@ -22,7 +22,8 @@ pub data AreTogether (bindings : List Binding) : OwnAddress → OwnAddress → T
 abbrev pub label : List ℕ → OwnAddress → Option ℕ
 label labels own = slice_get labels (place_of own)
 
--- These labels tell just which own addresses these bindings bring together
+-- These labels tell just which own addresses these bindings bring together. Those of a program are below 2 ^ 16.
 pub record AreGroupsOf (bindings : List Binding) (labels : List ℕ) : Type 0 where
   pub together : (one other : OwnAddress) → AreTogether bindings one other → label labels one ≡ label labels other
-  pub apart : (one other : OwnAddress) → one.address < 2 ^ 16 → other.address < 2 ^ 16 → label labels one ≡ label labels other → AreTogether bindings one other
+  pub apart : (one other : OwnAddress) → one.address < 2 ^ 16 → other.address < 2 ^ 16 → label labels one ≡ label labels other
+      → AreTogether bindings one other

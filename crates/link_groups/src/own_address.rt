@@ -22,7 +22,7 @@ impl OwnAddress {
     ghost use Rattle.link_groups.specs.Place.{place_of};
 
     /// Its place among all own addresses, from 0: first those of side A, then those of side B.
-    pub fn place(self) -> usize
+    pub(crate) fn place(self) -> usize
         ensures place { result ≡ place_of self }
         ensures within { result < OWN_ADDRESSES }
     {

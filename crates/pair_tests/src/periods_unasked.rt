@@ -36,6 +36,7 @@ const TAKES_A_SEGMENT_OF_THE_FIRST: &str =
     k 5 810e00010401e5100202040104006002000100010005398d\n";
 
 /// The answers of all judges.
+#[derive(Clone, Copy)]
 struct Answers {
     asked: Result<Verdict, JudgeFault>,
     queued_asked: Result<Verdict, JudgeFault>,

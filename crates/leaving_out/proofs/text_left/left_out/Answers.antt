@@ -1,11 +1,11 @@
-use Rattle.std.proofs.Common.{[], ◌∷◌, ◌++◌, List, ℕ, Option, refl, sym, ap, subst, ◌∙◌, arith, append-nil, inl, inr}
+use Rattle.std.proofs.Common.{[], ◌∷◌, ◌++◌, List, ℕ, refl, sym, ap, ◌∙◌, append-nil, inl, inr}
 use Rattle.capture.specs.declared.format.Format.TheVariants.{Three}
 use Rattle.capture.specs.declared.hint.HintForm.TheVariants.{Wide}
 use Rattle.capture.specs.declared.record.Record.{Record}
 use Rattle.capture.specs.Entries.{record_with}
 use Rattle.capture.specs.SoFar.{TheEnd, so_far}
-use Rattle.capture.specs.Text.{capture_text, head_line, record_line}
-use Rattle.leaving_out.specs.Records.{record_left, records_left}
+use Rattle.capture.specs.Text.{head_line, record_line}
+use Rattle.leaving_out.specs.Records.{record_left}
 use Rattle.leaving_out.specs.Texts.{departing}
 use Rattle.leaving_out.proofs.Made.{text_more}
 use Rattle.leaving_out.proofs.Walk.{at_departure, at_end, at_next, at_start, by_then}
@@ -32,9 +32,15 @@ pub returns-in-Err-Departs-clause-text : goal.returns-in-Err-Departs-clause-text
 returns-in-Err-Departs-clause-text g c =
     let rs = c.loop.invariant.0 in
     let h = c.loop.invariant.1 in
-    let gives = rw c.in-Err-Departs.field-0-is at c.in-Err-Departs.ensures.gives h.reading in
-    (by_then c.loop.capture _ rs, h.read, inr (c.in-Err-Departs.kind, at_departure _ _ _ _ rs h c.in-Err-Departs.kind _ gives.0,
-    (rw c.in-Err-Departs.field-0-is at c.in-Ok-put_departure.ensures) ∙ ap (λ (x : List ℕ). x ++ departing c.in-Err-Departs.kind) c.loop.invariant.2))
+    let gives = rw c.in-Err-Departs.field-0-is at c.in-Err-Departs.ensures.gives h.reading in (
+      by_then c.loop.capture _ rs,
+      h.read,
+      inr (
+        c.in-Err-Departs.kind,
+        at_departure _ _ _ _ rs h c.in-Err-Departs.kind _ gives.0,
+        (rw c.in-Err-Departs.field-0-is at c.in-Ok-put_departure.ensures) ∙ ap (λ (x : List ℕ). x ++ departing c.in-Err-Departs.kind) c.loop.invariant.2,
+      ),
+    )
 
 pub loop-preserved : goal.loop-preserved
 loop-preserved g c =

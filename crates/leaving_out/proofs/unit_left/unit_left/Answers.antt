@@ -1,4 +1,4 @@
-use Rattle.std.proofs.Common.{◌≡◌, ◌≤◌, sym, ◌∙◌, ap, arith, length}
+use Rattle.std.proofs.Common.{sym, ◌∙◌, ap, arith, length}
 use Rattle.ddcmp_msg.specs.Message.{IsBytes}
 use Rattle.leaving_out.proofs.Kept.{made_body, unit_stays}
 use Rattle.leaving_out.proofs.unit_left.unit_left.Goals as goal

@@ -16,7 +16,8 @@ returns-then-of_first-of_second c = λ bindings is.
     let count : length labels ≡ 131072 = subst (λ (ls : List ℕ). length ls ≡ 131072) c.self.view_is c.self.invariant.0.labelled in
     groups_of_same bindings labels c.args.one c.args.other is
     (same_label labels c.args.one c.args.other count (omega arith) (omega arith)
-    (read_at _ labels _ _ _ c.self.view_is count c.place-first.ensures.within c.place-first.ensures.place c.index-of_first.ensures ∙ c.if-of_first-of_second.true
+    (read_at _ labels _ _ _ c.self.view_is count c.place-first.ensures.within c.place-first.ensures.place c.index-of_first.ensures
+    ∙ c.if-of_first-of_second.true
     ∙ sym (read_at _ labels _ _ _ c.self.view_is count c.place-second.ensures.within c.place-second.ensures.place c.index-of_second.ensures)))
 
 pub returns-then-index : goal.returns-then-index

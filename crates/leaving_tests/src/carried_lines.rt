@@ -1,7 +1,8 @@
 //! What becomes of lines, each with what it was.
 
-use crate::{ADDRESSES, Binding, Head, Leaving, OwnAddress, address_at, bindings, left_out};
 use capture::{CaptureFault, Departure};
+use leaving_out::{Binding, Head, Leaving, address_at, bindings, left_out};
+use link_groups::{Groups, LeftOut, OwnAddress};
 use std::alloc::{AllocError, Global};
 use wire_base::{Side, Tally};
 
@@ -32,15 +33,14 @@ fn own(side: Side, address: u16) -> OwnAddress {
     OwnAddress { side, address }
 }
 
-// What is left out, as the places say.
-fn places(alloc: Global, left: &[OwnAddress]) -> Result<Vec<bool>, AllocError> {
-    let mut places = vec![in alloc; false; ADDRESSES]?;
-    for address in left {
-        if let Some(place) = places.get_mut(address.place()) {
-            *place = true;
-        }
+// These own addresses, each a group of its own.
+fn left_of(alloc: Global, addresses: &[OwnAddress]) -> Result<LeftOut, AllocError> {
+    let groups = Groups::new(alloc)?;
+    let mut left = LeftOut::new(alloc)?;
+    for address in addresses {
+        left.leave(&groups, *address);
     }
-    Ok(places)
+    Ok(left)
 }
 
 // The text of this side where these are left out, and all that is unread is carried if that is so.
@@ -51,11 +51,11 @@ fn made(
     unread: bool,
     text: &str,
 ) -> Result<Vec<u8>, CaptureFault> {
-    let Ok(places) = places(alloc, left) else {
+    let Ok(left_of_both) = left_of(alloc, left) else {
         return Err(CaptureFault::OutOfMemory);
     };
     let leaving = Leaving {
-        left_out: &places,
+        left_out: &left_of_both,
         unread_packets: unread,
         unread_messages: unread,
         head_of_a: Head { own: A, peer: B },
@@ -299,11 +299,10 @@ fn records_name_own_addresses(rt: HostRuntime) -> Result<(), CaptureFault> {
         None,
         None,
     ];
-    let mut place = 0;
-    for address in wanted {
+    for place in 0..wanted.len() {
         let mut reader = Tally::new(text.as_bytes());
-        assert_eq!(rt; address_at(alloc, Side::A, place, &mut reader)?, address);
-        place += 1;
+        let found = address_at(alloc, Side::A, place as u64, &mut reader)?;
+        assert_eq!(rt; found, wanted[place]);
     }
     Ok(())
 }
