@@ -1,5 +1,5 @@
 -- What goes by whether the links on top of a station are judged too.
-use Rattle.std.specs.Prelude.{ℕ, List}
+use Rattle.std.specs.Prelude.{ℕ, Bool, true, false, List}
 use Rattle.dna_links.specs.declared.queue.Queues.{Queues}
 use Rattle.dna_links.specs.declared.queue.Queues.TheVariants.{Without, With}
 use Rattle.dna_node.specs.Kind.{NodeKind, both_layers, layers_kind, stations_alone}
@@ -21,6 +21,10 @@ abbrev pub any_period_nodes_of : Layers → NodeKind
 any_period_nodes_of Both = layers_of_any_period Without
 any_period_nodes_of Queued = layers_of_any_period With
 any_period_nodes_of Station = stations_of_any_period
+
+abbrev pub nodes_asked : Layers → (any_period : Bool) → NodeKind
+nodes_asked layers true = any_period_nodes_of layers
+nodes_asked layers false = nodes_of layers
 
 -- whether the nodes have queues
 abbrev pub queues_of : Layers → Queues

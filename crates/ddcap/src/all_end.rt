@@ -1,5 +1,9 @@
 //! `alone --all`: all that refuses the capture of one end, and not the first alone.
 
+ghost use Rattle.std.specs.Prelude.{Some};
+ghost use Rattle.pair_judge.specs.EndJudged.{IsJudgedAlone};
+ghost use Rattle.ddcap.specs.PrintedAlone.{end_of};
+
 use crate::all_left::{Beyond, NotJudged};
 use crate::all_pair::{AllFault, in_memory, of_text, print_read_once, read_again};
 use crate::all_text::{AllText, MOST_TOLD};
@@ -9,7 +13,7 @@ use crate::end_text::{end_status, end_text};
 use crate::layers::{Layers, judge_end_over};
 use crate::text::line_fault_text;
 use capture::CaptureFault;
-use leaving_out::{Head, address_at, bindings, head, left_out};
+use leaving_out::{Head, address_at, head, left_out};
 use pair_judge::{EndVerdict, Reason};
 use std::alloc::{AllocError, Global};
 use std::io::{Read, Seek, Write};
@@ -139,11 +143,8 @@ fn all_judged<A: Read + Seek>(alloc: Global, a: &mut A) -> Result<NotJudged, All
         peer: own.own,
     };
     let mut not_judged = in_memory(NotJudged::nothing(alloc, own, other))?;
-    let bound = of_text(
-        Side::A,
-        bindings(alloc, Side::A, true, &mut read_again(Side::A, a)?),
-    )?;
-    not_judged.bind(&bound);
+    let bound = not_judged.bind(alloc, Side::A, true, &mut read_again(Side::A, a)?);
+    of_text(Side::A, bound)?;
     Ok(not_judged)
 }
 
@@ -159,8 +160,15 @@ fn judge_left<A: Read + Seek>(
         Side::A,
         left_out(alloc, Side::A, &leaving, &mut read_again(Side::A, a)?),
     )?;
-    match judge_end_over(alloc, layers, &mut Tally::new(text.as_slice())) {
+    match judge_text(alloc, layers, &text) {
         Err(CaptureFault::OutOfMemory) => Err(AllFault::OUT_OF_MEMORY),
         answer => Ok(answer),
     }
+}
+
+// The answer on the text that was made of the capture.
+fn judge_text(alloc: Global, layers: Layers, text: &[u8]) -> Result<EndVerdict, CaptureFault>
+    ensures { IsJudgedAlone (end_of layers) (Some text.now) result }
+{
+    judge_end_over(alloc, layers, &mut Tally::new(text))
 }

@@ -1,9 +1,12 @@
 //! What is not judged any more of a pair, or of one end, after its refusals.
 
-use leaving_out::{Binding, Head, Leaving, OwnAddress};
-use link_groups::{Groups, LeftOut};
+use capture::CaptureFault;
+use leaving_out::{Head, Leaving, bind_all};
+use link_groups::{Groups, LeftOut, OwnAddress};
 use pair_judge::Reason;
 use std::alloc::{AllocError, Global};
+use std::io::Read;
+use wire_base::{Side, Tally};
 
 /// What a refusal for a reason leads to.
 #[derive(Clone, Copy, Debug, PartialEq, Eq)]
@@ -73,17 +76,22 @@ impl NotJudged {
         })
     }
 
-    /// These own addresses belong together, two by two.
-    pub fn bind(&mut self, bindings: &[Binding]) {
-        for binding in bindings {
-            self.groups.bind(binding.one, binding.other);
-        }
+    /// What belongs together by the text of this side is left out together; where it is judged `alone`, also by what came. The fault is that of the text's
+    /// reader.
+    pub fn bind<R: Read>(
+        &mut self,
+        alloc: Global,
+        side: Side,
+        alone: bool,
+        reader: &mut Tally<R>,
+    ) -> Result<(), CaptureFault> {
+        bind_all(alloc, side, alone, reader, &mut self.groups)
     }
 
     /// What is left out of the texts.
     pub fn leaving(&self) -> Leaving<'_> {
         Leaving {
-            left_out: self.left.as_slice(),
+            left_out: &self.left,
             unread_packets: self.unread_packets,
             unread_messages: self.unread_messages,
             head_of_a: self.head_of_a,

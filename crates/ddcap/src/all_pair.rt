@@ -1,12 +1,17 @@
 //! `check --all`: all that refuses a pair of captures, and not the first alone.
 
+ghost use Rattle.std.specs.Prelude.{Some};
+ghost use Rattle.pair_judge.specs.Judged.{IsAnswer};
+ghost use Rattle.ddcap.specs.Layers.{nodes_asked};
+
 use crate::all_left::{Beyond, NotJudged};
 use crate::all_text::{AllText, MOST_TOLD};
 use crate::check::{print, print_fault, print_out_of_memory};
 use crate::layers::{Layers, judge_any_period_over, judge_over};
 use crate::text::{FAILED, line_fault_text, verdict_status, verdict_text};
 use capture::CaptureFault;
-use leaving_out::{OwnAddress, address_at, bindings, head, left_out};
+use leaving_out::{address_at, head, left_out};
+use link_groups::OwnAddress;
 use pair_judge::{JudgeFault, Reason, TextFault, Verdict};
 use std::alloc::{AllocError, Global};
 use std::io::{Read, Seek, Write};
@@ -187,16 +192,10 @@ fn all_judged<A: Read + Seek, B: Read + Seek>(
     let head_of_a = of_text(Side::A, head(alloc, &mut read_again(Side::A, a)?))?;
     let head_of_b = of_text(Side::B, head(alloc, &mut read_again(Side::B, b)?))?;
     let mut not_judged = in_memory(NotJudged::nothing(alloc, head_of_a, head_of_b))?;
-    let bound_a = of_text(
-        Side::A,
-        bindings(alloc, Side::A, false, &mut read_again(Side::A, a)?),
-    )?;
-    not_judged.bind(&bound_a);
-    let bound_b = of_text(
-        Side::B,
-        bindings(alloc, Side::B, false, &mut read_again(Side::B, b)?),
-    )?;
-    not_judged.bind(&bound_b);
+    let of_a = not_judged.bind(alloc, Side::A, false, &mut read_again(Side::A, a)?);
+    of_text(Side::A, of_a)?;
+    let of_b = not_judged.bind(alloc, Side::B, false, &mut read_again(Side::B, b)?);
+    of_text(Side::B, of_b)?;
     Ok(not_judged)
 }
 
@@ -231,16 +230,28 @@ fn judge_left<A: Read + Seek, B: Read + Seek>(
         Side::B,
         left_out(alloc, Side::B, &leaving, &mut read_again(Side::B, b)?),
     )?;
-    let mut reader_a = Tally::new(text_a.as_slice());
-    let mut reader_b = Tally::new(text_b.as_slice());
-    let answer = match not_judged.any_period() {
-        true => judge_any_period_over(alloc, layers, &mut reader_a, &mut reader_b),
-        false => judge_over(alloc, layers, &mut reader_a, &mut reader_b),
-    };
-    match answer {
+    match judge_texts(alloc, layers, not_judged.any_period(), &text_a, &text_b) {
         Err(JudgeFault::OutOfMemory) => Err(AllFault::OUT_OF_MEMORY),
         answer => Ok(answer),
     }
+}
+
+// The answer on the texts that were made of both captures.
+fn judge_texts(
+    alloc: Global,
+    layers: Layers,
+    any_period: bool,
+    text_a: &[u8],
+    text_b: &[u8],
+) -> Result<Verdict, JudgeFault>
+    ensures { IsAnswer (nodes_asked layers any_period) (Some text_a.now) (Some text_b.now) result }
+{
+    let mut reader_a = Tally::new(text_a);
+    let mut reader_b = Tally::new(text_b);
+    if any_period {
+        return judge_any_period_over(alloc, layers, &mut reader_a, &mut reader_b);
+    }
+    judge_over(alloc, layers, &mut reader_a, &mut reader_b)
 }
 
 /// The file of this side from its beginning on.

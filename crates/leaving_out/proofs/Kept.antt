@@ -1,5 +1,5 @@
 -- What becomes of bytes is bytes, no longer than they were.
-use Rattle.std.proofs.Common.{◌≡◌, ℕ, zero, suc, ◌+◌, ◌/◌, ◌%◌, ◌<◌, ◌≤◌, max, Bool, true, false, cond, List, [], ◌∷◌, length, Result, Ok, Err, refl, sym, ap, subst, ◌∙◌, arith, length-append}
+use Rattle.std.proofs.Common.{◌≡◌, ℕ, zero, suc, ◌+◌, ◌-◌, ◌/◌, ◌%◌, ◌<◌, ◌≤◌, max, Bool, true, false, cond, List, [], ◌∷◌, length, Result, Ok, Err, refl, sym, ap, subst, ◌∙◌, arith, length-append}
 use Rattle.std.specs.List.{AllByRecursion}
 use Rattle.wire_base.specs.declared.side.Side.{Side}
 use Rattle.wire_base.specs.BlockCheck.{check_of, check_bytes}
@@ -25,9 +25,9 @@ use Rattle.dna_packet.proofs.NspTakes.{nsp_takes}
 use Rattle.leaving_out.specs.declared.leaving.Head.{Head}
 use Rattle.leaving_out.specs.declared.leaving.Leaving.{Leaving}
 use Rattle.leaving_out.specs.declared.packet_left.Route.{Route}
-use Rattle.leaving_out.specs.Addresses.{at_sender, head_of, is_left}
+use Rattle.leaving_out.specs.Addresses.{at_receiver, at_sender, head_of, is_left}
 use Rattle.leaving_out.specs.Messages.{destination_of, is_returned, source_of}
-use Rattle.leaving_out.specs.Packets.{carried, link_left, message_left, names_both, packet_left, packet_left_by, packet_with, route_of}
+use Rattle.leaving_out.specs.Packets.{carried, link_left, message_left, names_both, packet_left, packet_left_by, packet_with, route_of, unmet}
 use Rattle.leaving_out.specs.Packets.{unit_left, unit_left_by}
 
 pub record IsKept (old new : List ℕ) : Type 0 where
@@ -47,6 +47,16 @@ carried_bytes (first ∷ rest) fits (suc i) = fits (suc i)
 carried_kept : (old : List ℕ) → IsBytes old → IsKept old (carried old)
 carried_kept [] fits = record { some = λ h. omega arith; short = omega arith; bytes = carried_bytes [] fits }
 carried_kept (first ∷ rest) fits = record { some = λ h. omega arith; short = omega arith; bytes = carried_bytes (first ∷ rest) fits }
+
+unmet_bytes : (old : List ℕ) → IsBytes old → IsBytes (unmet old)
+unmet_bytes [] fits zero = omega arith
+unmet_bytes [] fits (suc i) = omega arith
+unmet_bytes (first ∷ rest) fits zero = omega arith
+unmet_bytes (first ∷ rest) fits (suc i) = fits (suc i)
+
+unmet_kept : (old : List ℕ) → IsBytes old → IsKept old (unmet old)
+unmet_kept [] fits = record { some = λ h. omega arith; short = omega arith; bytes = unmet_bytes [] fits }
+unmet_kept (first ∷ rest) fits = record { some = λ h. omega arith; short = omega arith; bytes = unmet_bytes (first ∷ rest) fits }
 
 if_kept : (b : Bool) (old x y : List ℕ) → IsKept old x → IsKept old y → IsKept old (cond b x y)
 if_kept true old x y one other = one
@@ -73,17 +83,17 @@ module _ (packet : List ℕ) (fits : IsBytes packet) where
       IsKept packet (link_left head route packet m)
   link_kept head route (DisconnectInitiate dst src reason user_data) short forward long =
       if_kept (names_both head route dst src) packet _ _
-      (record { some = λ h. omega arith; short = omega arith; bytes = confirmed_bytes route dst src reason short forward }) (carried_kept packet fits)
+      (record { some = λ h. omega arith; short = omega arith; bytes = confirmed_bytes route dst src reason short forward }) (unmet_kept packet fits)
   link_kept head route (DisconnectConfirm dst src reason) short forward long =
-      if_kept (names_both head route dst src) packet _ _ (same_kept packet fits) (carried_kept packet fits)
-  link_kept head route (DataSegment s) short forward long = carried_kept packet fits
-  link_kept head route (LinkService interrupt dst src rest) short forward long = carried_kept packet fits
-  link_kept head route (DataAck dst src acks) short forward long = carried_kept packet fits
-  link_kept head route (OtherDataAck dst src rest) short forward long = carried_kept packet fits
-  link_kept head route (ConnectAck dst) short forward long = carried_kept packet fits
-  link_kept head route (NoOperation rest) short forward long = carried_kept packet fits
-  link_kept head route (ConnectInitiate retransmitted src services info segsize user_data) short forward long = carried_kept packet fits
-  link_kept head route (ConnectConfirm dst src services info segsize user_data) short forward long = carried_kept packet fits
+      if_kept (names_both head route dst src) packet _ _ (same_kept packet fits) (unmet_kept packet fits)
+  link_kept head route (DataSegment s) short forward long = unmet_kept packet fits
+  link_kept head route (LinkService interrupt dst src rest) short forward long = unmet_kept packet fits
+  link_kept head route (DataAck dst src acks) short forward long = unmet_kept packet fits
+  link_kept head route (OtherDataAck dst src rest) short forward long = unmet_kept packet fits
+  link_kept head route (ConnectAck dst) short forward long = unmet_kept packet fits
+  link_kept head route (NoOperation rest) short forward long = unmet_kept packet fits
+  link_kept head route (ConnectInitiate retransmitted src services info segsize user_data) short forward long = unmet_kept packet fits
+  link_kept head route (ConnectConfirm dst src services info segsize user_data) short forward long = unmet_kept packet fits
 
   module _ (leaving : Leaving) (sender : Side) where
     message_kept : (route : Route) (nsp : List ℕ) (r : Result NspValue NspFault) → route.rtflg < 128 → route.forward < 256 → IsBytes nsp →
@@ -93,7 +103,8 @@ module _ (packet : List ℕ) (fits : IsBytes packet) where
     message_kept route nsp (Ok m) short forward nsp_fits long e =
         let spelled = nsp_takes nsp m nsp_fits e in
         if_kept (is_left leaving (at_sender sender (source_of m) (destination_of m))) packet _ _
-        (link_kept (head_of leaving sender) route m short forward (omega (arith, ap length spelled.1))) (same_kept packet fits)
+        (if_kept (is_left leaving (at_receiver sender (source_of m) (destination_of m))) packet _ _ (unmet_kept packet fits)
+        (link_kept (head_of leaving sender) route m short forward (omega (arith, ap length spelled.1)))) (same_kept packet fits)
 
     kept_by : (r : Result PacketValue PacketFault) → packet_at packet ≡ r → IsKept packet (packet_left_by leaving sender packet r)
     kept_by (Err fault) e = if_kept leaving.unread_packets packet _ _ (carried_kept packet fits) (same_kept packet fits)

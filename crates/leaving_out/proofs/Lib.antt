@@ -2,3 +2,5 @@ pub mod Returned
 pub mod Kept
 pub mod Walk
 pub mod Made
+pub mod Fits
+pub mod Alike

@@ -1,5 +1,5 @@
 -- The text that is made, with one record more.
-use Rattle.std.proofs.Common.{◌≡◌, ℕ, Bool, Option, Some, None, List, [], ◌∷◌, ◌++◌, append-nil, refl, sym, ap, ◌∙◌}
+use Rattle.std.proofs.Common.{◌≡◌, ℕ, Bool, Option, Some, None, List, [], ◌∷◌, ◌++◌, append-nil, append_assoc, subst, refl, sym, ap, ◌∙◌}
 use Rattle.wire_base.specs.declared.side.Side.{Side}
 use Rattle.capture.specs.declared.format.Format.TheVariants.{Three}
 use Rattle.capture.specs.declared.hint.HintForm.{HintForm}
@@ -7,12 +7,12 @@ use Rattle.capture.specs.declared.hint.HintForm.TheVariants.{Wide}
 use Rattle.capture.specs.declared.record.Record.{Record}
 use Rattle.capture.specs.Text.{capture_text, form_behind, record_line}
 use Rattle.capture.proofs.SoFarLaws.{text-push}
-use Rattle.leaving_out.specs.declared.binding.Binding.{Binding}
+use Rattle.link_groups.specs.Groups.{AreGroupsOf, Binding}
 use Rattle.leaving_out.specs.declared.leaving.Leaving.{Leaving}
 use Rattle.leaving_out.specs.About.{binding_of, bindings_of, if_bound}
 use Rattle.leaving_out.specs.Records.{record_left, records_left}
 
-wide : (rs : List Record) → form_behind Wide rs ≡ Wide
+pub wide : (rs : List Record) → form_behind Wide rs ≡ Wide
 wide [] = refl
 wide (r ∷ rs) = wide rs
 
@@ -40,13 +40,21 @@ module _ (side : Side) (alone : Bool) where
       ap (if_bound (binding_of side alone s)) (bindings_more rs r)
       ∙ if_bound-append (binding_of side alone s) (bindings_of side alone rs) (if_bound (binding_of side alone r) [])
 
-  pub one_bound : (found : List Binding) (rs : List Record) (r : Record) (b : Binding) → found ≡ bindings_of side alone rs →
-      Some b ≡ binding_of side alone r → found ++ b ∷ [] ≡ bindings_of side alone (rs ++ r ∷ [])
-  one_bound found rs r b is one =
-      ap (λ (x : List Binding). x ++ b ∷ []) is ∙ ap (λ (o : Option Binding). bindings_of side alone rs ++ if_bound o []) one ∙ sym (bindings_more rs r)
+  pub one_bound : (before : List Binding) (groups new : List ℕ) (rs : List Record) (r : Record) (b : Binding) →
+      AreGroupsOf (before ++ bindings_of side alone rs) groups
+      → (AreGroupsOf (before ++ bindings_of side alone rs) groups → AreGroupsOf ((before ++ bindings_of side alone rs) ++ b ∷ []) new)
+      → Some b ≡ binding_of side alone r → AreGroupsOf (before ++ bindings_of side alone (rs ++ r ∷ [])) new
+  one_bound before groups new rs r b are binds one =
+      let same : bindings_of side alone (rs ++ r ∷ []) ≡ bindings_of side alone rs ++ b ∷ [] =
+      bindings_more rs r ∙ ap (λ (o : Option Binding). bindings_of side alone rs ++ if_bound o []) (sym one) in
+      subst (λ (x : List Binding). AreGroupsOf x new)
+      (append_assoc before (bindings_of side alone rs) (b ∷ []) ∙ ap (λ (x : List Binding). before ++ x) (sym same)) (binds are)
 
-  pub none_bound : (found : List Binding) (rs : List Record) (r : Record) → found ≡ bindings_of side alone rs →
-      None ≡ binding_of side alone r → found ≡ bindings_of side alone (rs ++ r ∷ [])
-  none_bound found rs r is none =
-      is ∙ sym (append-nil (bindings_of side alone rs)) ∙ ap (λ (o : Option Binding). bindings_of side alone rs ++ if_bound o []) none
-      ∙ sym (bindings_more rs r)
+  pub none_bound : (before : List Binding) (groups : List ℕ) (rs : List Record) (r : Record) →
+      AreGroupsOf (before ++ bindings_of side alone rs) groups → None ≡ binding_of side alone r →
+      AreGroupsOf (before ++ bindings_of side alone (rs ++ r ∷ [])) groups
+  none_bound before groups rs r are none =
+      let same : bindings_of side alone (rs ++ r ∷ []) ≡ bindings_of side alone rs =
+      bindings_more rs r ∙ ap (λ (o : Option Binding). bindings_of side alone rs ++ if_bound o []) (sym none) ∙ append-nil (bindings_of side alone rs)
+      in
+      subst (λ (x : List Binding). AreGroupsOf (before ++ x) groups) (sym same) are

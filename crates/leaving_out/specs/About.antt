@@ -9,7 +9,7 @@ use Rattle.capture.specs.declared.record.Record.TheVariants.{Sent, Received, Noi
 use Rattle.dna_packet.specs.Nsp.{NspValue, DataSegment, LinkService, DataAck, OtherDataAck, ConnectAck, NoOperation, ConnectInitiate, ConnectConfirm}
 use Rattle.dna_packet.specs.Nsp.{DisconnectInitiate, DisconnectConfirm}
 use Rattle.link_groups.specs.declared.own_address.OwnAddress.{OwnAddress}
-use Rattle.leaving_out.specs.declared.binding.Binding.{Binding}
+use Rattle.link_groups.specs.Groups.{Binding}
 use Rattle.leaving_out.specs.Addresses.{at_receiver, at_sender, own}
 use Rattle.leaving_out.specs.Messages.{destination_of, message_in_packet, message_in_unit, source_of}
 
@@ -50,7 +50,7 @@ about side (User event) = event_about side event
 
 -- an own address of this side, and one of the other
 abbrev pub bound : Side → (here there : ℕ) → Binding
-bound side here there = record { one = own side here; other = own (other_side side) there }
+bound side here there = (own side here, own (other_side side) there)
 
 -- where neither is 0
 abbrev pub bound_if_named : Side → (here there : ℕ) → Option Binding

@@ -1,5 +1,5 @@
 -- The own addresses of both ends, and which of them are left out.
-use Rattle.std.specs.Prelude.{ℕ, ◌+◌, ◌==◌, Bool, false, if◌then◌else◌, get_or}
+use Rattle.std.specs.Prelude.{ℕ, ◌==◌, Bool, false, if◌then◌else◌, Option, Some, None, slice_get}
 use Rattle.wire_base.specs.declared.side.Side.{Side}
 use Rattle.wire_base.specs.declared.side.Side.TheVariants.{A, B}
 use Rattle.wire_base.specs.Side.{other_side}
@@ -12,9 +12,13 @@ use Rattle.leaving_out.specs.declared.leaving.Leaving.{Leaving}
 abbrev pub own : Side → ℕ → OwnAddress
 own side address = record { side = side; address = address }
 
--- whether it is left out
+-- whether it is left out, by the mark at its place
+abbrev pub is_marked : Option Bool → Bool
+is_marked (Some mark) = mark
+is_marked None = false
+
 abbrev pub is_left : Leaving → OwnAddress → Bool
-is_left leaving address = get_or leaving.left_out.now (place_of address) false
+is_left leaving address = is_marked (slice_get leaving.left_out.now (place_of address))
 
 -- the head of this side's capture
 abbrev pub head_of : Leaving → Side → Head

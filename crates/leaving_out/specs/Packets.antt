@@ -1,5 +1,5 @@
 -- What becomes of a packet and of its unit: the same at both ends, so that what comes is still what was sent.
-use Rattle.std.specs.Prelude.{◌≡◌, ℕ, ◌+◌, ◌*◌, ◌/◌, ◌%◌, ◌<◌, ◌==◌, ◌&&◌, not, Bool, if◌then◌else◌, List, [], ◌∷◌, Option, Some, None, Result, Ok, Err}
+use Rattle.std.specs.Prelude.{◌≡◌, ℕ, ◌+◌, ◌-◌, ◌*◌, ◌/◌, ◌%◌, ◌<◌, ◌==◌, ◌&&◌, not, Bool, if◌then◌else◌, List, [], ◌∷◌, Option, Some, None, Result, Ok, Err}
 use Rattle.std.specs.Global.{Vec}
 use Rattle.wire_base.specs.declared.side.Side.{Side}
 use Rattle.ddcmp_msg.specs.Message as messages
@@ -15,13 +15,19 @@ use Rattle.dna_packet.specs.ReadingNsp.{nsp_at}
 use Rattle.leaving_out.specs.declared.leaving.Head.{Head}
 use Rattle.leaving_out.specs.declared.leaving.Leaving.{Leaving}
 use Rattle.leaving_out.specs.declared.packet_left.Route.{Route}
-use Rattle.leaving_out.specs.Addresses.{at_sender, head_of, is_left}
+use Rattle.leaving_out.specs.Addresses.{at_receiver, at_sender, head_of, is_left}
 use Rattle.leaving_out.specs.Messages.{destination_of, is_returned, source_of}
 
--- A routing control packet of the same length, which no link meets: of the first byte bit 0 is set and bit 7 clear. No bytes become one.
+-- A packet that can't be read, as a routing control packet of the same length: of the first byte bit 0 is set and bit 7 clear. No bytes become one.
 abbrev pub carried : List ℕ → List ℕ
 carried [] = 1 ∷ []
 carried (first ∷ rest) = (first % 128 / 2 * 2 + 1) ∷ rest
+
+-- The packet of a message, as a routing control packet of the same length, which no link meets. The first byte of such a packet is 2 and up to four more
+-- bits, and that of no two packets becomes the same: a packet that comes, or is sent again, with other bytes is told from it as before.
+abbrev pub unmet : List ℕ → List ℕ
+unmet [] = 1 ∷ []
+unmet (first ∷ rest) = (129 - first) ∷ rest
 
 abbrev pub carried_if : Bool → List ℕ → List ℕ
 carried_if is_carried packet = if is_carried then carried packet else packet
@@ -42,27 +48,29 @@ abbrev pub names_both : Head → Route → (link_dst link_src : ℕ) → Bool
 names_both head route link_dst link_src =
     (route.src == head.own) && (route.dst == head.peer) && not (link_dst == 0) && not (link_src == 0)
 
--- The packet of a message that is left out is carried. But one of a DI or DC that names both links ends a call at the far end, whatever link it is
--- of: it has a DC, which a right node may send of no link.
+-- No link meets the packet of a message that is left out. But one of a DI or DC that names both links ends a call at the far end, whatever link it
+-- is of: it has a DC, which a right node may send of no link.
 abbrev pub link_left : Head → Route → List ℕ → NspValue → List ℕ
 link_left head route packet (DisconnectInitiate link_dst link_src reason user_data) =
-    if names_both head route link_dst link_src then packet_with route (DisconnectConfirm link_dst link_src reason) else carried packet
+    if names_both head route link_dst link_src then packet_with route (DisconnectConfirm link_dst link_src reason) else unmet packet
 link_left head route packet (DisconnectConfirm link_dst link_src reason) =
-    if names_both head route link_dst link_src then packet else carried packet
-link_left head route packet (DataSegment s) = carried packet
-link_left head route packet (LinkService interrupt link_dst link_src rest) = carried packet
-link_left head route packet (DataAck link_dst link_src acks) = carried packet
-link_left head route packet (OtherDataAck link_dst link_src rest) = carried packet
-link_left head route packet (ConnectAck link_dst) = carried packet
-link_left head route packet (NoOperation rest) = carried packet
-link_left head route packet (ConnectInitiate retransmitted link_src services info segsize user_data) = carried packet
-link_left head route packet (ConnectConfirm link_dst link_src services info segsize user_data) = carried packet
+    if names_both head route link_dst link_src then packet else unmet packet
+link_left head route packet (DataSegment s) = unmet packet
+link_left head route packet (LinkService interrupt link_dst link_src rest) = unmet packet
+link_left head route packet (DataAck link_dst link_src acks) = unmet packet
+link_left head route packet (OtherDataAck link_dst link_src rest) = unmet packet
+link_left head route packet (ConnectAck link_dst) = unmet packet
+link_left head route packet (NoOperation rest) = unmet packet
+link_left head route packet (ConnectInitiate retransmitted link_src services info segsize user_data) = unmet packet
+link_left head route packet (ConnectConfirm link_dst link_src services info segsize user_data) = unmet packet
 
--- a packet whose message was read, or not: by what the message is about at its sender
+-- A packet whose message was read, or not: by what the message is about at its sender, and where that is left out also at its receiver
 abbrev pub message_left : Leaving → Side → Route → List ℕ → Result NspValue NspFault → List ℕ
 message_left leaving sender route packet (Err fault) = carried_if leaving.unread_messages packet
 message_left leaving sender route packet (Ok m) =
-    if is_left leaving (at_sender sender (source_of m) (destination_of m)) then link_left (head_of leaving sender) route packet m else packet
+    if is_left leaving (at_sender sender (source_of m) (destination_of m)) then (
+      if is_left leaving (at_receiver sender (source_of m) (destination_of m)) then unmet packet else link_left (head_of leaving sender) route packet m
+    ) else packet
 
 -- a packet that was read, or not; a routing control packet and one that is returned stay
 abbrev pub packet_left_by : Leaving → Side → List ℕ → Result PacketValue PacketFault → List ℕ

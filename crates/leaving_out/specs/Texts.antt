@@ -14,7 +14,7 @@ use Rattle.capture.specs.Text.{capture_text}
 use Rattle.link_groups.specs.declared.own_address.OwnAddress.{OwnAddress}
 use Rattle.leaving_out.specs.declared.leaving.Head.{Head}
 use Rattle.leaving_out.specs.declared.leaving.Leaving.{Leaving}
-use Rattle.leaving_out.specs.declared.binding.Binding.{Binding}
+use Rattle.link_groups.specs.Groups.{AreGroupsOf, Binding}
 use Rattle.leaving_out.specs.About.{about, bindings_of}
 use Rattle.leaving_out.specs.Records.{records_left}
 
@@ -85,12 +85,22 @@ FindsAt side place text (Err Read) = Unit {0}
 FindsAt side place text (Err OutOfMemory) = Unit {0}
 FindsAt side place text (Err Failed) = ⊥
 
--- the bindings of all its records; none where its head departs
-abbrev pub FindsBindings : Side → (alone : Bool) → Option (List ℕ) → Result (Vec Binding) CaptureFault → Type 0
-FindsBindings side alone text (Ok found) =
-    ((read : ReadSoFar) × IsReadSoFar text read × EndsOrDeparts read × (found.items ≡ bindings_of side alone read.records))
-    ⊎ ((kind : Departure) × HeadDepartsAt text kind 1 × (found.items ≡ []))
-FindsBindings side alone text (Err (Departs kind line)) = ⊥
-FindsBindings side alone text (Err Read) = Unit {0}
-FindsBindings side alone text (Err OutOfMemory) = Unit {0}
-FindsBindings side alone text (Err Failed) = ⊥
+-- The groups of these bindings have become those of these and all of the text: none where its head departs.
+abbrev pub BindsAll : Side → (alone : Bool) → Option (List ℕ) → List Binding → List ℕ → Result (Unit {0}) CaptureFault → Type 0
+BindsAll side alone text bindings groups (Ok done) =
+    ((read : ReadSoFar) × IsReadSoFar text read × EndsOrDeparts read × AreGroupsOf (bindings ++ bindings_of side alone read.records) groups)
+    ⊎ ((kind : Departure) × HeadDepartsAt text kind 1 × AreGroupsOf bindings groups)
+BindsAll side alone text bindings groups (Err (Departs kind line)) = ⊥
+BindsAll side alone text bindings groups (Err Read) = Unit {0}
+BindsAll side alone text bindings groups (Err OutOfMemory) = Unit {0}
+BindsAll side alone text bindings groups (Err Failed) = ⊥
+
+-- ---- what the text that is made is read as
+
+-- What was read of one text, and of the one that is made of it: the same head, what becomes of the records; both end, or the line after
+-- these departs in both in the same way.
+pub record IsReadAlike (leaving : Leaving) (side : Side) (read made : ReadSoFar) : Type 0 where
+  pub own_is : made.own ≡ read.own
+  pub peer_is : made.peer ≡ read.peer
+  pub records_are : made.records ≡ records_left leaving side read.records
+  pub same_end : ((read.behind ≡ TheEnd) × (made.behind ≡ TheEnd)) ⊎ ((kind : Departure) × DepartsNext read kind × DepartsNext made kind)

@@ -1,27 +1,24 @@
 //! Which own addresses a text binds to each other.
 
-ghost use Rattle.std.specs.Prelude.{◌≡◌};
+ghost use Rattle.std.specs.Prelude.{◌≡◌, List};
+ghost use Rattle.link_groups.specs.Groups.{AreGroupsOf, Binding as Bound};
 ghost use Rattle.capture.specs.Entries.{record_with};
 ghost use Rattle.wire_base.specs.Tally.{tally_faults, tally_lent};
 ghost use Rattle.capture.specs.Faulty.{CountsReads, is_failed_read};
 ghost use Rattle.leaving_out.specs.About as spec;
 ghost use Rattle.leaving_out.specs.Messages.{message_in_unit};
-ghost use Rattle.leaving_out.specs.Texts.{FindsBindings};
+ghost use Rattle.leaving_out.specs.Texts.{BindsAll};
 
 use crate::message::message_in_unit;
-use link_groups::OwnAddress;
 use capture::{CaptureFault, CaptureReader, Entry, MAX_RECORDS};
 use dna_packet::Nsp;
+use link_groups::{Groups, OwnAddress};
 use std::alloc::Global;
 use std::io::Read;
 use wire_base::{Side, Tally};
 
-/// Two own addresses that belong together: those of one link's ends.
-#[derive(Clone, Copy, Debug, PartialEq, Eq)]
-pub struct Binding {
-    pub one: OwnAddress,
-    pub other: OwnAddress,
-}
+// Two own addresses that belong together: those of one link's ends.
+type Binding = (OwnAddress, OwnAddress);
 
 /// The binding that this side's record of an entry and these bytes makes, if it makes one: accept and reject bind the link to the partner, and a CC that
 /// was sent SRCADDR, which is of its sender, to DSTADDR, of the other side, where neither is 0. One that came binds only where the text is the one of
@@ -49,13 +46,12 @@ pub fn binding_of(side: Side, alone: bool, entry: Entry, bytes: &[u8]) -> Option
 fn bound(side: Side, own: u16, far: u16) -> Binding
     ensures { result ≡ spec.bound side own far }
 {
-    Binding {
-        one: OwnAddress { side, address: own },
-        other: OwnAddress {
-            side: side.other(),
-            address: far,
-        },
-    }
+    let one = OwnAddress { side, address: own };
+    let other = OwnAddress {
+        side: side.other(),
+        address: far,
+    };
+    (one, other)
 }
 
 // What the CC in a unit that this side sent binds, if there is one.
@@ -74,34 +70,33 @@ fn confirmed_by(sender: Side, unit: &[u8]) -> Option<Binding>
     }
 }
 
-/// All bindings of a side's text in the order of its records, as far as the text can be read; where it is `alone`, those of what came too.
-/// `Read` and `OutOfMemory` are those of the reader, and the latter comes also where there is no memory for the bindings.
-pub fn bindings<R: Read>(
+/// Binds what a side's text binds, in the order of its records, as far as the text can be read; where it is `alone`, what came binds too. A text that
+/// departs from its format is no fault. `Read` and `OutOfMemory` are those of the reader, and a part of it may be bound then.
+pub fn bind_all<R: Read>(
     alloc: Global,
     side: Side,
     alone: bool,
     reader: &mut Tally<R>,
-) -> Result<Vec<Binding>, CaptureFault>
-    ensures bindings { FindsBindings side alone (R.remaining (tally_lent reader.old)) result }
+    groups: &mut Groups,
+) -> Result<(), CaptureFault>
+    ensures bindings { (bindings : List Bound) → AreGroupsOf bindings groups.old →
+        BindsAll side alone (R.remaining (tally_lent reader.old)) bindings groups.new result }
     ensures reads { CountsReads (is_failed_read result) (tally_faults reader.old) (tally_faults reader.new) }
 {
-    let mut found = Vec::new(alloc);
     let mut capture = match CaptureReader::open(alloc, reader) {
         Ok(capture) => capture,
-        Err(CaptureFault::Departs { .. }) => return Ok(found),
+        Err(CaptureFault::Departs { .. }) => return Ok(()),
         Err(fault) => return Err(fault),
     };
     for _ in 0..MAX_RECORDS + 1 {
         match capture.advance(reader) {
             Ok(Some(entry)) => {
-                if let Some(binding) = binding_of(side, alone, entry, capture.bytes()) {
-                    let Ok(()) = found.push(binding) else {
-                        return Err(CaptureFault::OutOfMemory);
-                    };
+                if let Some((one, other)) = binding_of(side, alone, entry, capture.bytes()) {
+                    groups.bind(one, other);
                 }
             }
-            Ok(None) => return Ok(found),
-            Err(CaptureFault::Departs { .. }) => return Ok(found),
+            Ok(None) => return Ok(()),
+            Err(CaptureFault::Departs { .. }) => return Ok(()),
             Err(fault) => return Err(fault),
         }
     }

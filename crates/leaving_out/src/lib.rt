@@ -1,11 +1,12 @@
 //! The text of a capture in which what is left out is carried, so that no link meets it: an end is judged by what is left. And which own
-//! address a record is about, and which own addresses belong together.
+//! address a record is about, and which own addresses a text binds to each other.
 //!
 //! The crate decides by what a record says alone; it judges nothing, keeps no groups, and touches no file.
 #![tactic(auto)]
 
 mod binding;
 mod carried;
+mod laws;
 mod leaving;
 mod located;
 mod message;
@@ -17,7 +18,8 @@ mod tests;
 mod text_left;
 mod unit_left;
 
-pub use binding::{Binding, binding_of, bindings};
+pub use binding::{bind_all, binding_of};
+pub use laws::{left_is_a_record, made_is_read_alike};
 pub use leaving::{Head, Leaving};
 pub use located::{address_at, head};
 pub use naming::about;

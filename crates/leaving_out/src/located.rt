@@ -6,8 +6,8 @@ ghost use Rattle.leaving_out.specs.Texts.{FindsAt, IsHeadOf};
 
 use crate::leaving::Head;
 use crate::naming::about;
-use link_groups::OwnAddress;
 use capture::{CaptureFault, CaptureReader, MAX_RECORDS};
+use link_groups::OwnAddress;
 use std::alloc::Global;
 use std::io::Read;
 use wire_base::{Side, Tally};

@@ -7,8 +7,8 @@ ghost use Rattle.leaving_out.specs.Messages.{message_in_packet, message_in_unit}
 ghost use Rattle.leaving_out.specs.About.{about, about_at_receiver, about_at_sender};
 
 use crate::message::{Ends, ends_of, message_in_packet, message_in_unit};
-use link_groups::OwnAddress;
 use capture::Entry;
+use link_groups::OwnAddress;
 use wire_base::Side;
 
 /// What a message that this side sent is about at its sender: by SRCADDR, or by DSTADDR where that is 0. Takes no memory.

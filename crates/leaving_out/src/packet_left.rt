@@ -7,10 +7,10 @@ ghost use Rattle.dna_packet.specs.declared.nsp.Nsp.TheVariants as messages;
 ghost use Rattle.leaving_out.specs.Packets as spec;
 ghost use Rattle.leaving_out.specs.Packets.{IsShortFormat, or_same};
 
-use crate::carried::carried;
+use crate::carried::{carried, unmet};
 use crate::leaving::{Head, Leaving};
 use crate::message::ends_of;
-use crate::naming::at_sender;
+use crate::naming::{at_receiver, at_sender};
 use dna_packet::{DisconnectConfirm, Nsp, Packet, read_nsp, read_packet, write_nsp, write_packet};
 use std::alloc::{AllocError, Global};
 use wire_base::Side;
@@ -74,8 +74,12 @@ fn message_left(
     let Ok(message) = read_nsp(nsp) else {
         return carried_if(alloc, leaving.unread_messages, packet);
     };
-    if !leaving.has(at_sender(sender, ends_of(&message))) {
+    let ends = ends_of(&message);
+    if !leaving.has(at_sender(sender, ends)) {
         return Ok(None);
+    }
+    if leaving.has(at_receiver(sender, ends)) {
+        return Ok(Some(unmet(alloc, packet)?));
     }
     link_left(alloc, leaving.head(sender), route, packet, &message)
 }
@@ -90,7 +94,7 @@ fn carried_if(alloc: Global, is_carried: bool, packet: &[u8]) -> Result<Option<V
     Ok(None)
 }
 
-// What becomes of the packet of a message that is left out.
+// What becomes of the packet of a message that is left out at its sender alone.
 fn link_left(
     alloc: Global,
     head: Head,
@@ -111,15 +115,15 @@ fn link_left(
                 };
                 return Ok(Some(confirmed(alloc, route, confirm)?));
             }
-            Ok(Some(carried(alloc, packet)?))
+            Ok(Some(unmet(alloc, packet)?))
         }
         Nsp::DisconnectConfirm(m) => {
             if names_both(head, route, m.dstaddr, m.srcaddr) {
                 return Ok(None);
             }
-            Ok(Some(carried(alloc, packet)?))
+            Ok(Some(unmet(alloc, packet)?))
         }
-        _ => Ok(Some(carried(alloc, packet)?)),
+        _ => Ok(Some(unmet(alloc, packet)?)),
     }
 }
 

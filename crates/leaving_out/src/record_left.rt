@@ -13,10 +13,10 @@ ghost use Rattle.leaving_out.specs.Records as spec;
 
 use crate::leaving::Leaving;
 use crate::naming::came_about;
-use link_groups::OwnAddress;
 use crate::packet_left::packet_left;
 use crate::unit_left::unit_left;
 use capture::{Entry, Fate, put_line};
+use link_groups::OwnAddress;
 use std::alloc::{AllocError, Global};
 use wire_base::Side;
 

@@ -1,7 +1,7 @@
 //! What becomes of lines, each with what it was.
 
 use capture::{CaptureFault, Departure};
-use leaving_out::{Binding, Head, Leaving, address_at, bindings, left_out};
+use leaving_out::{Head, Leaving, address_at, bind_all, left_out};
 use link_groups::{Groups, LeftOut, OwnAddress};
 use std::alloc::{AllocError, Global};
 use wire_base::{Side, Tally};
@@ -33,29 +33,29 @@ fn own(side: Side, address: u16) -> OwnAddress {
     OwnAddress { side, address }
 }
 
-// These own addresses, each a group of its own.
-fn left_of(alloc: Global, addresses: &[OwnAddress]) -> Result<LeftOut, AllocError> {
+// These are left out, each by itself.
+fn left(alloc: Global, addresses: &[OwnAddress]) -> Result<LeftOut, AllocError> {
     let groups = Groups::new(alloc)?;
-    let mut left = LeftOut::new(alloc)?;
+    let mut left_out = LeftOut::new(alloc)?;
     for address in addresses {
-        left.leave(&groups, *address);
+        left_out.leave(&groups, *address);
     }
-    Ok(left)
+    Ok(left_out)
 }
 
 // The text of this side where these are left out, and all that is unread is carried if that is so.
 fn made(
     alloc: Global,
     side: Side,
-    left: &[OwnAddress],
+    addresses: &[OwnAddress],
     unread: bool,
     text: &str,
 ) -> Result<Vec<u8>, CaptureFault> {
-    let Ok(left_of_both) = left_of(alloc, left) else {
+    let Ok(left) = left(alloc, addresses) else {
         return Err(CaptureFault::OutOfMemory);
     };
     let leaving = Leaving {
-        left_out: &left_of_both,
+        left_out: &left,
         unread_packets: unread,
         unread_messages: unread,
         head_of_a: Head { own: A, peer: B },
@@ -316,21 +316,19 @@ fn texts_bind_both_ends(rt: HostRuntime) -> Result<(), CaptureFault> {
     ) else {
         return Err(CaptureFault::OutOfMemory);
     };
-    let wanted = [
-        bound(own(Side::A, 3), own(Side::B, 7)),
-        bound(own(Side::A, 4), own(Side::B, 8)),
-        bound(own(Side::A, 1), own(Side::B, 2)),
-        bound(own(Side::B, 1), own(Side::A, 2)),
-    ];
+    let Ok(mut groups) = Groups::new(alloc) else {
+        return Err(CaptureFault::OutOfMemory);
+    };
     let mut reader = Tally::new(text.as_bytes());
-    let found = bindings(alloc, Side::A, true, &mut reader)?;
-    assert_eq!(rt; found.as_slice(), wanted.as_slice());
+    bind_all(alloc, Side::A, false, &mut reader, &mut groups)?;
+    assert!(rt; groups.are_together(own(Side::A, 3), own(Side::B, 7)));
+    assert!(rt; groups.are_together(own(Side::A, 4), own(Side::B, 8)));
+    assert!(rt; groups.are_together(own(Side::A, 1), own(Side::B, 2)));
+    // what came binds where the end is alone; and nothing behind a line that departs
+    assert!(rt; !groups.are_together(own(Side::A, 2), own(Side::B, 1)));
     let mut reader = Tally::new(text.as_bytes());
-    let found = bindings(alloc, Side::A, false, &mut reader)?;
-    assert_eq!(rt; found.as_slice(), &wanted[..3]);
+    bind_all(alloc, Side::A, true, &mut reader, &mut groups)?;
+    assert!(rt; groups.are_together(own(Side::A, 2), own(Side::B, 1)));
+    assert!(rt; !groups.are_together(own(Side::A, 5), own(Side::B, 5)));
     Ok(())
-}
-
-fn bound(one: OwnAddress, other: OwnAddress) -> Binding {
-    Binding { one, other }
 }

@@ -1,9 +1,8 @@
 //! Own addresses that are left out, a mark for each.
 
-ghost use Rattle.std.specs.Prelude.{◌≡◌, ℕ, List, length, Some, true, false, get_or, slice_get, IfOk, IsTrue, ◌<◌, ◌^◌, ◌⊎◌, ◌↔◌};
+ghost use Rattle.std.specs.Prelude.{◌≡◌, ℕ, List, length, Some, true, slice_get, IfOk, IsTrue, ◌<◌, ◌^◌, ◌⊎◌, ◌↔◌};
 ghost use Rattle.link_groups.specs.Groups.{AreGroupsOf, AreTogether, Binding};
 ghost use Rattle.link_groups.specs.LeftOut.{IsLeftOut};
-ghost use Rattle.link_groups.specs.Place.{place_of};
 ghost use Rattle.link_groups.specs.inner.Labels.{AreMarked};
 ghost use Rattle.link_groups.specs.declared.own_address.OwnAddress.{OwnAddress as Address};
 
@@ -51,8 +50,7 @@ impl LeftOut {
 
     /// Whether an own address is left out.
     pub fn has(&self, address: OwnAddress) -> bool
-        ensures is_left { IsTrue result ↔ IsLeftOut self.now address }
-        ensures mark { result ≡ get_or self.now (place_of address) false }
+        ensures { IsTrue result ↔ IsLeftOut self.now address }
     {
         self.marks[address.place()]
     }

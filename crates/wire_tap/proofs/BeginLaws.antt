@@ -13,10 +13,13 @@ use Rattle.capture.specs.declared.format.Format.TheVariants.{One, Three}
 use Rattle.capture.specs.Paged.{HandsOver}
 use Rattle.placing.specs.declared.turn.Turn.{Turn}
 use Rattle.capture.specs.Reader.{FaultShows}
+use Rattle.framer.specs.Framing.{Framing}
 use Rattle.framer.specs.SoFar.{IsFramedSoFar, nothing}
 use Rattle.framer.proofs.Framings.{framing-nil}
 use Rattle.framer.proofs.SoFarLaws.{start}
-use Rattle.placing.specs.Placed.{Waiting}
+use Rattle.placing.specs.Placed.{HavePassed, Waiting}
+use Rattle.placing.specs.Placed as placed
+use Rattle.placing.proofs.Names.{none_passed}
 use Rattle.capture.specs.ListReader.{ListState, Opens}
 use Rattle.capture.specs.Listed.{IsListSoFar, no_items}
 use Rattle.wire_text.specs.WireText.{Wire, WireHeadDeparts, wire_form}
@@ -24,16 +27,16 @@ use Rattle.capture.proofs.ListedSoFar as read
 use Rattle.capture.proofs.WideLaws.{wide_lines}
 use Rattle.std.specs.Prelude.{if◌then◌else◌}
 use Rattle.std.specs.List.{list_all}
-use Rattle.wire_tap.specs.Tapping.{HasCut, HaveFirst, Held, Reached, Taps, TakesNothing, format_of, held, turn_is_in_one}
+use Rattle.wire_tap.specs.Tapping.{HasCut, HaveFirst, Held, IsReached, Reached, Taps, TakesNothing, format_of, held, turn_is_in_one}
 use Rattle.capture.specs.Passing.{AppendsSome}
 use Rattle.capture.specs.inner.Outlets.{FailsAt, Outlet, outlet}
-use Rattle.wire_tap.specs.Units.{units_of}
+use Rattle.wire_tap.specs.Units.{messages, units_of}
 use Rattle.wire_tap.specs.declared.fault.TapFault.TheVariants as faults
 use Rattle.wire_tap.specs.inner.Moving.{IsLineUnderWay, IsUnderWay, SpellsNumbers}
 use Rattle.wire_tap.specs.inner.Moving.{fault_of, head_a, head_b}
 use Rattle.wire_tap.specs.inner.Moving.{line_state}
 use Rattle.wire_tap.specs.declared.side_tap.SideTap.{SideTap}
-use Rattle.wire_tap.specs.inner.Side.{IsNew, side_state}
+use Rattle.wire_tap.specs.inner.Side.{IsNew, side_state, units_in}
 
 -- lines are spelled in the format of these captures as in format 1
 pub spelled : (turns : List Turn) → SpellsNumbers (format_of turns)
@@ -73,11 +76,14 @@ module _ (format : Format) (text left : Option (List ℕ)) (old : Held) (state :
   abbrev nothing_sent : Reached
   nothing_sent = record { wire = wire_begun; come = come_begun; a = []; b = [] }
 
+  nothing_named : IsReached text nothing_sent
+  nothing_named = (read_begun, record { a = tt; b = tt })
+
   -- the writer of a side fails at its head
   pub head_fails : (last : Option (Side × ℕ)) (side : Side) (n m : ℕ) (of_a of_b : List ℕ) (new : Outlet × Outlet) → of_a ≡ head_a format wire_begun →
       of_b ≡ head_b format wire_begun → FailsAt side (outlet of_a old.a n, outlet of_b old.b m) new
       → Taps last format text old (held new.0.held new.1.held) (Err (faults.Write side))
-  head_fails last side n m of_a of_b new is_a is_b f = (nothing_sent, read_begun, first, by_side side fails_at)
+  head_fails last side n m of_a of_b new is_a is_b f = (nothing_sent, nothing_named, first, by_side side fails_at)
     where
       fails_at : FailsAt side (outlet (head_a format wire_begun) old.a n, outlet (head_b format wire_begun) old.b m) new
       fails_at = subst (λ (x : List ℕ). FailsAt side (outlet (head_a format wire_begun) old.a n, outlet x old.b m) new) is_b
@@ -98,7 +104,7 @@ module _ (format : Format) (text left : Option (List ℕ)) (old : Held) (state :
       )
 
   side_begun : (head : List ℕ) (was now : Option (List ℕ)) (tap : SideTap) → IsNew tap → HandsOver head [] was now →
-      IsUnderWay [] head was now (side_state tap)
+      IsUnderWay [] head (units_in []) was now (side_state tap)
   side_begun head was now tap new over = record {
     records = [];
     found = nothing;
@@ -108,6 +114,9 @@ module _ (format : Format) (text left : Option (List ℕ)) (old : Held) (state :
     count = new.count;
     over = subst (λ (t : List ℕ). HandsOver t tap.units.placing.text was now) (sym (append-nil head))
         (subst (λ (w : Waiting). HandsOver head w.text was now) (sym new.waiting) over);
+    named = tt;
+    passed = subst (λ (w : Waiting). HavePassed (units_in []) w.units) (sym new.waiting)
+        (subst (λ (units : List (List ℕ)). HavePassed units placed.nothing.units) (sym (ap (λ (f : Framing). messages f.units) framing-nil)) none_passed);
   }
 
   -- both heads are written

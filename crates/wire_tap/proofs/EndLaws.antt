@@ -16,7 +16,7 @@ use Rattle.capture.specs.Text.{record_lines}
 use Rattle.capture.specs.Reader.{FaultShows}
 use Rattle.placing.specs.Placed.{Waiting, units_sent}
 use Rattle.wire_text.specs.WireText.{PieceDeparts}
-use Rattle.wire_tap.specs.Tapping.{EndWith, HasWritten, HaveAll, HaveFirst, Held, Reached, Taps, held}
+use Rattle.wire_tap.specs.Tapping.{EndWith, HasWritten, HaveAll, HaveFirst, HaveNamed, Held, IsReached, Reached, Taps, held}
 use Rattle.wire_tap.specs.Tapping.{EndsAs, HasCounted, sent_at, text_a, text_b}
 use Rattle.wire_tap.specs.Units.{units_of}
 use Rattle.wire_tap.specs.declared.fault.TapFault.TheVariants as faults
@@ -43,6 +43,9 @@ module _ (last : Option (Side × ℕ)) (format : Format) (text : Option (List �
   abbrev reached : Reached
   reached = record { wire = h.wire; come = h.come; a = h.a.records; b = h.b.records }
 
+  read : IsReached text reached
+  read = (h.read, record { a = h.a.named; b = h.b.named })
+
   have_first : HaveFirst reached
   have_first = record {
     others_a = line.a.units.waiting.units.own ++ h.a.others;
@@ -62,7 +65,7 @@ module _ (last : Option (Side × ℕ)) (format : Format) (text : Option (List �
   pub refused : Taps last format text old line.now (Err faults.OutOfMemory)
   refused = inr (
     reached,
-    h.read,
+    read,
     have_first,
     record {
       a = subst (AppendsSome old.a line.now.a) shown_a (begun_over _ _ _ _ h.a.over);
@@ -76,7 +79,7 @@ module _ (last : Option (Side × ℕ)) (format : Format) (text : Option (List �
       → Taps last format text old (held new.0.held new.1.held) (Err (faults.Write side))
   fails A n m new f = (
     reached,
-    h.read,
+    read,
     have_first,
     (
       subst (AppendsBeginning old.a new.0.held) shown_a (beginning_over _ _ _ _ h.a.over new.0.held f.0.some),
@@ -85,7 +88,7 @@ module _ (last : Option (Side × ℕ)) (format : Format) (text : Option (List �
   )
   fails B n m new f = (
     reached,
-    h.read,
+    read,
     have_first,
     (
       subst (AppendsSome old.a new.0.held) shown_a (some_over _ _ _ _ h.a.over new.0.held f.0.some),
@@ -143,7 +146,7 @@ module _ (last : Option (Side × ℕ)) (format : Format) (text : Option (List �
 
       pub tapped_all : (tapped : Tapped) → StopsAs h last (stops.Ends tapped.ending) → tapped.units_a.count ≡ line.a.units.count →
           tapped.units_b.count ≡ line.b.units.count → Taps last format text old later (Ok tapped)
-      tapped_all tapped stop count_a count_b = (reached, h.read, written, (by_ending tapped.ending stop, has_counted tapped count_a count_b))
+      tapped_all tapped stop count_a count_b = (reached, read, written, (by_ending tapped.ending stop, has_counted tapped count_a count_b))
         where
           by_ending : (ending : Ending) → StopsAs h last (stops.Ends ending) → EndsAs last ending reached
           by_ending Whole stop = (have_all stop.0, stop.1)
@@ -157,8 +160,8 @@ module _ (last : Option (Side × ℕ)) (format : Format) (text : Option (List �
           by_fault : (fault : CaptureFault) → FaultShows (PieceDeparts (length h.wire.items)) (length h.wire.items + 2) h.come fault →
               (fault ≡ of_text.OutOfMemory → ⊥) → Taps last format text old later (Err (fault_of fault))
           by_fault (of_text.Departs kind at) shows memory =
-              inr (reached, h.read, written, (have_all stop.0, record { departs = shows.1; line_is = shows.0 }))
-          by_fault of_text.Read shows memory = inr (reached, h.read, written, have_all stop.0)
+              inr (reached, read, written, (have_all stop.0, record { departs = shows.1; line_is = shows.0 }))
+          by_fault of_text.Read shows memory = inr (reached, read, written, have_all stop.0)
           by_fault of_text.OutOfMemory shows memory = absurd (memory refl)
           by_fault of_text.Failed shows memory = absurd shows
 
@@ -177,14 +180,14 @@ module _ (last : Option (Side × ℕ)) (format : Format) (text : Option (List �
     wire = h.wire;
     come = h.come;
     read = h.read;
-    a = over_put _ _ _ _ line.a.units a h.a put_a.moves;
-    b = over_put _ _ _ _ line.b.units b h.b put_b.moves;
+    a = over_put _ _ _ _ _ line.a.units a h.a put_a.moves;
+    b = over_put _ _ _ _ _ line.b.units b h.b put_b.moves;
   }
 
   number_put : (side : Side) → units_at side h ≡ units_at side put_over
   unfolding put_over over_put
-  number_put A = ap length (sym (same_units _ _ _ _ line.a.units a h.a put_a.moves))
-  number_put B = ap length (sym (same_units _ _ _ _ line.b.units b h.b put_b.moves))
+  number_put A = ap length (sym (same_units _ _ _ _ _ line.a.units a h.a put_a.moves))
+  number_put B = ap length (sym (same_units _ _ _ _ _ line.b.units b h.b put_b.moves))
 
   others_put : (side : Side) → others_at side put_over ≡ others_at side h
   unfolding put_over over_put

@@ -1,5 +1,7 @@
 pub mod CountLaws
+pub mod NameLaws
 pub mod MoveLaws
+pub mod TellLaws
 pub mod PassLaws
 pub mod SideLaws
 pub mod EndLaws

@@ -1,5 +1,5 @@
 -- Both sides of what a tap wrote, from one piece to the next.
-use Rattle.std.proofs.Common.{◌≡◌, ℕ, ◌+◌, ◌<◌, ◌^◌, List, [], ◌∷◌, ◌++◌, length, Option, Some, None, Result, Ok, refl, sym, subst}
+use Rattle.std.proofs.Common.{◌≡◌, ℕ, ◌+◌, ◌<◌, ◌^◌, List, [], ◌∷◌, ◌++◌, length, Option, Some, None, Result, Ok, refl, sym, ap, subst}
 use Rattle.std.proofs.Common.{◌∙◌, arith, append-nil, length-append}
 use Rattle.std.specs.Prelude.{IfOk}
 use Rattle.std.specs.Io.KnownBytes.{IsAtEnd}
@@ -17,23 +17,24 @@ use Rattle.wire_text.specs.WireText.{Piece, PieceDeparts, Wire, piece, wire_form
 use Rattle.wire_text.specs.declared.limit.TheConstants.{MAX_PIECES}
 use Rattle.capture.proofs.ListedSoFar as read
 use Rattle.wire_tap.specs.Tapping.{Held, held}
-use Rattle.wire_tap.specs.Units.{bytes_of, messages}
+use Rattle.wire_tap.specs.Units.{bytes_of, messages, units_of}
 use Rattle.wire_tap.specs.declared.stop.Stop.TheVariants as stops
 use Rattle.wire_tap.specs.declared.tapped.Ending.{Ending}
 use Rattle.wire_tap.specs.declared.tapped.Ending.TheVariants.{Whole}
 use Rattle.wire_tap.specs.inner.Moving.{IsLineOver, IsLineUnderWay, LineState, units_at}
 use Rattle.wire_tap.specs.inner.Moving.{IsAllOver, PassesPiece, Stopped}
-use Rattle.wire_tap.specs.inner.Side.{MovesOn, PassesBytes, SideState, aim}
+use Rattle.wire_tap.specs.inner.Side.{PassesBytes, SideState, Tells, aim, units_in}
 use Rattle.wire_tap.proofs.MoveLaws.{if_ok_both}
 use Rattle.wire_tap.proofs.PassLaws.{ends_same}
-use Rattle.wire_tap.proofs.SideLaws.{beside, bytes_more, over_all, over_some, piece_on, units_same, written_on}
+use Rattle.wire_tap.proofs.TellLaws.{units_more}
+use Rattle.wire_tap.proofs.SideLaws.{beside, bytes_more, over_all, over_beside, over_some, piece_on, units_same, written_on}
 use Rattle.wire_tap.proofs.EndLaws.{stop_from}
 
 -- ---- both sides, from one piece to the next
 
 module _ (format : Format) (text : Option (List ℕ)) (old : Held) (line : LineState) (h : IsLineUnderWay format text old line) where
   pub line_over : IsLineOver format text old line
-  line_over = record { spells = h.spells; wire = h.wire; come = line.come; read = h.read; a = over_all _ _ _ _ line.a h.a; b = over_all _ _ _ _ line.b h.b }
+  line_over = record { spells = h.spells; wire = h.wire; come = line.come; read = h.read; a = over_all _ _ _ _ _ line.a h.a; b = over_all _ _ _ _ _ line.b h.b }
 
   all_over_line : IsAllOver line_over
   unfolding line_over over_all
@@ -62,8 +63,8 @@ module _ (format : Format) (text : Option (List ℕ)) (old : Held) (line : LineS
     wire = h.wire;
     read = h.read;
     count = h.count;
-    a = written_on _ _ _ _ line.a h.a later.a a over_a same_a;
-    b = written_on _ _ _ _ line.b h.b later.b b over_b same_b;
+    a = written_on _ _ _ _ _ line.a h.a later.a a over_a same_a;
+    b = written_on _ _ _ _ _ line.b h.b later.b b over_b same_b;
   }
 
   module _ (side : Side) (was now : ListState) (same : line.pieces ≡ was.items) (after : Option (List ℕ)) (a b : SideState)
@@ -90,6 +91,21 @@ module _ (format : Format) (text : Option (List ℕ)) (old : Held) (line : LineS
   beside_b : (pieces : List Piece) (bytes : List ℕ) → bytes_of B (pieces ++ piece A bytes ∷ []) ≡ bytes_of B pieces
   beside_b pieces bytes = bytes_more B pieces (piece A bytes) ∙ append-nil (bytes_of B pieces)
 
+  -- the units of both sides, where a piece passed
+  same_a : (pieces : List Piece) (bytes : List ℕ) → units_in (bytes_of A (pieces ++ piece B bytes ∷ [])) ≡ units_in (bytes_of A pieces)
+  same_a pieces bytes = ap units_in (beside_a pieces bytes)
+
+  same_b : (pieces : List Piece) (bytes : List ℕ) → units_in (bytes_of B (pieces ++ piece A bytes ∷ [])) ≡ units_in (bytes_of B pieces)
+  same_b pieces bytes = ap units_in (beside_b pieces bytes)
+
+  more_a : (bytes : List ℕ) → units_in (bytes_of A (h.wire.items ++ piece A bytes ∷ [])) ≡ units_of A h.wire ++ units_in (line.a.held ++ bytes)
+  more_a bytes =
+      ap units_in (bytes_more A h.wire.items (piece A bytes)) ∙ units_more (bytes_of A h.wire.items) line.a.held bytes h.a.found h.a.framed h.a.left
+
+  more_b : (bytes : List ℕ) → units_in (bytes_of B (h.wire.items ++ piece B bytes ∷ [])) ≡ units_of B h.wire ++ units_in (line.b.held ++ bytes)
+  more_b bytes =
+      ap units_in (bytes_more B h.wire.items (piece B bytes)) ∙ units_more (bytes_of B h.wire.items) line.b.held bytes h.b.found h.b.framed h.b.left
+
   -- the piece passed
   pub line_goes : (last : Option (Side × ℕ)) (side : Side) (was now : ListState) (same : line.pieces ≡ was.items)
       (after : Option (List ℕ)) (a b : SideState) (advances : Advances wire_form was now line.come after (Ok (Some (piece side now.bytes))))
@@ -99,16 +115,16 @@ module _ (format : Format) (text : Option (List ℕ)) (old : Held) (line : LineS
     wire = wire_on A was now same after a b advances;
     read = read_on A was now same after a b advances;
     count = count_on A was now same after a b advances;
-    a = piece_on _ _ _ _ line.a h.a now.bytes _ a (bytes_more A h.wire.items (piece A now.bytes)) p.0;
-    b = beside _ _ _ _ line.b h.b _ b (beside_b h.wire.items now.bytes) p.1;
+    a = piece_on _ _ _ _ _ line.a h.a now.bytes _ _ a (bytes_more A h.wire.items (piece A now.bytes)) (same_b h.wire.items now.bytes) p.0;
+    b = beside _ _ _ _ _ line.b h.b (units_in (line.a.held ++ now.bytes)) _ _ b (beside_b h.wire.items now.bytes) (more_a now.bytes) p.1;
   }
   line_goes last B was now same after a b advances p = record {
     spells = h.spells;
     wire = wire_on B was now same after a b advances;
     read = read_on B was now same after a b advances;
     count = count_on B was now same after a b advances;
-    a = beside _ _ _ _ line.a h.a _ a (beside_a h.wire.items now.bytes) p.0;
-    b = piece_on _ _ _ _ line.b h.b now.bytes _ b (bytes_more B h.wire.items (piece B now.bytes)) p.1;
+    a = beside _ _ _ _ _ line.a h.a (units_in (line.b.held ++ now.bytes)) _ _ a (beside_a h.wire.items now.bytes) (more_b now.bytes) p.0;
+    b = piece_on _ _ _ _ _ line.b h.b now.bytes _ _ b (bytes_more B h.wire.items (piece B now.bytes)) (same_a h.wire.items now.bytes) p.1;
   }
 
   -- the captures end with a unit of it
@@ -116,9 +132,9 @@ module _ (format : Format) (text : Option (List ℕ)) (old : Held) (line : LineS
       (after : Option (List ℕ)) (a b : SideState) (advances : Advances wire_form was now line.come after (Ok (Some (piece side now.bytes))))
       (ending : Ending) → PassesPiece last side now.bytes (line.a, line.b) (a, b) (Some ending)
       → Stopped last format text old (line_on side was now same after a b advances) (stops.Ends ending)
-  unfolding over_some over_all
+  unfolding over_some over_beside
   over_on last A was now same after a b advances ending p =
-      (over, stop_from last format text old _ over A ending refl (ends_same _ _ _ ending same_a p.0.ends))
+      (over, stop_from last format text old _ over A ending refl (ends_same _ _ _ ending counts p.0.ends))
     where
       over : IsLineOver format text old (line_on A was now same after a b advances)
       over = record {
@@ -126,14 +142,16 @@ module _ (format : Format) (text : Option (List ℕ)) (old : Held) (line : LineS
         wire = wire_on A was now same after a b advances;
         come = after;
         read = read_on A was now same after a b advances;
-        a = over_some _ _ _ _ line.a h.a now.bytes p.0.come a p.0.some _ (bytes_more A h.wire.items (piece A now.bytes));
-        b = over_all _ _ _ _ b (beside _ _ _ _ line.b h.b _ b (beside_b h.wire.items now.bytes) p.1);
+        a = over_some _ _ _ _ _ line.a h.a now.bytes p.0.come a p.0.some _ _ (bytes_more A h.wire.items (piece A now.bytes))
+            (same_b h.wire.items now.bytes);
+        b = over_beside _ _ _ _ _ line.b h.b (units_in (line.a.held ++ now.bytes)) _ _ b (beside_b h.wire.items now.bytes)
+            (more_a now.bytes) ending p.1;
       }
 
-      same_a : units_at A over < 2 ^ 64 → units_at A over ≡ line.a.units.count + length (messages p.0.some.found.units)
-      same_a = units_same _ _ _ _ line.a h.a now.bytes p.0.come a p.0.some
+      counts : units_at A over < 2 ^ 64 → units_at A over ≡ line.a.units.count + length (messages p.0.some.found.units)
+      counts = units_same _ _ _ _ _ line.a h.a now.bytes p.0.come a p.0.some
   over_on last B was now same after a b advances ending p =
-      (over, stop_from last format text old _ over B ending refl (ends_same _ _ _ ending same_b p.1.ends))
+      (over, stop_from last format text old _ over B ending refl (ends_same _ _ _ ending counts p.1.ends))
     where
       over : IsLineOver format text old (line_on B was now same after a b advances)
       over = record {
@@ -141,28 +159,29 @@ module _ (format : Format) (text : Option (List ℕ)) (old : Held) (line : LineS
         wire = wire_on B was now same after a b advances;
         come = after;
         read = read_on B was now same after a b advances;
-        a = over_all _ _ _ _ a (beside _ _ _ _ line.a h.a _ a (beside_a h.wire.items now.bytes) p.0);
-        b = over_some _ _ _ _ line.b h.b now.bytes p.1.come b p.1.some _ (bytes_more B h.wire.items (piece B now.bytes));
+        a = over_beside _ _ _ _ _ line.a h.a (units_in (line.b.held ++ now.bytes)) _ _ a (beside_a h.wire.items now.bytes)
+            (more_b now.bytes) ending p.0;
+        b = over_some _ _ _ _ _ line.b h.b now.bytes p.1.come b p.1.some _ _ (bytes_more B h.wire.items (piece B now.bytes))
+            (same_a h.wire.items now.bytes);
       }
 
-      same_b : units_at B over < 2 ^ 64 → units_at B over ≡ line.b.units.count + length (messages p.1.some.found.units)
-      same_b = units_same _ _ _ _ line.b h.b now.bytes p.1.come b p.1.some
+      counts : units_at B over < 2 ^ 64 → units_at B over ≡ line.b.units.count + length (messages p.1.some.found.units)
+      counts = units_same _ _ _ _ _ line.b h.b now.bytes p.1.come b p.1.some
 
 -- ---- one piece
 
 -- a piece of one side passed, beside the other
-pub piece_of_a : {E : Type 0} (last : Option (Side × ℕ)) (bytes : List ℕ) (old new : SideState) (other later : SideState)
-    (r : Result (Option Ending) E) → IfOk r (PassesBytes (aim last A) (old.held ++ bytes) old new)
-    → IfOk r (λ ending. MovesOn [] other.units.waiting later.units.waiting) → later.held ≡ other.held → later.units.count ≡ other.units.count
-    → IfOk r (PassesPiece last A bytes (old, other) (new, later))
-piece_of_a last bytes old new other later r own moves held count =
-    if_ok_both r (PassesBytes (aim last A) (old.held ++ bytes) old new) (λ ending. MovesOn [] other.units.waiting later.units.waiting)
-    (PassesPiece last A bytes (old, other) (new, later)) (λ ending p q. (p, record { moves = q; held = held; count = count })) own moves
+module _ {E : Type 0} (last : Option (Side × ℕ)) (bytes : List ℕ) (old new other later : SideState) (r : Result (Option Ending) E)
+    (tells : IfOk r (λ ending. Tells (units_in (old.held ++ bytes)) ending other.units.waiting later.units.waiting)) (held : later.held ≡ other.held)
+    (count : later.units.count ≡ other.units.count) where
+  pub piece_of_a : IfOk r (PassesBytes (aim last A) (old.held ++ bytes) old new) → IfOk r (PassesPiece last A bytes (old, other) (new, later))
+  piece_of_a own =
+      if_ok_both r (PassesBytes (aim last A) (old.held ++ bytes) old new)
+      (λ ending. Tells (units_in (old.held ++ bytes)) ending other.units.waiting later.units.waiting)
+      (PassesPiece last A bytes (old, other) (new, later)) (λ ending p q. (p, record { moves = q; held = held; count = count })) own tells
 
-pub piece_of_b : {E : Type 0} (last : Option (Side × ℕ)) (bytes : List ℕ) (old new : SideState) (other later : SideState)
-    (r : Result (Option Ending) E) → IfOk r (PassesBytes (aim last B) (old.held ++ bytes) old new)
-    → IfOk r (λ ending. MovesOn [] other.units.waiting later.units.waiting) → later.held ≡ other.held → later.units.count ≡ other.units.count
-    → IfOk r (PassesPiece last B bytes (other, old) (later, new))
-piece_of_b last bytes old new other later r own moves held count =
-    if_ok_both r (PassesBytes (aim last B) (old.held ++ bytes) old new) (λ ending. MovesOn [] other.units.waiting later.units.waiting)
-    (PassesPiece last B bytes (other, old) (later, new)) (λ ending p q. (record { moves = q; held = held; count = count }, p)) own moves
+  pub piece_of_b : IfOk r (PassesBytes (aim last B) (old.held ++ bytes) old new) → IfOk r (PassesPiece last B bytes (other, old) (later, new))
+  piece_of_b own =
+      if_ok_both r (PassesBytes (aim last B) (old.held ++ bytes) old new)
+      (λ ending. Tells (units_in (old.held ++ bytes)) ending other.units.waiting later.units.waiting)
+      (PassesPiece last B bytes (other, old) (later, new)) (λ ending p q. (record { moves = q; held = held; count = count }, p)) own tells

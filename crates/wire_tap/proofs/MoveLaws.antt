@@ -6,12 +6,14 @@ use Rattle.capture.specs.declared.record.Record.TheVariants.{Sent, Received, Noi
 use Rattle.capture.specs.declared.hint.HintForm.TheVariants.{Number}
 use Rattle.capture.specs.Text.{record_line, record_lines}
 use Rattle.framer.specs.Framing.{kind_of}
-use Rattle.placing.specs.Placed.{Puts, Waiting, records_of, units_sent, with_other, with_own}
+use Rattle.placing.specs.Placed.{HavePassed, NameUnits, Puts, Waiting, records_of, units_sent, with_other, with_own}
+use Rattle.placing.proofs.Names.{other_passed, own_passed, puts_name, puts_passed}
 use Rattle.placing.proofs.Puts.{puts_units}
 use Rattle.std.specs.Prelude.{slice_index, Result, Ok, Err, IfOk, OnOk}
 use Rattle.wire_tap.specs.Units.{message_of, messages}
 use Rattle.wire_tap.specs.inner.Moving.{PutsAll}
 use Rattle.wire_tap.specs.inner.Side.{MovesOn, PassUnits, UnitsState, counted}
+use Rattle.wire_tap.proofs.NameLaws.{names-append, names_later}
 
 -- ---- records
 
@@ -38,31 +40,68 @@ messages-append (unit ∷ units) more =
 
 -- ---- one side
 
-pub moves_nothing : (w : Waiting) → MovesOn [] w w
-moves_nothing w = record { records = []; sent = sym (append-nil w.units.own); text = sym (append-nil w.text) }
-
-pub moves_own : (unit : List ℕ) (w : Waiting) → MovesOn (unit ∷ []) w (with_own unit w)
-moves_own unit w = record { records = []; sent = refl; text = sym (append-nil w.text) }
-
-pub moves_other : (unit : List ℕ) (w : Waiting) → MovesOn [] w (with_other unit w)
-moves_other unit w = record { records = []; sent = sym (append-nil w.units.own); text = sym (append-nil w.text) }
-
-pub moves_put : (old new : Waiting) → Puts old new → MovesOn [] old new
-moves_put old new p = record { records = records_of p.acts; sent = puts_units old new p ∙ sym (append-nil old.units.own); text = p.text }
-
-pub moves_then : (first second : List (List ℕ)) (a b c : Waiting) → MovesOn first a b → MovesOn second b c → MovesOn (first ++ second) a c
-moves_then first second a b c p q = record {
-  records = p.records ++ q.records;
-  sent = ap (λ (units : List (List ℕ)). units ++ c.units.own) (sent-append p.records q.records)
-      ∙ append_assoc (units_sent p.records) (units_sent q.records) c.units.own
-      ∙ ap (λ (units : List (List ℕ)). units_sent p.records ++ units) q.sent
-      ∙ sym (append_assoc (units_sent p.records) b.units.own second)
-      ∙ ap (λ (units : List (List ℕ)). units ++ second) p.sent
-      ∙ append_assoc a.units.own first second;
-  text = q.text ∙ ap (λ (text : List ℕ). text ++ record_lines Number q.records) p.text
-      ∙ append_assoc a.text (record_lines Number p.records) (record_lines Number q.records)
-      ∙ ap (λ (text : List ℕ). a.text ++ text) (sym (lines-append p.records q.records));
+pub moves_nothing : (w : Waiting) → MovesOn [] [] w w
+moves_nothing w = record {
+  records = [];
+  sent = sym (append-nil w.units.own);
+  text = sym (append-nil w.text);
+  named = λ all h. tt;
+  passed = λ all h. subst (λ (units : List (List ℕ)). HavePassed units w.units) (sym (append-nil all)) h;
 }
+
+pub moves_own : (unit : List ℕ) (w : Waiting) → MovesOn (unit ∷ []) [] w (with_own unit w)
+moves_own unit w = record {
+  records = [];
+  sent = refl;
+  text = sym (append-nil w.text);
+  named = λ all h. tt;
+  passed = λ all h. subst (λ (units : List (List ℕ)). HavePassed units (with_own unit w).units) (sym (append-nil all)) (own_passed all unit w h);
+}
+
+pub moves_other : (unit : List ℕ) (w : Waiting) → MovesOn [] (unit ∷ []) w (with_other unit w)
+moves_other unit w = record {
+  records = [];
+  sent = sym (append-nil w.units.own);
+  text = sym (append-nil w.text);
+  named = λ all h. tt;
+  passed = λ all h. other_passed all unit w h;
+}
+
+pub moves_put : (old new : Waiting) → Puts old new → MovesOn [] [] old new
+moves_put old new p = record {
+  records = records_of p.acts;
+  sent = puts_units old new p ∙ sym (append-nil old.units.own);
+  text = p.text;
+  named = λ all h. names_later all [] (records_of p.acts) (puts_name all old new p h);
+  passed = λ all h. subst (λ (units : List (List ℕ)). HavePassed units new.units) (sym (append-nil all)) (puts_passed all old new p h);
+}
+
+module _ (first second other later : List (List ℕ)) (a b c : Waiting) (p : MovesOn first other a b) (q : MovesOn second later b c) where
+  both_named : (all : List (List ℕ)) → HavePassed all a.units → NameUnits (all ++ (other ++ later)) (p.records ++ q.records)
+  both_named all h =
+      subst (λ (units : List (List ℕ)). NameUnits units (p.records ++ q.records)) (append_assoc all other later)
+      (names-append ((all ++ other) ++ later) p.records q.records (names_later (all ++ other) later p.records (p.named all h))
+      (q.named (all ++ other) (p.passed all h)))
+
+  both_passed : (all : List (List ℕ)) → HavePassed all a.units → HavePassed (all ++ (other ++ later)) c.units
+  both_passed all h =
+      subst (λ (units : List (List ℕ)). HavePassed units c.units) (append_assoc all other later) (q.passed (all ++ other) (p.passed all h))
+
+  pub moves_then : MovesOn (first ++ second) (other ++ later) a c
+  moves_then = record {
+    records = p.records ++ q.records;
+    sent = ap (λ (units : List (List ℕ)). units ++ c.units.own) (sent-append p.records q.records)
+        ∙ append_assoc (units_sent p.records) (units_sent q.records) c.units.own
+        ∙ ap (λ (units : List (List ℕ)). units_sent p.records ++ units) q.sent
+        ∙ sym (append_assoc (units_sent p.records) b.units.own second)
+        ∙ ap (λ (units : List (List ℕ)). units ++ second) p.sent
+        ∙ append_assoc a.units.own first second;
+    text = q.text ∙ ap (λ (text : List ℕ). text ++ record_lines Number q.records) p.text
+        ∙ append_assoc a.text (record_lines Number p.records) (record_lines Number q.records)
+        ∙ ap (λ (text : List ℕ). a.text ++ text) (sym (lines-append p.records q.records));
+    named = both_named;
+    passed = both_passed;
+  }
 
 pub puts_all : (old new : Waiting) → Puts old new → new.units.own ≡ [] → PutsAll old new
 puts_all old new puts none = record { moves = moves_put old new puts; all = none }
@@ -74,7 +113,7 @@ counted-counted n more most = omega arith
 
 pub pass_then : (first second : List (List ℕ)) (a b c : UnitsState) → PassUnits first a b → PassUnits second b c → PassUnits (first ++ second) a c
 pass_then first second a b c p q = record {
-  moves = moves_then first second a.waiting b.waiting c.waiting p.moves q.moves;
+  moves = moves_then first second [] [] a.waiting b.waiting c.waiting p.moves q.moves;
   count = λ few.
       let first_count = p.count few in
       let below : b.count < 2 ^ 64 = omega arith in
@@ -89,16 +128,24 @@ pass_nothing s = record { moves = moves_nothing s.waiting; count = λ few. omega
 pub pass_from : (units : List (List ℕ)) (was old new : UnitsState) → was.waiting ≡ old.waiting → was.count ≡ old.count → PassUnits units was new →
     PassUnits units old new
 pass_from units was old new waiting count p = record {
-  moves = subst (λ (w : Waiting). MovesOn units w new.waiting) waiting p.moves;
+  moves = subst (λ (w : Waiting). MovesOn units [] w new.waiting) waiting p.moves;
   count = subst (λ (n : ℕ). n < 2 ^ 64 → new.count ≡ counted n (length units)) count p.count;
 }
 
--- a unit of the side passed, and then lines were put
+-- a unit of the side passed
+pub pass_own : (unit : List ℕ) (old new : UnitsState) → new.waiting ≡ with_own unit old.waiting → new.count ≡ counted old.count 1 →
+    PassUnits (unit ∷ []) old new
+pass_own unit old new is count = record {
+  moves = subst (MovesOn (unit ∷ []) [] old.waiting) (sym is) (moves_own unit old.waiting);
+  count = λ few. count;
+}
+
+-- the same, and then lines were put
 pub pass_one : (unit : List ℕ) (old new : UnitsState) (mid : Waiting) → mid ≡ with_own unit old.waiting → Puts mid new.waiting →
     new.count ≡ counted old.count 1 → PassUnits (unit ∷ []) old new
 pass_one unit old new mid is puts count = record {
-  moves = moves_then (unit ∷ []) [] old.waiting mid new.waiting (subst (MovesOn (unit ∷ []) old.waiting) (sym is) (moves_own unit old.waiting))
-      (moves_put mid new.waiting puts);
+  moves = moves_then (unit ∷ []) [] [] [] old.waiting mid new.waiting
+      (subst (MovesOn (unit ∷ []) [] old.waiting) (sym is) (moves_own unit old.waiting)) (moves_put mid new.waiting puts);
   count = λ few. count;
 }
 

@@ -1,5 +1,5 @@
 -- One side of what a tap wrote, from one piece to the next, and where no more is read.
-use Rattle.std.proofs.Common.{◌≡◌, ℕ, ◌+◌, ◌<◌, ◌^◌, List, [], ◌∷◌, ◌++◌, length, Option, refl, sym, ap, subst}
+use Rattle.std.proofs.Common.{◌≡◌, ℕ, ◌+◌, ◌<◌, ◌^◌, List, [], ◌∷◌, ◌++◌, length, Option, Some, None, refl, sym, ap, subst}
 use Rattle.std.proofs.Common.{◌∙◌, arith, append_assoc, append-nil, length-append}
 use Rattle.wire_base.specs.declared.side.Side.{Side}
 use Rattle.capture.specs.declared.hint.HintForm.TheVariants.{Number}
@@ -10,12 +10,14 @@ use Rattle.framer.specs.Framing.{Framing, framing, joined}
 use Rattle.framer.specs.SoFar.{IsFramedSoFar}
 use Rattle.framer.proofs.Passing.{ends_on}
 use Rattle.framer.proofs.SoFarLaws.{piece_more, whole}
-use Rattle.placing.specs.Placed.{Waiting, units_sent}
+use Rattle.placing.specs.Placed.{HavePassed, NameUnits, Waiting, units_sent}
 use Rattle.wire_text.specs.WireText.{Piece}
 use Rattle.wire_tap.specs.Units.{bytes_if, bytes_of, messages}
+use Rattle.wire_tap.specs.declared.tapped.Ending.{Ending}
 use Rattle.wire_tap.specs.inner.Moving.{IsOver, IsUnderWay, StandsBeside}
 use Rattle.wire_tap.specs.inner.Side.{MovesOn, PassesAll, PassesFound, SideState, UnitsState, counted}
 use Rattle.wire_tap.proofs.MoveLaws.{lines-append, messages-append, sent-append}
+use Rattle.wire_tap.proofs.NameLaws.{all_told, names-append, names_later}
 use Rattle.capture.proofs.OverLaws.{more_over, on_over}
 
 -- ---- the bytes of a side
@@ -61,9 +63,24 @@ sent_more records more own own' units passed e f =
     ∙ sym (append_assoc (units_sent records) own passed)
     ∙ ap (λ (sent : List (List ℕ)). sent ++ passed) e
 
-module _ (bytes head : List ℕ) (old now : Option (List ℕ)) (side : SideState) (h : IsUnderWay bytes head old now side) where
+-- more receipts, of units of the other side that passed before or now
+names_more : (other told : List (List ℕ)) (records more : List Record) → NameUnits other records → NameUnits (other ++ told) more →
+    NameUnits (other ++ told) (records ++ more)
+names_more other told records more first second = names-append (other ++ told) records more (names_later other told records first) second
+
+-- the same, where no more passed now
+module _ (other : List (List ℕ)) (old new : Waiting) (units : List (List ℕ)) (moves : MovesOn units [] old new)
+    (passed : HavePassed other old.units) where
+  pub names_same : NameUnits other moves.records
+  names_same = subst (λ (all : List (List ℕ)). NameUnits all moves.records) (append-nil other) (moves.named other passed)
+
+  pub passed_same : HavePassed other new.units
+  passed_same = subst (λ (all : List (List ℕ)). HavePassed all new.units) (append-nil other) (moves.passed other passed)
+
+module _ (bytes head : List ℕ) (other : List (List ℕ)) (old now : Option (List ℕ)) (side : SideState)
+    (h : IsUnderWay bytes head other old now side) where
   -- all that was read passed
-  unfoldable pub over_all : IsOver bytes head old now side.units
+  unfoldable pub over_all : IsOver bytes head other old now side.units
   over_all = record {
     records = h.records;
     others = [];
@@ -71,11 +88,14 @@ module _ (bytes head : List ℕ) (old now : Option (List ℕ)) (side : SideState
     sent = append-nil (units_sent h.records ++ side.units.waiting.units.own) ∙ h.sent
         ∙ sym (ap (λ (f : Framing). messages f.units) (whole bytes side.held h.found h.framed h.left));
     over = h.over;
+    named = h.named;
+    passed = all_told other side.units.waiting h.passed;
   }
 
-  -- a unit of the other side passed
-  pub beside : (bytes' : List ℕ) (new : SideState) → bytes' ≡ bytes → StandsBeside side new → IsUnderWay bytes' head old now new
-  beside bytes' new same stands = record {
+  -- units of the other side passed
+  pub beside : (told : List (List ℕ)) (bytes' : List ℕ) (other' : List (List ℕ)) (new : SideState) → bytes' ≡ bytes → other' ≡ other ++ told →
+      StandsBeside told None side new → IsUnderWay bytes' head other' old now new
+  beside told bytes' other' new same more stands = record {
     records = h.records ++ stands.moves.records;
     found = h.found;
     framed = subst (λ (b : List ℕ). IsFramedSoFar b h.found new.held) (sym same)
@@ -85,6 +105,9 @@ module _ (bytes head : List ℕ) (old now : Option (List ℕ)) (side : SideState
         ∙ append-nil (messages h.found.units);
     count = stands.count ∙ h.count;
     over = over_more head h.records stands.moves.records side.units.waiting.text new.units.waiting.text old now h.over stands.moves.text;
+    named = subst (λ (all : List (List ℕ)). NameUnits all (h.records ++ stands.moves.records)) (sym more)
+        (names_more other told h.records stands.moves.records h.named (stands.moves.named other h.passed));
+    passed = subst (λ (all : List (List ℕ)). HavePassed all new.units.waiting.units) (sym more) (stands.moves.passed other h.passed);
   }
 
   module _ (more come : List ℕ) (new : SideState) (p : PassesFound (side.held ++ more) come side new) where
@@ -126,9 +149,18 @@ module _ (bytes head : List ℕ) (old now : Option (List ℕ)) (side : SideState
         let both = length-append (messages h.found.units) (messages p.found.units) in
         omega arith
 
+    pub all_named : NameUnits other (h.records ++ p.passes.moves.records)
+    all_named =
+        names-append other h.records p.passes.moves.records h.named
+        (names_same other side.units.waiting new.units.waiting (messages p.found.units) p.passes.moves h.passed)
+
+    pub all_passed : HavePassed other new.units.waiting.units
+    all_passed = passed_same other side.units.waiting new.units.waiting (messages p.found.units) p.passes.moves h.passed
+
     -- no more is read
-    unfoldable pub over_some : (bytes' : List ℕ) → bytes' ≡ bytes ++ more → IsOver bytes' head old now new.units
-    over_some bytes' same = record {
+    unfoldable pub over_some : (bytes' : List ℕ) (other' : List (List ℕ)) → bytes' ≡ bytes ++ more → other' ≡ other →
+        IsOver bytes' head other' old now new.units
+    over_some bytes' other' same no_more = record {
       count = all_count ∙ ap (λ (units : List (List ℕ)). counted 0 (length units)) (sym all_sent);
       records = h.records ++ p.passes.moves.records;
       others = messages (framing come).units;
@@ -136,12 +168,15 @@ module _ (bytes head : List ℕ) (old now : Option (List ℕ)) (side : SideState
           ∙ sym (ap (λ (b : List ℕ). messages (framing b).units) same
           ∙ ap (λ (f : Framing). messages f.units) all_framed.framed ∙ messages-append all_found.units (framing come).units);
       over = all_over_now;
+      named = subst (λ (all : List (List ℕ)). NameUnits all (h.records ++ p.passes.moves.records)) (sym no_more) all_named;
+      passed = all_told other' new.units.waiting
+          (subst (λ (all : List (List ℕ)). HavePassed all new.units.waiting.units) (sym no_more) all_passed);
     }
 
   -- a piece of the side passed
-  pub piece_on : (more bytes' : List ℕ) (new : SideState) → bytes' ≡ bytes ++ more → PassesAll (side.held ++ more) side new →
-      IsUnderWay bytes' head old now new
-  piece_on more bytes' new same p = record {
+  pub piece_on : (more bytes' : List ℕ) (other' : List (List ℕ)) (new : SideState) → bytes' ≡ bytes ++ more → other' ≡ other →
+      PassesAll (side.held ++ more) side new → IsUnderWay bytes' head other' old now new
+  piece_on more bytes' other' new same no_more p = record {
     records = h.records ++ p.all.passes.moves.records;
     found = all_found more new.held new p.all;
     framed = subst (λ (b : List ℕ). IsFramedSoFar b (all_found more new.held new p.all) new.held) (sym same)
@@ -150,12 +185,15 @@ module _ (bytes head : List ℕ) (old now : Option (List ℕ)) (side : SideState
     sent = all_sent more new.held new p.all;
     count = all_count more new.held new p.all;
     over = all_over_now more new.held new p.all;
+    named = subst (λ (all : List (List ℕ)). NameUnits all (h.records ++ p.all.passes.moves.records)) (sym no_more)
+        (all_named more new.held new p.all);
+    passed = subst (λ (all : List (List ℕ)). HavePassed all new.units.waiting.units) (sym no_more) (all_passed more new.held new p.all);
   }
 
   -- the first of the lines that wait were written
   pub written_on : (later : Option (List ℕ)) (waiting : Waiting) → HandsOver side.units.waiting.text waiting.text now later →
       waiting.units ≡ side.units.waiting.units
-      → IsUnderWay bytes head old later (record side { units = record side.units { waiting = waiting } })
+      → IsUnderWay bytes head other old later (record side { units = record side.units { waiting = waiting } })
   written_on later waiting over same = record {
     records = h.records;
     found = h.found;
@@ -164,22 +202,64 @@ module _ (bytes head : List ℕ) (old now : Option (List ℕ)) (side : SideState
     sent = rw same h.sent;
     count = h.count;
     over = on_over _ side.units.waiting.text old now h.over waiting.text later over;
+    named = h.named;
+    passed = rw same h.passed;
   }
 
-pub same_units : (bytes head : List ℕ) (old now : Option (List ℕ)) (units : UnitsState) (new : Waiting) (h : IsOver bytes head old now units)
-    (moves : MovesOn [] units.waiting new)
+-- units of the other side passed, of the first of which the side was told, and no more is read
+module _ (bytes head : List ℕ) (other : List (List ℕ)) (old now : Option (List ℕ)) (side : SideState) (h : IsUnderWay bytes head other old now side)
+    (units : List (List ℕ)) (bytes' : List ℕ) (other' : List (List ℕ)) (new : SideState) (same : bytes' ≡ bytes) (more : other' ≡ other ++ units)
+    (ending : Ending) (stands : StandsBeside units (Some ending) side new) where
+  abbrev told : List (List ℕ)
+  told = stands.moves.told
+
+  pub on_told : IsUnderWay bytes' head (other ++ told) old now new
+  on_told =
+      beside bytes head other old now side h told bytes' (other ++ told) new same refl
+      (record { moves = stands.moves.moves; held = stands.held; count = stands.count })
+
+  pub all_are : other' ≡ (other ++ told) ++ stands.moves.untold
+  all_are = more ∙ ap (λ (us : List (List ℕ)). other ++ us) stands.moves.are ∙ sym (append_assoc other told stands.moves.untold)
+
+  done : IsOver bytes' head (other ++ told) old now new.units
+  done = over_all bytes' head (other ++ told) old now new on_told
+
+  unfoldable pub over_beside : IsOver bytes' head other' old now new.units
+  unfolding done over_all
+  over_beside = record {
+    records = on_told.records;
+    others = [];
+    sent = done.sent;
+    count = done.count;
+    over = on_told.over;
+    named = subst (λ (all : List (List ℕ)). NameUnits all on_told.records) (sym all_are)
+        (names_later (other ++ told) stands.moves.untold on_told.records on_told.named);
+    passed = record { told = other ++ told; untold = stands.moves.untold; are = all_are; passed = on_told.passed };
+  }
+
+pub same_units : (bytes head : List ℕ) (other : List (List ℕ)) (old now : Option (List ℕ)) (units : UnitsState) (new : Waiting)
+    (h : IsOver bytes head other old now units) (moves : MovesOn [] [] units.waiting new)
     → units_sent (h.records ++ moves.records) ++ new.units.own ≡ units_sent h.records ++ units.waiting.units.own
-same_units bytes head old now units new h moves =
+same_units bytes head other old now units new h moves =
     sent_more h.records moves.records units.waiting.units.own new.units.own _ [] refl moves.sent
     ∙ append-nil (units_sent h.records ++ units.waiting.units.own)
 
 -- more lines were put
-unfoldable pub over_put : (bytes head : List ℕ) (old now : Option (List ℕ)) (units : UnitsState) (new : Waiting) (h : IsOver bytes head old now units) →
-    MovesOn [] units.waiting new → IsOver bytes head old now (record units { waiting = new })
-over_put bytes head old now units new h moves = record {
+unfoldable pub over_put : (bytes head : List ℕ) (other : List (List ℕ)) (old now : Option (List ℕ)) (units : UnitsState) (new : Waiting)
+    (h : IsOver bytes head other old now units) → MovesOn [] [] units.waiting new → IsOver bytes head other old now (record units { waiting = new })
+over_put bytes head other old now units new h moves = record {
   records = h.records ++ moves.records;
   others = h.others;
-  sent = ap (λ (us : List (List ℕ)). us ++ h.others) (same_units bytes head old now units new h moves) ∙ h.sent;
-  count = h.count ∙ ap (λ (us : List (List ℕ)). counted 0 (length us)) (sym (same_units bytes head old now units new h moves));
+  sent = ap (λ (us : List (List ℕ)). us ++ h.others) (same_units bytes head other old now units new h moves) ∙ h.sent;
+  count = h.count ∙ ap (λ (us : List (List ℕ)). counted 0 (length us)) (sym (same_units bytes head other old now units new h moves));
   over = over_more head h.records moves.records units.waiting.text new.text old now h.over moves.text;
+  named = names-append other h.records moves.records h.named
+      (subst (λ (all : List (List ℕ)). NameUnits all moves.records) (sym h.passed.are)
+      (names_later h.passed.told h.passed.untold moves.records (names_same h.passed.told units.waiting new [] moves h.passed.passed)));
+  passed = record {
+    told = h.passed.told;
+    untold = h.passed.untold;
+    are = h.passed.are;
+    passed = passed_same h.passed.told units.waiting new [] moves h.passed.passed;
+  };
 }

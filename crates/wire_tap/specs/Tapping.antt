@@ -15,7 +15,7 @@ use Rattle.capture.specs.declared.record.Record.{Record}
 use Rattle.capture.specs.Text.{capture_text}
 use Rattle.capture.specs.Listed.{IsListSoFar}
 use Rattle.wire_text.specs.WireText.{PieceDeparts, Wire, WireHeadDeparts, wire_form}
-use Rattle.placing.specs.Placed.{units_sent}
+use Rattle.placing.specs.Placed.{NameUnits, units_sent}
 use Rattle.placing.specs.declared.turn.Assumed.{Assumed}
 use Rattle.placing.specs.declared.turn.Assumed.TheVariants as assumes
 use Rattle.placing.specs.declared.turn.Turn.{Turn}
@@ -78,6 +78,19 @@ pub record EndWith (passed : Passed) (r : Reached) : Type 0 where
   pub own : HasFirst passed.side r others
   pub other : HasAll (other_side passed.side) r
   pub number : length (sent_at passed.side r) < 2 ^ 64 → passed.unit + 1 ≡ length (sent_at passed.side r)
+
+-- ---- which units its receipts are of
+
+-- Each receipt of a capture is of a unit of the other side that passed: the one which its hint numbers, with these bytes.
+pub record HaveNamed (r : Reached) : Type 0 where
+  pub a : NameUnits (units_of B r.wire) r.a
+  pub b : NameUnits (units_of A r.wire) r.b
+
+-- this was read of a text, and the receipts are of units in it
+abbrev pub IsReached : Option (List ℕ) → Reached → Type 0
+IsReached text r = IsListSoFar wire_form text r.wire r.come × HaveNamed r
+
+-- ---- how many there are
 
 -- how many units each capture has, as far as 64 bits count them
 pub record HasCounted (tapped : Tapped) (r : Reached) : Type 0 where
@@ -147,7 +160,7 @@ pub record DepartsBehind (kind : Departure) (line : ℕ) (r : Reached) : Type 0 
 
 -- some of the text was read, both captures were written, and this holds of them
 abbrev pub TapsTo : Format → Option (List ℕ) → Held → Held → (Reached → Type 0) → Type 0
-TapsTo format text old new Behind = (r : Reached) × IsListSoFar wire_form text r.wire r.come × HasWritten format old new r × Behind r
+TapsTo format text old new Behind = (r : Reached) × IsReached text r × HasWritten format old new r × Behind r
 
 -- One call, where this text was to come, by its answer. At each fault what was written is a beginning of both captures: of all that passed before a
 -- line that departs or that can't be read; or as far as there was memory, or as the writers took it.
@@ -156,9 +169,9 @@ Taps last format text old new (Ok tapped) = TapsTo format text old new (λ r. En
 Taps last format text old new (Err (faults.Departs kind line)) = (HeadDepartsAt text kind line × TakesNothing old new)
     ⊎ TapsTo format text old new (λ r. HaveAll r × DepartsBehind kind line r)
 Taps last format text old new (Err faults.Read) = TakesNothing old new ⊎ TapsTo format text old new HaveAll
-Taps last format text old new (Err (faults.Write side)) = (r : Reached) × IsListSoFar wire_form text r.wire r.come × HaveFirst r × HasCut side format old new r
+Taps last format text old new (Err (faults.Write side)) = (r : Reached) × IsReached text r × HaveFirst r × HasCut side format old new r
 Taps last format text old new (Err faults.OutOfMemory) = TakesNothing old new
-    ⊎ ((r : Reached) × IsListSoFar wire_form text r.wire r.come × HaveFirst r × HasBegun format old new r)
+    ⊎ ((r : Reached) × IsReached text r × HaveFirst r × HasBegun format old new r)
 
 -- ---- counts of failed calls
 

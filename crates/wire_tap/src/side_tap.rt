@@ -2,7 +2,19 @@
 
 ghost use Rattle.std.specs.Prelude.{◌≡◌, ◌≤◌, ◌+◌, [], ◌∷◌, ◌++◌, length, Some, IfOk, IsTrue};
 ghost use Rattle.wire_tap.specs.Units.{message_of};
-ghost use Rattle.wire_tap.specs.inner.Side.{IsNew, MayEndAt, MovesOn, PassUnits, PassesBytes, TakesTurn, aim, side_state, units_state};
+ghost use Rattle.wire_tap.specs.inner.Side.{
+  IsNew,
+  MayEndAt,
+  PassUnits,
+  PassesBytes,
+  TakesTurn,
+  Tells,
+  TellsNext,
+  aim,
+  side_state,
+  units_in,
+  units_state,
+};
 
 use crate::tapped::{Ending, Passed, Skipped, Units};
 use capture::MAX_UNIT;
@@ -83,7 +95,7 @@ impl SideTap {
     ) -> Result<Option<Ending>, AllocError>
         ensures own { IfOk result (PassesBytes (aim at.last at.side) (self.old.framer.held ++ piece.now)
             (side_state self.old) (side_state self.new)) }
-        ensures other { IfOk result (λ _. MovesOn [] other.old other.new) }
+        ensures other { IfOk result (λ ending. Tells (units_in (self.old.framer.held ++ piece.now)) ending other.old other.new) }
     {
         let mut rest = piece;
         let most = self.framer.held().len() + piece.len() + 1;
@@ -107,7 +119,7 @@ impl SideTap {
     ) -> Result<Next<'a>, AllocError>
         ensures own { IfOk result (TakesTurn (aim at.last at.side) (self.old.framer.held ++ piece.entry.now)
             (side_state self.old) (side_state self.new)) }
-        ensures other { IfOk result (λ _. MovesOn [] other.old other.new) }
+        ensures other { IfOk result (λ next. TellsNext (self.old.framer.held ++ piece.entry.now) next other.old other.new) }
     {
         match self.framer.next(piece) {
             Found::Unit {
@@ -177,7 +189,7 @@ impl SideUnits {
     ) -> Result<Option<Ending>, AllocError>
         ensures own { IfOk result (λ _. PassUnits (message_of (Some kind) unit.now) (units_state self.old) (units_state self.new)) }
         ensures ends { IfOk result (MayEndAt (aim at.last at.side) (self.old.count + length (message_of (Some kind) unit.now))) }
-        ensures other { IfOk result (λ _. MovesOn [] other.old other.new) }
+        ensures other { IfOk result (λ ending. Tells (message_of (Some kind) unit.now) ending other.old other.new) }
     {
         match kind {
             Kind::Maintenance => {
@@ -198,7 +210,7 @@ impl SideUnits {
     ) -> Result<Option<Ending>, AllocError>
         ensures own { IfOk result (λ _. PassUnits (unit.now ∷ []) (units_state self.old) (units_state self.new)) }
         ensures ends { IfOk result (MayEndAt (aim at.last at.side) (self.old.count + 1)) }
-        ensures other { IfOk result (λ _. MovesOn [] other.old other.new) }
+        ensures other { IfOk result (λ ending. Tells (unit.now ∷ []) ending other.old other.new) }
     {
         // No unit that a framer finds is longer.
         if unit.len() > MAX_UNIT {

@@ -15,12 +15,12 @@ use Rattle.capture.specs.Reader.{FaultShows}
 use Rattle.capture.specs.Text.{first_form, head_line, record_lines}
 use Rattle.framer.specs.Framing.{Framing, framing, only_left}
 use Rattle.framer.specs.SoFar.{IsFramedSoFar}
-use Rattle.placing.specs.Placed.{Waiting, units_sent}
+use Rattle.placing.specs.Placed.{HavePassed, NameUnits, Waiting, units_sent}
 use Rattle.capture.specs.Listed.{IsListSoFar}
 use Rattle.wire_text.specs.WireText.{PieceDeparts, Wire, wire_form}
 use Rattle.wire_tap.specs.Tapping.{Held, Taps}
-use Rattle.wire_tap.specs.Units.{bytes_of, messages}
-use Rattle.wire_tap.specs.inner.Side.{MovesOn, PassesBytes, SideState, UnitsState, aim, counted, side_state}
+use Rattle.wire_tap.specs.Units.{bytes_of, messages, units_of}
+use Rattle.wire_tap.specs.inner.Side.{MovesOn, PassesBytes, SideState, Tells, UnitsState, aim, counted, side_state, units_in}
 use Rattle.wire_tap.specs.declared.fault.TapFault.{TapFault}
 use Rattle.wire_tap.specs.declared.fault.TapFault.TheVariants as faults
 use Rattle.wire_tap.specs.declared.side_tap.SideTap.{SideTap}
@@ -39,14 +39,14 @@ fault_of of_text.Failed = faults.Read
 
 -- the lines of all its units were put
 pub record PutsAll (old new : Waiting) : Type 0 where
-  pub moves : MovesOn [] old new
+  pub moves : MovesOn [] [] old new
   pub all : new.units.own ≡ []
 
 -- ---- one side under way
 
 -- Of the bytes that it sent these units were found; the first of them are in these records, and the others wait. A part of the text after the
--- head was written, and the rest waits.
-pub record IsUnderWay (bytes head : List ℕ) (old now : Option (List ℕ)) (side : SideState) : Type 0 where
+-- head was written, and the rest waits. These units of the other side passed, and the receipts in the records are of such.
+pub record IsUnderWay (bytes head : List ℕ) (other : List (List ℕ)) (old now : Option (List ℕ)) (side : SideState) : Type 0 where
   pub records : List Record
   pub found : Framing
   pub framed : IsFramedSoFar bytes found side.held
@@ -54,14 +54,25 @@ pub record IsUnderWay (bytes head : List ℕ) (old now : Option (List ℕ)) (sid
   pub sent : units_sent records ++ side.units.waiting.units.own ≡ messages found.units
   pub count : side.units.count ≡ counted 0 (length (messages found.units))
   pub over : HandsOver (head ++ record_lines Number records) side.units.waiting.text old now
+  pub named : NameUnits other records
+  pub passed : HavePassed other side.units.waiting.units
+
+-- The side was told of the first of these units of the other one.
+pub record FirstPassed (other : List (List ℕ)) (waiting : Waiting) : Type 0 where
+  pub told : List (List ℕ)
+  pub untold : List (List ℕ)
+  pub are : other ≡ told ++ untold
+  pub passed : HavePassed told waiting.units
 
 -- The same where no more is read: these units have no record, and don't wait.
-pub record IsOver (bytes head : List ℕ) (old now : Option (List ℕ)) (units : UnitsState) : Type 0 where
+pub record IsOver (bytes head : List ℕ) (other : List (List ℕ)) (old now : Option (List ℕ)) (units : UnitsState) : Type 0 where
   pub records : List Record
   pub others : List (List ℕ)
   pub sent : (units_sent records ++ units.waiting.units.own) ++ others ≡ messages (framing bytes).units
   pub count : units.count ≡ counted 0 (length (units_sent records ++ units.waiting.units.own))
   pub over : HandsOver (head ++ record_lines Number records) units.waiting.text old now
+  pub named : NameUnits other records
+  pub passed : FirstPassed other units.waiting
 
 -- ---- both sides
 
@@ -91,8 +102,8 @@ pub record IsLineUnderWay (format : Format) (text : Option (List ℕ)) (old : He
   pub wire : Wire
   pub read : IsListSoFar wire_form text wire line.come
   pub count : length wire.items ≡ line.pieces
-  pub a : IsUnderWay (bytes_of A wire.items) (head_a format wire) old.a line.now.a line.a
-  pub b : IsUnderWay (bytes_of B wire.items) (head_b format wire) old.b line.now.b line.b
+  pub a : IsUnderWay (bytes_of A wire.items) (head_a format wire) (units_of B wire) old.a line.now.a line.a
+  pub b : IsUnderWay (bytes_of B wire.items) (head_b format wire) (units_of A wire) old.b line.now.b line.b
 
 -- where no more is read, and this is to come
 pub record IsLineOver (format : Format) (text : Option (List ℕ)) (old : Held) (line : LineState) : Type 0 where
@@ -100,8 +111,8 @@ pub record IsLineOver (format : Format) (text : Option (List ℕ)) (old : Held) 
   pub wire : Wire
   pub come : Option (List ℕ)
   pub read : IsListSoFar wire_form text wire come
-  pub a : IsOver (bytes_of A wire.items) (head_a format wire) old.a line.now.a line.a.units
-  pub b : IsOver (bytes_of B wire.items) (head_b format wire) old.b line.now.b line.b.units
+  pub a : IsOver (bytes_of A wire.items) (head_a format wire) (units_of B wire) old.a line.now.a line.a.units
+  pub b : IsOver (bytes_of B wire.items) (head_b format wire) (units_of A wire) old.b line.now.b line.b.units
 
 -- the units of a side that have no record and don't wait
 abbrev pub others_at : {format : Format} → {text : Option (List ℕ)} → {old : Held} → {line : LineState} → Side → IsLineOver format text old line → List (List ℕ)
@@ -152,16 +163,18 @@ abbrev pub Stops : Option (Side × ℕ) → Format → Option (List ℕ) → Hel
 Stops last format text old line (Ok stop) = StoppedBefore last format text old line stop
 Stops last format text old line (Err fault) = Taps last format text old line.now (Err fault)
 
--- another unit passed on the other side
-pub record StandsBeside (old new : SideState) : Type 0 where
-  pub moves : MovesOn [] old.units.waiting new.units.waiting
+-- these units passed on the other side
+pub record StandsBeside (units : List (List ℕ)) (ending : Option Ending) (old new : SideState) : Type 0 where
+  pub moves : Tells units ending old.units.waiting new.units.waiting
   pub held : new.held ≡ old.held
   pub count : new.units.count ≡ old.units.count
 
 -- the piece of a side passed
 abbrev pub PassesPiece : Option (Side × ℕ) → Side → List ℕ → (old new : SideState × SideState) → Option Ending → Type 0
-PassesPiece last A bytes old new ending = PassesBytes (aim last A) (old.0.held ++ bytes) old.0 new.0 ending × StandsBeside old.1 new.1
-PassesPiece last B bytes old new ending = StandsBeside old.0 new.0 × PassesBytes (aim last B) (old.1.held ++ bytes) old.1 new.1 ending
+PassesPiece last A bytes old new ending =
+    PassesBytes (aim last A) (old.0.held ++ bytes) old.0 new.0 ending × StandsBeside (units_in (old.0.held ++ bytes)) ending old.1 new.1
+PassesPiece last B bytes old new ending =
+    StandsBeside (units_in (old.1.held ++ bytes)) ending old.0 new.0 × PassesBytes (aim last B) (old.1.held ++ bytes) old.1 new.1 ending
 
 -- ---- counts of failed calls
 

@@ -8,7 +8,7 @@ use Rattle.framer.specs.declared.kind.Kind.{Kind}
 use Rattle.framer.specs.Framing.{Framing, framing, only_left}
 use Rattle.framer.specs.Given.{IsUnitFound, NoneFound}
 use Rattle.framer.specs.SoFar.{IsFramedSoFar}
-use Rattle.placing.specs.Placed.{Waiting, nothing, units_sent}
+use Rattle.placing.specs.Placed.{HavePassed, NameUnits, Waiting, nothing, units_sent}
 use Rattle.wire_tap.specs.Units.{message_of, messages}
 use Rattle.wire_tap.specs.declared.side_tap.SideTap.{SideTap}
 use Rattle.wire_tap.specs.declared.side_tap.SideUnits.{SideUnits}
@@ -40,11 +40,14 @@ pub record IsNew (tap : SideTap) : Type 0 where
   pub waiting : tap.units.placing ≡ nothing
   pub count : tap.units.count ≡ 0
 
--- these units passed too, and lines were put
-pub record MovesOn (units : List (List ℕ)) (old new : Waiting) : Type 0 where
+-- These units passed too, and these of the other side, and lines were put: each receipt in them is of a unit of the other side that passed, whichever
+-- had passed before.
+pub record MovesOn (units other : List (List ℕ)) (old new : Waiting) : Type 0 where
   pub records : List Record
   pub sent : units_sent records ++ new.units.own ≡ old.units.own ++ units
   pub text : new.text ≡ old.text ++ record_lines Number records
+  pub named : (all : List (List ℕ)) → HavePassed all old.units → NameUnits (all ++ other) records
+  pub passed : (all : List (List ℕ)) → HavePassed all old.units → HavePassed (all ++ other) new.units
 
 -- so many more, up to the last number of a u64
 abbrev pub counted : ℕ → ℕ → ℕ
@@ -52,7 +55,7 @@ counted old more = min (old + more) (2 ^ 64 - 1)
 
 -- the same with their count
 pub record PassUnits (units : List (List ℕ)) (old new : UnitsState) : Type 0 where
-  pub moves : MovesOn units old.waiting new.waiting
+  pub moves : MovesOn units [] old.waiting new.waiting
   pub count : old.count < 2 ^ 64 → new.count ≡ counted old.count (length units)
 
 -- the unit with which the captures are to end, and the side at hand
@@ -125,3 +128,33 @@ pub record PassesSome (at : Aim) (bytes : List ℕ) (old new : SideState) (endin
 abbrev pub PassesBytes : Aim → List ℕ → SideState → SideState → Option Ending → Type 0
 PassesBytes at bytes old new None = PassesAll bytes old new
 PassesBytes at bytes old new (Some ending) = PassesSome at bytes old new ending
+
+-- ---- what the other side is told of them
+
+-- the units in some bytes, without maintenance messages
+abbrev pub units_in : List ℕ → List (List ℕ)
+units_in bytes = messages (framing bytes).units
+
+-- It is told of the first of these units.
+pub record TellsFirst (units : List (List ℕ)) (old new : Waiting) : Type 0 where
+  pub told : List (List ℕ)
+  pub untold : List (List ℕ)
+  pub are : units ≡ told ++ untold
+  pub moves : MovesOn [] told old new
+
+-- It is told of all of them; where the captures end with the last one, maybe not of that one.
+abbrev pub Tells : List (List ℕ) → Option Ending → Waiting → Waiting → Type 0
+Tells units None old new = MovesOn [] units old new
+Tells units (Some ending) old new = TellsFirst units old new
+
+-- It is told of those in some bytes that are not in what is to come.
+pub record TellsOn (bytes come : List ℕ) (old new : Waiting) : Type 0 where
+  pub told : List (List ℕ)
+  pub are : units_in bytes ≡ told ++ units_in come
+  pub moves : MovesOn [] told old new
+
+-- in one turn over some bytes
+abbrev pub TellsNext : List ℕ → Next → Waiting → Waiting → Type 0
+TellsNext bytes (next.Rest behind) old new = TellsOn bytes behind.now old new
+TellsNext bytes next.UsedUp old new = MovesOn [] (units_in bytes) old new
+TellsNext bytes (next.Ends ending) old new = TellsFirst (units_in bytes) old new

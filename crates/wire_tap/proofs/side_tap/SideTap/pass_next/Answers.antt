@@ -1,5 +1,6 @@
 use Rattle.wire_tap.specs.inner.Side.{side_state, units_state}
 use Rattle.wire_tap.proofs.PassLaws.{ends_found}
+use Rattle.wire_tap.proofs.TellLaws.{tells_used}
 use Rattle.wire_tap.proofs.side_tap.SideTap.pass_next.Goals as goal
 
 pub returns-in-Some-clause-own : goal.returns-in-Some-clause-own
@@ -15,3 +16,6 @@ returns-in-Some-2-clause-own c =
     (units_state c.skip-in-Completed.new.self) c.in-Some-2.ending c.in_ok-ending-in-Completed.field-0 (rw (← c.completed.ensures) at found.0) found.1
     c.skip-in-Completed.ensures.placing c.skip-in-Completed.ensures.count c.in_ok-ending-in-Completed.ensures.own
     c.in_ok-ending-in-Completed.ensures.ends c.in-Some-2.is
+
+pub returns-after-held-piece-clause-other : goal.returns-after-held-piece-clause-other
+returns-after-held-piece-clause-other c = tells_used _ _ c.in-More.strays c.args.other.now c.in-More.ensures
