@@ -1,6 +1,6 @@
 //! What comes to a side.
 
-ghost use Rattle.std.specs.Prelude.{◌≡◌, ◌+◌, ◌^◌, ◌<◌, ◌≤◌, Ok, Err, OnOk, OnErr, IfErr};
+ghost use Rattle.std.specs.Prelude.{◌≡◌, ◌+◌, ◌^◌, ◌<◌, ◌≤◌, Ok, Err, false, OnOk, OnErr, IfErr};
 ghost use Rattle.dna_node.specs.Content as spec;
 ghost use Rattle.dna_station.specs.WireStation.{load};
 ghost use Rattle.dna_node.specs.WireLayers.{tag_or_none, wire_keeps_packet, wire_layers_machine};
@@ -54,10 +54,7 @@ impl Layers {
                     return Ok(());
                 }
                 match permit.packet {
-                    Some(packet) => match self.keep::<OF_PERIOD, OF_LINK, QUEUES>(
-                        packet,
-                        tag_of(link),
-                    ) {
+                    Some(packet) => match self.keep::<OF_LINK, QUEUES>(packet, tag_of(link)) {
                         Ok(()) => {
                             self.station.arrive_apart(arrival, permit.row, kept);
                             Ok(())
@@ -74,21 +71,21 @@ impl Layers {
         }
     }
 
-    // This packet is kept, with this tag: it goes to the links.
+    // This packet is kept, with this tag: it goes to the links, which ask nothing of periods.
     #[inline(never)]
-    fn keep<const OF_PERIOD: bool, const OF_LINK: bool, const QUEUES: u8>(
+    fn keep<const OF_LINK: bool, const QUEUES: u8>(
         &mut self,
         packet: &[u8],
         tag: LinkTag,
     ) -> Result<(), StepFault>
-        ensures ok { OnOk result (wire_keeps_packet (rules_by OF_PERIOD OF_LINK QUEUES) self.old tag (spec.content packet.now) ≡ Ok self.new) }
+        ensures ok { OnOk result (wire_keeps_packet (rules_by false OF_LINK QUEUES) self.old tag (spec.content packet.now) ≡ Ok self.new) }
         ensures refused { IfErr result (IfRefused (λ refusal.
-            wire_keeps_packet (rules_by OF_PERIOD OF_LINK QUEUES) self.old tag (spec.content packet.now) ≡ Err refusal)) }
+            wire_keeps_packet (rules_by false OF_LINK QUEUES) self.old tag (spec.content packet.now) ≡ Err refusal)) }
         ensures station { self.new.station ≡ self.old.station }
         ensures err { OnErr result (self.new ≡ self.old) }
     {
         match content(packet) {
-            Ok(Some(carried)) => self.take::<OF_PERIOD, OF_LINK, QUEUES>(carried, tag),
+            Ok(Some(carried)) => self.take::<OF_LINK, QUEUES>(carried, tag),
             Ok(None) => Ok(()),
             Err(refusal) => Err(StepFault::Refused(refusal)),
         }
@@ -96,14 +93,14 @@ impl Layers {
 
     // The message that a packet carries is read, and the links take it, with this tag.
     #[inline(always)]
-    fn take<const OF_PERIOD: bool, const OF_LINK: bool, const QUEUES: u8>(
+    fn take<const OF_LINK: bool, const QUEUES: u8>(
         &mut self,
         carried: Carried,
         tag: LinkTag,
     ) -> Result<(), StepFault>
-        ensures ok { OnOk result (wire_keeps_packet (rules_by OF_PERIOD OF_LINK QUEUES) self.old tag (lent_content carried.entry) ≡ Ok self.new) }
+        ensures ok { OnOk result (wire_keeps_packet (rules_by false OF_LINK QUEUES) self.old tag (lent_content carried.entry) ≡ Ok self.new) }
         ensures refused { IfErr result (IfRefused (λ refusal.
-            wire_keeps_packet (rules_by OF_PERIOD OF_LINK QUEUES) self.old tag (lent_content carried.entry) ≡ Err refusal)) }
+            wire_keeps_packet (rules_by false OF_LINK QUEUES) self.old tag (lent_content carried.entry) ≡ Err refusal)) }
         ensures station { self.new.station ≡ self.old.station }
         ensures err { OnErr result (self.new ≡ self.old) }
     {
