@@ -6,7 +6,7 @@ from collections import namedtuple
 
 from reading import NAMES, RULES, Side, first_refused
 from reading_alone import FREE, Alone, first_refused_alone, message_in, said_alone
-from reading_groups import EVENTS, FROM_HERE, OF_LINKS, RECEIPTS, Grouping, why_unread
+from reading_groups import EVENTS, FROM_HERE, OF_LINKS, OTHER, RECEIPTS, Grouping, why_unread
 from reading_line import WithoutLinks
 from reading_links import NO_TAG
 from reading_messages import between_nodes
@@ -23,10 +23,11 @@ WITHOUT_PERIODS = {heading: row.copy(None, need='Anything') if 'need' in row.par
 
 class Leaving:
     """A side that leaves out the ends `left`: their messages are not met by its links, and their events stand anywhere. What can't be read, for one
-    of the reasons `dropped`, is carried."""
+    of the reasons `dropped`, is carried. `sender` are both nodes of the other side's head, its own one first."""
 
-    def leaves(self, letter, grouping, left, dropped):
+    def leaves(self, letter, grouping, left, dropped, sender=None):
         self.letter, self.grouping, self.left = letter, grouping, left
+        self.sender = sender or (self.peer, self.own)
         self.carried = {15, 17} & dropped
         if self.carried == {15} and grouping.turned('15 carries messages too') or self.carried == {17} and grouping.turned('17 carries packets too'):
             self.carried = {15, 17}
@@ -58,8 +59,19 @@ class Leaving:
             return NO_TAG
         return NO_TAG if self.is_left(text, False) else super().meets(text)
 
+    def is_carried(self, text):
+        """Whether what comes was left out by its sender: then it is carried here too, but for a DI or DC, which ends a call here whatever link it is
+        of."""
+        packet, message = message_in(text)
+        if message is None or self.grouping.end_of(OTHER[self.letter], message, False) not in self.left:
+            return False
+        if self.grouping.turned('what its sender leaves out is met where it comes'):
+            return False
+        is_between = (packet.source, packet.destination) == self.sender
+        return message.kind not in ('DI', 'DC') or not is_between or self.grouping.turned('a DI that its sender leaves out ends no call')
+
     def kept(self, text, label):
-        if not self.is_left(text, True):
+        if not self.is_left(text, True) and not self.is_carried(text):
             super().kept(text, label)
 
 
@@ -156,7 +168,9 @@ def check_all(a, b, line=False, queued=False, turn=None):
 
     def judge(left, dropped):
         rules = rules_without(dropped, grouping)
-        sides = [kind(rules, text, queued).leaves(letter, grouping, left, dropped) for letter, text in zip('ab', (a, b))]
+        sides = [kind(rules, text, queued) for text in (a, b)]
+        for side, letter, other in zip(sides, 'ab', reversed(sides)):
+            side.leaves(letter, grouping, left, dropped, (other.own, other.peer))
         refused = first_refused(rules, sides)
         if refused is None:
             return Judgement('accepted\na %s\nb %s\n' % (sides[0].ends(), sides[1].ends()))
