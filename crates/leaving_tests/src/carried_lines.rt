@@ -17,7 +17,7 @@ const HEAD_OF_B: &str = "ddcap 3 1.2 1.1\n";
 /// A segment from link 1 of a to link 2 of b.
 const SEGMENT: &str = "810e00000101b7800202040104006002000100010005398d";
 
-const SEGMENT_CARRIED: &str = "810e00000101b7800302040104006002000100010005394c";
+const SEGMENT_CARRIED: &str = "810e00000101b7807f0204010400600200010001000544f0";
 
 /// A packet of circuits, whose first byte is padding.
 const PADDED: &str = "8107000001016b818202040104000813d1";
@@ -65,12 +65,21 @@ fn made(
     left_out(alloc, side, &leaving, &mut reader)
 }
 
-// Whether the text with this head and line becomes that with this line, at side a where link 1 is left out, and b's 2 with it.
+// Whether this line of side a becomes that one where link 1 is left out, and b's 2 with it.
 fn becomes(alloc: Global, line: &str, left: &str) -> Result<bool, AllocError> {
-    let link = [own(Side::A, 1), own(Side::B, 2)];
+    becomes_without(alloc, &[own(Side::A, 1), own(Side::B, 2)], line, left)
+}
+
+// The same where these are left out.
+fn becomes_without(
+    alloc: Global,
+    links: &[OwnAddress],
+    line: &str,
+    left: &str,
+) -> Result<bool, AllocError> {
     let text = format!(in alloc; "{HEAD_OF_A}{line}\n")?;
     let wanted = format!(in alloc; "{HEAD_OF_A}{left}\n")?;
-    match made(alloc, Side::A, &link, false, &text) {
+    match made(alloc, Side::A, links, false, &text) {
         Ok(text) => Ok(text.as_slice() == wanted.as_bytes()),
         Err(_) => Ok(false),
     }
@@ -123,14 +132,14 @@ fn packets_of_a_link_are_carried(rt: HostRuntime) -> Result<(), AllocError> {
         becomes(
             alloc,
             "s 810f000001018a40020204010400180000010001020002ed98",
-            "s 810f000001018a400302040104001800000100010200022c98",
+            "s 810f000001018a407f020401040018000001000102000250b9",
         )?
     );
     assert!(rt;
         becomes(
             alloc,
             "s 81090000010102400202040104002402006c03",
-            "s 81090000010102400302040104002402006193",
+            "s 81090000010102407f02040104002402005151",
         )?
     );
     // a packet that was composed
@@ -138,7 +147,7 @@ fn packets_of_a_link_are_carried(rt: HostRuntime) -> Result<(), AllocError> {
         becomes(
             alloc,
             "x 0202040104006002000100010005",
-            "x 0302040104006002000100010005",
+            "x 7f02040104006002000100010005",
         )?
     );
     // no operation is of no link, and what is returned is met by none
@@ -152,30 +161,42 @@ fn packets_of_a_link_are_carried(rt: HostRuntime) -> Result<(), AllocError> {
 #[test]
 fn what_ends_a_call_becomes_a_disconnect_confirm(rt: HostRuntime) -> Result<(), AllocError> {
     let alloc = rt.alloc();
+    let here = [own(Side::A, 1)];
     // with REASON 7, and without its data
     assert!(rt;
-        becomes(
+        becomes_without(
             alloc,
+            &here,
             "s 810f000001018a400202040104003802000100070001025558",
             "s 810d00000101f38002020401040048020001000700429a",
         )?
     );
     let same = "s 810d00000101f38002020401040048020001000700429a";
-    assert!(rt; becomes(alloc, same, same)?);
-    // DSTADDR 0
+    assert!(rt; becomes_without(alloc, &here, same, same)?);
+    // its far end is left out too
     assert!(rt;
         becomes(
             alloc,
+            "s 810f000001018a400202040104003802000100070001025558",
+            "s 810f000001018a407f0204010400380200010007000102e879",
+        )?
+    );
+    // DSTADDR 0
+    assert!(rt;
+        becomes_without(
+            alloc,
+            &here,
             "s 810d00000101f3800202040104003800000100070032bf",
-            "s 810d00000101f38003020401040038000001000700303e",
+            "s 810d00000101f3807f0204010400380000010007009ec2",
         )?
     );
     // another node
     assert!(rt;
-        becomes(
+        becomes_without(
             alloc,
+            &here,
             "s 810d00000101f38002030401040038020001000700ce9e",
-            "s 810d00000101f38003030401040038020001000700cc1f",
+            "s 810d00000101f3807f03040104003802000100070062e3",
         )?
     );
     Ok(())
