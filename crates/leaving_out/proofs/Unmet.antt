@@ -1,5 +1,5 @@
 -- What no link meets of a message that is left out.
-use Rattle.std.proofs.Common.{◌≡◌, ◌≢◌, ℕ, suc, ◌-◌, ◌%◌, ◌<◌, ◌^◌, Bool, true, false, cond, not, ◌&&◌, eqb, leb, List, ◌∷◌, Option, Some, None}
+use Rattle.std.proofs.Common.{◌≡◌, ◌≢◌, ℕ, suc, ◌-◌, ◌%◌, ◌<◌, ◌^◌, Bool, true, false, cond, not, ◌&&◌, eqb, leb, List, [], ◌∷◌, Option, Some, None}
 use Rattle.std.proofs.Common.{Result, Ok, Err, refl, sym, ap, subst, ◌∙◌, arith}
 use Rattle.std.specs.Option.{IfSome}
 use Rattle.std.proofs.lemmas.Bool.{eq-eqb, lt-leb}
@@ -21,7 +21,7 @@ use Rattle.leaving_out.specs.declared.leaving.Leaving.{Leaving}
 use Rattle.leaving_out.specs.declared.packet_left.Route.{Route}
 use Rattle.leaving_out.specs.Addresses.{at_receiver, at_sender, head_of, is_left}
 use Rattle.leaving_out.specs.Messages.{destination_of, if_read, is_returned, message_in_packet, message_of, source_of}
-use Rattle.leaving_out.specs.Packets.{NamesBothLinks, link_left, message_left, names_both, packet_left, packet_left_by, packet_with, route_of, unmet}
+use Rattle.leaving_out.specs.Packets.{BeginsShort, NamesBothLinks, link_left, message_left, names_both, packet_left, packet_left_by, packet_with, route_of, unmet}
 
 -- the packet of a message that no link meets is a routing control packet
 unmet_control : (first : ℕ) (rest : List ℕ) → first < 128 → first % 8 ≡ 2 → packet_at (unmet (first ∷ rest)) ≡ Ok (Control (unmet (first ∷ rest)))
@@ -132,3 +132,14 @@ pub meets_none : (leaving : Leaving) (sender : Side) (packet : List ℕ) (m : Ns
     is_left leaving (at_sender sender (source_of m) (destination_of m)) ≡ true →
     IfSome (message_in_packet (packet_left leaving sender packet)) NamesBothLinks
 meets_none leaving sender packet m fits e left = unmet_by leaving sender packet m fits left (packet_at packet) refl e
+
+-- ---- no two become one
+
+pub apart : (one other : List ℕ) → BeginsShort one → BeginsShort other → unmet one ≡ unmet other → one ≡ other
+apart [] other short too e = absurd short
+apart (a ∷ one) [] short too e = absurd too
+apart (a ∷ one) (b ∷ other) short too e =
+    let firsts : 129 - a ≡ 129 - b = cc in
+    let rests : one ≡ other = cc in
+    let same : a ≡ b = omega (arith, short.0, too.0, firsts) in
+    cc

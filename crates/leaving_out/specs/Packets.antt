@@ -19,6 +19,10 @@ use Rattle.leaving_out.specs.declared.packet_left.Route.{Route}
 use Rattle.leaving_out.specs.Addresses.{at_receiver, at_sender, head_of, is_left}
 use Rattle.leaving_out.specs.Messages.{destination_of, is_returned, source_of}
 
+-- the low three bits of RTFLG are 010, and bit 7 is clear
+abbrev pub IsShortFormat : ℕ → Type 0
+IsShortFormat rtflg = (rtflg < 128) × (rtflg % 8 ≡ 2)
+
 -- A packet that can't be read, as a routing control packet of the same length: of the first byte bit 0 is set and bit 7 clear. No bytes become one.
 abbrev pub carried : List ℕ → List ℕ
 carried [] = 1 ∷ []
@@ -30,12 +34,13 @@ abbrev pub unmet : List ℕ → List ℕ
 unmet [] = 1 ∷ []
 unmet (first ∷ rest) = (129 - first) ∷ rest
 
+-- the first byte is that of a short format data packet
+abbrev pub BeginsShort : List ℕ → Type 0
+BeginsShort [] = ⊥
+BeginsShort (first ∷ rest) = IsShortFormat first
+
 abbrev pub carried_if : Bool → List ℕ → List ℕ
 carried_if is_carried packet = if is_carried then carried packet else packet
-
--- the low three bits of RTFLG are 010, and bit 7 is clear
-abbrev pub IsShortFormat : ℕ → Type 0
-IsShortFormat rtflg = (rtflg < 128) × (rtflg % 8 ≡ 2)
 
 abbrev pub route_of : (rtflg dst src forward : ℕ) → Route
 route_of rtflg dst src forward = record { rtflg = rtflg; dst = dst; src = src; forward = forward }

@@ -10,7 +10,7 @@ ghost use Rattle.capture.specs.SoFar.{IsReadSoFar, ReadSoFar};
 ghost use Rattle.leaving_out.specs.declared.leaving.Leaving.{Leaving as Left};
 ghost use Rattle.leaving_out.specs.Addresses.{LeavesNothing, at_sender, is_left};
 ghost use Rattle.leaving_out.specs.Messages.{destination_of, message_in_packet, source_of};
-ghost use Rattle.leaving_out.specs.Packets.{NamesBothLinks, packet_left};
+ghost use Rattle.leaving_out.specs.Packets.{BeginsShort, NamesBothLinks, packet_left, unmet};
 ghost use Rattle.leaving_out.specs.Records.{record_left};
 ghost use Rattle.leaving_out.specs.Texts.{IsReadAlike, MadeOf};
 
@@ -31,6 +31,12 @@ pub fn no_link_meets_it()
     ensures { (leaving : Left) (sender : End) (packet : List ℕ) (m : NspValue) → IsBytes packet → message_in_packet packet ≡ Some m →
         is_left leaving (at_sender sender (source_of m) (destination_of m)) ≡ true →
         IfSome (message_in_packet (packet_left leaving sender packet)) NamesBothLinks }
+{}
+
+/// No two packets of messages become one, where no link meets them: a packet that comes, or that is sent again, with other bytes has other bytes
+/// still.
+pub fn no_two_become_one()
+    ensures { (one other : List ℕ) → BeginsShort one → BeginsShort other → unmet one ≡ unmet other → one ≡ other }
 {}
 
 /// Where nothing is left out and nothing is carried, each record that has a line stays.
