@@ -1,5 +1,6 @@
 -- The text that is made is read as it was put together.
-use Rattle.std.proofs.Common.{◌≡◌, ◌≢◌, ℕ, zero, suc, ◌+◌, ◌<◌, ◌≤◌, ◌⊎◌, inl, inr, List, [], ◌∷◌, ◌++◌, length, replicate, Option, Some, None, refl, sym, ap, subst, ◌∙◌, arith, append-nil}
+use Rattle.std.proofs.Common.{◌≡◌, ℕ, zero, suc, ◌+◌, ◌<◌, ◌≤◌, inl, inr, List, [], ◌∷◌, ◌++◌, length, replicate, Option, Some, None, refl, sym}
+use Rattle.std.proofs.Common.{ap, subst, ◌∙◌, arith, append-nil}
 use Rattle.std.specs.Prelude.{codes}
 use Rattle.std.specs.List.{AllByRecursion}
 use Rattle.std.specs.Option.{IfSome}
@@ -16,13 +17,13 @@ use Rattle.capture.specs.declared.hint.HintForm.TheVariants.{Wide}
 use Rattle.capture.specs.declared.limit.TheConstants.{MAX_LINE, MAX_RECORDS}
 use Rattle.capture.specs.declared.record.Record.{Record}
 use Rattle.capture.specs.declared.record.Record.TheVariants.{Sent, Received, Noise, User}
-use Rattle.capture.specs.Departing.{LineDeparts, RecordDeparts, WordsDepart, first_line}
-use Rattle.capture.specs.Range.{IsInFormat, IsRecord}
-use Rattle.capture.specs.SoFar.{Behind, DepartsBehind, IsReadSoFar, ReadSoFar, TheEnd, ToCome, coming, so_far}
-use Rattle.capture.specs.Text.{capture_text, record_text}
+use Rattle.capture.specs.Departing.{RecordDeparts, first_line}
+use Rattle.capture.specs.Range.{IsInFormat}
+use Rattle.capture.specs.SoFar.{Behind, IsReadSoFar, ReadSoFar, TheEnd, ToCome, coming, so_far}
+use Rattle.capture.specs.Text.{record_text}
 use Rattle.leaving_out.specs.declared.leaving.Leaving.{Leaving}
 use Rattle.leaving_out.specs.Records.{records_left}
-use Rattle.leaving_out.specs.Texts.{DepartsNext, IsReadAlike, MadeOf, departing, text_left, too_long_line}
+use Rattle.leaving_out.specs.Texts.{IsReadAlike, MadeOf, departing, text_left, too_long_line}
 use Rattle.leaving_out.proofs.Fits.{as_many, each_fits}
 use Rattle.leaving_out.proofs.Made.{wide}
 
@@ -59,7 +60,8 @@ no_words (User (events.Composed packet)) e = absurd cc
 no_words (User (events.Interrupt link bytes)) e = absurd cc
 no_words (User (events.Interrupted link bytes)) e = absurd cc
 
-departs_as : (form : HintForm) (n : ℕ) (kind : Departure) (bytes : List ℕ) → RecordDeparts form n kind bytes → RecordDeparts Wide n kind (departing kind)
+departs_as : (form : HintForm) (n : ℕ) (kind : Departure) (bytes : List ℕ) → RecordDeparts form n kind bytes →
+    RecordDeparts Wide n kind (departing kind)
 departs_as form n TooMany bytes (inl line) = inl (line.0, λ e. absurd cc)
 departs_as form n TooMany bytes (inr words) = absurd words.2
 departs_as form n TooLong bytes (inl line) = inl (line.0, is_too_long)
@@ -109,11 +111,15 @@ module _ (leaving : Leaving) (side : Side) (bytes made : List ℕ) (read : ReadS
       own_is = refl;
       peer_is = refl;
       records_are = refl;
-      same_end = inr (kind, departs, record {
-        departs = subst (λ (n : ℕ). RecordDeparts Wide n kind (departing kind)) (sym (as_many leaving side read.records))
-            (known (coming read.behind) _ read.form (length read.records) kind h.begins departs.departs);
-        line_is = refl;
-      });
+      same_end = inr (
+        kind,
+        departs,
+        record {
+          departs = subst (λ (n : ℕ). RecordDeparts Wide n kind (departing kind)) (sym (as_many leaving side read.records))
+              (known (coming read.behind) _ read.form (length read.records) kind h.begins departs.departs);
+          line_is = refl;
+        },
+      );
     },
   )
 

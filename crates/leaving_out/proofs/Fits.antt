@@ -1,5 +1,5 @@
 -- What becomes of a record that has a line has one.
-use Rattle.std.proofs.Common.{◌≡◌, ℕ, ◌≤◌, Bool, true, false, cond, List, [], ◌∷◌, length, refl, ap, arith}
+use Rattle.std.proofs.Common.{◌≡◌, ℕ, ◌≤◌, Bool, true, false, cond, List, [], ◌∷◌, length, refl, arith}
 use Rattle.std.specs.List.{AllByRecursion}
 use Rattle.wire_base.specs.declared.side.Side.{Side}
 use Rattle.wire_base.specs.Side.{other_side}
@@ -7,7 +7,7 @@ use Rattle.capture.specs.declared.event.Event.{Event}
 use Rattle.capture.specs.declared.event.Event.TheVariants as events
 use Rattle.capture.specs.declared.record.Record.{Record}
 use Rattle.capture.specs.declared.record.Record.TheVariants.{Sent, Received, Noise, User}
-use Rattle.capture.specs.Range.{HasSpelling, IsLink, IsRecord}
+use Rattle.capture.specs.Range.{IsLink, IsRecord}
 use Rattle.leaving_out.specs.declared.leaving.Leaving.{Leaving}
 use Rattle.leaving_out.specs.Addresses.{is_left, own}
 use Rattle.leaving_out.specs.Records.{event_if_left, event_left, record_left, records_left}

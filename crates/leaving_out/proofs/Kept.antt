@@ -1,5 +1,6 @@
 -- What becomes of bytes is bytes, no longer than they were.
-use Rattle.std.proofs.Common.{◌≡◌, ℕ, zero, suc, ◌+◌, ◌-◌, ◌/◌, ◌%◌, ◌<◌, ◌≤◌, max, Bool, true, false, cond, List, [], ◌∷◌, length, Result, Ok, Err, refl, sym, ap, subst, ◌∙◌, arith, length-append}
+use Rattle.std.proofs.Common.{◌≡◌, ℕ, zero, suc, ◌+◌, ◌/◌, ◌%◌, ◌<◌, ◌≤◌, max, Bool, true, false, cond, List, [], ◌∷◌, length, Result, Ok, Err}
+use Rattle.std.proofs.Common.{refl, sym, ap, subst, ◌∙◌, arith, length-append}
 use Rattle.std.specs.List.{AllByRecursion}
 use Rattle.wire_base.specs.declared.side.Side.{Side}
 use Rattle.wire_base.specs.BlockCheck.{check_of, check_bytes}
@@ -75,8 +76,40 @@ low_fits n = omega arith
 confirmed_bytes : (route : Route) (dst src reason : ℕ) → route.rtflg < 128 → route.forward < 256 →
     IsBytes (packet_with route (DisconnectConfirm dst src reason))
 confirmed_bytes route dst src reason short forward =
-    each_byte (packet_with route (DisconnectConfirm dst src reason))
-    (omega arith, (low_fits route.dst, (low_fits (route.dst / 256), (low_fits route.src, (low_fits (route.src / 256), (forward, (omega arith, (low_fits dst, (low_fits (dst / 256), (low_fits src, (low_fits (src / 256), (low_fits reason, (low_fits (reason / 256), tt)))))))))))))
+    each_byte (packet_with route (DisconnectConfirm dst src reason)) (
+      omega arith,
+      (
+        low_fits route.dst,
+        (
+          low_fits (route.dst / 256),
+          (
+            low_fits route.src,
+            (
+              low_fits (route.src / 256),
+              (
+                forward,
+                (
+                  omega arith,
+                  (
+                    low_fits dst,
+                    (
+                      low_fits (dst / 256),
+                      (
+                        low_fits src,
+                        (
+                          low_fits (src / 256),
+                          (low_fits reason, (low_fits (reason / 256), tt)),
+                        ),
+                      ),
+                    ),
+                  ),
+                ),
+              ),
+            ),
+          ),
+        ),
+      ),
+    )
 
 module _ (packet : List ℕ) (fits : IsBytes packet) where
   link_kept : (head : Head) (route : Route) (m : NspValue) → route.rtflg < 128 → route.forward < 256 → 6 + length (nsp_bytes m) ≤ length packet →

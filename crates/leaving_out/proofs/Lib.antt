@@ -4,3 +4,5 @@ pub mod Walk
 pub mod Made
 pub mod Fits
 pub mod Alike
+pub mod Unmet
+pub mod Stays

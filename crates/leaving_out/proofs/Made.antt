@@ -17,7 +17,8 @@ wide [] = refl
 wide (r ∷ rs) = wide rs
 
 module _ (leaving : Leaving) (side : Side) where
-  records_more : (rs : List Record) (r : Record) → records_left leaving side (rs ++ r ∷ []) ≡ records_left leaving side rs ++ record_left leaving side r ∷ []
+  records_more : (rs : List Record) (r : Record) →
+      records_left leaving side (rs ++ r ∷ []) ≡ records_left leaving side rs ++ record_left leaving side r ∷ []
   records_more [] r = refl
   records_more (s ∷ rs) r = ap (λ (x : List Record). record_left leaving side s ∷ x) (records_more rs r)
 

@@ -27,7 +27,8 @@ by_then capture come records = so_far capture.form capture.own capture.peer reco
 pub at_start : (text left : Option (List ℕ)) (state : CaptureState) → Opens text left (Ok state) → IsAt text state (to_come state.unread left) 0 []
 at_start text left state opens = record { count_is = refl; read = opened text left state opens; counted = opens.2; reading = opens.3 }
 
-module _ (text : Option (List ℕ)) (capture : CaptureState) (come : Option (List ℕ)) (count : ℕ) (rs : List Record) (h : IsAt text capture come count rs) where
+module _ (text : Option (List ℕ)) (capture : CaptureState) (come : Option (List ℕ)) (count : ℕ) (rs : List Record)
+    (h : IsAt text capture come count rs) where
   pub at_next : (new : CaptureState) (after : Option (List ℕ)) (r : Record) → new.own ≡ capture.own → new.peer ≡ capture.peer →
       NextGives capture new come after (Ok (Some r)) → IsAt text new after (count + 1) (rs ++ r ∷ [])
   at_next new after r own peer gives =

@@ -1,5 +1,5 @@
 -- The own addresses of both ends, and which of them are left out.
-use Rattle.std.specs.Prelude.{ℕ, ◌==◌, Bool, false, if◌then◌else◌, Option, Some, None, slice_get}
+use Rattle.std.specs.Prelude.{◌≡◌, ℕ, ◌==◌, Bool, false, if◌then◌else◌, Option, Some, None, slice_get}
 use Rattle.wire_base.specs.declared.side.Side.{Side}
 use Rattle.wire_base.specs.declared.side.Side.TheVariants.{A, B}
 use Rattle.wire_base.specs.Side.{other_side}
@@ -19,6 +19,12 @@ is_marked None = false
 
 abbrev pub is_left : Leaving → OwnAddress → Bool
 is_left leaving address = is_marked (slice_get leaving.left_out.now (place_of address))
+
+-- no own address is left out, and nothing that can't be read is carried
+pub record LeavesNothing (leaving : Leaving) : Type 0 where
+  pub none : (address : OwnAddress) → is_left leaving address ≡ false
+  pub packets : leaving.unread_packets ≡ false
+  pub messages : leaving.unread_messages ≡ false
 
 -- the head of this side's capture
 abbrev pub head_of : Leaving → Side → Head

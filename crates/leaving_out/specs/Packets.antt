@@ -1,5 +1,6 @@
 -- What becomes of a packet and of its unit: the same at both ends, so that what comes is still what was sent.
-use Rattle.std.specs.Prelude.{◌≡◌, ℕ, ◌+◌, ◌-◌, ◌*◌, ◌/◌, ◌%◌, ◌<◌, ◌==◌, ◌&&◌, not, Bool, if◌then◌else◌, List, [], ◌∷◌, Option, Some, None, Result, Ok, Err}
+use Rattle.std.specs.Prelude.{◌≡◌, ◌≢◌, ℕ, ◌+◌, ◌-◌, ◌*◌, ◌/◌, ◌%◌, ◌<◌, ◌==◌, ◌&&◌, not, Bool, if◌then◌else◌, List, [], ◌∷◌, Option, Some, None}
+use Rattle.std.specs.Prelude.{Result, Ok, Err}
 use Rattle.std.specs.Global.{Vec}
 use Rattle.wire_base.specs.declared.side.Side.{Side}
 use Rattle.ddcmp_msg.specs.Message as messages
@@ -18,23 +19,28 @@ use Rattle.leaving_out.specs.declared.packet_left.Route.{Route}
 use Rattle.leaving_out.specs.Addresses.{at_receiver, at_sender, head_of, is_left}
 use Rattle.leaving_out.specs.Messages.{destination_of, is_returned, source_of}
 
+-- the low three bits of RTFLG are 010, and bit 7 is clear
+abbrev pub IsShortFormat : ℕ → Type 0
+IsShortFormat rtflg = (rtflg < 128) × (rtflg % 8 ≡ 2)
+
 -- A packet that can't be read, as a routing control packet of the same length: of the first byte bit 0 is set and bit 7 clear. No bytes become one.
 abbrev pub carried : List ℕ → List ℕ
 carried [] = 1 ∷ []
 carried (first ∷ rest) = (first % 128 / 2 * 2 + 1) ∷ rest
 
--- The packet of a message, as a routing control packet of the same length, which no link meets. The first byte of such a packet is 2 and up to four more
--- bits, and that of no two packets becomes the same: a packet that comes, or is sent again, with other bytes is told from it as before.
+-- The packet of a message, as a routing control packet of the same length, which no link meets. The first byte of such a packet is 2 and up to four
+-- more bits, and that of no two packets becomes the same: a packet that comes, or is sent again, with other bytes is told from it as before.
 abbrev pub unmet : List ℕ → List ℕ
 unmet [] = 1 ∷ []
 unmet (first ∷ rest) = (129 - first) ∷ rest
 
+-- the first byte is that of a short format data packet
+abbrev pub BeginsShort : List ℕ → Type 0
+BeginsShort [] = ⊥
+BeginsShort (first ∷ rest) = IsShortFormat first
+
 abbrev pub carried_if : Bool → List ℕ → List ℕ
 carried_if is_carried packet = if is_carried then carried packet else packet
-
--- the low three bits of RTFLG are 010, and bit 7 is clear
-abbrev pub IsShortFormat : ℕ → Type 0
-IsShortFormat rtflg = (rtflg < 128) × (rtflg % 8 ≡ 2)
 
 abbrev pub route_of : (rtflg dst src forward : ℕ) → Route
 route_of rtflg dst src forward = record { rtflg = rtflg; dst = dst; src = src; forward = forward }
@@ -69,7 +75,7 @@ abbrev pub message_left : Leaving → Side → Route → List ℕ → Result Nsp
 message_left leaving sender route packet (Err fault) = carried_if leaving.unread_messages packet
 message_left leaving sender route packet (Ok m) =
     if is_left leaving (at_sender sender (source_of m) (destination_of m)) then (
-      if is_left leaving (at_receiver sender (source_of m) (destination_of m)) then unmet packet else link_left (head_of leaving sender) route packet m
+    if is_left leaving (at_receiver sender (source_of m) (destination_of m)) then unmet packet else link_left (head_of leaving sender) route packet m
     ) else packet
 
 -- a packet that was read, or not; a routing control packet and one that is returned stay
@@ -83,6 +89,10 @@ packet_left_by leaving sender packet (Ok (Data rtflg dst src forward nsp)) =
 abbrev pub packet_left : Leaving → Side → List ℕ → List ℕ
 packet_left leaving sender packet = packet_left_by leaving sender packet (packet_at packet)
 
+-- a DC that names both links
+abbrev pub NamesBothLinks : NspValue → Type 0
+NamesBothLinks m = (dst : ℕ) × (src : ℕ) × (reason : ℕ) × (m ≡ DisconnectConfirm dst src reason) × (dst ≢ 0) × (src ≢ 0)
+
 -- what became of bytes, where it was made
 abbrev pub or_same : List ℕ → Option (Vec ℕ) → List ℕ
 or_same bytes (Some made) = made.items
@@ -92,7 +102,8 @@ or_same bytes None = bytes
 
 -- a unit that was read: a data message with what becomes of its packet, and its block checks made anew; all else stays
 abbrev pub unit_left_by : Leaving → Side → List ℕ → ReadingValue → List ℕ
-unit_left_by leaving sender unit (Sound (messages.Data flags resp num body)) = spelling (messages.Data flags resp num (packet_left leaving sender body))
+unit_left_by leaving sender unit (Sound (messages.Data flags resp num body)) =
+    spelling (messages.Data flags resp num (packet_left leaving sender body))
 unit_left_by leaving sender unit (Sound (messages.Ack flags resp)) = unit
 unit_left_by leaving sender unit (Sound (messages.Nak flags reason resp)) = unit
 unit_left_by leaving sender unit (Sound (messages.Rep flags num)) = unit

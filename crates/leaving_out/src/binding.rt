@@ -20,9 +20,9 @@ use wire_base::{Side, Tally};
 // Two own addresses that belong together: those of one link's ends.
 type Binding = (OwnAddress, OwnAddress);
 
-/// The binding that this side's record of an entry and these bytes makes, if it makes one: accept and reject bind the link to the partner, and a CC that
-/// was sent SRCADDR, which is of its sender, to DSTADDR, of the other side, where neither is 0. One that came binds only where the text is the one of
-/// an end alone. Takes no memory.
+/// The binding that this side's record of an entry and these bytes makes, if it makes one: accept and reject bind the link to the partner, and a CC
+/// that was sent binds SRCADDR, which is of its sender, to DSTADDR, of the other side, where neither is 0. One that came binds only where the text
+/// is the one of an end alone. Takes no memory.
 pub fn binding_of(side: Side, alone: bool, entry: Entry, bytes: &[u8]) -> Option<Binding>
     ensures { result ≡ spec.binding_of side alone (record_with entry bytes.now) }
 {

@@ -5,7 +5,8 @@ ghost use Rattle.leaving_out.specs.Packets.{carried, unmet};
 
 use std::alloc::{AllocError, Global};
 
-/// A packet that can't be read, as a routing control packet of the same length, for an empty packet of one byte: bit 0 of the first byte is set and bit 7 is clear.
+/// A packet that can't be read, as a routing control packet of the same length, for an empty packet of one byte: bit 0 of the first byte is set
+/// and bit 7 is clear.
 pub(crate) fn carried(alloc: Global, packet: &[u8]) -> Result<Vec<u8>, AllocError>
     ensures { IfOk result (λ v. v.items ≡ carried packet.now) }
 {

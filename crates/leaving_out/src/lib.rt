@@ -13,13 +13,13 @@ mod message;
 mod naming;
 mod packet_left;
 mod record_left;
-#[cfg(test)]
-mod tests;
 mod text_left;
 mod unit_left;
 
 pub use binding::{bind_all, binding_of};
-pub use laws::{left_is_a_record, made_is_read_alike};
+pub use laws::{
+    left_is_a_record, made_is_read_alike, no_link_meets_it, no_two_become_one, nothing_left_out,
+};
 pub use leaving::{Head, Leaving};
 pub use located::{address_at, head};
 pub use naming::about;

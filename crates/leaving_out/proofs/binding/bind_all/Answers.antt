@@ -1,4 +1,4 @@
-use Rattle.std.proofs.Common.{◌≡◌, [], ◌∷◌, ◌++◌, List, ℕ, Some, refl, sym, ap, subst, ◌∙◌, append-nil, inl}
+use Rattle.std.proofs.Common.{◌≡◌, [], ◌∷◌, ◌++◌, List, ℕ, refl, sym, ap, subst, ◌∙◌, append-nil, inl}
 use Rattle.link_groups.specs.Groups.{AreGroupsOf, Binding}
 use Rattle.capture.specs.declared.record.Record.{Record}
 use Rattle.capture.specs.Entries.{record_with}
@@ -22,8 +22,12 @@ returns-in-Ok-None-clause-bindings g c = λ before are.
     let rs = c.loop.invariant.0 in
     let h = c.loop.invariant.1 in
     let gives = rw c.in-Ok-None.field-0-is at c.in-Ok-None.ensures.gives h.reading in
-    inl (so_far c.loop.capture.form c.loop.capture.own c.loop.capture.peer rs TheEnd, at_end _ _ _ _ rs h gives.0, inl refl,
-    c.loop.invariant.2 before are)
+    inl (
+      so_far c.loop.capture.form c.loop.capture.own c.loop.capture.peer rs TheEnd,
+      at_end _ _ _ _ rs h gives.0,
+      inl refl,
+      c.loop.invariant.2 before are,
+    )
 
 pub loop-preserved : goal.loop-preserved
 loop-preserved g c =

@@ -38,7 +38,8 @@ returns-in-Err-Departs-clause-text g c =
       inr (
         c.in-Err-Departs.kind,
         at_departure _ _ _ _ rs h c.in-Err-Departs.kind _ gives.0,
-        (rw c.in-Err-Departs.field-0-is at c.in-Ok-put_departure.ensures) ∙ ap (λ (x : List ℕ). x ++ departing c.in-Err-Departs.kind) c.loop.invariant.2,
+        (rw c.in-Err-Departs.field-0-is at c.in-Ok-put_departure.ensures)
+            ∙ ap (λ (x : List ℕ). x ++ departing c.in-Err-Departs.kind) c.loop.invariant.2,
       ),
     )
 
@@ -52,7 +53,8 @@ loop-preserved g c =
       rs ++ r ∷ [],
       at_next _ _ _ _ rs h c.advance.new.self _ r c.advance.ensures.head.0 c.advance.ensures.head.1 gives,
       rw (c.advance.ensures.head.0, c.advance.ensures.head.1) (c.in-Ok-put.ensures
-          ∙ ap (λ (b : List ℕ). c.loop.text.items ++ record_line Wide (record_left leaving c.args.side (record_with c.in-Ok-Some.entry b))) c.bytes.ensures
+          ∙ ap (λ (b : List ℕ). c.loop.text.items ++ record_line Wide (record_left leaving c.args.side (record_with c.in-Ok-Some.entry b)))
+          c.bytes.ensures
           ∙ ap (λ (x : List ℕ). x ++ record_line Wide (record_left leaving c.args.side r)) c.loop.invariant.2
           ∙ sym (text_more leaving c.args.side c.loop.capture.own c.loop.capture.peer rs r)),
       c.in-Ok-Some.ensures.reads ∙ c.loop.invariant.3,

@@ -14,6 +14,7 @@ pub write_unit-requires : goal.write_unit-requires
 write_unit-requires c =
     let d = c.in-Sound-Data in
     let fits : IsBytes c.args.unit.now = λ i. omega (arith, c.type_inv.unit i) in
-    let made = made_body c.args.leaving.now c.args.sender c.args.unit.now fits d.flags d.resp d.num d.body.now (sym (rw d.field-0-is at d.ensures.value)) in
+    let made = made_body c.args.leaving.now c.args.sender c.args.unit.now fits d.flags d.resp d.num d.body.now
+    (sym (rw d.field-0-is at d.ensures.value)) in
     let same = ap length (c.deref.ensures.value ∙ rw c.in-Some.is at c.in_ok-left-in-Sound-Data.ensures) in
     (omega (arith, made.some, same), omega (arith, made.short, same))
