@@ -16,7 +16,7 @@ use Rattle.capture.specs.Text.{record_lines}
 use Rattle.capture.specs.Reader.{FaultShows}
 use Rattle.placing.specs.Placed.{Waiting, units_sent}
 use Rattle.wire_text.specs.WireText.{PieceDeparts}
-use Rattle.wire_tap.specs.Tapping.{EndWith, HasWritten, HaveAll, HaveFirst, HaveNamed, Held, IsReached, Reached, Taps, held}
+use Rattle.wire_tap.specs.Tapping.{EndWith, HasWritten, HaveAll, HaveFirst, Held, IsReached, Reached, Taps, held}
 use Rattle.wire_tap.specs.Tapping.{EndsAs, HasCounted, sent_at, text_a, text_b}
 use Rattle.wire_tap.specs.Units.{units_of}
 use Rattle.wire_tap.specs.declared.fault.TapFault.TheVariants as faults

@@ -16,7 +16,7 @@ use Rattle.capture.specs.Listed.{IsListSoFar, with_item}
 use Rattle.wire_text.specs.WireText.{Piece, PieceDeparts, Wire, piece, wire_form}
 use Rattle.wire_text.specs.declared.limit.TheConstants.{MAX_PIECES}
 use Rattle.capture.proofs.ListedSoFar as read
-use Rattle.wire_tap.specs.Tapping.{Held, held}
+use Rattle.wire_tap.specs.Tapping.{Held}
 use Rattle.wire_tap.specs.Units.{bytes_of, messages, units_of}
 use Rattle.wire_tap.specs.declared.stop.Stop.TheVariants as stops
 use Rattle.wire_tap.specs.declared.tapped.Ending.{Ending}

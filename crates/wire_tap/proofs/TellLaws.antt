@@ -1,9 +1,8 @@
 -- What the other side is told of units that pass.
-use Rattle.std.proofs.Common.{◌≡◌, ℕ, List, [], ◌∷◌, ◌++◌, Option, Some, None, Result, Ok, Err, refl, sym, ap, subst, ◌∙◌}
-use Rattle.std.proofs.Common.{append_assoc, append-nil}
-use Rattle.std.specs.Prelude.{slice_index}
+use Rattle.std.proofs.Common.{◌≡◌, ℕ, List, [], ◌∷◌, ◌++◌, Option, Some, None, refl, sym, ap, subst, ◌∙◌}
+use Rattle.std.proofs.Common.{append_assoc}
 use Rattle.framer.specs.declared.kind.Kind.{Kind}
-use Rattle.framer.specs.Framing.{Framing, framing, kind_of, only_left}
+use Rattle.framer.specs.Framing.{Framing, framing, only_left}
 use Rattle.framer.specs.Given.{IsUnitFound, NoneFound}
 use Rattle.framer.specs.SoFar.{IsFramedSoFar}
 use Rattle.framer.proofs.SoFarLaws.{piece_more, whole}

@@ -1,5 +1,4 @@
-use Rattle.std.proofs.Common.{List, ℕ, ◌++◌, ap, subst, sym}
-use Rattle.wire_tap.specs.inner.Side.{TellsOn, aim, side_state}
+use Rattle.wire_tap.specs.inner.Side.{aim, side_state}
 use Rattle.wire_tap.proofs.PassLaws.{passing_begins, passing_ends, passing_none, passing_on}
 use Rattle.wire_tap.proofs.TellLaws.{telling_begins, telling_ends, telling_none, telling_on}
 use Rattle.wire_tap.proofs.side_tap.SideTap.pass_bytes.Goals as goal
