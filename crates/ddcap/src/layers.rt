@@ -84,7 +84,7 @@ pub fn judge_any_period_over<A: Read, B: Read>(
     a: &mut Tally<A>,
     b: &mut Tally<B>,
 ) -> Result<Verdict, JudgeFault>
-    ensures judged { IsAnswer (any_period_nodes_of layers) (A.remaining (tally_lent a.old)) (B.remaining (tally_lent b.old)) result }
+    ensures { IsAnswer (any_period_nodes_of layers) (A.remaining (tally_lent a.old)) (B.remaining (tally_lent b.old)) result }
 {
     match layers {
         Layers::Both => judge_any_period(alloc, a, b),
