@@ -101,7 +101,10 @@ fn all_of<A: Read + Seek>(
         let answer = judge_left(alloc, layers, &not_judged, a)?;
         match after(answer, goes_on) {
             Some(next) => refusal = next,
-            None => return in_memory(ended(alloc, layers, text, answer)),
+            None => {
+                let answer = beside_line(alloc, layers, a, answer)?;
+                return in_memory(ended(alloc, layers, text, answer));
+            }
         }
     }
     in_memory(text.goes_on())
@@ -163,6 +166,23 @@ fn judge_left<A: Read + Seek>(
     match judge_text(alloc, layers, &text) {
         Err(CaptureFault::OutOfMemory) => Err(AllFault::OUT_OF_MEMORY),
         answer => Ok(answer),
+    }
+}
+
+// What is left of the capture is none of an end where the station refuses the capture itself, as by `check_all_to`.
+fn beside_line<A: Read + Seek>(
+    alloc: Global,
+    layers: Layers,
+    a: &mut A,
+    answer: Result<EndVerdict, CaptureFault>,
+) -> Result<Result<EndVerdict, CaptureFault>, AllFault> {
+    if layers == Layers::Station || !matches!(answer, Ok(EndVerdict::Passed(_))) {
+        return Ok(answer);
+    }
+    let of_line = judge_end_over(alloc, Layers::Station, &mut read_again(Side::A, a)?);
+    match of_text(Side::A, of_line)? {
+        EndVerdict::Refused { .. } => Ok(of_line),
+        EndVerdict::Passed(_) => Ok(answer),
     }
 }
 

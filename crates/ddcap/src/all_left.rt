@@ -64,7 +64,11 @@ pub struct NotJudged {
 
 impl NotJudged {
     /// All is judged. The heads are those of both captures; of one end alone the other's is the same, seen from there.
-    pub fn nothing(alloc: Global, head_of_a: Head, head_of_b: Head) -> Result<NotJudged, AllocError> {
+    pub fn nothing(
+        alloc: Global,
+        head_of_a: Head,
+        head_of_b: Head,
+    ) -> Result<NotJudged, AllocError> {
         Ok(NotJudged {
             groups: Groups::new(alloc)?,
             left: LeftOut::new(alloc)?,

@@ -125,7 +125,10 @@ fn all_of<A: Read + Seek, B: Read + Seek>(
         let answer = judge_left(alloc, layers, &not_judged, a, b)?;
         match after(answer, goes_on) {
             Some(next) => refusal = next,
-            None => return in_memory(ended(alloc, layers, text, answer)),
+            None => {
+                let answer = beside_line(alloc, layers, &not_judged, a, b, answer)?;
+                return in_memory(ended(alloc, layers, text, answer));
+            }
         }
     }
     in_memory(text.goes_on())
@@ -208,8 +211,14 @@ fn address_of<A: Read + Seek, B: Read + Seek>(
 ) -> Result<Option<OwnAddress>, AllFault> {
     let Refusal { side, place, .. } = refusal;
     match side {
-        Side::A => of_text(side, address_at(alloc, side, place, &mut read_again(side, a)?)),
-        Side::B => of_text(side, address_at(alloc, side, place, &mut read_again(side, b)?)),
+        Side::A => of_text(
+            side,
+            address_at(alloc, side, place, &mut read_again(side, a)?),
+        ),
+        Side::B => of_text(
+            side,
+            address_at(alloc, side, place, &mut read_again(side, b)?),
+        ),
     }
 }
 
@@ -252,6 +261,32 @@ fn judge_texts(
         return judge_any_period_over(alloc, layers, &mut reader_a, &mut reader_b);
     }
     judge_over(alloc, layers, &mut reader_a, &mut reader_b)
+}
+
+// What is left of both captures is no run where the line and both stations refuse the captures themselves: what is left out may hide that the packet
+// of a DI came, or was sent again, with other user data.
+fn beside_line<A: Read + Seek, B: Read + Seek>(
+    alloc: Global,
+    layers: Layers,
+    not_judged: &NotJudged,
+    a: &mut A,
+    b: &mut B,
+    answer: Result<Verdict, JudgeFault>,
+) -> Result<Result<Verdict, JudgeFault>, AllFault> {
+    if layers == Layers::Station || !matches!(answer, Ok(Verdict::Accepted(_))) {
+        return Ok(answer);
+    }
+    let mut reader_a = read_again(Side::A, a)?;
+    let mut reader_b = read_again(Side::B, b)?;
+    let of_line = match not_judged.any_period() {
+        true => judge_any_period_over(alloc, Layers::Station, &mut reader_a, &mut reader_b),
+        false => judge_over(alloc, Layers::Station, &mut reader_a, &mut reader_b),
+    };
+    match of_line {
+        Ok(Verdict::Refused { .. }) => Ok(of_line),
+        Ok(Verdict::Accepted(_)) => Ok(answer),
+        Err(fault) => Err(AllFault::Judge(fault)),
+    }
 }
 
 /// The file of this side from its beginning on.
