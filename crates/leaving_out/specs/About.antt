@@ -52,11 +52,12 @@ about side (User event) = event_about side event
 abbrev pub bound : Side → (here there : ℕ) → Binding
 bound side here there = (own side here, own (other_side side) there)
 
--- where neither is 0
+-- where the other one is not 0
 abbrev pub bound_if_named : Side → (here there : ℕ) → Option Binding
-bound_if_named side here there = if here == 0 then None else (if there == 0 then None else Some (bound side here there))
+bound_if_named side here there = if there == 0 then None else Some (bound side here there)
 
--- what a message that this side sent binds, if it is a CC
+-- What a message that this side sent binds: a CC its addresses. A call from address 0, and its confirmation, bind that of both ends: a connect ack
+-- names no link of its sender, so the one that answers such a call is about the sender's own address 0
 abbrev pub confirmed : Side → Option NspValue → Option Binding
 confirmed sender None = None
 confirmed sender (Some (DataSegment s)) = None
@@ -65,8 +66,10 @@ confirmed sender (Some (DataAck dst src acks)) = None
 confirmed sender (Some (OtherDataAck dst src rest)) = None
 confirmed sender (Some (ConnectAck dst)) = None
 confirmed sender (Some (NoOperation rest)) = None
-confirmed sender (Some (ConnectInitiate retransmitted src services info segsize user_data)) = None
-confirmed sender (Some (ConnectConfirm dst src services info segsize user_data)) = bound_if_named sender src dst
+confirmed sender (Some (ConnectInitiate retransmitted src services info segsize user_data)) =
+    if src == 0 then Some (bound sender 0 0) else None
+confirmed sender (Some (ConnectConfirm dst src services info segsize user_data)) =
+    if src == 0 then Some (bound sender 0 0) else bound_if_named sender src dst
 confirmed sender (Some (DisconnectInitiate dst src reason user_data)) = None
 confirmed sender (Some (DisconnectConfirm dst src reason)) = None
 

@@ -21,8 +21,8 @@ use wire_base::{Side, Tally};
 type Binding = (OwnAddress, OwnAddress);
 
 /// The binding that this side's record of an entry and these bytes makes, if it makes one: accept and reject bind the link to the partner, and a CC
-/// that was sent binds SRCADDR, which is of its sender, to DSTADDR, of the other side, where neither is 0. One that came binds only where the text
-/// is the one of an end alone. Takes no memory.
+/// that was sent binds SRCADDR, which is of its sender, to DSTADDR, of the other side, where neither is 0. A CI or CC with SRCADDR 0 binds address 0
+/// of both ends. One that came binds only where the text is the one of an end alone. Takes no memory.
 pub fn binding_of(side: Side, alone: bool, entry: Entry, bytes: &[u8]) -> Option<Binding>
     ensures { result ≡ spec.binding_of side alone (record_with entry bytes.now) }
 {
@@ -54,16 +54,26 @@ fn bound(side: Side, own: u16, far: u16) -> Binding
     (one, other)
 }
 
-// What the CC in a unit that this side sent binds, if there is one.
+// What the CC or CI in a unit that this side sent binds, if there is one.
 fn confirmed_by(sender: Side, unit: &[u8]) -> Option<Binding>
     ensures { result ≡ spec.confirmed sender (message_in_unit unit.now) }
 {
     match message_in_unit(unit) {
-        Some(Nsp::ConnectConfirm(m)) => {
-            if m.srcaddr != 0 && m.dstaddr != 0 {
-                Some(bound(sender, m.srcaddr, m.dstaddr))
+        Some(Nsp::ConnectInitiate(m)) => {
+            if m.srcaddr == 0 {
+                Some(bound(sender, 0, 0))
             } else {
                 None
+            }
+        }
+        Some(Nsp::ConnectConfirm(m)) => {
+            if m.srcaddr == 0 {
+                return Some(bound(sender, 0, 0));
+            }
+            if m.dstaddr == 0 {
+                None
+            } else {
+                Some(bound(sender, m.srcaddr, m.dstaddr))
             }
         }
         _ => None,

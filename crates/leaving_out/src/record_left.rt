@@ -49,54 +49,25 @@ pub(crate) fn put_left(
         Entry::Noise => put_line(text, entry, bytes),
         Entry::Start | Entry::Halt | Entry::Boot => put_line(text, entry, &[]),
         Entry::Open { link } | Entry::Close { link } | Entry::Abort { link } => {
-            put_event(
-                text,
-                leaving,
-                OwnAddress {
-                    side,
-                    address: link,
-                },
-                entry,
-                &[],
-            )
+            put_event(text, leaving, own(side, link), entry, &[])
         }
         Entry::Accept { partner: _, link } | Entry::Reject { partner: _, link } => {
-            put_event(
-                text,
-                leaving,
-                OwnAddress {
-                    side,
-                    address: link,
-                },
-                entry,
-                &[],
-            )
+            put_event(text, leaving, own(side, link), entry, &[])
         }
         Entry::In { link } | Entry::Up { link } => {
-            put_event(
-                text,
-                leaving,
-                OwnAddress {
-                    side,
-                    address: link,
-                },
-                entry,
-                bytes,
-            )
+            put_event(text, leaving, own(side, link), entry, bytes)
         }
         Entry::Interrupt { link } | Entry::Interrupted { link } => {
-            put_event(
-                text,
-                leaving,
-                OwnAddress {
-                    side,
-                    address: link,
-                },
-                entry,
-                bytes,
-            )
+            put_event(text, leaving, own(side, link), entry, bytes)
         }
     }
+}
+
+// This address of this side.
+fn own(side: Side, address: u16) -> OwnAddress
+    ensures { result ≡ record { side = side; address = address } }
+{
+    OwnAddress { side, address }
 }
 
 // The line of an entry with the bytes that became of these.

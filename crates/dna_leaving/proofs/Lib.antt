@@ -1,0 +1,16 @@
+mod Judged
+mod LookUps
+mod Effects
+pub mod After
+mod Asked
+mod Answered
+mod Rows
+pub mod Steps
+pub mod Lists
+pub mod Units
+mod Whole
+pub mod Sides
+pub mod StepsLeft
+pub mod SendsLeft
+pub mod WorldSteps
+pub mod Runs
