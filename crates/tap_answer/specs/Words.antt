@@ -1,5 +1,5 @@
 -- The words of what is said of captures that a tap wrote.
-use Rattle.std.specs.Prelude.{ℕ, ◌+◌, ◌-◌, ◌==◌, if◌then◌else◌, List, [], ◌++◌, codes}
+use Rattle.std.specs.Prelude.{ℕ, ◌+◌, ◌-◌, ◌==◌, if◌then◌else◌, Option, Some, None, List, [], ◌++◌, codes}
 use Rattle.std.specs.Fmt.{decimal}
 use Rattle.std.specs.List.{flat_map}
 use Rattle.wire_base.specs.declared.side.Side.{Side}
@@ -10,6 +10,7 @@ use Rattle.pair_judge.specs.Reason.{reason_name, reason_number}
 use Rattle.placing.specs.declared.turn.Assumed.{Assumed}
 use Rattle.placing.specs.declared.turn.Assumed.TheVariants.{Keeps, Boots, GivesUp}
 use Rattle.placing.specs.declared.turn.Turn.{Turn}
+use Rattle.wire_tap.specs.declared.accused.Accused.{Accused}
 use Rattle.wire_tap.specs.declared.tapped.Passed.{Passed}
 use Rattle.wire_tap.specs.declared.tapped.Skipped.{Skipped}
 use Rattle.wire_tap.specs.declared.tapped.Tapped.{Tapped}
@@ -35,18 +36,32 @@ assumed_words turns = flat_map turn_words turns
 abbrev pub numbered_words : Reason → List ℕ
 numbered_words reason = decimal (reason_number reason) ++ (codes " " ++ reason_name reason)
 
--- the same and, on a line of its own, that no placing was found
-abbrev pub reason_words : Reason → List ℕ
-reason_words reason = numbered_words reason ++ codes "\nno consistent explanation was found; this alone accuses neither node"
+-- on a line of its own, that no right node sends this unit
+abbrev pub sent_by_none_words : Option Passed → List ℕ
+sent_by_none_words None = []
+sent_by_none_words (Some passed) = codes "\nwhatever came to it, no right node sends " ++ unit_words passed
+
+-- so of each side that is accused; or that neither is
+abbrev pub both_accused_words : Option Passed → Option Passed → List ℕ
+both_accused_words None None = codes "\nno consistent explanation was found; this alone accuses neither node"
+both_accused_words None (Some of_b) = sent_by_none_words (Some of_b)
+both_accused_words (Some of_a) of_b = sent_by_none_words (Some of_a) ++ sent_by_none_words of_b
+
+abbrev pub accused_words : Accused → List ℕ
+accused_words accused = both_accused_words accused.a accused.b
+
+-- a reason, and whom the answer accuses
+abbrev pub reason_words : Reason → Accused → List ℕ
+reason_words reason accused = numbered_words reason ++ accused_words accused
 
 -- what the answer of `why` rests on
 abbrev pub rests_words : List ℕ
 rests_words = codes "ddcap why shows the unit, but whom it accuses depends on what tap assumed"
 
 -- `unexplained a unit 7 line 16: 7 WrongNumber`
-abbrev pub unexplained_words : Passed → Reason → List ℕ
-unexplained_words passed reason =
-    codes "unexplained " ++ (unit_words passed ++ (codes ": " ++ (reason_words reason ++ (codes "\n" ++ (rests_words ++ codes "\n")))))
+abbrev pub unexplained_words : Passed → Reason → Accused → List ℕ
+unexplained_words passed reason accused =
+    codes "unexplained " ++ (unit_words passed ++ (codes ": " ++ (reason_words reason accused ++ (codes "\n" ++ (rests_words ++ codes "\n")))))
 
 -- `apart: a unit 7 line 16: 7 WrongNumber`, and that each side is explained
 abbrev pub apart_words : Passed → Reason → List ℕ
@@ -55,8 +70,8 @@ apart_words passed reason =
     ++ codes "\neach side is explained by itself; this accuses neither node\n")))
 
 -- `unexplained after the last unit: 14 WrongUserEvent`
-abbrev pub unexplained_end_words : Reason → List ℕ
-unexplained_end_words reason = codes "unexplained after the last unit: " ++ (reason_words reason ++ (codes "\n" ++ (rests_words ++ codes "\n")))
+abbrev pub unexplained_end_words : Reason → Accused → List ℕ
+unexplained_end_words reason accused = codes "unexplained after the last unit: " ++ (reason_words reason accused ++ (codes "\n" ++ (rests_words ++ codes "\n")))
 
 -- `a unit 7 line 16: too wide a choice`
 abbrev pub too_wide_words : Passed → List ℕ

@@ -7,7 +7,7 @@ use pair_judge::Reason;
 use std::alloc::{AllocError, Global};
 use std::fmt;
 use wire_base::Side;
-use wire_tap::{Passed, Skipped, Tapped};
+use wire_tap::{Accused, Passed, Skipped, Tapped};
 
 /// A unit, as it is named.
 #[derive(Clone, Copy)]
@@ -46,26 +46,74 @@ impl fmt::Display for NumberedWords {
     }
 }
 
-// The same and, after it, that no placing was found.
+// A line that no right node sends this unit, if there is one.
+#[derive(Clone, Copy)]
+struct SentByNoneWords {
+    passed: Option<Passed>,
+}
+
+impl fmt::Display for SentByNoneWords {
+    ghost use Rattle.std.specs.Prelude.{Some};
+    ghost use Rattle.tap_answer.specs.Words.{sent_by_none_words};
+
+    ghost output = { λ words. Some (sent_by_none_words words.passed) };
+
+    fn fmt<W: fmt::Write>(&self, f: &mut fmt::Formatter<W>) -> fmt::Result {
+        let Some(passed) = self.passed else {
+            return Ok(());
+        };
+        let unit = UnitWords { passed };
+        write!(f, "\nwhatever came to it, no right node sends {unit}")
+    }
+}
+
+// Whom the answer accuses.
+#[derive(Clone, Copy)]
+struct AccusedWords {
+    accused: Accused,
+}
+
+impl fmt::Display for AccusedWords {
+    ghost use Rattle.std.specs.Prelude.{Some};
+    ghost use Rattle.tap_answer.specs.Words.{accused_words};
+
+    ghost output = { λ words. Some (accused_words words.accused) };
+
+    fn fmt<W: fmt::Write>(&self, f: &mut fmt::Formatter<W>) -> fmt::Result {
+        let Accused { a, b } = self.accused;
+        let of_a = SentByNoneWords { passed: a };
+        let of_b = SentByNoneWords { passed: b };
+        match (a, b) {
+            (None, None) => f.write_str(
+                "\nno consistent explanation was found; this alone accuses neither node",
+            ),
+            (None, Some(_)) => write!(f, "{of_b}"),
+            (Some(_), _) => write!(f, "{of_a}{of_b}"),
+        }
+    }
+}
+
+// A reason, and whom the answer accuses.
 #[derive(Clone, Copy)]
 struct ReasonWords {
     reason: Reason,
+    accused: Accused,
 }
 
 impl fmt::Display for ReasonWords {
     ghost use Rattle.std.specs.Prelude.{Some};
     ghost use Rattle.tap_answer.specs.Words.{reason_words};
 
-    ghost output = { λ words. Some (reason_words words.reason) };
+    ghost output = { λ words. Some (reason_words words.reason words.accused) };
 
     fn fmt<W: fmt::Write>(&self, f: &mut fmt::Formatter<W>) -> fmt::Result {
         let numbered = NumberedWords {
             reason: self.reason,
         };
-        write!(
-            f,
-            "{numbered}\nno consistent explanation was found; this alone accuses neither node"
-        )
+        let accused = AccusedWords {
+            accused: self.accused,
+        };
+        write!(f, "{numbered}{accused}")
     }
 }
 
@@ -129,13 +177,18 @@ impl fmt::Display for SkippedWords {
     }
 }
 
-/// `unexplained a unit 7 line 16: 7 WrongNumber`, a line that no placing was found, and one on what the answer of `why` rests, each with its LF: the
-/// unit with which the captures end, and why they are refused. Fails for want of memory alone.
-pub fn unexplained_text(alloc: Global, passed: Passed, reason: Reason) -> Result<String, AllocError>
-    ensures { IfOk result (λ text. string_bytes text ≡ unexplained_words passed reason) }
+/// `unexplained a unit 7 line 16: 7 WrongNumber`, a line for each side that is accused, or that neither is, and one on what the answer of `why` rests,
+/// each with its LF: the unit with which the captures end, and why they are refused. Fails for want of memory alone.
+pub fn unexplained_text(
+    alloc: Global,
+    passed: Passed,
+    reason: Reason,
+    accused: Accused,
+) -> Result<String, AllocError>
+    ensures { IfOk result (λ text. string_bytes text ≡ unexplained_words passed reason accused) }
 {
     let unit = UnitWords { passed };
-    let why = ReasonWords { reason };
+    let why = ReasonWords { reason, accused };
     let rests = RestsWords {};
     format!(in alloc; "unexplained {unit}: {why}\n{rests}\n")
 }
@@ -153,10 +206,14 @@ pub fn apart_text(alloc: Global, passed: Passed, reason: Reason) -> Result<Strin
 
 /// `unexplained after the last unit: 14 WrongUserEvent`, and the same lines after it: captures of all that passed are refused there. Fails for want
 /// of memory alone.
-pub fn unexplained_end_text(alloc: Global, reason: Reason) -> Result<String, AllocError>
-    ensures { IfOk result (λ text. string_bytes text ≡ unexplained_end_words reason) }
+pub fn unexplained_end_text(
+    alloc: Global,
+    reason: Reason,
+    accused: Accused,
+) -> Result<String, AllocError>
+    ensures { IfOk result (λ text. string_bytes text ≡ unexplained_end_words reason accused) }
 {
-    let why = ReasonWords { reason };
+    let why = ReasonWords { reason, accused };
     let rests = RestsWords {};
     format!(in alloc; "unexplained after the last unit: {why}\n{rests}\n")
 }

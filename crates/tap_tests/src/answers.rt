@@ -9,7 +9,7 @@ use tap_answer::{
     unexplained_end_text, unexplained_text, units_before,
 };
 use wire_base::{Side, Tally};
-use wire_tap::{Ending, Passed, Skipped, Tapped, Units};
+use wire_tap::{Accused, Ending, Passed, Skipped, Tapped, Units};
 
 const CAPTURE: &str = "ddcap 1 1.1 1.2
 u start
@@ -46,11 +46,23 @@ fn an_unplaced_unit_is_named_with_the_reason(rt: HostRuntime) -> Result<(), Allo
 each side is explained by itself; this accuses neither node
 "
     );
-    let text = unexplained_text(rt.alloc(), passed, reason)?;
+    let text = unexplained_text(rt.alloc(), passed, reason, Accused::NOBODY)?;
     assert_eq!(rt;
         text.as_str(),
         "unexplained a unit 7 line 16: 7 WrongNumber
 no consistent explanation was found; this alone accuses neither node
+ddcap why shows the unit, but whom it accuses depends on what tap assumed
+"
+    );
+    let accused = Accused {
+        a: Some(passed),
+        b: None,
+    };
+    let text = unexplained_text(rt.alloc(), passed, reason, accused)?;
+    assert_eq!(rt;
+        text.as_str(),
+        "unexplained a unit 7 line 16: 7 WrongNumber
+whatever came to it, no right node sends a unit 7 line 16
 ddcap why shows the unit, but whom it accuses depends on what tap assumed
 "
     );
@@ -91,7 +103,7 @@ a skipped maintenance messages 1 bytes between units 12
 b skipped maintenance messages 0 bytes between units 0
 "
     );
-    let text = unexplained_end_text(rt.alloc(), Reason::WrongUserEvent)?;
+    let text = unexplained_end_text(rt.alloc(), Reason::WrongUserEvent, Accused::NOBODY)?;
     assert_eq!(rt;
         text.as_str(),
         "unexplained after the last unit: 14 WrongUserEvent

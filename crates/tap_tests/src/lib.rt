@@ -1,7 +1,11 @@
-//! From what passed on a line to the answer: a case of each public call of `placing`, `wire_tap` and `tap_answer`. They are in a crate of their
+//! From what passed on a line to the answer: a case of each public call of `accusing`, `placing`, `wire_tap` and `tap_answer`. They are in a crate of their
 //! own, which is proved in its tests alone.
 #![tactic(auto)]
 
+#[cfg(test)]
+mod accusations;
+#[cfg(test)]
+mod accuser_told;
 #[cfg(test)]
 mod answers;
 #[cfg(test)]

@@ -1,9 +1,11 @@
 //! What passed on a line, and the two captures that it stands for.
 //!
 //! The crate reads the text of what passed piece by piece, has the units of each direction found in it (`framer`) and each of them placed
-//! (`placing`), and writes both captures. It decides nothing of what it writes: that is judged by `pair_judge`.
+//! (`placing`), and writes both captures. It decides nothing of what it writes: that is judged by `pair_judge`. It also finds units that no right
+//! station sent (`accusing`).
 #![tactic(auto)]
 
+mod accused;
 mod fault;
 mod format;
 mod outlet;
@@ -12,6 +14,7 @@ mod stop;
 mod tapped;
 mod tapping;
 
+pub use accused::{Accused, find_accused};
 pub use fault::TapFault;
 pub use tapped::{Asked, Ending, Passed, Skipped, Tapped, Units};
 pub use tapping::tap;

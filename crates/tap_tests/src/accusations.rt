@@ -1,0 +1,57 @@
+use std::alloc::Global;
+use wire_base::{Side, Tally};
+use wire_tap::{Accused, Passed, TapFault, find_accused};
+
+// An ACK of a message that side b did not send.
+const WRONG_RESPONSE: &str = "ddwire 1 1.1 1.2
+a 0506c00000017595
+b 96960507c00000014855
+a 050100010001ad95
+";
+
+// The same with RESP 0.
+const RIGHT: &str = "ddwire 1 1.1 1.2
+a 0506c00000017595
+b 96960507c00000014855
+a 050100000001fc55
+";
+
+// Cut into pieces, and with a STACK of b before any STRT of a.
+const NO_START: &str = "ddwire 1 1.1 1.2
+b 0507
+b c00000014855
+a 0506c00000017595
+";
+
+fn found(alloc: Global, text: &str) -> Result<Accused, TapFault> {
+    find_accused(alloc, &mut Tally::new(text.as_bytes()))
+}
+
+#[test]
+fn a_unit_that_no_right_station_sent_is_found(rt: HostRuntime) {
+    let of_a = Passed {
+        side: Side::A,
+        unit: 1,
+        line: 4,
+    };
+    assert_eq!(rt;
+        found(rt.alloc(), WRONG_RESPONSE),
+        Ok(Accused {
+            a: Some(of_a),
+            b: None
+        })
+    );
+    assert_eq!(rt; found(rt.alloc(), RIGHT), Ok(Accused::NOBODY));
+    let of_b = Passed {
+        side: Side::B,
+        unit: 0,
+        line: 2,
+    };
+    assert_eq!(rt;
+        found(rt.alloc(), NO_START),
+        Ok(Accused {
+            a: None,
+            b: Some(of_b)
+        })
+    );
+}

@@ -1,0 +1,170 @@
+//! Which units no right station sent, whatever came to it.
+
+use crate::fault::{TapFault, reading_fault};
+use crate::tapped::Passed;
+use accusing::{Accuser, Answer};
+use framer::{Found, Framer, Kind};
+use std::alloc::{AllocError, Global};
+use std::io::Read;
+use wire_base::{Side, Tally};
+use wire_text::{MAX_PIECES, WireReader};
+
+/// The first unit of each side that no right station sent after what had passed, whatever came to it, whatever was lost or damaged, and whatever its
+/// user did; none where that is not known of any.
+#[derive(Clone, Copy, Debug, PartialEq, Eq)]
+pub struct Accused {
+    pub a: Option<Passed>,
+    pub b: Option<Passed>,
+}
+
+impl Accused {
+    /// Nobody is accused.
+    pub const NOBODY: Accused = Accused { a: None, b: None };
+}
+
+/// Reads the text of what passed to its end, and finds which units no right station sent. Each unit that was sent has passed here, and before the first
+/// of them neither side was started. The units are told to an `Accuser` of each side in the order in which their last bytes passed; that is read in
+/// the code.
+///
+/// Faults: `Departs` at the first line that departs from the format, `Read` where a call of the text's reader failed, and `OutOfMemory`.
+pub fn find_accused<W: Read>(alloc: Global, wire: &mut Tally<W>) -> Result<Accused, TapFault> {
+    let mut reader = match WireReader::open(alloc, wire) {
+        Ok(reader) => reader,
+        Err(fault) => return Err(reading_fault(fault)),
+    };
+    let mut of_a = SideUnits::of(alloc, Side::A)?;
+    let mut of_b = SideUnits::of(alloc, Side::B)?;
+    for _ in 0..MAX_PIECES + 1 {
+        match reader.advance(wire) {
+            Ok(Some(side)) => {
+                let line = reader.items().saturating_add(1);
+                match side {
+                    Side::A => of_a.pass_bytes(reader.bytes(), line, &mut of_b.told.accuser)?,
+                    Side::B => of_b.pass_bytes(reader.bytes(), line, &mut of_a.told.accuser)?,
+                }
+            }
+            Ok(None) => break,
+            Err(fault) => return Err(reading_fault(fault)),
+        }
+    }
+    Ok(Accused {
+        a: of_a.told.first,
+        b: of_b.told.first,
+    })
+}
+
+// How the units of a side are found, and what they told.
+#[derive(Drop)]
+struct SideUnits {
+    framer: Framer,
+    told: Told,
+    // the line on which what the framer holds began
+    begun: u64,
+}
+
+// The units that a side sent so far, and the first one that it can't have sent.
+#[derive(Drop)]
+struct Told {
+    side: Side,
+    accuser: Accuser,
+    count: u64,
+    first: Option<Passed>,
+}
+
+// What is left of a piece.
+enum Next<'a> {
+    Rest(&'a [u8]),
+    UsedUp,
+}
+
+impl SideUnits {
+    // Nothing passed yet.
+    fn of(alloc: Global, side: Side) -> Result<SideUnits, AllocError> {
+        Ok(SideUnits {
+            framer: Framer::new(alloc)?,
+            told: Told {
+                side,
+                accuser: Accuser::new(alloc),
+                count: 0,
+                first: None,
+            },
+            begun: 0,
+        })
+    }
+
+    // These bytes passed.
+    fn pass_bytes(
+        &mut self,
+        piece: &[u8],
+        line: u64,
+        other: &mut Accuser,
+    ) -> Result<(), AllocError> {
+        let mut rest = piece;
+        let most = self.framer.held().len() + piece.len() + 1;
+        for _ in 0..most {
+            match self.pass_next(rest, line, other)? {
+                Next::Rest(behind) => rest = behind,
+                Next::UsedUp => break,
+            }
+        }
+        Ok(())
+    }
+
+    // The first unit in what is held and these bytes passed.
+    fn pass_next<'a>(
+        &mut self,
+        piece: &'a [u8],
+        line: u64,
+        other: &mut Accuser,
+    ) -> Result<Next<'a>, AllocError> {
+        match self.framer.next(piece) {
+            Found::Unit {
+                kind,
+                unit,
+                rest,
+                ..
+            } => {
+                self.told.pass(kind, unit, line, other)?;
+                Ok(Next::Rest(rest))
+            }
+            Found::Completed { kind, rest, .. } => {
+                let begun = self.begun;
+                self.told.pass(kind, self.framer.completed(), begun, other)?;
+                Ok(Next::Rest(rest))
+            }
+            Found::More { .. } => {
+                if self.framer.held().len() <= piece.len() {
+                    self.begun = line;
+                }
+                Ok(Next::UsedUp)
+            }
+        }
+    }
+}
+
+impl Told {
+    // One unit of this kind passed, which began on this line; maintenance messages are told to nobody.
+    fn pass(
+        &mut self,
+        kind: Kind,
+        unit: &[u8],
+        line: u64,
+        other: &mut Accuser,
+    ) -> Result<(), AllocError> {
+        if let Kind::Maintenance = kind {
+            return Ok(());
+        }
+        other.other_passed(unit);
+        if self.first.is_none()
+            && let Answer::CannotHave(_) = self.accuser.sends(unit)?
+        {
+            self.first = Some(Passed {
+                side: self.side,
+                unit: self.count,
+                line,
+            });
+        }
+        self.count = self.count.saturating_add(1);
+        Ok(())
+    }
+}
