@@ -1,194 +1,288 @@
-//! `alone --all`: all that refuses the capture of one end, and not the first alone.
+//! All that refuses the capture of one end: `alone --all`, `why --all`.
 
 ghost use Rattle.std.specs.Prelude.{Some};
 ghost use Rattle.pair_judge.specs.EndJudged.{IsJudgedAlone};
+ghost use Rattle.pair_judge.specs.Watched.{only};
 ghost use Rattle.ddcap.specs.PrintedAlone.{end_of};
 
+use crate::all_judged::{AllFault, Captures, in_memory, of_text, read_again, read_on};
 use crate::all_left::{Beyond, NotJudged};
-use crate::all_pair::{AllFault, in_memory, of_text, print_read_once, read_again};
-use crate::all_text::{AllText, MOST_TOLD};
-use crate::alone::print_end_fault;
-use crate::check::{print, print_fault, print_out_of_memory};
+use crate::all_nodes::wrong_nodes_at;
+use crate::all_pair::Telling;
+use crate::all_told::{Answer, Refusal};
+use crate::end_telling::{EndPrintout, end_refused_text};
 use crate::end_text::{end_status, end_text};
-use crate::layers::{Layers, judge_end_over};
-use crate::text::line_fault_text;
+use crate::fault_told::FaultTold;
+use crate::last_rows::LastRows;
+use crate::layers::{Layers, judge_end_over, watch_end_over};
+use crate::objects::{end_object, fault_object, plain_object, with_lf};
+use crate::onlooker::{Onlooker, Originals};
+use crate::telling::Form;
+use crate::text::{FAULTY, line_fault_text};
 use capture::CaptureFault;
 use leaving_out::{Head, address_at, head, left_out};
-use pair_judge::{EndVerdict, Reason};
+use link_groups::OwnAddress;
+use pair_judge::{Accused, EndVerdict, Reason, WatchedEnd, judge_line_end};
 use std::alloc::{AllocError, Global};
-use std::io::{Read, Seek, Write};
+use std::io::{Read, Seek};
 use wire_base::{Side, Tally};
 
-// The status of an end that is refused.
-const REFUSED: u8 = 1;
+/// The capture of one end, in a file that is read again and again.
+#[derive(Drop)]
+pub struct EndCapture<'n, 'a, A: Read + Seek> {
+    pub printout: EndPrintout<'n>,
+    pub telling: Telling,
+    pub a: &'a mut A,
+}
 
-/// Judges the capture of a file without that of the other end, and prints the answer as `alone` does; where a link's rule or a packet is refused it is
-/// judged on without what the refusal is about, as by `check_all_to`.
-pub fn alone_all_to<A: Read + Seek, O: Write, E: Write>(
-    alloc: Global,
-    layers: Layers,
-    a: &mut A,
-    out: &mut Tally<O>,
-    err: &mut Tally<E>,
-) -> u8 {
-    let verdict = match judge_end_over(alloc, layers, &mut Tally::new(&mut *a)) {
-        Ok(verdict) => verdict,
-        Err(fault) => return print_end_fault(alloc, fault, err),
-    };
-    let Ok(line) = end_text(alloc, layers, verdict) else {
-        return print_out_of_memory(err);
-    };
-    let Some(refusal) = refusal_beyond(verdict) else {
-        return print(out, line.as_bytes(), end_status(verdict));
-    };
-    match all_of(alloc, layers, a, refusal) {
-        Ok(text) => print(out, text.as_bytes(), REFUSED),
-        Err(AllFault::ReadOnce(side)) => {
-            match print(out, line.as_bytes(), REFUSED) {
-                REFUSED => print_read_once(err, side),
-                failed => failed,
+impl<A: Read + Seek> Captures for EndCapture<'_, '_, A> {
+    fn bound(&mut self, alloc: Global) -> Result<NotJudged, AllFault> {
+        let mut not_judged = self.all_judged(alloc)?;
+        let bound = not_judged.bind(alloc, Side::A, true, &mut read_again(Side::A, self.a)?);
+        of_text(Side::A, bound)?;
+        Ok(not_judged)
+    }
+
+    fn address_of(
+        &mut self,
+        alloc: Global,
+        refusal: Refusal,
+    ) -> Result<Option<OwnAddress>, AllFault> {
+        let found = address_at(
+            alloc,
+            Side::A,
+            refusal.place,
+            &mut read_again(Side::A, self.a)?,
+        );
+        of_text(Side::A, found)
+    }
+
+    fn judged(&mut self, alloc: Global, not_judged: &NotJudged) -> Result<Answer, AllFault> {
+        let text = self.left(alloc, not_judged)?;
+        match self.telling {
+            Telling::Explained => {
+                let judges_all = self.all_judged(alloc)?;
+                let whole = self.left(alloc, &judges_all)?;
+                let rows = in_memory(LastRows::new(alloc))?;
+                let originals = in_memory(Originals::new(alloc, rows, &whole, &[]))?;
+                self.answer_left(alloc, not_judged, Onlooker::Originals(originals), &text)
+            }
+            Telling::Answers | Telling::Nothing => {
+                self.answer_left(alloc, not_judged, Onlooker::Nobody, &text)
             }
         }
-        Err(AllFault::Judge(fault)) => print_fault(alloc, fault, err),
+    }
+
+    fn passed(&self) -> &'static str {
+        "passed"
+    }
+
+    fn is_of_line(&self) -> bool {
+        self.printout.layers == Layers::Station
+    }
+
+    fn line(&mut self, alloc: Global, _any_period: bool) -> Result<Answer, AllFault> {
+        let of_line = judge_line_end(alloc, &mut read_again(Side::A, self.a)?);
+        let verdict = of_text(Side::A, of_line)?;
+        self.answer_of_line(alloc, verdict)
     }
 }
 
-// A record that is refused, with all that is told of it.
-#[derive(Clone, Copy, Debug, PartialEq, Eq)]
-struct Refusal {
-    place: u64,
-    reason: Reason,
-    verdict: EndVerdict,
-}
-
-// The refusal behind which the judgement goes on, if it does.
-fn refusal_beyond(verdict: EndVerdict) -> Option<Refusal> {
-    match verdict {
-        EndVerdict::Refused { place, reason, .. } => match Beyond::of(reason) {
-            Beyond::Ends => None,
-            _ => Some(Refusal {
-                place,
-                reason,
-                verdict,
-            }),
-        },
-        EndVerdict::Passed(_) => None,
-    }
-}
-
-// All lines, from this refusal on.
-fn all_of<A: Read + Seek>(
-    alloc: Global,
-    layers: Layers,
-    a: &mut A,
-    first: Refusal,
-) -> Result<String, AllFault> {
-    let mut not_judged = all_judged(alloc, a)?;
-    let mut text = AllText::new(alloc);
-    let mut refusal = first;
-    for _ in 0..MOST_TOLD {
-        let beyond = Beyond::of(refusal.reason);
-        let line = in_memory(end_text(alloc, layers, refusal.verdict))?;
-        in_memory(text.refused(line.as_str(), beyond))?;
-        let address = match beyond {
-            Beyond::Links => of_text(
-                Side::A,
-                address_at(alloc, Side::A, refusal.place, &mut read_again(Side::A, a)?),
-            )?,
-            _ => None,
+impl<A: Read + Seek> EndCapture<'_, '_, A> {
+    // Nothing is left out, and what belongs together is not known.
+    fn all_judged(&mut self, alloc: Global) -> Result<NotJudged, AllFault> {
+        let own = of_text(Side::A, head(alloc, &mut read_again(Side::A, self.a)?))?;
+        let other = Head {
+            own: own.peer,
+            peer: own.own,
         };
-        let goes_on = not_judged.leave(beyond, address);
-        let answer = judge_left(alloc, layers, &not_judged, a)?;
-        match after(answer, goes_on) {
-            Some(next) => refusal = next,
-            None => {
-                let answer = beside_line(alloc, layers, a, answer)?;
-                return in_memory(ended(alloc, layers, text, answer));
+        in_memory(NotJudged::nothing(alloc, own, other))
+    }
+
+    // The text of what is left of the capture.
+    fn left(&mut self, alloc: Global, not_judged: &NotJudged) -> Result<Vec<u8>, AllFault> {
+        let leaving = not_judged.leaving();
+        let text = left_out(alloc, Side::A, &leaving, &mut read_again(Side::A, self.a)?);
+        of_text(Side::A, text)
+    }
+
+    /// The answer on the capture itself, from where the file is.
+    pub fn first(&mut self, alloc: Global) -> Result<Answer, AllFault> {
+        let mut tally = read_on(self.a);
+        let judged = judge_end_over(alloc, self.printout.layers, &mut tally);
+        let verdict = of_text(Side::A, judged)?;
+        self.answer(alloc, verdict)
+    }
+
+    /// This answer, in the words of `alone`.
+    pub fn answer(&self, alloc: Global, verdict: EndVerdict) -> Result<Answer, AllFault> {
+        in_memory(self.answer_told(alloc, verdict))
+    }
+
+    fn answer_told(&self, alloc: Global, verdict: EndVerdict) -> Result<Answer, AllocError> {
+        let layers = self.printout.layers;
+        let text = match self.printout.form {
+            Form::Json if self.telling == Telling::Explained => {
+                plain_object(alloc, "passed", end_refusal_of(verdict))?
             }
+            Form::Json => {
+                let object = end_object(alloc, layers, self.printout.name, verdict)?;
+                with_lf(object)?
+            }
+            Form::Rows => end_text(alloc, layers, verdict)?.into_bytes(),
+        };
+        Ok(end_answer_of(verdict, text))
+    }
+
+    // The answer on this text of what is left, while this one looks on.
+    fn answer_left(
+        &mut self,
+        alloc: Global,
+        not_judged: &NotJudged,
+        onlooker: Onlooker<'_>,
+        text: &[u8],
+    ) -> Result<Answer, AllFault> {
+        match judge_text(alloc, self.printout.layers, onlooker, text) {
+            Ok(watched) => {
+                let made = watched.end.records();
+                let mut reader = read_again(Side::A, self.a)?;
+                let at = wrong_nodes_at(alloc, Side::A, not_judged, made, &mut reader);
+                match of_text(Side::A, at)? {
+                    Some(place) => self.answer(alloc, wrong_node(place)),
+                    None => self.answer_watched(alloc, watched),
+                }
+            }
+            Err(CaptureFault::OutOfMemory) => Err(AllFault::OUT_OF_MEMORY),
+            Err(fault) => self.answer_departed(alloc, fault),
         }
     }
-    in_memory(text.goes_on())
-}
 
-// The refusal behind which the judgement goes on, where the last one left anything out.
-fn after(answer: Result<EndVerdict, CaptureFault>, goes_on: bool) -> Option<Refusal> {
-    match answer {
-        Ok(verdict) if goes_on => refusal_beyond(verdict),
-        _ => None,
-    }
-}
-
-// The last answer: a verdict, or the line of a text that departs.
-fn ended(
-    alloc: Global,
-    layers: Layers,
-    text: AllText,
-    answer: Result<EndVerdict, CaptureFault>,
-) -> Result<String, AllocError> {
-    match answer {
-        Ok(verdict) => {
-            let answer = end_text(alloc, layers, verdict)?;
-            text.ends(answer.as_str())
+    // The answer on what is left, explained where that is asked for.
+    fn answer_watched(
+        &mut self,
+        alloc: Global,
+        watched: WatchedEnd<Onlooker<'_>>,
+    ) -> Result<Answer, AllFault> {
+        let WatchedEnd {
+            verdict,
+            end,
+            observer,
+        } = watched;
+        if ends_it(verdict) {
+            return self.answer_of_line(alloc, verdict);
         }
-        Err(CaptureFault::Departs { kind, line }) => {
-            let answer = line_fault_text(alloc, Side::A, kind, line)?;
-            text.ends(answer.as_str())
+        match (verdict, observer) {
+            (EndVerdict::Refused { .. }, Onlooker::Originals(Originals { rows, .. })) => {
+                let watched = WatchedEnd {
+                    verdict,
+                    end,
+                    observer: rows,
+                };
+                let text = in_memory(end_refused_text(alloc, self.printout, watched))?;
+                Ok(end_answer_of(verdict, text.into_bytes()))
+            }
+            _ => self.answer(alloc, verdict),
         }
-        Err(_) => Err(AllocError),
+    }
+
+    // A verdict of the station, as of a pair.
+    fn answer_of_line(&mut self, alloc: Global, verdict: EndVerdict) -> Result<Answer, AllFault> {
+        if self.telling != Telling::Explained || !is_refused(verdict) {
+            return self.answer(alloc, verdict);
+        }
+        let Ok(rows) = LastRows::new(alloc) else {
+            return Err(AllFault::OUT_OF_MEMORY);
+        };
+        let mut reader = read_again(Side::A, self.a)?;
+        let watched = watch_end_over(alloc, Layers::Station, &mut reader, rows);
+        let watched = of_text(Side::A, watched)?;
+        if watched.verdict != verdict {
+            return self.answer(alloc, verdict);
+        }
+        let printout = EndPrintout {
+            layers: Layers::Station,
+            ..self.printout
+        };
+        let text = in_memory(end_refused_text(alloc, printout, watched))?;
+        Ok(end_answer_of(verdict, text.into_bytes()))
+    }
+
+    // The answer where the text departs.
+    fn answer_departed(&self, alloc: Global, fault: CaptureFault) -> Result<Answer, AllFault> {
+        let CaptureFault::Departs { kind, line } = fault else {
+            return of_text(Side::A, Err(fault));
+        };
+        let text = match self.printout.form {
+            Form::Rows => in_memory(line_fault_text(alloc, Side::A, kind, line))?.into_bytes(),
+            Form::Json => {
+                let told = FaultTold::of_capture(Side::A, fault, FAULTY);
+                let object = in_memory(fault_object(alloc, self.printout.name, told))?;
+                in_memory(with_lf(object))?
+            }
+        };
+        Ok(Answer {
+            text,
+            refusal: None,
+            status: FAULTY,
+        })
     }
 }
 
-// Nothing is left out yet; what belongs together is read from the capture.
-fn all_judged<A: Read + Seek>(alloc: Global, a: &mut A) -> Result<NotJudged, AllFault> {
-    let own = of_text(Side::A, head(alloc, &mut read_again(Side::A, a)?))?;
-    let other = Head {
-        own: own.peer,
-        peer: own.own,
-    };
-    let mut not_judged = in_memory(NotJudged::nothing(alloc, own, other))?;
-    let bound = not_judged.bind(alloc, Side::A, true, &mut read_again(Side::A, a)?);
-    of_text(Side::A, bound)?;
-    Ok(not_judged)
+// This record is refused for the nodes of its packet, which came.
+fn wrong_node(place: u64) -> EndVerdict {
+    EndVerdict::Refused {
+        place,
+        accused: Accused::OtherEnd,
+        reason: Reason::WrongNode,
+    }
 }
 
-// The answer on what is still judged of the capture. A text that departs is an answer too.
-fn judge_left<A: Read + Seek>(
+fn is_refused(verdict: EndVerdict) -> bool {
+    matches!(verdict, EndVerdict::Refused { .. })
+}
+
+// Whether it is a refusal behind which nothing is judged on.
+fn ends_it(verdict: EndVerdict) -> bool {
+    match verdict {
+        EndVerdict::Passed(_) => false,
+        EndVerdict::Refused { reason, .. } => Beyond::of(reason) == Beyond::Ends,
+    }
+}
+
+// The refused record, if one is.
+fn end_refusal_of(verdict: EndVerdict) -> Option<Refusal> {
+    match verdict {
+        EndVerdict::Passed(_) => None,
+        EndVerdict::Refused {
+            place,
+            accused,
+            reason,
+        } => Some(Refusal {
+            side: Side::A,
+            place,
+            reason,
+            by_other_end: accused == Accused::OtherEnd,
+        }),
+    }
+}
+
+/// An answer that is told so.
+pub fn end_answer_of(verdict: EndVerdict, text: Vec<u8>) -> Answer {
+    Answer {
+        text,
+        refusal: end_refusal_of(verdict),
+        status: end_status(verdict),
+    }
+}
+
+// The answer on the text that was made of the capture, while this one looks on.
+fn judge_text<'t>(
     alloc: Global,
     layers: Layers,
-    not_judged: &NotJudged,
-    a: &mut A,
-) -> Result<Result<EndVerdict, CaptureFault>, AllFault> {
-    let leaving = not_judged.leaving();
-    let text = of_text(
-        Side::A,
-        left_out(alloc, Side::A, &leaving, &mut read_again(Side::A, a)?),
-    )?;
-    match judge_text(alloc, layers, &text) {
-        Err(CaptureFault::OutOfMemory) => Err(AllFault::OUT_OF_MEMORY),
-        answer => Ok(answer),
-    }
-}
-
-// What is left of the capture is none of an end where the station refuses the capture itself, as by `check_all_to`.
-fn beside_line<A: Read + Seek>(
-    alloc: Global,
-    layers: Layers,
-    a: &mut A,
-    answer: Result<EndVerdict, CaptureFault>,
-) -> Result<Result<EndVerdict, CaptureFault>, AllFault> {
-    if layers == Layers::Station || !matches!(answer, Ok(EndVerdict::Passed(_))) {
-        return Ok(answer);
-    }
-    let of_line = judge_end_over(alloc, Layers::Station, &mut read_again(Side::A, a)?);
-    match of_text(Side::A, of_line)? {
-        EndVerdict::Refused { .. } => Ok(of_line),
-        EndVerdict::Passed(_) => Ok(answer),
-    }
-}
-
-// The answer on the text that was made of the capture.
-fn judge_text(alloc: Global, layers: Layers, text: &[u8]) -> Result<EndVerdict, CaptureFault>
-    ensures { IsJudgedAlone (end_of layers) (Some text.now) result }
+    onlooker: Onlooker<'t>,
+    text: &[u8],
+) -> Result<WatchedEnd<Onlooker<'t>>, CaptureFault>
+    ensures { IsJudgedAlone (end_of layers) (Some text.now) (only result (λ watched. watched.verdict)) }
 {
-    judge_end_over(alloc, layers, &mut Tally::new(text))
+    watch_end_over(alloc, layers, &mut Tally::new(text), onlooker)
 }

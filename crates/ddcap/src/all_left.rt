@@ -1,5 +1,8 @@
 //! What is not judged any more of a pair, or of one end, after its refusals.
 
+ghost use Rattle.std.specs.Prelude.{◌≡◌, true, not};
+ghost use Rattle.ddcap.specs.inner.AllLeft.{Leaves, beyond_of};
+
 use capture::CaptureFault;
 use leaving_out::{Head, Leaving, bind_all};
 use link_groups::{Groups, LeftOut, OwnAddress};
@@ -25,7 +28,9 @@ pub enum Beyond {
 
 impl Beyond {
     /// What a refusal for this reason leads to: of a station or of the line, to the end.
-    pub fn of(reason: Reason) -> Beyond {
+    pub fn of(reason: Reason) -> Beyond
+        ensures { result ≡ beyond_of reason }
+    {
         match reason {
             Reason::CrossedPeriod => Beyond::AnyPeriod,
             Reason::BadPacket => Beyond::UnreadPackets,
@@ -45,6 +50,16 @@ impl Beyond {
             Beyond::AnyPeriod => "from here periods are not asked\n",
             Beyond::UnreadPackets => "from here packets that cannot be read are carried\n",
             Beyond::UnreadMessages => "from here messages that cannot be read are carried\n",
+            Beyond::Ends | Beyond::Links => "",
+        }
+    }
+
+    /// The same as an object with its LF.
+    pub fn object(self) -> &'static str {
+        match self {
+            Beyond::AnyPeriod => "{\"what\": \"from_here\", \"unasked\": \"periods\"}\n",
+            Beyond::UnreadPackets => "{\"what\": \"from_here\", \"unasked\": \"packets\"}\n",
+            Beyond::UnreadMessages => "{\"what\": \"from_here\", \"unasked\": \"messages\"}\n",
             Beyond::Ends | Beyond::Links => "",
         }
     }
@@ -110,7 +125,9 @@ impl NotJudged {
 
     /// From here on what a refusal leads to is not judged. `address` is that of the links which the refused record is about. Whether anything
     /// more is left out by it, so that the judgement goes on.
-    pub fn leave(&mut self, beyond: Beyond, address: Option<OwnAddress>) -> bool {
+    pub fn leave(&mut self, beyond: Beyond, address: Option<OwnAddress>) -> bool
+        ensures { Leaves beyond address self.old self.new result }
+    {
         match beyond {
             Beyond::Ends => false,
             Beyond::AnyPeriod => is_new(&mut self.any_period),
@@ -131,7 +148,10 @@ impl NotJudged {
 }
 
 // Sets what may be set already; whether it was not.
-fn is_new(flag: &mut bool) -> bool {
+fn is_new(flag: &mut bool) -> bool
+    ensures set { flag.new ≡ true }
+    ensures was { result ≡ not flag.old }
+{
     let was = *flag;
     *flag = true;
     !was

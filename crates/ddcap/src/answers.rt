@@ -10,7 +10,7 @@ use crate::check::{print, print_fault, print_out_of_memory};
 use crate::end_text::end_status;
 use crate::fault_told::FaultTold;
 use crate::layers::{Layers, judge_end_over, judge_over};
-use crate::objects::{NO_MEMORY, end_object, fault_object, verdict_object};
+use crate::objects::{NO_MEMORY, end_object, fault_object, verdict_object, with_lf};
 use crate::path_text::put_path;
 use crate::text::{FAILED, verdict_status, verdict_text};
 use pair_judge::Verdict;
@@ -121,9 +121,7 @@ pub fn print_told<O: Write>(alloc: Global, name: &str, told: FaultTold, out: &mu
 }
 
 fn with_end(object: Result<Vec<u8>, AllocError>) -> Result<Vec<u8>, AllocError> {
-    let mut line = object?;
-    line.push(b'\n')?;
-    Ok(line)
+    with_lf(object?)
 }
 
 /// Prints the name of the first file before a fault. `Err`: there is no memory for it, which was told, or the write failed; with status 3.

@@ -1,22 +1,17 @@
 //! `check` and `alone` between the names of their files and their status.
 
+use crate::all_files::{alone_all_file, check_all_pair};
 use crate::alone::{alone_line_to, alone_queued_to, alone_to};
 use crate::answers::{alone_json_to, check_json_to, check_named_to, print_name, print_told};
 use crate::check::{check_line_to, check_queued_to, check_to};
 use crate::fault_told::FaultTold;
 use crate::files::{Named, Told, Wanted, open_to_read, opened, told_fault_of};
+use crate::how::{How, Refusals};
 use crate::layers::Layers;
 use crate::telling::Form;
 use std::io::Write;
 use std::rt::Files;
 use wire_base::Tally;
-
-/// How captures are judged, and how the answer is printed.
-#[derive(Clone, Copy, Debug, PartialEq, Eq)]
-pub struct How {
-    pub form: Form,
-    pub layers: Layers,
-}
 
 /// The names of the files of a pair.
 #[derive(Clone, Copy, Debug, PartialEq, Eq)]
@@ -40,19 +35,32 @@ pub fn check_files<R: Files + AllocGlobal, O: Write, E: Write>(
             a: pair[0],
             b: pair[1],
         };
-        let status = match how.form {
-            Form::Json => check_as_object(rt, how.layers, paths, out, err),
-            Form::Rows => match files.len() == 2 {
-                true => check_pair(rt, how.layers, paths, out, err),
-                false => check_named(rt, how.layers, paths, out, err),
-            },
-        };
+        let status = check_one(rt, how, files.len() == 2, paths, out, err);
         greatest = status.max(greatest);
         if out.faults() > 0 || err.faults() > 0 {
             return greatest;
         }
     }
     greatest
+}
+
+// A pair, with the name of its first file before the answer where it is not the only one.
+fn check_one<R: Files + AllocGlobal, O: Write, E: Write>(
+    rt: &R,
+    how: How,
+    is_only: bool,
+    paths: PairPaths<'_>,
+    out: &mut Tally<O>,
+    err: &mut Tally<E>,
+) -> u8 {
+    match (how.refusals, how.form) {
+        (Refusals::All, _) => check_all_pair(rt, how, is_only, paths, out, err),
+        (Refusals::First, Form::Json) => check_as_object(rt, how.layers, paths, out, err),
+        (Refusals::First, Form::Rows) => match is_only {
+            true => check_pair(rt, how.layers, paths, out, err),
+            false => check_named(rt, how.layers, paths, out, err),
+        },
+    }
 }
 
 /// Opens both files of a pair to be read, a's first. `Err`: one can't be opened, which was told in this way.
@@ -154,6 +162,9 @@ pub fn alone_file<R: Files + AllocGlobal, O: Write, E: Write>(
     out: &mut Tally<O>,
     err: &mut Tally<E>,
 ) -> u8 {
+    if how.refusals == Refusals::All {
+        return alone_all_file(rt, how, path, out, err);
+    }
     let mut a = match opened(rt, Wanted::by_path(Named::A, path), err) {
         Ok(a) => a,
         Err(told) => return not_judged(rt, how.form, path, told, out),

@@ -38,14 +38,14 @@ fn alone<'a>(alloc: Global) -> Result<Command<'a>, AllocError> {
         .arg(all_refusals(alloc))
 }
 
-// `--all`, before or after the files
-fn all_refusals<'a>(alloc: Global) -> Arg<'a> {
+/// `--all`, before or after the files
+pub fn all_refusals<'a>(alloc: Global) -> Arg<'a> {
     Arg::new(alloc, "all")
         .long("all")
         .action(ArgAction::SetTrue)
 }
 
-// `why [--line | --queued] [--full] [--json] A [B]`
+// `why [--all] [--line | --queued] [--full] [--json] A [B]`
 fn why<'a>(alloc: Global) -> Result<Command<'a>, AllocError> {
     Command::new(alloc, "why")
         .arg(Arg::new(alloc, "A").required(true))?
@@ -57,7 +57,8 @@ fn why<'a>(alloc: Global) -> Result<Command<'a>, AllocError> {
                 .long("full")
                 .action(ArgAction::SetTrue),
         )?
-        .arg(as_json(alloc))
+        .arg(as_json(alloc))?
+        .arg(all_refusals(alloc))
 }
 
 // `--json`, before or after the files

@@ -5,13 +5,14 @@ ghost use Rattle.coverage.specs.Missing.{hint_row};
 ghost use Rattle.coverage.specs.declared.order.TheConstants.{ORDER};
 
 use crate::answers::print_told;
-use crate::check_files::{How, PairPaths, opened_pair};
+use crate::check_files::{PairPaths, opened_pair};
 use crate::cover::{
     Covered, cover_pair, cover_pair_over, print_covered, print_missing, print_pair,
 };
 use crate::cover_objects::{CoveredObjects, cover_object, print_covered_object};
 use crate::fault_told::FaultTold;
 use crate::files::Told;
+use crate::how::How;
 use crate::layers::Layers;
 use crate::telling::Form;
 use coverage::{Hint, all_hints, all_setups, station_hints};

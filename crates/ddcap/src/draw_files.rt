@@ -3,15 +3,22 @@
 ghost use Rattle.std.specs.Prelude.{◌≤◌};
 ghost use Rattle.drawing.specs.declared.range.TheConstants.{MAX_ROWS};
 
+use crate::all_draw::{AllFound, all_drawn, all_found, all_marked, all_words, marked_rows};
+use crate::all_judged::{AllFault, print_read_once};
+use crate::all_pair::{PairCaptures, Telling};
+use crate::all_told::Refusal;
 use crate::check::{print, print_fault, print_out_of_memory};
 use crate::draw::draw_rows_to;
 use crate::fault_told::FaultTold;
 use crate::files::{Named, Wanted, opened_plain};
-use crate::picture::picture_of;
+use crate::how::Refusals;
+use crate::picture::{Above, layers_of, picture_of, svg_below};
+use crate::telling::{Form, Printout, REFUSED};
 use crate::text::{FAILED, verdict_status};
 use crate::written::written_beside_pair;
-use drawing::Range;
-use std::io::Write;
+use drawing::{DrawnPair, Range};
+use std::alloc::{AllocError, Global};
+use std::io::{Read, Seek, Write};
 use std::rt::Files;
 use wire_base::{Tally, write_whole};
 
@@ -23,6 +30,8 @@ pub struct Asked<'a> {
     pub range: Range,
     /// The file of the picture; the rows are printed where none is named.
     pub svg: Option<&'a str>,
+    /// Which refusals are drawn: those behind the first one are marked where all are.
+    pub refusals: Refusals,
     ghost low: { 1 ≤ range.rows },
     ghost high: { range.rows ≤ MAX_ROWS },
 }
@@ -36,20 +45,129 @@ pub fn draw_files<R: Files + AllocGlobal, O: Write, E: Write>(
 ) -> Result<u8, FaultTold> {
     let mut a = opened_plain(rt, Wanted::by_path(Named::A, asked.a), err)?;
     let mut b = opened_plain(rt, Wanted::by_path(Named::B, asked.b), err)?;
+    if asked.refusals == Refusals::All {
+        match all_found(rt.alloc(), &mut captures_of(asked, &mut a, &mut b)) {
+            Ok(Some(all)) => return draw_all(rt, asked, &mut a, &mut b, &all, out, err),
+            Ok(None) => {}
+            Err(AllFault::ReadOnce(side)) => return Ok(print_read_once(err, side)),
+            Err(AllFault::Judge(fault)) => return Ok(print_fault(rt.alloc(), fault, err)),
+        }
+    }
+    draw_first(rt, asked, &mut a, &mut b, out, err)
+}
+
+// Draws both captures up to the first refusal.
+fn draw_first<R: Files + AllocGlobal, O: Write, E: Write>(
+    rt: &R,
+    asked: Asked<'_>,
+    a: &mut R::File,
+    b: &mut R::File,
+    out: &mut Tally<O>,
+    err: &mut Tally<E>,
+) -> Result<u8, FaultTold> {
     let Some(path) = asked.svg else {
-        return Ok(draw_rows_to(rt.alloc(), asked.range, &mut a, &mut b, out, err));
+        return Ok(draw_rows_to(rt.alloc(), asked.range, a, b, out, err));
     };
     let Ok(title) = format!(in rt.alloc(); "{}  {}", asked.a, asked.b) else {
         return Ok(print_out_of_memory(err));
     };
-    match picture_of(rt.alloc(), &mut a, &mut b, asked.range, title.as_str()) {
+    match picture_of(rt.alloc(), a, b, asked.range, title.as_str()) {
         Ok(picture) => {
-            let mut svg = written_beside_pair(rt, &a, &b, Wanted::by_path(Named::Svg, path), err)?;
-            match write_whole(&mut svg, picture.svg.as_slice()) {
-                Ok(()) => Ok(verdict_status(picture.verdict)),
-                Err(_) => Ok(print(err, b"svg: write failed\n", FAILED)),
-            }
+            let status = verdict_status(picture.verdict);
+            write_picture(rt, a, b, path, picture.svg.as_slice(), status, err)
         }
         Err(fault) => Ok(print_fault(rt.alloc(), fault, err)),
+    }
+}
+
+// Draws what is left of both captures, with a mark at each refusal.
+fn draw_all<R: Files + AllocGlobal, O: Write, E: Write>(
+    rt: &R,
+    asked: Asked<'_>,
+    a: &mut R::File,
+    b: &mut R::File,
+    all: &AllFound,
+    out: &mut Tally<O>,
+    err: &mut Tally<E>,
+) -> Result<u8, FaultTold> {
+    let alloc = rt.alloc();
+    let drawn = all_drawn(
+        alloc,
+        &mut captures_of(asked, &mut *a, &mut *b),
+        asked.range,
+        all,
+    );
+    let pair = match drawn {
+        Ok(pair) => pair,
+        Err(AllFault::ReadOnce(side)) => return Ok(print_read_once(err, side)),
+        Err(AllFault::Judge(fault)) => return Ok(print_fault(alloc, fault, err)),
+    };
+    let Some(path) = asked.svg else {
+        return match marked_rows(alloc, &pair.drawn, all.refusals.as_slice()) {
+            Ok(text) => Ok(print(out, text.as_bytes(), REFUSED)),
+            Err(_) => Ok(print_out_of_memory(err)),
+        };
+    };
+    match all_picture(alloc, asked, &pair, a, b, all.refusals.as_slice()) {
+        Ok(picture) => write_picture(rt, a, b, path, picture.as_slice(), REFUSED, err),
+        Err(_) => Ok(print_out_of_memory(err)),
+    }
+}
+
+// The picture of these rows.
+fn all_picture<A: Read + Seek, B: Read + Seek>(
+    alloc: Global,
+    asked: Asked<'_>,
+    pair: &DrawnPair,
+    a: &mut A,
+    b: &mut B,
+    refusals: &[Refusal],
+) -> Result<Vec<u8>, AllocError> {
+    let title = format!(in alloc; "{}  {}", asked.a, asked.b)?;
+    let verdict = all_words(alloc, refusals, pair.ends.verdict())?;
+    let marked = all_marked(alloc, refusals, pair.ends.verdict())?;
+    let above = Above {
+        title: title.as_str(),
+        verdict: verdict.as_str(),
+        marked: marked.as_slice(),
+    };
+    svg_below(alloc, asked.range.judging, pair, a, b, above)
+}
+
+// The captures of these files.
+fn captures_of<'n, 'a, 'b, A: Read + Seek, B: Read + Seek>(
+    asked: Asked<'n>,
+    a: &'a mut A,
+    b: &'b mut B,
+) -> PairCaptures<'n, 'a, 'b, A, B> {
+    let printout = Printout {
+        layers: layers_of(asked.range.judging),
+        form: Form::Rows,
+        full: false,
+        name_a: asked.a,
+        name_b: asked.b,
+    };
+    PairCaptures {
+        printout,
+        telling: Telling::Nothing,
+        a,
+        b,
+    }
+}
+
+// Writes a picture into its file, and answers the status: the given one, or 3 where a write failed.
+fn write_picture<R: Files + AllocGlobal, E: Write>(
+    rt: &R,
+    a: &R::File,
+    b: &R::File,
+    path: &str,
+    picture: &[u8],
+    status: u8,
+    err: &mut Tally<E>,
+) -> Result<u8, FaultTold> {
+    let mut svg = written_beside_pair(rt, a, b, Wanted::by_path(Named::Svg, path), err)?;
+    match write_whole(&mut svg, picture) {
+        Ok(()) => Ok(status),
+        Err(_) => Ok(print(err, b"svg: write failed\n", FAILED)),
     }
 }

@@ -3,8 +3,9 @@
 ghost use Rattle.std.specs.Prelude.{◌≤◌, IfSome};
 ghost use Rattle.drawing.specs.declared.range.TheConstants.{MAX_ROWS};
 
-use crate::commands::{line_alone, with_queues};
+use crate::commands::{all_refusals, line_alone, with_queues};
 use crate::draw_files::Asked;
+use crate::judging_words::refusals_of;
 use crate::words::WordsFault;
 use capture::{MAX_RECORDS, positive_of};
 use clap::{Arg, ArgMatches, Command};
@@ -12,13 +13,14 @@ use drawing::{Judging, MAX_ROWS, ROWS, Range, Start};
 use std::alloc::{AllocError, Global};
 use wire_base::Side;
 
-/// `draw A B [--line | --queued] [--from SIDE:LINE] [--rows N] [--svg FILE]`
+/// `draw A B [--all] [--line | --queued] [--from SIDE:LINE] [--rows N] [--svg FILE]`
 pub fn draw<'a>(alloc: Global) -> Result<Command<'a>, AllocError> {
     Command::new(alloc, "draw")
         .arg(Arg::new(alloc, "A").required(true))?
         .arg(Arg::new(alloc, "B").required(true))?
         .arg(line_alone(alloc))?
         .arg(with_queues(alloc))?
+        .arg(all_refusals(alloc))?
         .arg(Arg::new(alloc, "from").long("from"))?
         .arg(Arg::new(alloc, "rows").long("rows"))?
         .arg(Arg::new(alloc, "svg").long("svg"))
@@ -59,6 +61,7 @@ pub fn drawing_asked<'a>(found: &ArgMatches<'a>) -> Result<Asked<'a>, WordsFault
             judging,
         },
         svg,
+        refusals: refusals_of(found),
     })
 }
 

@@ -11,7 +11,8 @@ use crate::check::{print, print_out_of_memory};
 use crate::end_text::end_text;
 use crate::last_rows::LastRows;
 use crate::layers::{Layers, failed_end_over, watch_end_over};
-use crate::telling::{Form, REFUSED, ladder_text};
+use crate::rows_before::ladder_text;
+use crate::telling::{Form, REFUSED};
 use ladder::Ladder;
 use pair_judge::{EndVerdict, SideEnd, SideSummary, WatchedEnd};
 use std::alloc::{AllocError, Global};
@@ -20,7 +21,7 @@ use why::{Accusation, Beside, EndRefusal, LinkPast, addresses_of, why_end_json, 
 use wire_base::{Side, Tally};
 
 /// What is judged, how the answer is printed, and the name of the capture in it.
-#[derive(Clone, Copy)]
+#[derive(Clone, Copy, Debug, PartialEq, Eq)]
 pub struct EndPrintout<'n> {
     pub layers: Layers,
     pub form: Form,
@@ -60,8 +61,8 @@ pub fn why_end_to<A: Read, O: Write, E: Write>(
     }
 }
 
-// Prints that the end has passed.
-fn print_passed<O: Write, E: Write>(
+/// Prints that the end has passed.
+pub fn print_passed<O: Write, E: Write>(
     alloc: Global,
     printout: EndPrintout<'_>,
     counts: SideSummary,

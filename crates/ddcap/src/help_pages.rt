@@ -216,8 +216,10 @@ If it finds nothing that explains a unit, it names that unit. Unit 7 of a
   unexplained a unit 7 line 16: 7 WrongNumber
   no consistent explanation was found; this alone accuses neither node
 
-It begins with apart: where each side is explained by itself. Both captures
-then end with that unit. Then: ddcap why --queued A B
+If the second line is: whatever came to it, no right node sends a unit 7 line
+16, then that node is at fault. The answer begins with apart: where each side
+is explained by itself. Both captures then end with that unit. Then: ddcap why
+--queued A B
 
 The nodes may have queues between NSP and DDCMP: docs/LINKS.md says more. With
 --line only DDCMP is judged: a packet may be any bytes. Units whose header

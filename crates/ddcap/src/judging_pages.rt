@@ -30,9 +30,9 @@ once. It can't be combined with --line.
 With --all it does not end at the first refusal. It leaves out the link of the
 refused record, with all that share an address with it, and judges the rest:
 one line for each refusal, at most 50, and then else and the last answer, or
-and more. Only for one pair, without --json.
+and more.
 
-With --json the answer is one JSON object; docs/KEYS.md has its keys.
+With --json each answer is one JSON object; docs/KEYS.md has its keys.
 
 More pairs may follow, as A B C D: each is answered in turn, with the name of
 its first file before the answer, and the status is the greatest.
@@ -95,9 +95,10 @@ It ends with status 1 and prints a text that begins:
 The first line is that of check. Then come the record, layer by layer; what was
 seen and allowed, the rule and its pages; both stations and their links as they
 were before it; the last ten rows, a on the left and b on the right; who is
-accused; and whether a small change of a recording would make the pair
-acceptable. If so, the recording is more likely at fault than a node, unless
-one wrong unit of the node would explain it as well. This is no proof.
+accused; what is answered without the link, and of the line alone; and whether
+a small change of a recording would make the pair acceptable. If so, the
+recording is more likely at fault than a node, unless one wrong unit of the
+node would explain it as well. This is no proof.
 
 With --json, before or after the files, each of these is an object on a line of
 its own. For a pair that is not refused, the answer is that of check.
@@ -105,7 +106,8 @@ its own. For a pair that is not refused, the answer is that of check.
 docs/KEYS.md has the keys of these objects. With --line only DDCMP is judged,
 and with --queued nodes with queues between NSP and DDCMP, as by check; then
 each link also says how far it has come. With --full all bytes of the record
-are printed, and not only the first 64.
+are printed, and not only the first 64. With --all each refusal is explained
+that check --all finds.
 
 At a faulty line it says on standard error what is there, at which column, and
 what would be correct.
@@ -190,7 +192,8 @@ With --from a:9 the rows begin with the record on line 9 of A (b:9: of B).
 With --rows 80 there are up to 80 of them; 200 is the most. With --svg FILE
 they are drawn into FILE, which is created, or emptied first: a picture for any
 browser. With --line only DDCMP is judged, with --queued nodes with queues, as
-by check. These options go before or after A and B.
+by check. With --all it goes on after refusals as check does, and marks each.
+These options go before or after A and B.
 
 Status:
   0  accepted, and drawn

@@ -1,99 +1,72 @@
 //! The words after those that judge captures.
 
-use crate::check_files::PairPaths;
 use crate::cover_files::Listed;
+use crate::end_telling::EndPrintout;
+use crate::how::{How, Refusals};
 use crate::layers::Layers;
 use crate::tap_files::TapPaths;
-use crate::telling::Form;
+use crate::telling::{Form, Printout};
 use crate::words::{Task, WordsFault};
 use clap::ArgMatches;
 use std::alloc::{AllocError, Global};
 
 /// The pairs of captures that the words after `check` name.
 pub fn checked_of<'a>(alloc: Global, found: &ArgMatches<'a>) -> Result<Task<'a>, WordsFault> {
-    let Some(layers) = judged_layers_of(found) else {
-        return Err(WordsFault::BadWords);
-    };
-    if found.get_flag("all") {
-        return all_checked_of(found, layers);
-    }
-    match pairs_named(alloc, found) {
-        Ok(files) => Ok(Task::Check {
-            form: form_of(found),
-            layers,
-            files,
-        }),
-        Err(fault) => Err(fault),
-    }
-}
-
-// The pair of which all refusals are asked for: a single one, as rows.
-fn all_checked_of<'a>(found: &ArgMatches<'a>, layers: Layers) -> Result<Task<'a>, WordsFault> {
-    if found.get_flag("json") || found.get_strs("MORE").is_some() {
-        return Err(WordsFault::BadWords);
-    }
-    match (found.get_str("A"), found.get_str("B")) {
-        (Some(a), Some(b)) => Ok(Task::CheckAll {
-            layers,
-            paths: PairPaths { a, b },
-        }),
-        _ => Err(WordsFault::BadWords),
-    }
+    let how = how_asked(found, refusals_of(found))?;
+    let files = pairs_named(alloc, found)?;
+    Ok(Task::Check { how, files })
 }
 
 /// The capture that the words after `alone` name.
 pub fn judged_alone_of<'a>(found: &ArgMatches<'a>) -> Result<Task<'a>, WordsFault> {
-    let (Some(a), Some(layers)) = (found.get_str("A"), judged_layers_of(found)) else {
-        return Err(WordsFault::BadWords);
-    };
-    match (found.get_flag("all"), form_of(found)) {
-        (true, Form::Json) => Err(WordsFault::BadWords),
-        (true, Form::Rows) => Ok(Task::AloneAll { layers, a }),
-        (false, form) => Ok(Task::Alone { form, layers, a }),
+    let how = how_asked(found, refusals_of(found))?;
+    match found.get_str("A") {
+        Some(a) => Ok(Task::Alone { how, a }),
+        None => Err(WordsFault::BadWords),
     }
 }
 
 /// The captures that the words after `why` name, or the one.
 pub fn explained_of<'a>(found: &ArgMatches<'a>) -> Result<Task<'a>, WordsFault> {
-    let Some(a) = found.get_str("A") else {
-        return Err(WordsFault::BadWords);
-    };
-    let Some(layers) = judged_layers_of(found) else {
-        return Err(WordsFault::BadWords);
-    };
-    let form = form_of(found);
+    let How {
+        form,
+        layers,
+        refusals,
+    } = how_asked(found, refusals_of(found))?;
     let full = found.get_flag("full");
-    match found.get_str("B") {
-        Some(b) => Ok(Task::Why {
-            form,
-            layers,
-            full,
-            a,
-            b,
-        }),
-        None => Ok(Task::WhyAlone {
-            form,
-            layers,
-            full,
-            a,
-        }),
+    match (found.get_str("A"), found.get_str("B")) {
+        (Some(name_a), Some(name_b)) => {
+            let printout = Printout {
+                layers,
+                form,
+                full,
+                name_a,
+                name_b,
+            };
+            Ok(Task::Why { refusals, printout })
+        }
+        (Some(name), None) => {
+            let printout = EndPrintout {
+                layers,
+                form,
+                full,
+                name,
+            };
+            Ok(Task::WhyAlone { refusals, printout })
+        }
+        (None, _) => Err(WordsFault::BadWords),
     }
 }
 
 /// The pairs of captures that the words after `cover` name.
 pub fn covered_of<'a>(alloc: Global, found: &ArgMatches<'a>) -> Result<Task<'a>, WordsFault> {
-    let Some(layers) = judged_layers_of(found) else {
-        return Err(WordsFault::BadWords);
-    };
-    match pairs_named(alloc, found) {
-        Ok(files) => Ok(Task::Cover {
-            form: form_of(found),
-            layers,
-            listed: listed_of(found),
-            files,
-        }),
-        Err(fault) => Err(fault),
-    }
+    let how = how_asked(found, Refusals::First)?;
+    let files = pairs_named(alloc, found)?;
+    Ok(Task::Cover {
+        how,
+        listed: listed_of(found),
+        files,
+    })
 }
 
 /// The text and the captures that the words after `tap` name.
@@ -117,6 +90,26 @@ pub fn tapped_of<'a>(found: &ArgMatches<'a>) -> Result<Task<'a>, WordsFault> {
             })
         }
         _ => Err(WordsFault::BadWords),
+    }
+}
+
+// How captures are judged, and how the answer is printed.
+fn how_asked(found: &ArgMatches<'_>, refusals: Refusals) -> Result<How, WordsFault> {
+    match judged_layers_of(found) {
+        Some(layers) => Ok(How {
+            form: form_of(found),
+            layers,
+            refusals,
+        }),
+        None => Err(WordsFault::BadWords),
+    }
+}
+
+/// Which refusals are told.
+pub fn refusals_of(found: &ArgMatches<'_>) -> Refusals {
+    match found.get_flag("all") {
+        true => Refusals::All,
+        false => Refusals::First,
     }
 }
 

@@ -3,10 +3,12 @@
 ghost use Rattle.std.specs.Prelude.{[], IfOk, IfErr};
 ghost use Rattle.ddcap.specs.inner.LastRows.{WereTold};
 
+use capture::Entry;
 use ladder::{Keep, Ladder};
 use pair_judge::{MadeEntry, Observer};
 use std::alloc::{AllocError, Global};
 use why::LinkPast;
+use wire_base::Side;
 
 /// How many rows there are before that of the refused record.
 pub const ROWS_BEFORE: usize = 10;
@@ -26,6 +28,14 @@ impl LastRows {
         let ladder = Ladder::new(alloc, Keep::Last, ROWS_BEFORE + 1)?;
         let past = LinkPast::new(alloc);
         Ok(LastRows { ladder, past })
+    }
+}
+
+impl LastRows {
+    /// This record was made.
+    pub fn note(&mut self, side: Side, entry: Entry, bytes: &[u8]) -> Result<(), AllocError> {
+        self.past.note(side, entry, bytes)?;
+        self.ladder.made(side, entry, bytes)
     }
 }
 

@@ -19,10 +19,10 @@ use capture::CaptureFault;
 use nsp_link::{WITH_QUEUES, WITHOUT_QUEUES};
 use pair_judge::{
     EndVerdict, FailedCheck, JudgeFault, JudgedEnds, Observer, Reason, SideEnd, Verdict, Watched,
-    WatchedEnd, judge, judge_any_period, judge_end, judge_end_watched, judge_line,
-    judge_line_any_period, judge_line_end, judge_line_end_watched, judge_line_told, judge_queued,
-    judge_queued_any_period, judge_queued_end, judge_queued_end_watched, judge_queued_told,
-    judge_watched,
+    WatchedEnd, judge, judge_any_period_told, judge_end, judge_end_watched, judge_line,
+    judge_line_any_period_told, judge_line_end, judge_line_end_watched, judge_line_told,
+    judge_queued, judge_queued_any_period_told, judge_queued_end, judge_queued_end_watched,
+    judge_queued_told, judge_watched,
 };
 use std::alloc::Global;
 use std::io::Read;
@@ -77,22 +77,6 @@ pub fn judge_over<A: Read, B: Read>(
     }
 }
 
-/// Judges them without asking for periods: stations act on what comes by its bytes.
-pub fn judge_any_period_over<A: Read, B: Read>(
-    alloc: Global,
-    layers: Layers,
-    a: &mut Tally<A>,
-    b: &mut Tally<B>,
-) -> Result<Verdict, JudgeFault>
-    ensures { IsAnswer (any_period_nodes_of layers) (A.remaining (tally_lent a.old)) (B.remaining (tally_lent b.old)) result }
-{
-    match layers {
-        Layers::Both => judge_any_period(alloc, a, b),
-        Layers::Queued => judge_queued_any_period(alloc, a, b),
-        Layers::Station => judge_line_any_period(alloc, a, b),
-    }
-}
-
 /// Judges the captures that two readers give while an observer is told of each record that is made, and gives both ends as they are then.
 pub fn watch_over<O: Observer, A: Read, B: Read>(
     alloc: Global,
@@ -111,6 +95,25 @@ pub fn watch_over<O: Observer, A: Read, B: Read>(
         Layers::Both => judge_watched(alloc, a, b, observer),
         Layers::Queued => judge_queued_told(alloc, a, b, observer),
         Layers::Station => judge_line_told(alloc, a, b, observer),
+    }
+}
+
+/// Judges them so without asking for periods: stations act on what comes by its bytes.
+pub fn watch_any_period_over<O: Observer, A: Read, B: Read>(
+    alloc: Global,
+    layers: Layers,
+    a: &mut Tally<A>,
+    b: &mut Tally<B>,
+    observer: O,
+) -> Result<Watched<O>, JudgeFault>
+    requires { O.told observer [] }
+    ensures { IsAnswer (any_period_nodes_of layers) (A.remaining (tally_lent a.old)) (B.remaining (tally_lent b.old))
+        (verdict_in (only result (λ watched. watched.ends))) }
+{
+    match layers {
+        Layers::Both => judge_any_period_told(alloc, a, b, observer),
+        Layers::Queued => judge_queued_any_period_told(alloc, a, b, observer),
+        Layers::Station => judge_line_any_period_told(alloc, a, b, observer),
     }
 }
 

@@ -1,5 +1,6 @@
 //! The answers of words that judge, as JSON objects, in the keys of `why --json`. An object is put together without its LF.
 
+use crate::all_told::Refusal;
 use crate::fault_told::{FaultKind, FaultTold};
 use crate::layers::Layers;
 use pair_judge::{Accused, EndVerdict, Reason, SideSummary, Verdict};
@@ -35,6 +36,24 @@ pub fn verdict_object(
             ended(object)
         }
     }
+}
+
+/// A verdict of which `why` tells no more, with its LF.
+pub fn plain_object(
+    alloc: Global,
+    passed: &str,
+    refusal: Option<Refusal>,
+) -> Result<Vec<u8>, AllocError> {
+    let Some(refusal) = refusal else {
+        let object = format!(in alloc; "{{\"what\": \"{passed}\"}}\n")?;
+        return Ok(object.into_bytes());
+    };
+    let mut object = Vec::new(alloc);
+    put(&mut object, "{\"what\": \"refused\"")?;
+    put_place(alloc, &mut object, refusal.side, refusal.place)?;
+    put_reason(alloc, &mut object, refusal.reason)?;
+    put(&mut object, "}\n")?;
+    Ok(object)
 }
 
 /// The verdict on one end, whose file has this name.
@@ -91,6 +110,12 @@ pub fn begun(alloc: Global, what: &str, name: &str) -> Result<Vec<u8>, AllocErro
 /// The whole object.
 pub fn ended(mut object: Vec<u8>) -> Result<Vec<u8>, AllocError> {
     object.push(b'}')?;
+    Ok(object)
+}
+
+/// The whole object with its LF.
+pub fn with_lf(mut object: Vec<u8>) -> Result<Vec<u8>, AllocError> {
+    object.push(b'\n')?;
     Ok(object)
 }
 

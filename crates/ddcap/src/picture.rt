@@ -12,7 +12,7 @@ use crate::near::{near_of, what_is_asked};
 use capture::CaptureFault;
 use ddcmp_msg::read_unit;
 use drawing::{DrawnPair, Judging, MAX_ROWS, Range, drawing_of};
-use ladder::Caption;
+use ladder::{Caption, Marked};
 use pair_judge::{JudgeFault, JudgedEnds, Verdict};
 use std::alloc::{AllocError, Global};
 use std::io::{Read, Seek};
@@ -66,14 +66,42 @@ fn svg_of<A: Read + Seek, B: Read + Seek>(
     ensures { IfOk result (λ text. IsDocument text.items) }
 {
     let verdict = verdict_words(alloc, pair.ends.verdict())?;
+    let above = Above {
+        title,
+        verdict: verdict.as_str(),
+        marked: &[],
+    };
+    svg_below(alloc, judging, pair, a, b, above)
+}
+
+/// What is written above the rows of a picture, and which records get a box beside the refused one.
+#[derive(Clone, Copy)]
+pub struct Above<'t> {
+    pub title: &'t str,
+    pub verdict: &'t str,
+    pub marked: &'t [Marked],
+}
+
+/// The rows of a pair as a picture below these words. Fails for want of memory alone.
+pub fn svg_below<A: Read + Seek, B: Read + Seek>(
+    alloc: Global,
+    judging: Judging,
+    pair: &DrawnPair,
+    a: &mut A,
+    b: &mut B,
+    above: Above<'_>,
+) -> Result<Vec<u8>, AllocError>
+    ensures { IfOk result (λ text. IsDocument text.items) }
+{
     let unit = unit_named(alloc, a, b, &pair.ends)?;
     let check = check_words(alloc, judging, &pair.ends, &unit)?;
     let (seen, allowed) = seen_and_allowed(check.as_str());
     let caption = Caption {
-        title,
-        verdict: verdict.as_str(),
+        title: above.title,
+        verdict: above.verdict,
         seen,
         allowed,
+        marked: above.marked,
     };
     pair.drawn.svg(alloc, caption)
 }
@@ -94,8 +122,8 @@ fn verdict_words(alloc: Global, verdict: Verdict) -> Result<String, AllocError> 
     }
 }
 
-// The layers that are judged so.
-fn layers_of(judging: Judging) -> Layers {
+/// The layers that are judged so.
+pub fn layers_of(judging: Judging) -> Layers {
     match judging {
         Judging::Links => Layers::Both,
         Judging::Queued => Layers::Queued,
@@ -119,6 +147,9 @@ fn check_words(
     ) else {
         return Ok(String::new(alloc));
     };
+    if failed.reason() != reason {
+        return Ok(String::new(alloc));
+    }
     let unit = match unit {
         Some(unit) => Some(unit.as_slice()),
         None => None,

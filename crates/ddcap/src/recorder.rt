@@ -5,6 +5,7 @@ use crate::due::{damage_of, due_near};
 use crate::judged_again::{PairChanges, is_run_again};
 use crate::layers::Layers;
 use crate::near::{Near, near_of, what_is_asked};
+use crate::telling::Form;
 use crate::unit_changes::{is_sent_at_another_time, unit_changes};
 use capture::{CaptureFault, Entry};
 use edited::{Edit, MistakeOf, Refused, candidates};
@@ -12,7 +13,7 @@ use pair_judge::{JudgeFault, JudgedEnds, Verdict};
 use std::alloc::{AllocError, Global};
 use std::fmt::Write as _;
 use std::io::{Read, Seek};
-use why::{EditLine, EditsTried, FEW_RECORDS, QueuedAnswer, put_edit};
+use why::{AlsoAsked, EditLine, EditsTried, FEW_RECORDS, QueuedAnswer, put_edit};
 use wire_base::{Side, Tally};
 
 /// How many bytes of both captures are read at most while edits are judged: about two seconds' work.
@@ -43,6 +44,10 @@ pub struct Tried {
     pub later: ComesLater,
     pub unit: Option<Vec<u8>>,
     pub queued: QueuedAnswer,
+    /// What is answered where less is judged.
+    pub less: String,
+    /// Whether no edits were to be tried.
+    pub is_unasked: bool,
     /// The side whose capture could not be read further.
     pub failed: Option<Side>,
 }
@@ -73,7 +78,32 @@ impl Tried {
             later,
             unit,
             queued: QueuedAnswer::NotAsked,
+            less: String::new(alloc),
+            is_unasked: false,
             failed: None,
+        }
+    }
+
+    /// No edits were to be tried.
+    pub fn not_asked(alloc: Global) -> Tried {
+        let mut tried = Tried::nothing(alloc, None, nothing_later(alloc), None);
+        tried.is_unasked = true;
+        tried
+    }
+
+    /// How many were judged, and those that make the pair a run, in this form; and what else is told.
+    pub fn also_asked(&self, form: Form) -> AlsoAsked<'_> {
+        AlsoAsked {
+            queued: self.queued,
+            less: self.less.as_str(),
+            edits: match form {
+                Form::Rows => self.rows.as_str(),
+                Form::Json => self.lines.as_str(),
+            },
+            tried: match self.is_unasked {
+                true => None,
+                false => Some(self.counts),
+            },
         }
     }
 

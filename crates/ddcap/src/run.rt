@@ -4,9 +4,9 @@ ghost use Rattle.ddcap.specs.Printed.{Writes, stream_of, words_fault_status, wor
 ghost use Rattle.ddcap.specs.inner.Statuses.{EndsWith};
 
 use crate::align_files::align_files;
-use crate::all_files::{alone_all_file, check_all_files};
+use crate::all_why::{why_all_end_to, why_all_to};
 use crate::check::{print, print_out_of_memory};
-use crate::check_files::{How, alone_file, check_files};
+use crate::check_files::{alone_file, check_files};
 use crate::convert::convert_to;
 use crate::cover_files::cover_files;
 use crate::departure::{explain_departure_of_end, explain_departure_of_pair};
@@ -17,10 +17,12 @@ use crate::explanations::explanation_of;
 use crate::fault_told::FaultTold;
 use crate::files::{Named, Wanted, opened, opened_plain};
 use crate::help::help_to;
+use crate::how::Refusals;
+use crate::less_too::end_with_less;
 use crate::play_files::{PlayPaths, play_files};
 use crate::show::show_to;
 use crate::tap_files::tap_files;
-use crate::telling::{Printout, why_to};
+use crate::telling::{Printout, REFUSED, why_to};
 use crate::text::FAULTY;
 use crate::usages::advice_on;
 use crate::words::{Task, WordsFault, task_of};
@@ -68,58 +70,13 @@ struct Program<'r, 'o, 'e, R: Files + AllocGlobal, O: Write, E: Write> {
 impl<R: Files + AllocGlobal, O: Write, E: Write> Program<'_, '_, '_, R, O, E> {
     fn do_task(&mut self, task: Task<'_>) -> Result<u8, FaultTold> {
         match task {
-            Task::Check {
-                form,
-                layers,
-                files,
-            } => {
-                let how = How { form, layers };
+            Task::Check { how, files } => {
                 Ok(check_files(self.rt, how, files.as_slice(), self.out, self.err))
             }
-            Task::CheckAll { layers, paths } => {
-                check_all_files(self.rt, layers, paths, self.out, self.err)
-            }
-            Task::AloneAll { layers, a } => alone_all_file(self.rt, layers, a, self.out, self.err),
-            Task::Alone { form, layers, a } => {
-                Ok(alone_file(self.rt, How { form, layers }, a, self.out, self.err))
-            }
-            Task::Why {
-                form,
-                layers,
-                full,
-                a,
-                b,
-            } => {
-                let printout = Printout {
-                    layers,
-                    form,
-                    full,
-                    name_a: a,
-                    name_b: b,
-                };
-                self.why(printout)
-            }
-            Task::WhyAlone {
-                form,
-                layers,
-                full,
-                a,
-            } => {
-                let printout = EndPrintout {
-                    layers,
-                    form,
-                    full,
-                    name: a,
-                };
-                self.why_alone(printout)
-            }
-            Task::Cover {
-                form,
-                layers,
-                listed,
-                files,
-            } => {
-                let how = How { form, layers };
+            Task::Alone { how, a } => Ok(alone_file(self.rt, how, a, self.out, self.err)),
+            Task::Why { refusals, printout } => self.why(refusals, printout),
+            Task::WhyAlone { refusals, printout } => self.why_alone(refusals, printout),
+            Task::Cover { how, listed, files } => {
                 Ok(cover_files(self.rt, how, listed, files.as_slice(), self.out, self.err))
             }
             Task::Draw(asked) => draw_files(self.rt, asked, self.out, self.err),
@@ -138,7 +95,7 @@ impl<R: Files + AllocGlobal, O: Write, E: Write> Program<'_, '_, '_, R, O, E> {
         opened(self.rt, wanted, self.err)
     }
 
-    fn why(&mut self, printout: Printout<'_>) -> Result<u8, FaultTold> {
+    fn why(&mut self, refusals: Refusals, printout: Printout<'_>) -> Result<u8, FaultTold> {
         let mut a = opened_plain(
             self.rt,
             Wanted::by_path(Named::A, printout.name_a),
@@ -150,20 +107,41 @@ impl<R: Files + AllocGlobal, O: Write, E: Write> Program<'_, '_, '_, R, O, E> {
             self.err,
         )?;
         let alloc = self.rt.alloc();
-        let status = why_to(alloc, printout, &mut a, &mut b, self.out, self.err);
+        let status = match refusals {
+            Refusals::First => why_to(alloc, printout, &mut a, &mut b, self.out, self.err),
+            Refusals::All => why_all_to(alloc, printout, &mut a, &mut b, self.out, self.err),
+        };
         if status == FAULTY {
             explain_departure_of_pair(alloc, printout.layers, &mut a, &mut b, self.err);
         }
         Ok(status)
     }
 
-    fn why_alone(&mut self, printout: EndPrintout<'_>) -> Result<u8, FaultTold> {
+    fn why_alone(
+        &mut self,
+        refusals: Refusals,
+        printout: EndPrintout<'_>,
+    ) -> Result<u8, FaultTold> {
         let mut file = opened_plain(self.rt, Wanted::by_path(Named::A, printout.name), self.err)?;
-        let mut a = Tally::new(&mut file);
         let alloc = self.rt.alloc();
-        let status = why_end_to(alloc, printout, &mut a, self.out, self.err);
-        if status == FAULTY {
-            explain_departure_of_end(alloc, printout.layers, &mut file, self.err);
+        let status = match refusals {
+            Refusals::First => {
+                why_end_to(
+                    alloc,
+                    printout,
+                    &mut Tally::new(&mut file),
+                    self.out,
+                    self.err,
+                )
+            }
+            Refusals::All => why_all_end_to(alloc, printout, &mut file, self.out, self.err),
+        };
+        match (status, refusals) {
+            (FAULTY, _) => explain_departure_of_end(alloc, printout.layers, &mut file, self.err),
+            (REFUSED, Refusals::First) => {
+                return Ok(end_with_less(alloc, printout, &mut file, self.out, self.err));
+            }
+            _ => {}
         }
         Ok(status)
     }

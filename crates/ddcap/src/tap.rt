@@ -28,7 +28,7 @@ use tap_answer::{
     unexplained_text,
 };
 use wire_base::{Side, Tally};
-use wire_tap::{Ending, TapFault, Tapped};
+use wire_tap::{Accused, Ending, TapFault, Tapped};
 
 /// The status where the captures are accepted.
 pub const ACCEPTED: u8 = 0;
@@ -47,6 +47,8 @@ pub struct Captured<'a> {
     pub is_apart: bool,
     /// What is assumed.
     pub turns: &'a [Turn],
+    /// Which units no right node sent.
+    pub accused: Accused,
 }
 
 /// A refused record of captures that are to be cut there, before anything is printed.
@@ -168,7 +170,7 @@ fn print_told<O: Write, E: Write>(
     match said_of(captured.tapped.ending, verdict, captured.is_apart) {
         Told::Accepted => print_behind(alloc, text, captured, ACCEPTED, out, err),
         Told::Unexplained { passed, reason } => {
-            let text = unexplained_text(alloc, passed, reason);
+            let text = unexplained_text(alloc, passed, reason, captured.accused);
             print_behind(alloc, text, captured, UNEXPLAINED, out, err)
         }
         Told::Apart { passed, reason } => {
@@ -176,7 +178,7 @@ fn print_told<O: Write, E: Write>(
             print_behind(alloc, text, captured, UNEXPLAINED, out, err)
         }
         Told::UnexplainedEnd { reason } => {
-            let text = unexplained_end_text(alloc, reason);
+            let text = unexplained_end_text(alloc, reason, captured.accused);
             print_behind(alloc, text, captured, UNEXPLAINED, out, err)
         }
         Told::TooWide(passed) => match too_wide_text(alloc, passed) {

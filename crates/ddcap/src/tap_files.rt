@@ -17,7 +17,7 @@ use placing::{Explained, Turn};
 use std::io::Write;
 use std::rt::Files;
 use wire_base::{Side, Tally};
-use wire_tap::{Asked, Tapped, tap};
+use wire_tap::{Accused, Asked, Tapped, find_accused, tap};
 
 /// The names of the files: what passed, and the captures to be written; and whether stations and line alone are judged.
 #[derive(Clone, Copy, Debug, PartialEq, Eq)]
@@ -74,6 +74,7 @@ fn tap_whole<R: Files + AllocGlobal, O: Write, E: Write>(
             is_cut: false,
             is_apart: false,
             turns: turns.as_slice(),
+            accused: Accused::NOBODY,
         };
         match judge_captures(rt, form, paths, whole, out, err)? {
             Ok(status) => return Ok(status),
@@ -99,16 +100,37 @@ fn tell_unit<R: Files + AllocGlobal, O: Write, E: Write>(
     err: &mut Tally<E>,
 ) -> Result<u8, FaultTold> {
     let is_apart = are_apart(rt, paths, turns, unit, err)?;
+    let accused = match is_apart {
+        true => Accused::NOBODY,
+        false => units_accused(rt, paths, err)?,
+    };
     let tapped = write_captures(rt, paths, Explained::Together, turns, Some(unit), err)?;
     let cut = Captured {
         tapped,
         is_cut: true,
         is_apart,
         turns,
+        accused,
     };
     match judge_captures(rt, form, paths, cut, out, err)? {
         Ok(status) => Ok(status),
         Err(_) => unreachable!(),
+    }
+}
+
+// Which units no right node sent, as far as that is known.
+fn units_accused<R: Files + AllocGlobal, E: Write>(
+    rt: &R,
+    paths: TapPaths<'_>,
+    err: &mut Tally<E>,
+) -> Result<Accused, FaultTold> {
+    let wire = opened_plain(rt, Wanted::by_path(Named::Wire, paths.wire), err)?;
+    match find_accused(rt.alloc(), &mut Tally::new(wire)) {
+        Ok(accused) => Ok(accused),
+        Err(fault) => {
+            let status = print_tap_fault(rt.alloc(), fault, err);
+            Err(FaultTold::of_tap(fault, status))
+        }
     }
 }
 

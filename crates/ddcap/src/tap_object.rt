@@ -19,7 +19,7 @@ use std::alloc::{AllocError, Global};
 use std::io::{Read, Write};
 use tap_answer::{Told, said_of, too_wide_text};
 use wire_base::{Side, Tally};
-use wire_tap::{Passed, Skipped, Tapped};
+use wire_tap::{Accused, Passed, Skipped, Tapped};
 
 /// Judges captures as `tap_to` does, of what passed in the file of this name, and prints the answer or the fault as one JSON object. What `tap_to`
 /// tells to `err` is told there too. No contract tells the object.
@@ -69,15 +69,15 @@ fn print_tapped<O: Write, E: Write>(
             print_object(object, ACCEPTED, out, err)
         }
         Told::Unexplained { passed, reason } => {
-            let object = refused_object(alloc, "unexplained", name, Some(passed), reason, captured);
+            let object = unexplained_object(alloc, name, Some(passed), reason, captured);
             print_object(object, UNEXPLAINED, out, err)
         }
         Told::Apart { passed, reason } => {
-            let object = refused_object(alloc, "apart", name, Some(passed), reason, captured);
+            let object = apart_object(alloc, name, passed, reason, captured);
             print_object(object, UNEXPLAINED, out, err)
         }
         Told::UnexplainedEnd { reason } => {
-            let object = refused_object(alloc, "unexplained", name, None, reason, captured);
+            let object = unexplained_object(alloc, name, None, reason, captured);
             print_object(object, UNEXPLAINED, out, err)
         }
         Told::TooWide(passed) => {
@@ -115,26 +115,71 @@ fn accepted_object(
 }
 
 // They are refused, for this reason, and end with this unit, if one is named.
-fn refused_object(
+fn unexplained_object(
     alloc: Global,
-    answer: &str,
     name: &str,
     passed: Option<Passed>,
     reason: Reason,
     captured: Captured<'_>,
 ) -> Result<Vec<u8>, AllocError> {
-    let mut object = begun(alloc, answer, name)?;
-    match passed {
-        Some(passed) => put_unit(alloc, &mut object, passed)?,
-        None => put(
-            &mut object,
-            ", \"side\": null, \"unit\": null, \"line\": null",
-        )?,
-    }
-    put_reason(alloc, &mut object, reason)?;
+    let mut object = begun(alloc, "unexplained", name)?;
+    put_refused(alloc, &mut object, passed, reason)?;
+    put_accused(alloc, &mut object, captured.accused)?;
     put_assumed(alloc, &mut object, captured.turns)?;
     put_skipped(alloc, &mut object, captured.tapped)?;
     ended(object)
+}
+
+// The same, though each side is explained by itself.
+fn apart_object(
+    alloc: Global,
+    name: &str,
+    passed: Passed,
+    reason: Reason,
+    captured: Captured<'_>,
+) -> Result<Vec<u8>, AllocError> {
+    let mut object = begun(alloc, "apart", name)?;
+    put_refused(alloc, &mut object, Some(passed), reason)?;
+    put_assumed(alloc, &mut object, captured.turns)?;
+    put_skipped(alloc, &mut object, captured.tapped)?;
+    ended(object)
+}
+
+// The unit with which they end, if one is named, and the reason.
+fn put_refused(
+    alloc: Global,
+    object: &mut Vec<u8>,
+    passed: Option<Passed>,
+    reason: Reason,
+) -> Result<(), AllocError> {
+    match passed {
+        Some(passed) => put_unit(alloc, object, passed)?,
+        None => put(object, ", \"side\": null, \"unit\": null, \"line\": null")?,
+    }
+    put_reason(alloc, object, reason)
+}
+
+// The units that no right node sent.
+fn put_accused(alloc: Global, object: &mut Vec<u8>, accused: Accused) -> Result<(), AllocError> {
+    put(object, ", \"accused\": [")?;
+    put_one_accused(alloc, object, accused.a)?;
+    if accused.a.is_some() && accused.b.is_some() {
+        put(object, ", ")?;
+    }
+    put_one_accused(alloc, object, accused.b)?;
+    put(object, "]")
+}
+
+fn put_one_accused(
+    alloc: Global,
+    object: &mut Vec<u8>,
+    accused: Option<Passed>,
+) -> Result<(), AllocError> {
+    let Some(Passed { side, unit, line }) = accused else {
+        return Ok(());
+    };
+    let part = format!(in alloc; "{{\"side\": \"{side}\", \"unit\": {unit}, \"line\": {line}}}")?;
+    put(object, part.as_str())
 }
 
 // There were too many states to try before this unit.

@@ -7,13 +7,15 @@ ghost use Rattle.ddcap.specs.Printed.{moved};
 ghost use Rattle.ddcap.specs.PrintedWhy.{Explains, IsAccused, IsTold, PrintsAcceptance, TellsRefusal, WritesRefusal};
 
 use crate::check::{print, print_failed_read, print_fault, print_out_of_memory};
-use crate::last_rows::{LastRows, ROWS_BEFORE};
+use crate::last_rows::LastRows;
 use crate::layers::{Layers, failed_over, watch_over};
+use crate::less_too::with_less_too;
 use crate::queued_too::with_queues_too;
-use crate::recorder::{ComesLater, Tried, try_edits};
+use crate::recorder::{Tried, try_edits};
+use crate::rows_before::{ladder_text, tell_later, unit_text};
 use crate::text::{FAILED, verdict_text};
-use capture::{Entry, Fate};
-use ladder::{Drawn, Ladder, Sending, What};
+use capture::Entry;
+use ladder::{Drawn, Ladder};
 use pair_judge::{JudgedEnds, Reason, Summary, Verdict, Watched};
 use std::alloc::{AllocError, Global};
 use std::io::{Read, Seek, Write};
@@ -43,7 +45,7 @@ pub struct Refused {
 }
 
 /// What is judged, how the answer is printed, and the names of both captures in it.
-#[derive(Clone, Copy)]
+#[derive(Clone, Copy, Debug, PartialEq, Eq)]
 pub struct Printout<'n> {
     pub layers: Layers,
     pub form: Form,
@@ -91,11 +93,7 @@ pub fn why_to<A: Read + Seek, B: Read + Seek, O: Write, E: Write>(
                 place,
                 reason,
             };
-            let tried = match try_edits(alloc, layers, a, b, &watched.ends, side) {
-                Ok(tried) => tried,
-                Err(_) => return print_out_of_memory(err),
-            };
-            let tried = match with_queues_too(alloc, layers, a, b, reason, tried) {
+            let tried = match ask_again(alloc, printout, a, b, &watched.ends, refused) {
                 Ok(tried) => tried,
                 Err(_) => return print_out_of_memory(err),
             };
@@ -108,8 +106,23 @@ pub fn why_to<A: Read + Seek, B: Read + Seek, O: Write, E: Write>(
     }
 }
 
-// Prints that the pair is a run.
-fn print_accepted<O: Write, E: Write>(
+// What small edits tell of this refusal, and what is answered of nodes with queues, and where less is judged.
+fn ask_again<A: Read + Seek, B: Read + Seek>(
+    alloc: Global,
+    printout: Printout<'_>,
+    a: &mut A,
+    b: &mut B,
+    ends: &JudgedEnds,
+    refused: Refused,
+) -> Result<Tried, AllocError> {
+    let layers = printout.layers;
+    let tried = try_edits(alloc, layers, a, b, ends, refused.side)?;
+    let tried = with_queues_too(alloc, layers, a, b, refused.reason, tried)?;
+    with_less_too(alloc, printout, a, b, refused, tried)
+}
+
+/// Prints that the pair is a run.
+pub fn print_accepted<O: Write, E: Write>(
     alloc: Global,
     printout: Printout<'_>,
     summary: Summary,
@@ -225,25 +238,6 @@ fn unit_of(tried: &Tried) -> Option<&[u8]> {
     }
 }
 
-// The ladder is told what comes later.
-fn tell_later(ladder: &mut Ladder, later: &ComesLater) {
-    tell_hints(ladder, Side::A, &later.hints_a);
-    tell_hints(ladder, Side::B, &later.hints_b);
-    if later.is_all {
-        ladder.end();
-    }
-}
-
-fn tell_hints(ladder: &mut Ladder, side: Side, hints: &[u64]) {
-    for hint in hints {
-        let entry = Entry::Received {
-            fate: Fate::NotKept,
-            hint: *hint,
-        };
-        ladder.follows(side, entry);
-    }
-}
-
 // The JSON objects of a refusal.
 fn objects_text(
     alloc: Global,
@@ -253,14 +247,7 @@ fn objects_text(
 ) -> Result<String, AllocError>
     ensures { IfOk result (λ text. BeginsWith (refused_line (line_of refusal.entry)) (string_bytes text)) }
 {
-    why_json(
-        alloc,
-        refusal,
-        ends,
-        tried.lines.as_str(),
-        tried.counts,
-        tried.queued,
-    )
+    why_json(alloc, refusal, ends, tried.also_asked(Form::Json))
 }
 
 // The line of the verdict, and the rows of a refusal.
@@ -282,10 +269,8 @@ fn rows_text(
         unit: unit.as_str(),
         full: printout.full,
         ladder: rungs.as_str(),
-        tried: tried.counts,
-        edits: tried.rows.as_str(),
         unit_as_well: tried.unit_as_well,
-        queued: tried.queued,
+        asked: tried.also_asked(Form::Rows),
     };
     let first = verdict_text(alloc, Layers::Both, ends.verdict())?;
     let rows = why_rows(alloc, refusal, ends, shown)?;
@@ -293,50 +278,11 @@ fn rows_text(
 }
 
 impl Printout<'_> {
-    fn name_of(&self, side: Side) -> &str {
+    /// The name of this side's capture.
+    pub fn name_of(&self, side: Side) -> &str {
         match side {
             Side::A => self.name_a,
             Side::B => self.name_b,
         }
-    }
-}
-
-/// The rows before the refused record and its own, which comes last, below a heading. Fails for want of memory alone.
-pub fn ladder_text(alloc: Global, drawn: &Drawn) -> Result<String, AllocError> {
-    let mut text = match drawn.len() <= ROWS_BEFORE {
-        true => String::from_str(
-            alloc,
-            "  line all rows before it, a on the left, b on the right\n",
-        )?,
-        false => format!(in alloc;
-            "  line the {ROWS_BEFORE} rows before it, a on the left, b on the right\n"
-        )?,
-    };
-    for index in 0..drawn.len() {
-        if let Some(row) = drawn.text(alloc, index)? {
-            text.push_str(row.as_str())?;
-            text.push_str("\n")?;
-        }
-    }
-    Ok(text)
-}
-
-// The row of the unit that the hint of the refused record names; nothing where it names none that may come.
-fn unit_text(alloc: Global, printout: Printout<'_>, drawn: &Drawn) -> Result<String, AllocError> {
-    let Some(row) = drawn.row(drawn.len().saturating_sub(1)) else {
-        return Ok(String::new(alloc));
-    };
-    match row.told.what {
-        What::Came {
-            hint,
-            sent: Some(Sending { line, said }),
-            ..
-        } => {
-            let sender = row.told.side.other();
-            let name = printout.name_of(sender);
-            let words = said.brief();
-            format!(in alloc; "  unit     {hint} of {sender}, {name}:{line}: {words}\n")
-        }
-        _ => Ok(String::new(alloc)),
     }
 }

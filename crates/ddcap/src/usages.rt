@@ -7,12 +7,12 @@ const CHECK: &str = "usage: ddcap check [--all] [--line | --queued] [--json] A B
 
 const ALONE: &str = "usage: ddcap alone [--all] [--line | --queued] [--json] A\n";
 
-const WHY: &str = "usage: ddcap why [--line | --queued] [--full] [--json] A [B]\n";
+const WHY: &str = "usage: ddcap why [--all] [--line | --queued] [--full] [--json] A [B]\n";
 
 const COVER: &str = "usage: ddcap cover [--line | --queued] [--json] [--missing] A B [A B ..]\n";
 
 const DRAW: &str =
-    "usage: ddcap draw [--line | --queued] [--from a:LINE] [--rows N] [--svg FILE] A B\n";
+    "usage: ddcap draw [--all] [--line | --queued] [--from a:LINE] [--rows N] [--svg FILE] A B\n";
 
 const ALIGN: &str = "usage: ddcap align A B OUT_A OUT_B\n";
 

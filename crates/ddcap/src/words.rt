@@ -1,17 +1,17 @@
 //! The words that the program is given.
 
 use crate::align_files::AlignPaths;
-use crate::check_files::PairPaths;
 use crate::commands::program;
 use crate::cover_files::Listed;
 use crate::draw_files::Asked;
 use crate::draw_words::drawing_asked;
+use crate::end_telling::EndPrintout;
 use crate::explanations::{reason_named, reason_spelled};
 use crate::help::Topic;
+use crate::how::{How, Refusals};
 use crate::judging_words::{checked_of, covered_of, explained_of, judged_alone_of, tapped_of};
-use crate::layers::Layers;
 use crate::tap_files::TapPaths;
-use crate::telling::Form;
+use crate::telling::{Form, Printout};
 use capture::Format;
 use clap::ArgMatches;
 use clap::error::ErrorKind;
@@ -24,45 +24,27 @@ use std::convert::AsStr;
 pub enum Task<'a> {
     /// To judge pairs of captures, over these layers: a file of side a, and one of side b, and so on.
     Check {
-        form: Form,
-        layers: Layers,
+        how: How,
         files: Vec<&'a str>,
     },
     /// To judge the capture in a file without that of the other end.
     Alone {
-        form: Form,
-        layers: Layers,
+        how: How,
         a: &'a str,
     },
-    /// To find all that refuses a pair of captures, and not the first alone.
-    CheckAll {
-        layers: Layers,
-        paths: PairPaths<'a>,
-    },
-    /// To find all that refuses the capture in a file without that of the other end.
-    AloneAll {
-        layers: Layers,
-        a: &'a str,
-    },
-    /// To tell why the captures in two files are refused, over these layers, in this form, with all bytes of the record or the first ones.
+    /// To tell why the captures in two files are refused, the first refusal or all.
     Why {
-        form: Form,
-        layers: Layers,
-        full: bool,
-        a: &'a str,
-        b: &'a str,
+        refusals: Refusals,
+        printout: Printout<'a>,
     },
     /// To tell why the capture in a file is refused without that of the other end, likewise.
     WhyAlone {
-        form: Form,
-        layers: Layers,
-        full: bool,
-        a: &'a str,
+        refusals: Refusals,
+        printout: EndPrintout<'a>,
     },
     /// To count which rows the pairs of captures in these files went through: a file of side a, and one of side b, and so on.
     Cover {
-        form: Form,
-        layers: Layers,
+        how: How,
         listed: Listed,
         files: Vec<&'a str>,
     },

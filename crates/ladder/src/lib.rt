@@ -46,5 +46,5 @@ pub use reading::said_by;
 pub use row::{Fate, Receipt, Row};
 pub use rows::Keep;
 pub use said::{Content, Link, Said};
-pub use svg::Caption;
+pub use svg::{Caption, Marked};
 pub use told::{Sending, Told, What};

@@ -8,7 +8,7 @@ use crate::svg_arrows::{arrow_of, with_stroke};
 use crate::svg_columns::Columns;
 use crate::svg_key::{key_height, with_key};
 use crate::svg_labels::{Label, columns_of, labels_of, with_label};
-use crate::svg_marks::{with_bands, with_caption, with_check, with_user};
+use crate::svg_marks::{with_bands, with_caption, with_check, with_marks, with_user};
 use crate::svg_parts::{MARGIN, WIDTH, with_text, y_of};
 use crate::svg_places::{Places, places_of};
 use crate::svg_style::with_style;
@@ -29,6 +29,17 @@ pub struct Caption<'t> {
     pub seen: &'t str,
     /// What is allowed there.
     pub allowed: &'t str,
+    /// Records that get a box as well.
+    pub marked: &'t [Marked],
+}
+
+/// A record that is marked, by its side and its line.
+#[derive(Clone, Copy, Debug, PartialEq, Eq)]
+pub struct Marked {
+    /// Whose capture has it.
+    pub side: Side,
+    /// Which line of that capture it is on.
+    pub line: u64,
 }
 
 impl Drawn {
@@ -73,6 +84,7 @@ impl Drawn {
                 let y = y_of(places.of(index).told);
                 svg = with_user(svg, alloc, columns, row, y)?;
                 svg = with_check(svg, alloc, caption, row, y)?;
+                svg = with_marks(svg, alloc, caption.marked, row, places.of(index))?;
             }
         }
         Ok(svg)

@@ -4,10 +4,10 @@ use crate::drawn::Drawn;
 use crate::row::{Fate, Row};
 use crate::sides::is_side;
 use crate::state::name_of;
-use crate::svg::Caption;
+use crate::svg::{Caption, Marked};
 use crate::svg_columns::Columns;
 use crate::svg_parts::{MARGIN, WIDTH, with_dot, with_rect, with_text, y_of};
-use crate::svg_places::Places;
+use crate::svg_places::{Place, Places};
 use crate::text::fitted;
 use crate::told::What;
 use crate::xml::Content;
@@ -19,6 +19,9 @@ use wire_base::Side;
 const ABOVE: usize = 9;
 
 const HEIGHT: usize = 51;
+
+// The box of a marked record has no words.
+const MARK: usize = 18;
 
 const SEEN: usize = 22;
 
@@ -150,6 +153,38 @@ pub fn with_check(
     let svg = with_caption(svg, alloc, "seen", y.saturating_add(SEEN), seen.as_str())?;
     let below = y.saturating_add(ALLOWED);
     with_caption(svg, alloc, "seen", below, allowed.as_str())
+}
+
+/// The boxes of the marked records among those of the row, which are in this place.
+pub fn with_marks(
+    svg: Content,
+    alloc: Global,
+    marked: &[Marked],
+    row: &Row,
+    place: Place,
+) -> Result<Content, AllocError> {
+    let mut svg = svg;
+    for mark in marked {
+        if let Some(level) = level_of(row, place, *mark) {
+            let top = y_of(level).saturating_sub(ABOVE);
+            svg = with_rect(svg, alloc, "refused", (8, top), (WIDTH - 16, MARK))?;
+        }
+    }
+    Ok(svg)
+}
+
+// How far below the first record the marked one is, where the row has it.
+fn level_of(row: &Row, place: Place, marked: Marked) -> Option<usize> {
+    if is_side(row.told.side, marked.side) {
+        if row.told.line == marked.line {
+            return Some(place.told);
+        }
+        return None;
+    }
+    match row.fate {
+        Fate::Here(receipt) if receipt.line == marked.line => Some(place.receipt),
+        _ => None,
+    }
 }
 
 /// A line of words at the left edge, cut to fit.

@@ -34,7 +34,10 @@ use crate::summary::{SideSummary, Summary};
 use crate::top::Top;
 use crate::turn::{side_fault, turn};
 use crate::verdict::Verdict;
-pub use any_period::{judge_any_period, judge_line_any_period, judge_queued_any_period};
+pub use any_period::{
+    judge_any_period, judge_any_period_told, judge_line_any_period, judge_line_any_period_told,
+    judge_queued_any_period, judge_queued_any_period_told,
+};
 use capture::{CaptureReader, MAX_RECORDS, text_read_on, whole_text};
 use dna_node::Finding;
 use dna_station::Head;

@@ -56,9 +56,9 @@ pub use formats::{
 };
 pub use judged_ends::JudgedEnds;
 pub use judging::{
-    Watched, judge, judge_any_period, judge_line, judge_line_any_period, judge_line_told,
-    judge_queued, judge_queued_any_period, judge_queued_told, judge_told, judge_watched,
-    judge_with_ends,
+    Watched, judge, judge_any_period, judge_any_period_told, judge_line, judge_line_any_period,
+    judge_line_any_period_told, judge_line_told, judge_queued, judge_queued_any_period,
+    judge_queued_any_period_told, judge_queued_told, judge_told, judge_watched, judge_with_ends,
 };
 pub use judging_end::{
     WatchedEnd, judge_end, judge_end_watched, judge_line_end, judge_line_end_watched,

@@ -3,12 +3,12 @@ use ddcmp_msg::{Flags, Message, Reading, read_unit};
 use ddcmp_station::{DataByte, FailedSending, OpenCauses, State, StationView};
 use dna_links::{LinkQueue, Phase, Port, Said};
 use nsp_link::{FailedLinkSending, LinkNumbers, LinkView, NextPiece, PieceShape};
-use pair_judge::{FailedCheck, Reason, Verdict, judge_with_ends};
+use pair_judge::{FailedCheck, JudgedEnds, Reason, Verdict, judge_with_ends};
 use std::alloc::{AllocError, Global};
 use why::{
-    Accusation, Addresses, Check, CheckObject, Differing, EditsTried, Fronts, Lines, QueuedAnswer,
-    RecorderRow, Refusal, Shown, StateLine, addresses_of, put_edit, record_json, record_text,
-    side_json, side_text, why_json, why_rows,
+    Accusation, Addresses, AlsoAsked, Check, CheckObject, Differing, EditsTried, Fronts, Lines,
+    QueuedAnswer, RecorderRow, Refusal, Shown, StateLine, addresses_of, put_edit, record_json,
+    record_text, side_json, side_text, why_json, why_rows,
 };
 use wire_base::{Side, Tally};
 
@@ -243,20 +243,47 @@ fn a_refusal_is_told_whole(rt: HostRuntime) -> Result<(), AllocError> {
         assert!(rt; false, "no verdict");
         return Ok(());
     };
+    let Some(refusal) = not_set_back(&ends) else {
+        assert!(rt; false, "no record is refused");
+        return Ok(());
+    };
+    let asked = AlsoAsked {
+        queued: QueuedAnswer::NotAsked,
+        less: "",
+        edits: "",
+        tried: Some(EditsTried {
+            tried: 0,
+            accepted: 0,
+            records_behind: Some(2),
+        }),
+    };
+    let told = why_json(alloc, refusal, &ends, asked)?;
+    assert_eq!(rt; told.as_str(), JSON);
+    let shown = Shown {
+        name: "2-not-set-back.a",
+        unit: "",
+        full: false,
+        ladder: "  the rows before it\n",
+        unit_as_well: false,
+        asked,
+    };
+    let told = why_rows(alloc, refusal, &ends, shown)?;
+    assert_eq!(rt; told.as_str(), ROWS);
+    Ok(())
+}
+
+// The refusal of the pair in which a station did not set back what it sends next.
+fn not_set_back(ends: &JudgedEnds) -> Option<Refusal<'_>> {
     let Verdict::Refused {
         side,
         place,
         reason,
     } = ends.verdict()
     else {
-        assert!(rt; false, "accepted");
-        return Ok(());
+        return None;
     };
-    let Some((entry, bytes)) = ends.ahead(side) else {
-        assert!(rt; false, "no record ahead");
-        return Ok(());
-    };
-    let refusal = Refusal {
+    let (entry, bytes) = ends.ahead(side)?;
+    Some(Refusal {
         side,
         place,
         reason,
@@ -270,27 +297,7 @@ fn a_refusal_is_told_whole(rt: HostRuntime) -> Result<(), AllocError> {
         bytes,
         unit: None,
         lines: Lines::none(),
-    };
-    let tried = EditsTried {
-        tried: 0,
-        accepted: 0,
-        records_behind: Some(2),
-    };
-    let told = why_json(alloc, refusal, &ends, "", tried, QueuedAnswer::NotAsked)?;
-    assert_eq!(rt; told.as_str(), JSON);
-    let shown = Shown {
-        name: "2-not-set-back.a",
-        unit: "",
-        full: false,
-        ladder: "  the rows before it\n",
-        tried,
-        edits: "",
-        unit_as_well: false,
-        queued: QueuedAnswer::NotAsked,
-    };
-    let told = why_rows(alloc, refusal, &ends, shown)?;
-    assert_eq!(rt; told.as_str(), ROWS);
-    Ok(())
+    })
 }
 
 #[test]

@@ -63,4 +63,4 @@ pub use sides::{LINKS_SHOWN, side_json, side_text};
 pub use state_line::StateLine;
 pub use subject::{Addresses, addresses_of};
 pub use undetected::Differing;
-pub use why_text::{Refusal, Shown, why_json, why_rows};
+pub use why_text::{AlsoAsked, Refusal, Shown, why_json, why_rows};

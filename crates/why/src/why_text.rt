@@ -51,26 +51,32 @@ pub struct Shown<'t> {
     pub full: bool,
     /// The rows before it, of both sides.
     pub ladder: &'t str,
-    /// How many small edits were tried.
-    pub tried: EditsTried,
-    /// The rows of those that make the pair a run (`EditRow`).
-    pub edits: &'t str,
     /// Whether a node that is wrong in this one unit explains the record as well.
     pub unit_as_well: bool,
+    /// What else was asked of the captures.
+    pub asked: AlsoAsked<'t>,
+}
+
+/// What else was asked of the captures; what is text of it is put together already, as rows or as JSON objects, each with its LF.
+#[derive(Clone, Copy)]
+pub struct AlsoAsked<'t> {
     /// What is answered of nodes with queues.
     pub queued: QueuedAnswer,
+    /// What is answered where less is judged.
+    pub less: &'t str,
+    /// The edits that make the pair a run (`put_edit`, `EditLine`).
+    pub edits: &'t str,
+    /// How many small edits were tried; `None` where that was not asked.
+    pub tried: Option<EditsTried>,
 }
 
 /// All JSON objects of a refused record, each with its LF: the refusal, the record, the check, the side of the record and its live links, the
-/// other side and its, what is answered of nodes with queues, the edits that make the pair a run (`EditLine`), and how many were tried. Fails for want
-/// of memory alone.
+/// other side and its, and what else was asked. Fails for want of memory alone.
 pub fn why_json(
     alloc: Global,
     refusal: Refusal<'_>,
     ends: &JudgedEnds,
-    edits: &str,
-    tried: EditsTried,
-    queued: QueuedAnswer,
+    asked: AlsoAsked<'_>,
 ) -> Result<String, AllocError>
     ensures { IfOk result (λ text. BeginsWith (refused_line (line_of refusal.entry)) (string_bytes text)) }
 {
@@ -79,19 +85,20 @@ pub fn why_json(
     let named = addresses_of(refusal.says, refusal.bytes);
     let own = side_told(alloc, Form::Object, side, named, ends)?;
     let other = side_told(alloc, Form::Object, side.other(), named.turned(), ends)?;
-    let last = last_objects(alloc, queued, edits, tried)?;
+    let last = last_objects(alloc, asked)?;
     format!(in alloc; "{record}{own}{other}{last}")
 }
 
-// What is answered of nodes with queues, the edits, and how many were tried, as JSON objects with an LF each.
-fn last_objects(
-    alloc: Global,
-    answer: QueuedAnswer,
-    edits: &str,
-    tried: EditsTried,
-) -> Result<String, AllocError> {
-    let queued = QueuedObject { answer };
-    format!(in alloc; "{queued}{edits}{tried}")
+// What else was asked, as JSON objects with an LF each.
+fn last_objects(alloc: Global, asked: AlsoAsked<'_>) -> Result<String, AllocError> {
+    let queued = QueuedObject {
+        answer: asked.queued,
+    };
+    let AlsoAsked { less, edits, .. } = asked;
+    match asked.tried {
+        Some(tried) => format!(in alloc; "{queued}{less}{edits}{tried}"),
+        None => format!(in alloc; "{queued}{less}{edits}"),
+    }
 }
 
 /// All rows of a refused record after the line of the verdict: the record and the unit that its hint names; the check; both sides, that of the
@@ -123,9 +130,10 @@ pub fn why_rows(
     };
     let recorder = recorder_rows(alloc, shown)?;
     let queued = QueuedRow {
-        answer: shown.queued,
+        answer: shown.asked.queued,
     };
-    format!(in alloc; "{record}{own}{other}\n{ladder}\n{accused}{queued}{recorder}")
+    let less = shown.asked.less;
+    format!(in alloc; "{record}{own}{other}\n{ladder}\n{accused}{queued}{less}{recorder}")
 }
 
 // The record without what only a pair tells of it.
@@ -161,7 +169,16 @@ fn side_told(
 
 // The rows of what small edits tell of the recorder.
 fn recorder_rows(alloc: Global, shown: Shown<'_>) -> Result<String, AllocError> {
-    let row = RecorderRow { edits: shown.tried };
-    let so = so_row(shown.tried.accepted, shown.unit_as_well, shown.queued);
-    format!(in alloc; "{row}{}{so}", shown.edits)
+    let AlsoAsked {
+        queued,
+        edits,
+        tried,
+        ..
+    } = shown.asked;
+    let Some(tried) = tried else {
+        return Ok(String::new(alloc));
+    };
+    let row = RecorderRow { edits: tried };
+    let so = so_row(tried.accepted, shown.unit_as_well, queued);
+    format!(in alloc; "{row}{edits}{so}")
 }

@@ -1,18 +1,21 @@
 //! The judges that ask no period: what judges a pair on, once it was refused for 13.
 
-ghost use Rattle.std.specs.Prelude.{IfOk};
+ghost use Rattle.std.specs.Prelude.{IfOk, []};
 ghost use Rattle.wire_base.specs.Tally.{tally_faults, tally_lent};
 ghost use Rattle.wire_base.specs.declared.side.Side.{Side};
 ghost use Rattle.capture.specs.Faulty.{CountsReads};
 ghost use Rattle.dna_links.specs.declared.queue.Queues.TheVariants.{Without, With};
 ghost use Rattle.pair_judge.specs.AnyPeriod.{AsksNoPeriod, layers_of_any_period, stations_of_any_period};
+ghost use Rattle.pair_judge.specs.Ends.{verdict_in};
 ghost use Rattle.pair_judge.specs.Faulty.{is_failed_read_of};
-ghost use Rattle.pair_judge.specs.Judged.{IfTold, IsAcceptance, IsExact, IsFaultyWhere, IsRefusalWhere};
+ghost use Rattle.pair_judge.specs.Judged.{IfTold, IsAcceptance, IsAnswer, IsExact, IsFaultyWhere, IsRefusalWhere};
+ghost use Rattle.pair_judge.specs.Watched.{WasTold, only};
 
 use super::decide;
+use super::with_ends::Watched;
 use crate::fault::JudgeFault;
 use crate::layers::{LinksOfAnyPeriod, NothingOfAnyPeriod};
-use crate::observer::Nobody;
+use crate::observer::{Nobody, Observer};
 use crate::verdict::Verdict;
 use nsp_link::{WITH_QUEUES, WITHOUT_QUEUES};
 use std::alloc::Global;
@@ -91,4 +94,61 @@ pub fn judge_line_any_period<R: Read, S: Read>(
         Ok(watched) => Ok(watched.ends.verdict()),
         Err(fault) => Err(fault),
     }
+}
+
+/// Decides the same as `judge_any_period`, of whose answer all that is said there holds of this verdict, while an observer is told of each record that is
+/// made, as by `judge_told`, of which all else holds too but for the check that fails: `failed` asks for periods.
+///
+/// The faults are those of `judge_any_period`; `OutOfMemory` is answered also where the observer wants memory. The observer was told of nothing before.
+pub fn judge_any_period_told<O: Observer, R: Read, S: Read>(
+    alloc: Global,
+    a: &mut Tally<R>,
+    b: &mut Tally<S>,
+    observer: O,
+) -> Result<Watched<O>, JudgeFault>
+    requires { O.told observer [] }
+    ensures answer { IsAnswer (layers_of_any_period Without) (R.remaining (tally_lent a.old)) (S.remaining (tally_lent b.old))
+        (verdict_in (only result (λ watched. watched.ends))) }
+    ensures told { IfOk result (λ watched. WasTold (layers_of_any_period Without) (R.remaining (tally_lent a.old)) (S.remaining (tally_lent b.old))
+        watched.ends (O.told watched.observer)) }
+    ensures reads_a { CountsReads (is_failed_read_of Side.A result) (tally_faults a.old) (tally_faults a.new) }
+    ensures reads_b { CountsReads (is_failed_read_of Side.B result) (tally_faults b.old) (tally_faults b.new) }
+{
+    decide::<LinksOfAnyPeriod<WITHOUT_QUEUES>, O, R, S>(alloc, a, b, observer)
+}
+
+/// The same of nodes with queues, with the answer of `judge_queued_any_period`.
+pub fn judge_queued_any_period_told<O: Observer, R: Read, S: Read>(
+    alloc: Global,
+    a: &mut Tally<R>,
+    b: &mut Tally<S>,
+    observer: O,
+) -> Result<Watched<O>, JudgeFault>
+    requires { O.told observer [] }
+    ensures answer { IsAnswer (layers_of_any_period With) (R.remaining (tally_lent a.old)) (S.remaining (tally_lent b.old))
+        (verdict_in (only result (λ watched. watched.ends))) }
+    ensures told { IfOk result (λ watched. WasTold (layers_of_any_period With) (R.remaining (tally_lent a.old)) (S.remaining (tally_lent b.old))
+        watched.ends (O.told watched.observer)) }
+    ensures reads_a { CountsReads (is_failed_read_of Side.A result) (tally_faults a.old) (tally_faults a.new) }
+    ensures reads_b { CountsReads (is_failed_read_of Side.B result) (tally_faults b.old) (tally_faults b.new) }
+{
+    decide::<LinksOfAnyPeriod<WITH_QUEUES>, O, R, S>(alloc, a, b, observer)
+}
+
+/// The same of two stations alone, with the answer of `judge_line_any_period`.
+pub fn judge_line_any_period_told<O: Observer, R: Read, S: Read>(
+    alloc: Global,
+    a: &mut Tally<R>,
+    b: &mut Tally<S>,
+    observer: O,
+) -> Result<Watched<O>, JudgeFault>
+    requires { O.told observer [] }
+    ensures answer { IsAnswer stations_of_any_period (R.remaining (tally_lent a.old)) (S.remaining (tally_lent b.old))
+        (verdict_in (only result (λ watched. watched.ends))) }
+    ensures told { IfOk result (λ watched. WasTold stations_of_any_period (R.remaining (tally_lent a.old)) (S.remaining (tally_lent b.old))
+        watched.ends (O.told watched.observer)) }
+    ensures reads_a { CountsReads (is_failed_read_of Side.A result) (tally_faults a.old) (tally_faults a.new) }
+    ensures reads_b { CountsReads (is_failed_read_of Side.B result) (tally_faults b.old) (tally_faults b.new) }
+{
+    decide::<NothingOfAnyPeriod, O, R, S>(alloc, a, b, observer)
 }

@@ -9,12 +9,8 @@ use Rattle.ddcap.proofs.telling.why_to.Goals as goal
 pub returns-in_default : goal.returns-in_default
 returns-in_default g c = explains_nothing c.args.printout.layers c.args.printout.form _ _ _ _ _ c.print_out_of_memory.ensures refl
 
-pub returns-in-Err-try_edits : goal.returns-in-Err-try_edits
-returns-in-Err-try_edits g c = explains_nothing c.args.printout.layers c.args.printout.form _ _ _ _ _ c.print_out_of_memory-in-Err-try_edits.ensures refl
-
-pub returns-in-Err-with_queues_too : goal.returns-in-Err-with_queues_too
-returns-in-Err-with_queues_too g c =
-    explains_nothing c.args.printout.layers c.args.printout.form _ _ _ _ _ c.print_out_of_memory-in-Err-with_queues_too.ensures refl
+pub returns-in-Err-ask_again : goal.returns-in-Err-ask_again
+returns-in-Err-ask_again g c = explains_nothing c.args.printout.layers c.args.printout.form _ _ _ _ _ c.print_out_of_memory-in-Err-ask_again.ensures refl
 
 pub returns-in-Err-refused_text : goal.returns-in-Err-refused_text
 returns-in-Err-refused_text g c = explains_nothing c.args.printout.layers c.args.printout.form _ _ _ _ _ c.print_out_of_memory-in-Err-refused_text.ensures refl

@@ -1,0 +1,43 @@
+-- What `--all` goes by: what a refusal leads to, and what is not judged any more behind it.
+use Rattle.std.specs.Prelude.{◌≡◌, ℕ, ◌<◌, ◌^◌, ◌⊎◌, ◌↔◌, Bool, true, false, List, Option, Some, None, not}
+use Rattle.link_groups.specs.Groups.{AreGroupsOf, AreTogether, Binding}
+use Rattle.link_groups.specs.LeftOut.{IsLeftOut}
+use Rattle.link_groups.specs.declared.own_address.OwnAddress.{OwnAddress}
+use Rattle.pair_judge.specs.declared.reason.Reason.{Reason}
+use Rattle.pair_judge.specs.declared.reason.Reason.TheVariants as reason
+use Rattle.ddcap.specs.declared.all_left.Beyond.{Beyond}
+use Rattle.ddcap.specs.declared.all_left.Beyond.TheVariants.{Ends, AnyPeriod, UnreadPackets, UnreadMessages, Links}
+use Rattle.ddcap.specs.declared.all_left.NotJudged.{NotJudged}
+
+-- Of a rule of the links these are left out; of a period, a packet or a message that can't be read, that is not asked any more; and any other ends it
+abbrev pub beyond_of : Reason → Beyond
+beyond_of reason.CrossedPeriod = AnyPeriod
+beyond_of reason.BadPacket = UnreadPackets
+beyond_of reason.BadNsp = UnreadMessages
+beyond_of reason.WrongNode = Links
+beyond_of reason.NoLink = Links
+beyond_of reason.LinkState = Links
+beyond_of reason.WrongSegment = Links
+beyond_of reason.WrongAck = Links
+beyond_of reason.SegmentTooLong = Links
+beyond_of reason.LinkWindowFull = Links
+beyond_of reason.WrongDelivery = Links
+beyond_of reason.AddressInUse = Links
+beyond_of reason.CrossedLink = Links
+beyond_of _ = Ends
+
+-- the addresses that are together with this one are left out as well, and nothing else changes
+pub record LeavesGroup (of : OwnAddress) (old new : NotJudged) : Type 0 where
+  pub left : (bindings : List Binding) → AreGroupsOf bindings old.groups → (own : OwnAddress) → own.address < 2 ^ 16
+      → (IsLeftOut new.left own ↔ (IsLeftOut old.left own ⊎ AreTogether bindings of own))
+  pub rest : new ≡ record old { left = new.left }
+
+-- What is not judged behind a refusal that leads to this, about the links of this address; and whether the judgement goes on, since more is left out
+abbrev pub Leaves : Beyond → Option OwnAddress → (old new : NotJudged) → (goes_on : Bool) → Type 0
+Leaves Ends of old new goes_on = (new ≡ old) × (goes_on ≡ false)
+Leaves AnyPeriod of old new goes_on = (new ≡ record old { any_period = true }) × (goes_on ≡ not old.any_period)
+Leaves UnreadPackets of old new goes_on = (new ≡ record old { unread_packets = true }) × (goes_on ≡ not old.unread_packets)
+Leaves UnreadMessages of old new goes_on = (new ≡ record old { unread_messages = true }) × (goes_on ≡ not old.unread_messages)
+Leaves Links None old new goes_on = (new ≡ old) × (goes_on ≡ false)
+Leaves Links (Some of) old new true = LeavesGroup of old new
+Leaves Links (Some of) old new false = (new ≡ old) × IsLeftOut old.left of

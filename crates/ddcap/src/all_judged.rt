@@ -1,0 +1,216 @@
+//! All that refuses captures: they are judged again, each time without what was refused before.
+
+use crate::all_left::{Beyond, NotJudged};
+use crate::all_told::{AllTold, Answer, MOST_TOLD, Refusal};
+use crate::check::print;
+use crate::text::FAILED;
+use capture::CaptureFault;
+use link_groups::OwnAddress;
+use pair_judge::{JudgeFault, TextFault};
+use std::alloc::{AllocError, Global};
+use std::io::{Read, Seek, Write};
+use wire_base::{Side, Tally};
+
+// The status of captures that are refused.
+const REFUSED: u8 = 1;
+
+/// Why not all refusals are found.
+#[derive(Clone, Copy, Debug, PartialEq, Eq)]
+pub enum AllFault {
+    /// The file of this side can't be read again from its beginning.
+    ReadOnce(Side),
+    /// As of a judge.
+    Judge(JudgeFault),
+}
+
+impl AllFault {
+    /// There is no memory.
+    pub const OUT_OF_MEMORY: AllFault = AllFault::Judge(JudgeFault::OutOfMemory);
+}
+
+/// Captures that can be read again and again.
+pub trait Captures {
+    /// Nothing is left out yet; what belongs together is read from the captures.
+    fn bound(&mut self, alloc: Global) -> Result<NotJudged, AllFault>;
+
+    /// Which links the refused record is about.
+    fn address_of(
+        &mut self,
+        alloc: Global,
+        refusal: Refusal,
+    ) -> Result<Option<OwnAddress>, AllFault>;
+
+    /// The answer on what is still judged. A text that departs is an answer too.
+    fn judged(&mut self, alloc: Global, not_judged: &NotJudged) -> Result<Answer, AllFault>;
+
+    /// The word for captures that are not refused.
+    fn passed(&self) -> &'static str;
+
+    /// Whether the line alone is judged.
+    fn is_of_line(&self) -> bool;
+
+    /// The answer on the line of the captures themselves, with nothing left out, which asks for periods or not. A text that departs is a fault.
+    fn line(&mut self, alloc: Global, any_period: bool) -> Result<Answer, AllFault>;
+}
+
+/// Tells all refusals, from this first answer on, which leads on, and then what is left. What is not judged any more, at the end.
+pub fn find_all<C: Captures>(
+    alloc: Global,
+    captures: &mut C,
+    told: &mut AllTold,
+    first: Answer,
+) -> Result<NotJudged, AllFault> {
+    let mut answer = first;
+    let mut not_judged = None;
+    for _ in 0..MOST_TOLD {
+        let Some((refusal, beyond)) = answer.leads_beyond() else {
+            break;
+        };
+        in_memory(told.refused(&answer, refusal, beyond))?;
+        let mut left = match not_judged {
+            Some(left) => left,
+            None => captures.bound(alloc)?,
+        };
+        let address = match beyond {
+            Beyond::Links => captures.address_of(alloc, refusal)?,
+            _ => None,
+        };
+        let goes_on = left.leave(beyond, address);
+        answer = captures.judged(alloc, &left)?;
+        if !goes_on {
+            tell_last(alloc, captures, told, &left, answer)?;
+            return Ok(left);
+        }
+        not_judged = Some(left);
+    }
+    let left = match not_judged {
+        Some(left) => left,
+        None => captures.bound(alloc)?,
+    };
+    match answer.leads_beyond() {
+        Some((refusal, _)) => in_memory(told.goes_on(refusal))?,
+        None => tell_last(alloc, captures, told, &left, answer)?,
+    }
+    Ok(left)
+}
+
+// Tells what is answered once no more is left out.
+fn tell_last<C: Captures>(
+    alloc: Global,
+    captures: &mut C,
+    told: &mut AllTold,
+    not_judged: &NotJudged,
+    answer: Answer,
+) -> Result<(), AllFault> {
+    let last = beside_line(alloc, captures, not_judged, answer)?;
+    in_memory(told.ends(&last))
+}
+
+// This answer on what is left; but that of the line where what is left is a run and the captures' own line is refused: what is left out may hide that
+// the packet of a DI came, or was sent again, with other user data.
+fn beside_line<C: Captures>(
+    alloc: Global,
+    captures: &mut C,
+    not_judged: &NotJudged,
+    answer: Answer,
+) -> Result<Answer, AllFault> {
+    if answer.status != 0 || captures.is_of_line() {
+        return Ok(answer);
+    }
+    let of_line = captures.line(alloc, not_judged.any_period())?;
+    match of_line.status {
+        0 => Ok(answer),
+        _ => Ok(of_line),
+    }
+}
+
+/// The answer without the links that this refusal is about; `None` where it is about none.
+pub fn judge_without<C: Captures>(
+    alloc: Global,
+    captures: &mut C,
+    refusal: Refusal,
+) -> Result<Option<Answer>, AllFault> {
+    let Beyond::Links = Beyond::of(refusal.reason) else {
+        return Ok(None);
+    };
+    let mut left = captures.bound(alloc)?;
+    let address = captures.address_of(alloc, refusal)?;
+    if !left.leave(Beyond::Links, address) {
+        return Ok(None);
+    }
+    let answer = captures.judged(alloc, &left)?;
+    Ok(Some(beside_line(alloc, captures, &left, answer)?))
+}
+
+/// Prints this first answer and, where it leads on, all refusals and what is left; and answers the status. Where a file can't be read again from its
+/// beginning, that is told to `err` after the first one, with status 3. `Err`: nothing is printed.
+pub fn print_all<C: Captures, O: Write, E: Write>(
+    alloc: Global,
+    captures: &mut C,
+    mut told: AllTold,
+    first: Answer,
+    out: &mut Tally<O>,
+    err: &mut Tally<E>,
+) -> Result<u8, JudgeFault> {
+    if first.leads_beyond().is_none() {
+        return match told.only(&first) {
+            Ok(()) => Ok(print(out, told.bytes(), first.status)),
+            Err(_) => Err(JudgeFault::OutOfMemory),
+        };
+    }
+    match find_all(alloc, captures, &mut told, first) {
+        Ok(_) => Ok(print(out, told.bytes(), REFUSED)),
+        Err(AllFault::ReadOnce(side)) => match print(out, told.bytes(), REFUSED) {
+            REFUSED => Ok(print_read_once(err, side)),
+            failed => Ok(failed),
+        },
+        Err(AllFault::Judge(fault)) => Err(fault),
+    }
+}
+
+/// A file from where it is on.
+pub fn read_on<R: Read>(file: &mut R) -> Tally<&mut R> {
+    Tally::new(file)
+}
+
+/// The file of this side from its beginning on.
+pub fn read_again<R: Read + Seek>(side: Side, file: &mut R) -> Result<Tally<&mut R>, AllFault> {
+    match file.rewind() {
+        Ok(()) => Ok(Tally::new(file)),
+        Err(_) => Err(AllFault::ReadOnce(side)),
+    }
+}
+
+/// What was read of the text of this side, or why it was not.
+pub fn of_text<T>(side: Side, read: Result<T, CaptureFault>) -> Result<T, AllFault> {
+    match read {
+        Ok(read) => Ok(read),
+        Err(CaptureFault::OutOfMemory) => Err(AllFault::OUT_OF_MEMORY),
+        Err(CaptureFault::Departs { kind, line }) => Err(AllFault::Judge(JudgeFault::Capture {
+            side,
+            fault: TextFault::Departs { kind, line },
+        })),
+        Err(CaptureFault::Read | CaptureFault::Failed) => {
+            Err(AllFault::Judge(JudgeFault::Capture {
+                side,
+                fault: TextFault::Read,
+            }))
+        }
+    }
+}
+
+/// What was made in memory, or that there is none.
+pub fn in_memory<T>(made: Result<T, AllocError>) -> Result<T, AllFault> {
+    match made {
+        Ok(made) => Ok(made),
+        Err(AllocError) => Err(AllFault::OUT_OF_MEMORY),
+    }
+}
+
+/// Writes that the file of this side can't be read again, and answers the status, 3.
+pub fn print_read_once<W: Write>(err: &mut Tally<W>, side: Side) -> u8 {
+    match side {
+        Side::A => print(err, b"a: cannot be read twice\n", FAILED),
+        Side::B => print(err, b"b: cannot be read twice\n", FAILED),
+    }
+}

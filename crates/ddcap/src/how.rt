@@ -1,0 +1,21 @@
+//! How captures are judged, and how the answer is printed.
+
+use crate::layers::Layers;
+use crate::telling::Form;
+
+/// Which refusals are told.
+#[derive(Clone, Copy, Debug, PartialEq, Eq)]
+pub enum Refusals {
+    /// The first one, which ends the judgement.
+    First,
+    /// All: what is refused is left out, and the rest is judged on.
+    All,
+}
+
+/// How captures are judged, and how the answer is printed.
+#[derive(Clone, Copy, Debug, PartialEq, Eq)]
+pub struct How {
+    pub form: Form,
+    pub layers: Layers,
+    pub refusals: Refusals,
+}
