@@ -8,7 +8,7 @@
 
 #define EXPORTED __attribute__((visibility("default")))
 
-enum { MOST_WORDS = 6 };
+enum { MOST_WORDS = 7 };
 
 static char no_memory[] = "out of memory\n"; /* what the program prints; never written */
 
@@ -36,6 +36,7 @@ static int answered(const char *word, const char *a, size_t a_length, const char
   if (choices & DDCAP_LINE) words[count++] = "--line";
   if (choices & DDCAP_QUEUED) words[count++] = "--queued";
   if (choices & DDCAP_JSON) words[count++] = "--json";
+  if (choices & DDCAP_ALL) words[count++] = "--all";
   words[count++] = "a";
   if (b) words[count++] = "b";
   struct run run = {.words = words, .word_count = count};

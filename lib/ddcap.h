@@ -25,7 +25,8 @@ enum {
 enum {
   DDCAP_LINE = 1,  /* DDCMP alone is judged, without links */
   DDCAP_JSON = 2,  /* the answer is a JSON object, of `ddcap_why` one on a line for each part; docs/KEYS.md has their keys */
-  DDCAP_QUEUED = 4 /* the nodes may have a queue between NSP and DDCMP, as most real nodes have; docs/LINKS.md says what differs */
+  DDCAP_QUEUED = 4, /* the nodes may have a queue between NSP and DDCMP, as most real nodes have; docs/LINKS.md says what differs */
+  DDCAP_ALL = 8 /* all refusals, and not the first alone; docs/WORDS.md says how */
 };
 
 /* What the program prints for it, standard output first. `text` ends with a NUL that `length` doesn't count. It is never NULL. */

@@ -12,7 +12,7 @@ import json as _json
 import os
 from collections import namedtuple
 
-_LINE, _JSON, _QUEUED = 1, 2, 4
+_LINE, _JSON, _QUEUED, _ALL = 1, 2, 4, 8
 
 
 class Answer(namedtuple('Answer', 'status text')):
@@ -73,31 +73,31 @@ def _answer(call, texts, choices):
         _LIBRARY.ddcap_free(ctypes.byref(got))
 
 
-def _choices(line, json, queued):
-    return (_LINE if line else 0) | (_JSON if json else 0) | (_QUEUED if queued else 0)
+def _choices(line, json, queued, all):
+    return (_LINE if line else 0) | (_JSON if json else 0) | (_QUEUED if queued else 0) | (_ALL if all else 0)
 
 
-def check(a, b, line=False, json=False, queued=False):
+def check(a, b, line=False, json=False, queued=False, all=False):
     """Judges the captures of both ends of a line, as `ddcap check A B`. With `queued` the nodes may have a queue between NSP and DDCMP, as most real
     nodes have: what waits there may be out of date when it is sent. With `line` DDCMP is judged alone, without links: never both. With `json` the
-    answer is one object.
+    answer is one object. With `all` all refusals are told, and not the first alone.
 
     >>> check('ddcap 1 1.1 1.2\\nu start\\n', 'ddcap 1 1.2 1.1\\n', json=True).parts()[0]['what']
     'accepted'
     """
-    return _answer(_LIBRARY.ddcap_check, [a, b], _choices(line, json, queued))
+    return _answer(_LIBRARY.ddcap_check, [a, b], _choices(line, json, queued, all))
 
 
-def alone(a, line=False, json=False, queued=False):
+def alone(a, line=False, json=False, queued=False, all=False):
     """Judges the capture of one end without the other, as `ddcap alone A`, with the same choices.
 
     >>> alone('ddcap 1 1.1 1.2\\nu start\\n', queued=True).is_accepted
     True
     """
-    return _answer(_LIBRARY.ddcap_alone, [a], _choices(line, json, queued))
+    return _answer(_LIBRARY.ddcap_alone, [a], _choices(line, json, queued, all))
 
 
-def why(a, b=None, line=False, json=False, queued=False):
+def why(a, b=None, line=False, json=False, queued=False, all=False):
     """Tells why two captures are refused, or one, as `ddcap why A B`, with the same choices. With `json` each part is an object on a line of its
     own: `why(..).parts()`."""
-    return _answer(_LIBRARY.ddcap_why, [a, b], _choices(line, json, queued))
+    return _answer(_LIBRARY.ddcap_why, [a, b], _choices(line, json, queued, all))

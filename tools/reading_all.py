@@ -1,7 +1,8 @@
 """What `check --all` and `alone --all` print, by the second reading of the rules. A refusal of a link leaves out its group, and both texts are
 judged once more from their beginnings, until they are accepted or are refused for a reason that nothing can be left out for.
 
-`check_all(a, b)` is what is printed for both captures, `alone_all(a)` for one; a `Departs` where that is a fault of a text alone."""
+`check_all(a, b)` is what is printed for both captures, `alone_all(a)` for one; a `Departs` where that is a fault of a text alone. `pair_listing` and
+`end_listing` are the lists themselves, whose `steps` say what each judgement left out."""
 from collections import namedtuple
 
 from reading import NAMES, RULES, Side, first_refused
@@ -60,15 +61,13 @@ class Leaving:
         return NO_TAG if self.is_left(text, False) else super().meets(text)
 
     def is_carried(self, text):
-        """Whether what comes was left out by its sender: then it is carried here too, but for a DI or DC, which ends a call here whatever link it is
-        of."""
+        """Whether what comes, and was left out by its sender, is carried here too: never, but by a turn."""
         packet, message = message_in(text)
         if message is None or self.grouping.end_of(OTHER[self.letter], message, False) not in self.left:
             return False
-        if self.grouping.turned('what its sender leaves out is met where it comes'):
-            return False
-        is_between = (packet.source, packet.destination) == self.sender
-        return message.kind not in ('DI', 'DC') or not is_between or self.grouping.turned('a DI that its sender leaves out ends no call')
+        if (packet.source, packet.destination) != self.sender:
+            return self.grouping.turned('what its sender leaves out is asked for no nodes')
+        return message.kind in ('DI', 'DC') and self.grouping.turned('a DI that its sender leaves out ends no call')
 
     def kept(self, text, label):
         if not self.is_left(text, True) and not self.is_carried(text):
@@ -103,6 +102,8 @@ class StationAloneLeaving(WithoutLinks, Leaving, Alone):
 # What one judgement says: the line that is printed, or both lines of counts too; the reason of the refusal, or None; the end that it is of; and by
 # side how many records were made.
 Judgement = namedtuple('Judgement', 'said reason end made', defaults=(None, None, None))
+# A judgement with the ends that it left out, and the reasons of what it did not ask for.
+Step = namedtuple('Step', 'left dropped judgement')
 
 
 class Listing:
@@ -111,12 +112,14 @@ class Listing:
     def __init__(self, grouping, bindings, judge):
         self.grouping, self.bindings, self.judge = grouping, bindings, judge
         self.left, self.dropped = frozenset(), frozenset()
-        self.lines, self.refusals = [], 0
+        self.lines, self.refusals, self.steps, self.has_more = [], 0, [], False
 
     def printed(self):
         while True:
             judgement = self.next_judgement()
+            self.steps.append(Step(self.left, self.dropped, judgement))
             if self.is_full() and (self.goes_on(judgement) or self.grouping.turned('and more at any end')):
+                self.has_more = True
                 return ''.join(self.lines) + 'and more\n'
             if not self.goes_on(judgement):
                 return ''.join(self.lines) + 'else ' * bool(self.lines) + judgement.said
@@ -130,6 +133,13 @@ class Listing:
             if not self.lines or self.grouping.turned('a fault of a text is told alone'):
                 raise
             return Judgement('%s\n' % departs)
+
+    def without_first(self):
+        """The line that is said where what the first refusal leaves out is left out at once; None where that is nothing."""
+        first = self.judge(frozenset(), frozenset())
+        if first.reason not in OF_LINKS or first.end is None:
+            return None
+        return self.judge(frozenset(self.grouping.group_of(first.end, self.bindings, first.made)), frozenset()).said.partition('\n')[0]
 
     def goes_on(self, judgement):
         """Whether the list goes on behind a judgement."""
@@ -163,14 +173,24 @@ def rules_without(dropped, grouping):
     return FREE if grouping.turned('13 asks no partners') else WITHOUT_PERIODS
 
 
-def check_all(a, b, line=False, queued=False, turn=None):
-    grouping, kind = Grouping(turn), StationLeaving if line else SideLeaving
+# How it is judged, whom each record is of.
+Way = namedtuple('Way', 'line queued grouping')
+
+
+def sides_leaving(a, b, left, dropped, way):
+    """Both sides, which leave out these ends and do not ask what these reasons are for; and their rules."""
+    rules, kind = rules_without(dropped, way.grouping), StationLeaving if way.line else SideLeaving
+    sides = [kind(rules, text, way.queued) for text in (a, b)]
+    for side, letter, other in zip(sides, 'ab', reversed(sides)):
+        side.leaves(letter, way.grouping, left, dropped, (other.own, other.peer))
+    return rules, sides
+
+
+def pair_listing(a, b, line=False, queued=False, turn=None):
+    way = Way(line, queued, Grouping(turn))
 
     def judge(left, dropped):
-        rules = rules_without(dropped, grouping)
-        sides = [kind(rules, text, queued) for text in (a, b)]
-        for side, letter, other in zip(sides, 'ab', reversed(sides)):
-            side.leaves(letter, grouping, left, dropped, (other.own, other.peer))
+        rules, sides = sides_leaving(a, b, left, dropped, way)
         refused = first_refused(rules, sides)
         if refused is None:
             return Judgement('accepted\na %s\nb %s\n' % (sides[0].ends(), sides[1].ends()))
@@ -178,18 +198,32 @@ def check_all(a, b, line=False, queued=False, turn=None):
         said = 'refused %s %d line %d: %d %s\n' % (side.letter, side.next, side.next + 2, reason, NAMES[reason - 1])
         return Judgement(said, reason, end_refused(side), {one.letter: one.next for one in sides})
 
-    return Listing(grouping, grouping.bindings('a', a, 's') + grouping.bindings('b', b, 's'), judge).printed()
+    return Listing(way.grouping, way.grouping.bindings('a', a, 's') + way.grouping.bindings('b', b, 's'), judge)
 
 
-def alone_all(a, line=False, queued=False, turn=None):
+def check_all(*words):
+    return pair_listing(*words).printed()
+
+
+def side_leaving(a, left, dropped, way):
+    """The side of one end, which leaves out these ends and does not ask what these reasons are for."""
+    kind = StationAloneLeaving if way.line else AloneLeaving
+    return kind(FREE, a, queued=way.queued).leaves('a', way.grouping, left, dropped)
+
+
+def end_listing(a, line=False, queued=False, turn=None):
     """The same of one capture, with what its own text binds: of the CC messages those that it sends and those that come."""
-    grouping, kind = Grouping(turn), StationAloneLeaving if line else AloneLeaving
+    way = Way(line, queued, Grouping(turn))
 
     def judge(left, dropped):
-        side = kind(FREE, a, queued=queued).leaves('a', grouping, left, dropped)
+        side = side_leaving(a, left, dropped, way)
         refusal = first_refused_alone(side)
         if refusal is None:
             return Judgement(said_alone(side, None))
         return Judgement(said_alone(side, refusal), refusal.reason, end_refused(side), {'a': side.next})
 
-    return Listing(grouping, grouping.bindings('a', a, ('s', *RECEIPTS)), judge).printed()
+    return Listing(way.grouping, way.grouping.bindings('a', a, ('s', *RECEIPTS)), judge)
+
+
+def alone_all(*words):
+    return end_listing(*words).printed()

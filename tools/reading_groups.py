@@ -23,10 +23,10 @@ TURNS = {
     'no operations of both sides are one', 'an answer is of its own end alone',
     *('a %s without an own address is of no link' % kind for kind in MAY_LACK),
     'an accept binds nothing', 'a reject binds nothing', 'a CC that is sent binds nothing', 'a CC that comes binds nothing',
-    'a CC with an address 0 binds', 'a CC that is composed binds', 'a CC that comes binds only where it is kept', 'what is read later binds nothing',
-    'an end alone', 'a group is what its end is bound to',
+    'a CC with an address 0 binds', 'a call from address 0 binds nothing', 'a CC that is composed binds',
+    'a CC that comes binds only where it is kept', 'what is read later binds nothing', 'an end alone', 'a group is what its end is bound to',
     'what is left out is met where it is sent', 'what is left out is met where it comes', 'what is left out is asked for its nodes where it is sent',
-    'what is left out is asked for its nodes where it comes', 'what its sender leaves out is met where it comes',
+    'what is left out is asked for its nodes where it comes', 'what its sender leaves out is asked for no nodes',
     'a DI that its sender leaves out ends no call', *('a left-out %s is judged' % event for event in EVENTS),
     *('%d ends it' % reason for reason in (*FROM_HERE, *OF_LINKS)), '15 carries messages too', '17 carries packets too', '13 asks no partners',
     'a message that cannot be read is asked for its nodes', 'what cannot be read still accuses the other end',
@@ -109,12 +109,14 @@ class Grouping:
     # -- groups
 
     def bound(self, letter, record, verbs):
-        """Both ends that a record binds, or None: an answer to a call, or a CC by one of these verbs."""
+        """Both ends that a record binds, or None: an answer to a call, a CC by one of these verbs, or address 0 of both ends a call from there."""
         if record[0] == 'u' and record[1] in ('accept', 'reject'):
             is_passed = self.turned('an accept binds nothing' if record[1] == 'accept' else 'a reject binds nothing')
             return None if is_passed else ((letter, int(record[3])), (OTHER[letter], int(record[2])))
         message = message_of(record) if record[0] in verbs or record[0] == 'x' and self.turned('a CC that is composed binds') else None
         comes = record[0] in RECEIPTS
+        if self.is_from_0(message):
+            return (letter, 0), (OTHER[letter], 0)
         if message is None or message.kind != 'CC' or self.turned('a CC that comes binds nothing' if comes else 'a CC that is sent binds nothing'):
             return None
         if record[0] in ('r', 'd') and self.turned('a CC that comes binds only where it is kept'):
@@ -123,6 +125,12 @@ class Grouping:
             return None
         ends = (letter, message.source), (OTHER[letter], message.destination)
         return ((letter, message.destination), (OTHER[letter], message.source)) if comes else ends
+
+    def is_from_0(self, message):
+        """Whether a call, or its confirmation, is from address 0: the connect ack that answers it names address 0, as one of its sender would."""
+        if message is None or message.source or message.kind == 'CC' and self.turned('a CC with an address 0 binds'):
+            return False
+        return message.kind in ('CI', 'CC') and not self.turned('a call from address 0 binds nothing')
 
     def bindings(self, letter, text, verbs):
         """What the records of a text bind, as far as it can be read: of each that does the letter, the place, and both ends."""

@@ -1,6 +1,6 @@
 """What `ddcap why` says of a refused pair, by the reading of tools/reading.py, apart from the program. `said(a, b)` gives it, or None where nothing
-is refused: the JSON `lines` `refused`, `record` without the fields of its bytes, `state`, `link` and `queued`; the `rows` of both sides; how many
-records are `behind` it; and the `check` where bytes are compared (tools/reading_bytes.py), else None. `said_alone(a, line)` gives the lines and
+is refused: the JSON `lines` `refused`, `record` without the fields of its bytes, `state`, `link`, `queued`, `without_link` and `line_alone`
+(tools/reading_less.py); the `rows` of both sides; how many records are `behind` it; and the `check` where bytes are compared (tools/reading_bytes.py), else None. `said_alone(a, line)` gives the lines and
 rows of one end without the other (tools/reading_alone.py), with `line` of its station alone; as `check`, what the other end could have sent, where
 that is told by numbers. `lines_with_queues(a, b)` gives the lines of `why --queued`, of the pair as one of nodes with queues."""
 from collections import namedtuple
@@ -8,6 +8,7 @@ from collections import namedtuple
 from reading import NAMES, RECEIPTS, RULES, Side, judged, passes_over
 from reading_alone import FREE, Alone, ByOther, StationAlone
 from reading_bytes import check_of, counted
+from reading_less import lines_of_end, lines_of_pair
 from reading_packets import read_nsp, read_packet, read_unit
 from reading_rows import Refused
 from why_rules import INDENT, wrapped
@@ -30,11 +31,14 @@ def accused(number, kind):
 
 
 def run_to(a, b, most, queued=False):
-    """Both sides after at most so many records, and how it ended: the side and the reason of a refusal, or None. The refused record itself may have
-    changed its side."""
-    sides = Side(RULES, a, queued), Side(RULES, b, queued)
+    """Both sides after at most so many records, and how it ended: the side and the reason of a refusal, or None."""
+    return run_sides((Side(RULES, a, queued), Side(RULES, b, queued)), most)
+
+
+def run_sides(sides, most):
+    """The same of these sides, with no limit where that is None. The refused record itself may have changed its side."""
     made = 0
-    while made < most and not all(side.has_ended() for side in sides):
+    while made != most and not all(side.has_ended() for side in sides):
         able = [letter for letter in (0, 1) if not sides[letter].has_ended() and not sides[letter].waits(sides[1 - letter])]
         letter = able[0] if able else min(letter for letter in (0, 1) if not sides[letter].has_ended())
         try:
@@ -195,6 +199,7 @@ def said(a, b):
         lines.append(queued_line(judged(RULES, a, b, queued=True)))
         if lines[-1]['answer'] == 'accepted':
             lines[0]['accuses'] = 'nobody'
+    lines += lines_of_pair((a, b), number)
     behind = sum(len(each.records) - each.next for each in sides) - 1
     return Said(lines, rows, behind, check_of(number, side, sides[1 - letter], 'ba'[letter], words))
 
@@ -244,7 +249,7 @@ def said_alone(text, line):
     lines = [{
         'what': 'refused', 'side': 'a', 'record': place, 'line': place + 2, 'number': number, 'name': NAMES[number - 1], 'accuses': accuses,
     }, record_of(words), state_of(0, side)]
-    lines += [link_of(0, link) for link in side.links.links if link.phase != 'Ended']
+    lines += [link_of(0, link) for link in side.links.links if link.phase != 'Ended'] + lines_of_end(text, number, line=line)
     allowed = allowed_there(number, side, text.split()[2:4], named_by(words)) if accuses == 'other end' else None
     return Said(lines, list(side_rows(0, side, named_by(words))), None, allowed)
 

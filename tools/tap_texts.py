@@ -14,7 +14,7 @@ UP = [('a', STRT), ('b', STACK), ('a', ack_of(0))]
 # The first line of the answer to tools/tap/NAME.wire, or its beginning.
 ANSWERS = (
     ('lossless', 'accepted\na records 175 sent 87 received 87 damaged 0 kept 40'),
-    ('skipped_number', 'unexplained a unit 7 line 16: 7 WrongNumber\nno consistent explanation was found; this alone accuses neither node\n'),
+    ('skipped_number', 'unexplained a unit 7 line 16: 7 WrongNumber\nwhatever came to it, no right node sends a unit 7 line 16\n'),
     # the unit begins in the line that is named, and ends in the next one
     ('number_skipped_in_two_pieces', 'unexplained a unit 7 line 16: 7 WrongNumber\n'),
     # 255 packets are outstanding
@@ -53,7 +53,7 @@ ANSWERS = (
      'b records 19 sent 6 received 8 damaged 0 kept 4 periods 2 links 3 up 0\n'
      'this assumes a boot before a unit 4 line 9\nthis assumes a boot before b unit 3 line 10\nthis holds only'),
     # what is assumed is told of an answer that is no acceptance too
-    ('skipped_number_after_boot', 'unexplained a unit 7 line 14: 7 WrongNumber\nno consistent explanation was found; this alone accuses neither node\n'
+    ('skipped_number_after_boot', 'unexplained a unit 7 line 14: 7 WrongNumber\nwhatever came to it, no right node sends a unit 7 line 14\n'
      'ddcap why shows the unit, but whom it accuses depends on what tap assumed\nthis assumes a boot before a unit 4 line 9\nthis holds only'),
     ('earlier_stack_after_boot', 'apart: b unit 7 line 18: 7 WrongNumber\neach side is explained by itself; this accuses neither node\n'
      'this assumes a boot before a unit 4 line 9\nthis holds only'),
