@@ -5,6 +5,9 @@ const decode = bytes => new TextDecoder().decode(bytes);
 // What was printed to both streams.
 export const printed = answer => decode(answer.out) + decode(answer.err);
 
+// A line of `tap` on a unit that is wrong whatever came to its node.
+const ACCUSES = /^whatever came to it, no right node sends /m;
+
 // Of a verdict its kind (good, bad or fault), a title, what it means, and the program's own first line. `isOneEnd` and `isWire` tell what was judged.
 export function verdictOf(answer, isOneEnd, isWire) {
   const [first] = printed(answer).split('\n'), word = first.split(' ')[0];
@@ -14,7 +17,8 @@ export function verdictOf(answer, isOneEnd, isWire) {
     passed: ['good', 'Passed', 'This end kept to the rules, as far as one end shows.'],
     refused: ['bad', 'Refused', isOneEnd ? 'No capture of the other end would make this one right.'
       : 'The records of both captures can’t be put in any order that obeys the protocol.'],
-    unexplained: ['bad', 'Unexplained', 'No way was found in which two right nodes would send this. This alone accuses neither node.'],
+    unexplained: ['bad', 'Unexplained', ACCUSES.test(printed(answer)) ? 'Whatever came to it, no right node sends this.'
+      : 'No way was found in which two right nodes would send this. This alone accuses neither node.'],
     'apart:': ['bad', 'Apart', 'Each side by itself could have sent this, but no way was found in which both did. This accuses neither node.'],
   };
   const fault = answer.status === 2 ? 'Mend that line, and drop the file again.' : 'Something failed that is no fault of the texts.';
