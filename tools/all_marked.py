@@ -11,7 +11,7 @@ SVG = '{http://www.w3.org/2000/svg}'
 MARK = re.compile(r'  <== refused ([ab]: \d+ \w+)(?: (b: \d+ \w+))?$')
 # the words, and what the reading takes for them
 RANGES = ([], {}), (['--rows', '6'], {'rows': 6}), (['--rows', '200'], {'rows': 200}), (['--from', 'b:4', '--rows', '9'], {'from_': (1, 4), 'rows': 9})
-MOST_LETTERS = 110  # of the words above a picture, which are cut where they are more
+MOST_LETTERS = 110  # of the words above a picture, which are cut where they are some more
 
 
 def without_marks(text):
@@ -21,7 +21,7 @@ def without_marks(text):
 
 def fault_of_picture(words, paths, listing, texts):
     """What is wrong with a picture, or None: a frame for each refused record that is drawn, beside the sign in the key; and the words above have
-    all refusals, if there is room."""
+    the refusals, as far as there is room."""
     path = os.path.join(os.path.dirname(paths[0]), 'picture.svg')
     ended = run('draw', '--all', '--svg', path, *words, *paths)
     picture = xml.parse(path).getroot()
@@ -32,9 +32,8 @@ def fault_of_picture(words, paths, listing, texts):
     above = ' '.join(text.text or '' for text in list(picture.iter(SVG + 'text'))[:3])
     if ended != ('', '', 1) or len(frames) != framed or not drawn:
         return 'the picture: %r, %d frames, where %d are wanted' % (ended, len(frames), framed)
-    wanted = ['%s %d line %d: %s' % ('ab'[side], place, place + 2, reason[3:]) for (side, place), reason in told.items()]
-    is_long = sum(map(len, wanted)) > MOST_LETTERS
-    return None if is_long or all(each in above for each in wanted) else 'the words above the picture: %r' % above
+    wanted = 'refused ' + ', '.join('%s %d line %d: %s' % ('ab'[side], place, place + 2, reason[3:]) for (side, place), reason in told.items())
+    return None if wanted[:MOST_LETTERS] in above else 'the words above the picture: %r' % above
 
 
 def faults_of_marked(words, texts, paths, got):

@@ -204,7 +204,7 @@ def came_words(sides, record, made):
     sender = 'ab'[1 - record.side]
     sending = next((other for other in sides[1 - record.side] if other.unit == record.hint), None)
     # bytes that show no damage and are not those of the unit: that is refused, and may read alike
-    is_changed = sending is not None and record.digits != sending.digits and read_unit(record.digits) not in (HEADER_BAD, DATA_BAD)
+    is_changed = sending in made and record.digits != sending.digits and read_unit(record.digits) not in (HEADER_BAD, DATA_BAD)
     if sending not in made or any(other.hint is not None and other.hint >= record.hint for other in sides[record.side][:record.line - 2]):
         words = '~' * is_changed + '%s of %s unit %d'
         full = words % (said(record.digits), sender, record.hint)

@@ -4,7 +4,7 @@ its end; `rows_of_all` are its rows, each as its records."""
 import re
 
 from reading_alone import message_in
-from reading_ladder import RECORDS_PER_ROW, records_of, rows_of, text_of, told, woven
+from reading_ladder import RECORDS_PER_ROW, is_data, records_of, rows_of, text_of, told, woven
 from reading_packets import read_unit
 
 REFUSED = re.compile(r'refused ([ab]) (\d+) line \d+: (\d+ \w+)')
@@ -21,11 +21,28 @@ def refusals_of(listing):
     return told, places[-1] if len(places) > listing.refusals else None
 
 
-def is_of_line(record, words):
-    """Whether a last refusal is told by the line alone, after all has been read: a DI of what is left out was changed."""
-    unit = read_unit(record.digits) if record.digits else None
-    message = message_in(unit.packet)[1] if unit and unit.kind == 'data' else None
-    return words.endswith(OF_LINE) and message is not None and message.kind == 'DI'
+def as_left(sender, digits, listing):
+    """What all DI and DC messages of this sender have that become the same message, since they are left out there alone; None of other bytes."""
+    unit = read_unit(digits)
+    packet, message = message_in(unit.packet) if unit.kind == 'data' else (None, None)
+    if message is None or message.kind not in ('DI', 'DC'):
+        return None
+    left, letters = listing.steps[-1].left, ('ab'[sender], 'ab'[1 - sender])
+    if [listing.grouping.end_of(letter, message, comes) in left for letter, comes in zip(letters, (False, True))] != [True, False]:
+        return None
+    return packet._replace(nsp=None), message._replace(kind='DC', flag=None, rest=b'')
+
+
+def is_of_line(sides, record, listing):
+    """Whether a last refusal is told by the line alone, after all has been read: a DI of what is left out comes, or is sent again, with other user
+    data."""
+    if record.letter == 's':
+        number, before = read_unit(record.digits).num, sides[record.side][:record.line - 2]
+        first = next(other for other in reversed(before) if other.letter == 's' and is_data(other.digits) and read_unit(other.digits).num == number)
+    else:
+        first = next(other for other in sides[1 - record.side] if other.unit == record.hint)
+    became = as_left(first.side, first.digits, listing)
+    return became is not None and became == as_left(first.side, record.digits, listing)
 
 
 def range_of(order, first, from_, rows):
@@ -41,7 +58,7 @@ def range_of(order, first, from_, rows):
 def rows_and_more(a, b, listing, from_, rows):
     sides = [list(records_of(0, a)), list(records_of(1, b))]
     refusals, final = refusals_of(listing)
-    if final and is_of_line(sides[final[0]][final[1]], refusals.get(final, '')):
+    if final and refusals.get(final, '').endswith(OF_LINE) and is_of_line(sides, sides[final[0]][final[1]], listing):
         final = None
     order = told(sides, final)
     kept, is_pinned = range_of(order, next(iter(refusals)), from_, rows)
