@@ -20,8 +20,8 @@ use crate::onlooker::{Onlooker, Originals};
 use crate::telling::Form;
 use crate::text::{FAULTY, line_fault_text};
 use capture::CaptureFault;
-use leaving_out::{Head, address_at, head, left_out};
-use link_groups::OwnAddress;
+use leaving_out::{Head, address_at, bind_all, head, left_out};
+use link_groups::{Groups, OwnAddress};
 use pair_judge::{Accused, EndVerdict, Reason, WatchedEnd, judge_line_end};
 use std::alloc::{AllocError, Global};
 use std::io::{Read, Seek};
@@ -37,10 +37,11 @@ pub struct EndCapture<'n, 'a, A: Read + Seek> {
 
 impl<A: Read + Seek> Captures for EndCapture<'_, '_, A> {
     fn bound(&mut self, alloc: Global) -> Result<NotJudged, AllFault> {
-        let mut not_judged = self.all_judged(alloc)?;
-        let bound = not_judged.bind(alloc, Side::A, true, &mut read_again(Side::A, self.a)?);
+        let mut groups = in_memory(Groups::new(alloc))?;
+        let mut reader = read_again(Side::A, self.a)?;
+        let bound = bind_all(alloc, Side::A, true, &mut reader, &mut groups);
         of_text(Side::A, bound)?;
-        Ok(not_judged)
+        self.all_judged(alloc, groups)
     }
 
     fn address_of(
@@ -61,7 +62,8 @@ impl<A: Read + Seek> Captures for EndCapture<'_, '_, A> {
         let text = self.left(alloc, not_judged)?;
         match self.telling {
             Telling::Explained => {
-                let judges_all = self.all_judged(alloc)?;
+                let groups = in_memory(Groups::new(alloc))?;
+                let judges_all = self.all_judged(alloc, groups)?;
                 let whole = self.left(alloc, &judges_all)?;
                 let rows = in_memory(LastRows::new(alloc))?;
                 let originals = in_memory(Originals::new(alloc, rows, &whole, &[]))?;
@@ -89,14 +91,14 @@ impl<A: Read + Seek> Captures for EndCapture<'_, '_, A> {
 }
 
 impl<A: Read + Seek> EndCapture<'_, '_, A> {
-    // Nothing is left out, and what belongs together is not known.
-    fn all_judged(&mut self, alloc: Global) -> Result<NotJudged, AllFault> {
+    // Nothing is left out. These belong together.
+    fn all_judged(&mut self, alloc: Global, groups: Groups) -> Result<NotJudged, AllFault> {
         let own = of_text(Side::A, head(alloc, &mut read_again(Side::A, self.a)?))?;
         let other = Head {
             own: own.peer,
             peer: own.own,
         };
-        in_memory(NotJudged::nothing(alloc, own, other))
+        in_memory(NotJudged::nothing(alloc, groups, own, other))
     }
 
     // The text of what is left of the capture.

@@ -1,15 +1,14 @@
 //! What is not judged any more of a pair, or of one end, after its refusals.
 
-ghost use Rattle.std.specs.Prelude.{◌≡◌, true, not};
-ghost use Rattle.ddcap.specs.inner.AllLeft.{Leaves, beyond_of};
+ghost use Rattle.std.specs.Prelude.{◌≡◌, true, not, List, IfOk};
+ghost use Rattle.link_groups.specs.Groups.{AreGroupsOf, Binding};
+ghost use Rattle.link_groups.specs.LeftOut.{AreWhole};
+ghost use Rattle.ddcap.specs.inner.AllLeft.{JudgesAll, Leaves, beyond_of};
 
-use capture::CaptureFault;
-use leaving_out::{Head, Leaving, bind_all};
-use link_groups::{Groups, LeftOut, OwnAddress};
+use leaving_out::{Head, Leaving};
+use link_groups::{Groups, LeftGroups, OwnAddress};
 use pair_judge::Reason;
 use std::alloc::{AllocError, Global};
-use std::io::Read;
-use wire_base::{Side, Tally};
 
 /// What a refusal for a reason leads to.
 #[derive(Clone, Copy, Debug, PartialEq, Eq)]
@@ -68,8 +67,7 @@ impl Beyond {
 /// What is not judged any more.
 #[derive(Drop)]
 pub struct NotJudged {
-    groups: Groups,
-    left: LeftOut,
+    left: LeftGroups,
     unread_packets: bool,
     unread_messages: bool,
     any_period: bool,
@@ -78,15 +76,18 @@ pub struct NotJudged {
 }
 
 impl NotJudged {
-    /// All is judged. The heads are those of both captures; of one end alone the other's is the same, seen from there.
+    /// All is judged. Own addresses belong together as in these groups. The heads are those of both captures; of one end alone the other's is the
+    /// same, seen from there.
     pub fn nothing(
         alloc: Global,
+        groups: Groups,
         head_of_a: Head,
         head_of_b: Head,
-    ) -> Result<NotJudged, AllocError> {
+    ) -> Result<NotJudged, AllocError>
+        ensures { IfOk result (λ not_judged. JudgesAll groups not_judged) }
+    {
         Ok(NotJudged {
-            groups: Groups::new(alloc)?,
-            left: LeftOut::new(alloc)?,
+            left: LeftGroups::new(alloc, groups)?,
             unread_packets: false,
             unread_messages: false,
             any_period: false,
@@ -95,22 +96,12 @@ impl NotJudged {
         })
     }
 
-    /// What belongs together by the text of this side is left out together; where it is judged `alone`, also by what came. The fault is that of the text's
-    /// reader.
-    pub fn bind<R: Read>(
-        &mut self,
-        alloc: Global,
-        side: Side,
-        alone: bool,
-        reader: &mut Tally<R>,
-    ) -> Result<(), CaptureFault> {
-        bind_all(alloc, side, alone, reader, &mut self.groups)
-    }
-
-    /// What is left out of the texts.
-    pub fn leaving(&self) -> Leaving<'_> {
+    /// What is left out of the texts: of links whole groups.
+    pub fn leaving(&self) -> Leaving<'_>
+        ensures { (bindings : List Binding) → AreGroupsOf bindings self.now.left.labels → AreWhole bindings result.left_out.now }
+    {
         Leaving {
-            left_out: &self.left,
+            left_out: self.left.left_out(),
             unread_packets: self.unread_packets,
             unread_messages: self.unread_messages,
             head_of_a: self.head_of_a,
@@ -133,16 +124,10 @@ impl NotJudged {
             Beyond::AnyPeriod => is_new(&mut self.any_period),
             Beyond::UnreadPackets => is_new(&mut self.unread_packets),
             Beyond::UnreadMessages => is_new(&mut self.unread_messages),
-            Beyond::Links => {
-                let Some(address) = address else {
-                    return false;
-                };
-                if self.left.has(address) {
-                    return false;
-                }
-                self.left.leave(&self.groups, address);
-                true
-            }
+            Beyond::Links => match address {
+                Some(address) => self.left.leave(address),
+                None => false,
+            },
         }
     }
 }

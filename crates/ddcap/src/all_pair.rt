@@ -14,8 +14,8 @@ use crate::last_rows::LastRows;
 use crate::layers::{Layers, judge_over, watch_any_period_over, watch_over};
 use crate::onlooker::{Onlooker, Originals};
 use crate::telling::Printout;
-use leaving_out::{address_at, head, left_out};
-use link_groups::OwnAddress;
+use leaving_out::{address_at, bind_all, head, left_out};
+use link_groups::{Groups, OwnAddress};
 use pair_judge::{JudgeFault, Reason, Verdict, Watched, judge_line, judge_line_any_period};
 use std::alloc::Global;
 use std::io::{Read, Seek};
@@ -50,12 +50,14 @@ pub struct LeftTexts {
 
 impl<A: Read + Seek, B: Read + Seek> Captures for PairCaptures<'_, '_, '_, A, B> {
     fn bound(&mut self, alloc: Global) -> Result<NotJudged, AllFault> {
-        let mut not_judged = self.all_judged(alloc)?;
-        let of_a = not_judged.bind(alloc, Side::A, false, &mut read_again(Side::A, self.a)?);
+        let mut groups = in_memory(Groups::new(alloc))?;
+        let mut reader_a = read_again(Side::A, self.a)?;
+        let of_a = bind_all(alloc, Side::A, false, &mut reader_a, &mut groups);
         of_text(Side::A, of_a)?;
-        let of_b = not_judged.bind(alloc, Side::B, false, &mut read_again(Side::B, self.b)?);
+        let mut reader_b = read_again(Side::B, self.b)?;
+        let of_b = bind_all(alloc, Side::B, false, &mut reader_b, &mut groups);
         of_text(Side::B, of_b)?;
-        Ok(not_judged)
+        self.all_judged(alloc, groups)
     }
 
     fn address_of(
@@ -119,11 +121,11 @@ impl<A: Read + Seek, B: Read + Seek> PairCaptures<'_, '_, '_, A, B> {
         }
     }
 
-    // Nothing is left out, and what belongs together is not known.
-    fn all_judged(&mut self, alloc: Global) -> Result<NotJudged, AllFault> {
+    // Nothing is left out. These belong together.
+    fn all_judged(&mut self, alloc: Global, groups: Groups) -> Result<NotJudged, AllFault> {
         let head_of_a = of_text(Side::A, head(alloc, &mut read_again(Side::A, self.a)?))?;
         let head_of_b = of_text(Side::B, head(alloc, &mut read_again(Side::B, self.b)?))?;
-        in_memory(NotJudged::nothing(alloc, head_of_a, head_of_b))
+        in_memory(NotJudged::nothing(alloc, groups, head_of_a, head_of_b))
     }
 
     /// The texts of what is left of both captures.
@@ -182,7 +184,8 @@ impl<A: Read + Seek, B: Read + Seek> PairCaptures<'_, '_, '_, A, B> {
 
     /// The texts of both captures, with nothing left out.
     pub fn whole(&mut self, alloc: Global) -> Result<LeftTexts, AllFault> {
-        let not_judged = self.all_judged(alloc)?;
+        let groups = in_memory(Groups::new(alloc))?;
+        let not_judged = self.all_judged(alloc, groups)?;
         self.left(alloc, &not_judged)
     }
 }

@@ -1,6 +1,6 @@
 -- Whole groups are alike.
-use Rattle.std.proofs.Common.{◌≡◌, ◌<◌, ◌^◌, Bool, true, false, Option, Some, None, List, [], ◌∷◌, refl, arith}
-use Rattle.std.specs.List.{AllByRecursion, Contains}
+use Rattle.std.proofs.Common.{◌≡◌, ◌<◌, ◌^◌, Bool, true, false, Option, Some, None, List, [], ◌∷◌, refl, ap, arith}
+use Rattle.std.specs.List.{AllByRecursion, Contains, slice_get}
 use Rattle.std.specs.Option.{IfSome}
 use Rattle.std.proofs.lemmas.List.Elements.{Contains-append_left, Contains-append_right}
 use Rattle.wire_base.specs.declared.side.Side.{Side}
@@ -9,12 +9,14 @@ use Rattle.capture.specs.declared.event.Event.TheVariants as events
 use Rattle.capture.specs.declared.record.Record.{Record}
 use Rattle.capture.specs.declared.record.Record.TheVariants.{Sent, Received, Noise, User}
 use Rattle.link_groups.specs.declared.own_address.OwnAddress.{OwnAddress}
-use Rattle.link_groups.specs.Groups.{Binding}
-use Rattle.link_groups.specs.Groups.AreTogether.{Bound, Back, Along}
+use Rattle.link_groups.specs.Groups.{AreTogether, Binding}
+use Rattle.link_groups.specs.Groups.AreTogether.{Bound, Back}
+use Rattle.link_groups.specs.LeftOut.{AreWhole}
+use Rattle.link_groups.specs.Place.{place_of}
 use Rattle.leaving_out.specs.declared.leaving.Leaving.{Leaving}
-use Rattle.leaving_out.specs.Addresses.{is_left}
+use Rattle.leaving_out.specs.Addresses.{is_left, is_marked}
 use Rattle.leaving_out.specs.About.{binding_of, bindings_of, if_bound}
-use Rattle.leaving_runs.specs.Tied.{IsAlike, RecordAlike, AreAlike, LeavesGroups, AreAmong}
+use Rattle.leaving_runs.specs.Tied.{IsAlike, RecordAlike, AreAlike, AreAmong}
 
 same_if : (a b : Bool) → (a ≡ true → b ≡ true) → (b ≡ true → a ≡ true) → a ≡ b
 same_if true true one other = refl
@@ -30,12 +32,22 @@ later_bound : (o : Option Binding) (later : List Binding) (binding : Binding) �
 later_bound None later binding is = is
 later_bound (Some first) later binding is = Contains-append_right (first ∷ []) later binding is
 
-module _ (leaving : Leaving) (bindings : List Binding) (first : List OwnAddress) (whole : LeavesGroups leaving bindings first) where
+marked : (mark : Option Bool) → is_marked mark ≡ true → mark ≡ Some true
+marked (Some true) is = refl
+marked (Some false) is = absurd cc
+marked None is = absurd cc
+
+module _ (leaving : Leaving) (bindings : List Binding) (whole : AreWhole bindings leaving.left_out.now) where
+  left_too : (one other : OwnAddress) → one.address < 2 ^ 16 → other.address < 2 ^ 16 → AreTogether bindings one other → is_left leaving one ≡ true
+      → is_left leaving other ≡ true
+  left_too one other small small_too together is =
+      ap is_marked (whole one other small small_too together (marked (slice_get leaving.left_out.now (place_of one)) is))
+
   alike : (one other : OwnAddress) → one.address < 2 ^ 16 → other.address < 2 ^ 16 → Contains bindings (one, other) → IsAlike leaving (one, other)
   alike one other small small_too is =
       same_if (is_left leaving one) (is_left leaving other)
-      (λ left. let of = (whole one small).0 left in (whole other small_too).1 (of.0, of.1, Along of.2 (Bound is)))
-      (λ left. let of = (whole other small_too).0 left in (whole one small).1 (of.0, of.1, Along of.2 (Back (Bound is))))
+      (left_too one other small small_too (Bound is))
+      (left_too other one small_too small (Back (Bound is)))
 
   module _ (side : Side) where
     one_alike : (r : Record) (later : List Binding) → IsRecord r →

@@ -1,12 +1,11 @@
 -- What the program leaves out of a pair of captures, as one side sees it, and what it has to be.
-use Rattle.std.specs.Prelude.{◌≡◌, ◌↔◌, ◌<◌, ◌^◌, true, false, List, Contains, IfSome}
+use Rattle.std.specs.Prelude.{◌≡◌, false, List, Contains, IfSome}
 use Rattle.std.specs.List.{AllByRecursion}
 use Rattle.wire_base.specs.declared.side.Side.{Side}
 use Rattle.capture.specs.declared.record.Record.{Record}
 use Rattle.capture.specs.declared.record.Record.TheVariants.{User}
-use Rattle.link_groups.specs.declared.own_address.OwnAddress.{OwnAddress}
 use Rattle.dna_station.specs.declared.head.Head.{Head}
-use Rattle.link_groups.specs.Groups.{Binding, AreTogether}
+use Rattle.link_groups.specs.Groups.{Binding}
 use Rattle.leaving_out.specs.declared.leaving.Leaving.{Leaving}
 use Rattle.leaving_out.specs.Addresses.{head_of, is_left, own}
 use Rattle.leaving_out.specs.About.{event_binding, bindings_of}
@@ -35,11 +34,6 @@ RecordAlike leaving side r = Unit {0}
 
 abbrev pub AreAlike : Leaving → Side → List Record → Type 0
 AreAlike leaving side records = AllByRecursion (RecordAlike leaving side) records
-
--- whole groups are left out: just what these bindings bring together with one of these own addresses
-abbrev pub LeavesGroups : Leaving → List Binding → List OwnAddress → Type 0
-LeavesGroups leaving bindings first = (one : OwnAddress) → one.address < 2 ^ 16 →
-    (is_left leaving one ≡ true) ↔ ((of : OwnAddress) × Contains first of × AreTogether bindings of one)
 
 -- all that the records of this side bind is among these
 abbrev pub AreAmong : List Binding → Side → List Record → Type 0

@@ -22,8 +22,8 @@ ghost use Rattle.dna_links.specs.declared.queue.Queues.{Queues};
 ghost use Rattle.dna_node.specs.Layers.{LayersNode, LayersUnit};
 ghost use Rattle.dna_node.specs.LayersPair.{layers_pair_by, layers_start};
 ghost use Rattle.dna_node.specs.Kind.{layers_kind, IsRunOf};
-ghost use Rattle.link_groups.specs.declared.own_address.OwnAddress.{OwnAddress};
 ghost use Rattle.link_groups.specs.Groups.{Binding};
+ghost use Rattle.link_groups.specs.LeftOut.{AreWhole};
 ghost use Rattle.leaving_out.specs.declared.leaving.Leaving.{Leaving as Left};
 ghost use Rattle.leaving_out.specs.Records.{record_left as made_of, records_left};
 ghost use Rattle.dna_leaving.specs.Worlds.{other_out};
@@ -32,7 +32,7 @@ ghost use Rattle.leaving_runs.specs.Nodes.{Leaves, other_leaves};
 ghost use Rattle.leaving_runs.specs.Records.{record_left};
 ghost use Rattle.leaving_runs.specs.Fitting.{PacketsFit, RecordFits};
 ghost use Rattle.leaving_runs.specs.Meets.{of_record, IsJudged};
-ghost use Rattle.leaving_runs.specs.Tied.{leaves_at, KnowsHead, AreAlike, LeavesGroups, AreAmong};
+ghost use Rattle.leaving_runs.specs.Tied.{leaves_at, KnowsHead, AreAlike, AreAmong};
 
 /// Whatever becomes of packets, a station makes of what is left what is left of what it made: events and arrivals alike, and what it may send it
 /// may still send, with the same truth. (Only data that are not those of the first sending may become the same as those.)
@@ -96,8 +96,9 @@ pub fn judged_record_of_a_pair_is_refused_alike()
         × (advance (layers_pair_by queues).node_b left.b left.a (made_of leaving B r) ≡ Refused (OfLinks refusal)) }
 {}
 
-/// Where whole groups are left out, of bindings among which are all of these records, both own addresses of each `accept` and `reject` are, or none.
+/// Where whole groups are left out, as `LeftGroups` leaves them out, of bindings among which are all of these records, both own addresses of each
+/// `accept` and `reject` are, or none.
 pub fn whole_groups_are_alike()
-    ensures { (leaving : Left) (bindings : List Binding) (first : List OwnAddress) (side : End) (records : List Record)
-        → LeavesGroups leaving bindings first → AllByRecursion IsRecord records → AreAmong bindings side records → AreAlike leaving side records }
+    ensures { (leaving : Left) (bindings : List Binding) (side : End) (records : List Record)
+        → AreWhole bindings leaving.left_out.now → AllByRecursion IsRecord records → AreAmong bindings side records → AreAlike leaving side records }
 {}

@@ -1,3 +1,4 @@
 pub mod Grouping
 pub mod Rings
 pub mod Walking
+pub mod Whole

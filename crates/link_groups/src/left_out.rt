@@ -1,8 +1,7 @@
 //! Own addresses that are left out, a mark for each.
 
-ghost use Rattle.std.specs.Prelude.{◌≡◌, ℕ, List, length, Some, true, slice_get, IfOk, IsTrue, ◌<◌, ◌^◌, ◌⊎◌, ◌↔◌};
-ghost use Rattle.link_groups.specs.Groups.{AreGroupsOf, AreTogether, Binding};
-ghost use Rattle.link_groups.specs.LeftOut.{IsLeftOut};
+ghost use Rattle.std.specs.Prelude.{◌≡◌, ℕ, length, Some, true, slice_get, IfOk, IsTrue, ◌↔◌};
+ghost use Rattle.link_groups.specs.LeftOut.{IsLeftOut, IsLeftToo};
 ghost use Rattle.link_groups.specs.inner.Labels.{AreMarked};
 ghost use Rattle.link_groups.specs.declared.own_address.OwnAddress.{OwnAddress as Address};
 
@@ -41,8 +40,7 @@ impl LeftOut {
     /// Leaves out an own address and all that are together with it, beside those that are left out already. Takes no memory, and looks at
     /// the label of each place once.
     pub fn leave(&mut self, groups: &Groups, of: OwnAddress)
-        ensures { (bindings : List Binding) → AreGroupsOf bindings groups.now → (own : Address) → own.address < 2 ^ 16
-            → (IsLeftOut self.new own ↔ (IsLeftOut self.old own ⊎ AreTogether bindings of own)) }
+        ensures { IsLeftToo of groups.now self.old self.new }
     {
         let labels = groups.labels();
         mark(&mut self.marks, labels, labels[of.place()]);

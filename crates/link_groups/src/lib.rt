@@ -2,11 +2,13 @@
 #![tactic(auto)]
 
 mod groups;
+mod left_groups;
 mod left_out;
 mod own_address;
 #[cfg(test)]
 mod tests;
 
 pub use groups::Groups;
+pub use left_groups::LeftGroups;
 pub use left_out::LeftOut;
 pub use own_address::OwnAddress;

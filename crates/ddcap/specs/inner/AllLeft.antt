@@ -1,7 +1,6 @@
 -- What `--all` goes by: what a refusal leads to, and what is not judged any more behind it.
-use Rattle.std.specs.Prelude.{◌≡◌, ℕ, ◌<◌, ◌^◌, ◌⊎◌, ◌↔◌, Bool, true, false, List, Option, Some, None, not}
-use Rattle.link_groups.specs.Groups.{AreGroupsOf, AreTogether, Binding}
-use Rattle.link_groups.specs.LeftOut.{IsLeftOut}
+use Rattle.std.specs.Prelude.{◌≡◌, ℕ, Bool, true, false, List, Option, Some, None, not}
+use Rattle.link_groups.specs.LeftOut as groups
 use Rattle.link_groups.specs.declared.own_address.OwnAddress.{OwnAddress}
 use Rattle.pair_judge.specs.declared.reason.Reason.{Reason}
 use Rattle.pair_judge.specs.declared.reason.Reason.TheVariants as reason
@@ -26,11 +25,13 @@ beyond_of reason.AddressInUse = Links
 beyond_of reason.CrossedLink = Links
 beyond_of _ = Ends
 
--- the addresses that are together with this one are left out as well, and nothing else changes
-pub record LeavesGroup (of : OwnAddress) (old new : NotJudged) : Type 0 where
-  pub left : (bindings : List Binding) → AreGroupsOf bindings old.groups → (own : OwnAddress) → own.address < 2 ^ 16
-      → (IsLeftOut new.left own ↔ (IsLeftOut old.left own ⊎ AreTogether bindings of own))
-  pub rest : new ≡ record old { left = new.left }
+-- nothing is left out yet of these groups, and all is asked
+pub record JudgesAll (labels : List ℕ) (all : NotJudged) : Type 0 where
+  pub labels_are : all.left.labels ≡ labels
+  pub none : (own : OwnAddress) → ¬ groups.IsLeftOut all.left.left_out own
+  pub packets : all.unread_packets ≡ false
+  pub messages : all.unread_messages ≡ false
+  pub periods : all.any_period ≡ false
 
 -- What is not judged behind a refusal that leads to this, about the links of this address; and whether the judgement goes on, since more is left out
 abbrev pub Leaves : Beyond → Option OwnAddress → (old new : NotJudged) → (goes_on : Bool) → Type 0
@@ -39,5 +40,4 @@ Leaves AnyPeriod of old new goes_on = (new ≡ record old { any_period = true })
 Leaves UnreadPackets of old new goes_on = (new ≡ record old { unread_packets = true }) × (goes_on ≡ not old.unread_packets)
 Leaves UnreadMessages of old new goes_on = (new ≡ record old { unread_messages = true }) × (goes_on ≡ not old.unread_messages)
 Leaves Links None old new goes_on = (new ≡ old) × (goes_on ≡ false)
-Leaves Links (Some of) old new true = LeavesGroup of old new
-Leaves Links (Some of) old new false = (new ≡ old) × IsLeftOut old.left of
+Leaves Links (Some of) old new goes_on = (new ≡ record old { left = new.left }) × groups.Leaves of old.left new.left goes_on
