@@ -5,8 +5,6 @@ mod groups;
 mod left_groups;
 mod left_out;
 mod own_address;
-#[cfg(test)]
-mod tests;
 
 pub use groups::Groups;
 pub use left_groups::LeftGroups;

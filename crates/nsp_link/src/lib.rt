@@ -14,8 +14,6 @@ mod link;
 mod links;
 mod phase;
 mod segments;
-#[cfg(test)]
-mod tests;
 mod view;
 
 pub use dna_links::{LinkEvent, LinkTag};

@@ -1,6 +1,6 @@
 //! Groups of a few addresses, and of all.
 
-use crate::{Groups, LeftOut, OwnAddress};
+use link_groups::{Groups, LeftGroups, LeftOut, OwnAddress};
 use std::test::Fail;
 use wire_base::Side;
 
@@ -87,5 +87,18 @@ fn all_addresses_are_one_group(rt: HostRuntime) -> Result<(), Fail> {
         groups.bind(of_b(address), of_a(address - 1));
     }
     assert!(rt; groups.are_together(of_a(0), of_b(65_535)));
+    Ok(())
+}
+
+#[test]
+fn a_group_is_left_out_once(rt: HostRuntime) -> Result<(), Fail> {
+    let mut groups = Groups::new(rt.alloc())?;
+    groups.bind(of_a(1), of_b(2));
+    let mut left = LeftGroups::new(rt.alloc(), groups)?;
+    assert!(rt; !left.left_out().has(of_a(1)));
+    assert!(rt; left.leave(of_b(2)));
+    assert!(rt; left.left_out().has(of_a(1)));
+    assert!(rt; !left.leave(of_a(1)));
+    assert!(rt; !left.left_out().has(of_a(2)));
     Ok(())
 }

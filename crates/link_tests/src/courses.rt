@@ -2,12 +2,12 @@
 
 mod boots;
 
-use crate::{LinkEvent, LinkFault, LinkRefusal, LinkTag, Links, Piece, WITH_QUEUES};
 use arrayvec::ArrayVec;
 use dna_packet::{
     AckQualifier, AckWord, ConnectAck, ConnectConfirm, ConnectInitiate, DataAck, DisconnectConfirm,
     DisconnectInitiate, Nsp, Segment,
 };
+use nsp_link::{LinkEvent, LinkFault, LinkRefusal, LinkTag, Links, Piece, WITH_QUEUES};
 use wire_base::RingWindow;
 
 type Node = Links<RingWindow<Piece, 4096>>;

@@ -4,8 +4,8 @@ use super::{
     FAR, HERE, LINK_STATE, NO_LINK, NO_TAG, Node, OWN, THERE, data_ack, disconnect_initiate,
     initiate, running, send, take,
 };
-use crate::{LinkEvent, LinkFault, LinkRefusal, Links, WITH_QUEUES, WITHOUT_QUEUES};
 use dna_packet::{ConnectAck, ConnectConfirm, Nsp};
+use nsp_link::{LinkEvent, LinkFault, LinkRefusal, Links, WITH_QUEUES, WITHOUT_QUEUES};
 
 const IN_USE: LinkFault = LinkFault::Refused(LinkRefusal::AddressInUse);
 
