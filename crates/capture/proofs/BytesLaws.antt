@@ -22,11 +22,11 @@ use Rattle.capture.proofs.Shown.{Shows, shows_must}
 -- ---- the sixteen digits
 
 -- a fact of each number below n, by a test that computes
-all_below : (ℕ → Bool) → ℕ → Bool
+unfoldable pub all_below : (ℕ → Bool) → ℕ → Bool
 all_below test zero = true
 all_below test (suc n) = test n && all_below test n
 
-all_below-at : (test : ℕ → Bool) (n k : ℕ) → all_below test n ≡ true → k < n → test k ≡ true
+pub all_below-at : (test : ℕ → Bool) (n k : ℕ) → all_below test n ≡ true → k < n → test k ≡ true
 unfolding all_below
 all_below-at test zero k h lt = absurd (omega arith)
 all_below-at test (suc n) k h lt =
@@ -55,7 +55,7 @@ above_mark_at : (mark v : ℕ) → mark < 48 → v < 16 → get_or lower_digits 
 above_mark_at mark v low lt e = grind (arith, glyph_at v lt)
 
 -- the digit of a value that was read, where no capital stands
-digit_back : (c v : ℕ) → is_lower c ≡ true → hex_digit_value c ≡ Some v → (get_or lower_digits v 0 ≡ c) × (v < 16)
+pub digit_back : (c v : ℕ) → is_lower c ≡ true → hex_digit_value c ≡ Some v → (get_or lower_digits v 0 ≡ c) × (v < 16)
 digit_back c v lower e =
     let parts : (v < 16) × (glyph v ≡ c) = grind arith in
     (glyph_at v parts.0 ∙ parts.1, parts.0)

@@ -1,104 +1,16 @@
 -- The digits of BYTES, as they are read: they are told by their spelling, piece by piece, and what is no such spelling departs.
-use Rattle.std.proofs.Common.{◌≡◌, ℕ, zero, suc, ◌+◌, ◌*◌, ◌%◌, ◌<◌, ◌≤◌, Bool, true, false, cond, leb, not, ◌⊎◌, List, [], ◌∷◌, ◌++◌, ◌-◌, length}
-use Rattle.std.proofs.Common.{take, drop, Option, Some, None, Result, Ok, Err, refl, sym, ap, ap₂, ◌∙◌, inl, inr, arith}
-use Rattle.std.specs.Prelude.{codes, is_ok, MatchResult}
+use Rattle.std.proofs.Common.{◌≡◌, ℕ, ◌*◌, ◌%◌, ◌<◌, true, false, leb, ◌⊎◌, List, [], ◌∷◌, length}
+use Rattle.std.proofs.Common.{Option, Some, None, Err, refl, sym, ap, ◌∙◌, inl, inr, arith}
+use Rattle.std.specs.Prelude.{codes}
 use Rattle.std.specs.List.{list_all}
 use Rattle.std.specs.Str.{bytes_eq}
 use Rattle.std.proofs.lemmas.Bool.{cases_Bool, and_parts, and_from, and_right}
-use Rattle.std.proofs.Math.Seq.{take-add}
-use Rattle.std.proofs.lemmas.List.{take_all, take-append-drop, length-drop}
 use Rattle.std.proofs.lemmas.List.Sums.{AllPass-from_list_all, list_all-from_AllPass}
-use Rattle.std.proofs.lemmas.Slice.Eq.{bytes_eq-Decides}
-use Rattle.hex.specs.Hex.{IsBytes, decode_of, decode_sized, is_hex_digit, encode_lower, encode_with, lower_digits}
-use Rattle.hex.specs.declared.error.FromHexError.{FromHexError}
-use Rattle.hex.proofs.HexLemmas.{decode_of-encode_lower, decode_of-ok, decode_of-digits, decode_sized-twice, length-encode_with}
+use Rattle.hex.specs.Hex.{IsBytes, decode_of, is_hex_digit, encode_lower, encode_with}
+use Rattle.hex.proofs.HexLemmas.{decode_of-encode_lower, decode_of-ok, decode_of-digits}
 use Rattle.capture.specs.declared.fault.Departure.TheVariants.{Syntax, TooLong}
 use Rattle.capture.specs.Reading.{decoded, is_lower, is_digit, pairs_at, any_bytes_at, bytes_at}
 use Rattle.capture.proofs.BytesLaws.{decoded_some, encoded_lower}
-
--- ---- the spelling of some of the bytes
-
-drop_none : (n : ℕ) → drop {A = ℕ} n [] ≡ []
-drop_none zero = refl
-drop_none (suc n) = refl
-
-take_none : (n : ℕ) → take {A = ℕ} n [] ≡ []
-take_none zero = refl
-take_none (suc n) = refl
-
-pub encode_with-drop : (t : List ℕ) (n : ℕ) (xs : List ℕ) → encode_with t (drop n xs) ≡ drop (2 * n) (encode_with t xs)
-unfolding encode_with
-encode_with-drop t zero xs = refl
-encode_with-drop t (suc n) [] = sym (drop_none (2 * suc n))
-encode_with-drop t (suc n) (x ∷ xs) = let twice : 2 * suc n ≡ suc (suc (2 * n)) = omega arith in rw twice (encode_with-drop t n xs)
-
-pub encode_with-take : (t : List ℕ) (n : ℕ) (xs : List ℕ) → encode_with t (take n xs) ≡ take (2 * n) (encode_with t xs)
-unfolding encode_with
-encode_with-take t zero xs = refl
-encode_with-take t (suc n) [] = sym (take_none (2 * suc n))
-encode_with-take t (suc n) (x ∷ xs) =
-    let twice : 2 * suc n ≡ suc (suc (2 * n)) = omega arith in
-    rw (twice, encode_with-take t n xs) refl
-
--- how one piece of the bytes is spelled
-pub encoded_piece : (t : List ℕ) (from many : ℕ) (xs : List ℕ) → encode_with t (take many (drop from xs)) ≡ take (2 * many)
-    (drop (2 * from) (encode_with t xs))
-encoded_piece t from many xs = encode_with-take t many (drop from xs) ∙ ap (take (2 * many)) (encode_with-drop t from xs)
-
--- a text that is the spelling as far as some byte, and a piece further
-pub spelled_more : (bytes text out : List ℕ) (from to : ℕ) → from ≤ to → take (2 * from) (encode_lower bytes) ≡ take (2 * from) text
-    → out ≡ encode_lower (take (to - from) (drop from bytes)) → bytes_eq (take (2 * to - 2 * from) (drop (2 * from) text)) out ≡ true
-    → take (2 * to) (encode_lower bytes) ≡ take (2 * to) text
-spelled_more bytes text out from to order before is same =
-    let whole : 2 * from + 2 * (to - from) ≡ 2 * to = omega arith in
-    let long : 2 * to - 2 * from ≡ 2 * (to - from) = omega arith in
-    let piece = (bytes_eq-Decides (take (2 * to - 2 * from) (drop (2 * from) text)) out).0 same ∙ is ∙ encoded_piece lower_digits from (to - from)
-    bytes in
-    let here : take (2 * (to - from)) (drop (2 * from) text) ≡ take (2 * (to - from)) (drop (2 * from) (encode_lower bytes)) =
-    sym (ap (λ n. take n (drop (2 * from) text)) long) ∙ piece in
-    ap (λ n. take n (encode_lower bytes)) (sym whole) ∙ take-add (2 * from) (2 * (to - from)) (encode_lower bytes)
-    ∙ ap₂ ◌++◌ before (sym here) ∙ sym (take-add (2 * from) (2 * (to - from)) text) ∙ ap (λ n. take n text) whole
-
-pub not_both : (test : Bool) → not test ≡ true → test ≡ true → ⊥
-not_both true e f = cc
-not_both false e f = cc
-
-pub was_true : (test : Bool) → not test ≡ false → test ≡ true
-was_true true e = refl
-was_true false e = absurd cc
-
--- each piece of the spelling is spelled so
-pub spelled_piece : (bytes text out : List ℕ) (from to : ℕ) → from ≤ to → encode_lower bytes ≡ text
-    → out ≡ encode_lower (take (to - from) (drop from bytes)) → bytes_eq (take (2 * to - 2 * from) (drop (2 * from) text)) out ≡ true
-spelled_piece bytes text out from to order e is =
-    let long : 2 * to - 2 * from ≡ 2 * (to - from) = omega arith in
-    (bytes_eq-Decides (take (2 * to - 2 * from) (drop (2 * from) text)) out).1
-    (ap (λ n. take n (drop (2 * from) text)) long ∙ ap (λ s. take (2 * (to - from)) (drop (2 * from) s)) (sym e) ∙
-    sym (encoded_piece lower_digits from (to - from) bytes) ∙ sym is)
-
-pub spelled_whole : (bytes text : List ℕ) (done : ℕ) → length text ≡ 2 * length bytes → length bytes ≤ done
-    → take (2 * done) (encode_lower bytes) ≡ take (2 * done) text → encode_lower bytes ≡ text
-spelled_whole bytes text done twice all e =
-    sym (take_all (2 * done) (encode_lower bytes) (omega (arith, length-encode_with lower_digits bytes))) ∙ e ∙ take_all (2 * done) text (omega arith)
-
--- what stands behind the first n
-pub all_behind : (n : ℕ) (xs : List ℕ) → take (length xs - n) (drop n xs) ≡ drop n xs
-all_behind n xs = take_all (length xs - n) (drop n xs) (omega (arith, length-drop n xs))
-
--- a text that is spelled so in two parts
-pub spelled_parts : (bytes text : List ℕ) (n : ℕ) → encode_lower (take n bytes) ≡ take (2 * n) text →
-    encode_lower (drop n bytes) ≡ drop (2 * n) text → encode_lower bytes ≡ text
-spelled_parts bytes text n front rest =
-    sym (take-append-drop (2 * n) (encode_lower bytes))
-    ∙ ap₂ ◌++◌ (sym (encode_with-take lower_digits n bytes) ∙ front) (sym (encode_with-drop lower_digits n bytes) ∙ rest)
-    ∙ take-append-drop (2 * n) text
-
--- the parts of a text that is spelled so
-pub front_spelled : (bytes text : List ℕ) (n : ℕ) → encode_lower bytes ≡ text → encode_lower (take n bytes) ≡ take (2 * n) text
-front_spelled bytes text n e = encode_with-take lower_digits n bytes ∙ ap (take (2 * n)) e
-
-pub rest_spelled : (bytes text : List ℕ) (n : ℕ) → encode_lower bytes ≡ text → encode_lower (drop n bytes) ≡ drop (2 * n) text
-rest_spelled bytes text n e = encode_with-drop lower_digits n bytes ∙ ap (drop (2 * n)) e
 
 -- ---- pairs of digits, told by their spelling
 
@@ -156,19 +68,6 @@ pairs_even (b ∷ text) bytes e =
     (decode_of-ok (b ∷ text) bytes (decoded_some (decode_of (b ∷ text)) bytes found)).0
 
 -- ---- the digits of BYTES
-
--- what `hex` answers on digits is what is read
-pub pairs_decoded : (text : List ℕ) (n : ℕ) (r : Result Unit FromHexError) (out : List ℕ)
-    → list_all is_digit text ≡ true → length text ≡ 2 * n → 0 < n
-    → MatchResult (decode_sized text n) (λ bytes. (r ≡ Ok tt) × (out ≡ bytes)) (λ e. r ≡ Err e) → pairs_at text ≡ cond (is_ok r) (Some out) None
-pairs_decoded [] n r out digits twice some h = absurd (omega arith)
-pairs_decoded (b ∷ text) n r out digits twice some h =
-    pairs_of_digits b text digits ∙ ap decoded (sym (decode_sized-twice (b ∷ text) n twice)) ∙ by_answer (decode_sized (b ∷ text) n) h
-  where
-    by_answer : (d : Result (List ℕ) FromHexError) → MatchResult d (λ bytes. (r ≡ Ok tt) × (out ≡ bytes)) (λ e. r ≡ Err e) →
-        decoded d ≡ cond (is_ok r) (Some out) None
-    by_answer (Ok bytes) k = rw (k.0, k.1) refl
-    by_answer (Err e) k = rw k refl
 
 -- what the length decides, and what it does not
 pub too_long : (most : ℕ) (text bytes : List ℕ) → any_bytes_at text ≡ Some bytes → most < length bytes → bytes_at most text ≡ Err TooLong

@@ -34,7 +34,6 @@ mod record;
 mod record_words;
 mod side_letter;
 mod so_far;
-mod spelling;
 mod wording;
 mod writer;
 

@@ -18,7 +18,6 @@ use crate::line_reader::LineReader;
 use crate::phase::Phase;
 use crate::record::Record;
 use crate::record_words::{head_of, line_into};
-use crate::spelling::Spelling;
 use crate::wording::Wording;
 use std::alloc::Global;
 use std::io::Read;
@@ -134,7 +133,6 @@ impl CaptureReader {
                         phase: Phase::Reading,
                         wording: Wording {
                             form: format.first_form(),
-                            spelling: Spelling::new(),
                         },
                         room,
                         len: 0,

@@ -11,7 +11,7 @@ ghost use Rattle.capture.specs.declared.entry.Entry.TheVariants.{Received};
 
 use crate::address::address_of;
 use crate::bytes::Bytes;
-use crate::digits::{bytes_by, bytes_of};
+use crate::digits::{bytes_into, bytes_of};
 use crate::entry::Entry;
 use crate::event_words::event_of;
 use crate::fate::Fate;
@@ -196,7 +196,7 @@ pub fn line_into(
     let Some(most) = entry.limit() else {
         return Ok((entry, 0));
     };
-    let len = bytes_by(Some(&wording.spelling), text, most, room)?;
+    let len = bytes_into(text, most, room)?;
     Ok((entry, len))
 }
 

@@ -7,15 +7,12 @@ ghost use Rattle.capture.specs.Text.{form_after};
 
 use crate::entry::Entry;
 use crate::hint::HintForm;
-use crate::spelling::Spelling;
 
 /// What the words of a line are read by, so that a call takes it by one pointer.
 #[derive(Drop)]
 pub struct Wording {
     /// The form of the line's hint.
     pub form: HintForm,
-    /// How each byte is spelled.
-    pub spelling: Spelling,
 }
 
 impl Wording {

@@ -1,9 +1,7 @@
--- How `hex` spells each byte.
-use Rattle.std.specs.Prelude.{◌≡◌, ℕ, ◌+◌, ◌*◌, ◌/◌, ◌%◌, ◌<◌, List, length, slice_index}
-use Rattle.hex.specs.Hex.{lower_digits}
+-- Bytes that are spelled by the front of a text.
+use Rattle.std.specs.Prelude.{◌≡◌, ℕ, ◌*◌, List, take}
+use Rattle.hex.specs.Hex.{encode_lower}
 
--- two digits for each of the 256 bytes, the high four bits first
-pub record IsSpelling (digits : List ℕ) : Type 0 where
-  pub long : length digits ≡ 512
-  pub high : (byte : ℕ) → byte < 256 → slice_index digits (2 * byte) ≡ slice_index lower_digits (byte / 16)
-  pub low : (byte : ℕ) → byte < 256 → slice_index digits (2 * byte + 1) ≡ slice_index lower_digits (byte % 16)
+-- the first n bytes are what the text spells as far as they go
+abbrev pub IsSpelled : List ℕ → List ℕ → ℕ → Type 0
+IsSpelled bytes text n = encode_lower (take n bytes) ≡ take (2 * n) text

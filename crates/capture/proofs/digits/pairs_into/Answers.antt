@@ -1,15 +1,28 @@
-use Rattle.std.proofs.Common.{arith, sym, ◌∙◌}
-use Rattle.capture.proofs.DigitsLaws.{pairs_of_spelling, pairs_of_others, pairs_decoded}
+use Rattle.std.proofs.Common.{◌*◌, ◌-◌, ◌+◌, length, arith, sym, ◌∙◌}
+use Rattle.capture.proofs.DigitsLaws.{pairs_of_others}
+use Rattle.capture.proofs.GuessLaws.{none_spelled, fewer_spelled, pairs_of_spelled, pairs_by}
 use Rattle.capture.proofs.digits.pairs_into.Goals as goal
 
-pub returns-then-spells : goal.returns-then-spells
-returns-then-spells c = pairs_of_spelling c.args.text.now c.guess.new.bytes (omega arith) c.spells.ensures.bytes
-    (c.spells.ensures.value.0 c.if-spells.true)
+pub returns-then-len-lt-EIGHT : goal.returns-then-len-lt-EIGHT
+returns-then-len-lt-EIGHT c =
+    pairs_by c.args.text.now c.guess_each.new.bytes _ c.are_digits.result (omega arith) c.guess_each.ensures.bytes (omega arith) (omega arith)
+    (λ all. c.guess_each.ensures.spelled (sym c.are_digits.ensures ∙ all)) (λ other. sym c.are_digits.ensures ∙ other)
 
-pub returns-then-not-are_digits : goal.returns-then-not-are_digits
-returns-then-not-are_digits c = pairs_of_others c.args.text.now (sym c.are_digits.ensures ∙ c.if-not-are_digits.true)
+pub loop-block-init : goal.loop-block-init
+loop-block-init c = (none_spelled c.args.bytes.now c.args.text.now, λ i. omega (arith, c.type_inv.bytes i))
+
+pub returns-then-not-eight_into : goal.returns-then-not-eight_into
+returns-then-not-eight_into c = pairs_of_others c.args.text.now (c.eight_into.ensures.others c.if-not-eight_into.true)
+
+pub returns-then-len-eq0 : goal.returns-then-len-eq0
+returns-then-len-eq0 c =
+    pairs_of_spelled c.args.text.now c.loop-block.bytes _ (omega arith) c.loop-block.invariant.1 (omega arith) (omega arith) c.loop-block.invariant.0
 
 pub returns : goal.returns
 returns c =
-    let digits = sym c.are_digits.ensures ∙ c.if-not-are_digits.false in
-    rw c.is_ok.ensures.value (pairs_decoded c.args.text.now _ _ _ digits (omega arith) (omega arith) c.decode_to_slice.ensures.value)
+    let len = length c.args.bytes.now in
+    pairs_by c.args.text.now c.eight_into-2.new.bytes (len - 8 + 8) c.eight_into-2.result (omega arith) c.eight_into-2.ensures.bytes
+    (omega arith) (omega arith)
+    (λ all. c.eight_into-2.ensures.spelled all (fewer_spelled c.loop-block.bytes c.args.text.now (len - 8) (c.loop-block.block * 8) (omega arith)
+    c.loop-block.invariant.0))
+    c.eight_into-2.ensures.others
