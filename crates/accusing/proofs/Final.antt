@@ -51,7 +51,7 @@ module _ {L : Type 0} where
       go true = refl
       go false = refl
 
-  damage_comes : (w after : WireStation L) (tag : Tag) (fate : Fate) (r : ReadingValue) → IsDamage r → comes w tag fate r ≡ Ok after →
+  damage_comes : (w after : WireStation L) (tag : Tag) (fate : Fate) (r : ReadingValue) → IsDamage r → comes machine w tag fate r ≡ Ok after →
       after.variables ≡ w.variables
   damage_comes w after tag fate HeaderBad is e =
       sym (ap (λ (x : WireStation L). x.variables) (not_refused _ _ after e).1) ∙ damage_keeps w HeaderCheck
@@ -60,7 +60,7 @@ module _ {L : Type 0} where
   damage_comes w after tag fate (Sound m) is e = absurd is
   damage_comes w after tag fate (Malformed departure) is e = absurd is
 
-  message_comes : (w after : WireStation L) (tag : Tag) (fate : Fate) (m : MessageValue) → comes w tag fate (Sound m) ≡ Ok after →
+  message_comes : (w after : WireStation L) (tag : Tag) (fate : Fate) (m : MessageValue) → comes machine w tag fate (Sound m) ≡ Ok after →
       after.variables ≡ after_effects m (is_kept fate) w.variables (row w.variables.state m).effects
   message_comes w after tag fate m e =
       sym (ap (λ (x : WireStation L). x.variables) (not_refused _ _ after e).1)
@@ -68,7 +68,7 @@ module _ {L : Type 0} where
 
   -- a unit comes as it passed, or damaged
   unit_comes : (s : Sight) (lost : List (List ℕ)) (unit : List ℕ) (later : List (List ℕ)) (w after : WireStation L) (tag : Tag) (fate : Fate)
-      (bytes : List ℕ) (r : ReadingValue) → IsBytes bytes → (bytes ≡ unit) ⊎ IsDamage r → reading bytes ≡ r → comes w tag fate r ≡ Ok after →
+      (bytes : List ℕ) (r : ReadingValue) → IsBytes bytes → (bytes ≡ unit) ⊎ IsDamage r → reading bytes ≡ r → comes machine w tag fate r ≡ Ok after →
       Covers s (lost ++ unit ∷ later) w.variables → Covers s later after.variables
   unit_comes s lost unit later w after tag fate bytes (Sound m) are (inl same) read e c =
       subst (λ (x : StationVariables L). Covers s later x) (sym (message_comes w after tag fate m e))
@@ -116,7 +116,7 @@ module _ {L : Type 0} where
       subst (λ (x : Result Sight Wrong). IsAccepted (then_all x (λ n. all_passed n later))) (sym is) (next g.sight g.covers)
 
   pub not_refuted : {w : WireStation L} {front : ℕ} {coming : List (List ℕ)} {passed : List Passed} {records : List Record} →
-      IsPlacedFrom w front coming passed records → (sight : Sight) → Covers sight coming w.variables → IsAccepted (all_passed sight passed)
+      IsPlacedFrom machine w front coming passed records → (sight : Sight) → Covers sight coming w.variables → IsAccepted (all_passed sight passed)
   not_refuted Ends sight c = record { sight = sight; is = refl }
   not_refuted (Passes {coming = coming} {unit = unit} later) sight c =
       not_refuted later (passes sight (reading unit)) (covers_passes sight coming unit _ c)

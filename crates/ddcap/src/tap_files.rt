@@ -125,7 +125,7 @@ fn units_accused<R: Files + AllocGlobal, E: Write>(
     err: &mut Tally<E>,
 ) -> Result<Accused, FaultTold> {
     let wire = opened_plain(rt, Wanted::by_path(Named::Wire, paths.wire), err)?;
-    match find_accused(rt.alloc(), &mut Tally::new(wire)) {
+    match find_accused(rt.alloc(), &mut Tally::new(wire), paths.line_alone) {
         Ok(accused) => Ok(accused),
         Err(fault) => {
             let status = print_tap_fault(rt.alloc(), fault, err);

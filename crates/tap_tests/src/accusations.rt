@@ -23,8 +23,19 @@ b c00000014855
 a 0506c00000017595
 ";
 
+// A message of the links that can't be read.
+const BAD_NSP: &str = "ddwire 1 1.1 1.2
+a 0506c00000017595
+b 96960507c00000014855
+a 8107000001016b8102020401040002121e
+";
+
 fn found(alloc: Global, text: &str) -> Result<Accused, TapFault> {
-    find_accused(alloc, &mut Tally::new(text.as_bytes()))
+    found_over(alloc, text, false)
+}
+
+fn found_over(alloc: Global, text: &str, line_alone: bool) -> Result<Accused, TapFault> {
+    find_accused(alloc, &mut Tally::new(text.as_bytes()), line_alone)
 }
 
 #[test]
@@ -54,4 +65,21 @@ fn a_unit_that_no_right_station_sent_is_found(rt: HostRuntime) {
             b: Some(of_b)
         })
     );
+}
+
+#[test]
+fn a_packet_that_no_right_node_sent_is_found(rt: HostRuntime) {
+    let of_a = Passed {
+        side: Side::A,
+        unit: 1,
+        line: 4,
+    };
+    assert_eq!(rt;
+        found(rt.alloc(), BAD_NSP),
+        Ok(Accused {
+            a: Some(of_a),
+            b: None
+        })
+    );
+    assert_eq!(rt; found_over(rt.alloc(), BAD_NSP, true), Ok(Accused::NOBODY));
 }

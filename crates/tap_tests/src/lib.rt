@@ -1,4 +1,4 @@
-//! From what passed on a line to the answer: a case of each public call of `accusing`, `placing`, `wire_tap` and `tap_answer`. They are in a crate of their
+//! From what passed on a line to the answer: a case of each public call of `accusing`, `accusing_links`, `placing`, `wire_tap` and `tap_answer`. They are in a crate of their
 //! own, which is proved in its tests alone.
 #![tactic(auto)]
 
@@ -10,5 +10,7 @@ mod accuser_told;
 mod answers;
 #[cfg(test)]
 mod captures;
+#[cfg(test)]
+mod links_told;
 #[cfg(test)]
 mod placings;

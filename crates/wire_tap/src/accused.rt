@@ -1,15 +1,16 @@
-//! Which units no right station sent, whatever came to it.
+//! Which units no right node sent, whatever came to it.
 
 use crate::fault::{TapFault, reading_fault};
 use crate::tapped::Passed;
 use accusing::{Accuser, Answer};
+use accusing_links::LinkAccuser;
 use framer::{Found, Framer, Kind};
 use std::alloc::{AllocError, Global};
 use std::io::Read;
 use wire_base::{Side, Tally};
 use wire_text::{MAX_PIECES, WireReader};
 
-/// The first unit of each side that no right station sent after what had passed, whatever came to it, whatever was lost or damaged, and whatever its
+/// The first unit of each side that no right node sent after what had passed, whatever came to it, whatever was lost or damaged, and whatever its
 /// user did; none where that is not known of any.
 #[derive(Clone, Copy, Debug, PartialEq, Eq)]
 pub struct Accused {
@@ -22,18 +23,23 @@ impl Accused {
     pub const NOBODY: Accused = Accused { a: None, b: None };
 }
 
-/// Reads the text of what passed to its end, and finds which units no right station sent. Each unit that was sent has passed here, and before the first
-/// of them neither side was started. The units are told to an `Accuser` of each side in the order in which their last bytes passed; that is read in
-/// the code.
+/// Reads the text of what passed to its end, and finds which units no right node sent; over the line alone packets are any bytes. Each unit that was
+/// sent has passed here, and before the first of them neither side was started. The units are told to an `Accuser` and a `LinkAccuser` of each side
+/// in the order in which their last bytes passed; that is read in the code.
 ///
 /// Faults: `Departs` at the first line that departs from the format, `Read` where a call of the text's reader failed, and `OutOfMemory`.
-pub fn find_accused<W: Read>(alloc: Global, wire: &mut Tally<W>) -> Result<Accused, TapFault> {
+pub fn find_accused<W: Read>(
+    alloc: Global,
+    wire: &mut Tally<W>,
+    line_alone: bool,
+) -> Result<Accused, TapFault> {
     let mut reader = match WireReader::open(alloc, wire) {
         Ok(reader) => reader,
         Err(fault) => return Err(reading_fault(fault)),
     };
-    let mut of_a = SideUnits::of(alloc, Side::A)?;
-    let mut of_b = SideUnits::of(alloc, Side::B)?;
+    let (a, b) = (reader.node_a(), reader.node_b());
+    let mut of_a = SideUnits::of(alloc, Side::A, links_of(a, b, line_alone))?;
+    let mut of_b = SideUnits::of(alloc, Side::B, links_of(b, a, line_alone))?;
     for _ in 0..MAX_PIECES + 1 {
         match reader.advance(wire) {
             Ok(Some(side)) => {
@@ -53,6 +59,14 @@ pub fn find_accused<W: Read>(alloc: Global, wire: &mut Tally<W>) -> Result<Accus
     })
 }
 
+// What is asked of the packets of the node with this address, with that one at the other end; nothing over the line alone.
+fn links_of(own: u16, peer: u16, line_alone: bool) -> Option<LinkAccuser> {
+    if line_alone {
+        return None;
+    }
+    Some(LinkAccuser::new(own, peer))
+}
+
 // How the units of a side are found, and what they told.
 #[derive(Drop)]
 struct SideUnits {
@@ -67,6 +81,7 @@ struct SideUnits {
 struct Told {
     side: Side,
     accuser: Accuser,
+    links: Option<LinkAccuser>,
     count: u64,
     first: Option<Passed>,
 }
@@ -79,12 +94,13 @@ enum Next<'a> {
 
 impl SideUnits {
     // Nothing passed yet.
-    fn of(alloc: Global, side: Side) -> Result<SideUnits, AllocError> {
+    fn of(alloc: Global, side: Side, links: Option<LinkAccuser>) -> Result<SideUnits, AllocError> {
         Ok(SideUnits {
             framer: Framer::new(alloc)?,
             told: Told {
                 side,
                 accuser: Accuser::new(alloc),
+                links,
                 count: 0,
                 first: None,
             },
@@ -155,9 +171,7 @@ impl Told {
             return Ok(());
         }
         other.other_passed(unit);
-        if self.first.is_none()
-            && let Answer::CannotHave(_) = self.accuser.sends(unit)?
-        {
+        if self.first.is_none() && self.accuses(unit)? {
             self.first = Some(Passed {
                 side: self.side,
                 unit: self.count,
@@ -166,5 +180,16 @@ impl Told {
         }
         self.count = self.count.saturating_add(1);
         Ok(())
+    }
+
+    // No right node sent this unit.
+    fn accuses(&mut self, unit: &[u8]) -> Result<bool, AllocError> {
+        if let Answer::CannotHave(_) = self.accuser.sends(unit)? {
+            return Ok(true);
+        }
+        let Some(links) = &self.links else {
+            return Ok(false);
+        };
+        Ok(links.sends(unit).is_some())
     }
 }

@@ -1,0 +1,12 @@
+//! Why a node can't have put a packet into a data unit.
+
+/// Why a node can't have put a packet into a data unit, in the order in which it is asked.
+#[derive(Clone, Copy, Debug, PartialEq, Eq)]
+pub enum Wrong {
+    /// It can't be read (15).
+    BadPacket,
+    /// Its message can't be read (17).
+    BadNsp,
+    /// Its message is not from this node to the other one (16).
+    WrongNode,
+}
