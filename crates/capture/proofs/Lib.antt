@@ -3,7 +3,7 @@ pub mod NumberLaws
 pub mod AddressLaws
 pub mod BytesLaws
 pub mod DigitsLaws
-pub mod GuessLaws
+pub mod SpelledLaws
 pub mod Shown
 pub mod EventLaws
 pub mod HintLaws

@@ -25,8 +25,7 @@ fn pairs_into(text: &[u8], bytes: &mut [u8]) -> bool
 {
     let len = bytes.len();
     if len < EIGHT {
-        guess_each(text, bytes);
-        return are_digits(text);
+        return each_into(text, bytes);
     }
     for block in 0..len / EIGHT {
         if !eight_into(text, block * EIGHT, bytes) {
@@ -39,8 +38,7 @@ fn pairs_into(text: &[u8], bytes: &mut [u8]) -> bool
     eight_into(text, len - EIGHT, bytes)
 }
 
-// Reads eight bytes from this place on. They are guessed before it is known whether they are spelled by digits: with no way out between,
-// all sixteen characters are in one register, for the guess and for the test.
+// Reads the eight bytes from this place on. All are read before one is written, so that their digits are read at once.
 #[inline(always)]
 fn eight_into(text: &[u8], at: usize, bytes: &mut [u8]) -> bool
     requires long { length text.now ≡ 2 * length bytes.old }
@@ -50,29 +48,35 @@ fn eight_into(text: &[u8], at: usize, bytes: &mut [u8]) -> bool
     ensures bytes { IsBytes bytes.new }
     ensures length { length bytes.new ≡ length bytes.old }
 {
-    let digits = &text[2 * at..2 * (at + EIGHT)];
     let mut eight = [0u8; EIGHT];
-    guess_each(digits, &mut eight);
+    let all = each_into(&text[2 * at..2 * (at + EIGHT)], &mut eight);
     bytes[at..at + EIGHT].copy_from_slice(&eight);
-    are_digits(digits)
+    all
 }
 
-// Writes what the digits are as bytes. Of another text it writes what it likes.
+// Reads pairs of digits, and goes on after what is none: with no way out of the loop, many are read at once.
 #[inline(always)]
-fn guess_each(text: &[u8], bytes: &mut [u8])
+fn each_into(text: &[u8], bytes: &mut [u8]) -> bool
     requires { length text.now ≡ 2 * length bytes.old }
-    ensures spelled { list_all is_digit text.now ≡ true → IsSpelled bytes.new text.now (length bytes.old) }
+    ensures spelled { IsTrue result → IsSpelled bytes.new text.now (length bytes.old) }
+    ensures others { result ≡ false → list_all is_digit text.now ≡ false }
     ensures bytes { IsBytes bytes.new }
     ensures length { length bytes.new ≡ length bytes.old }
 {
+    let mut all = true;
     for i in 0..bytes.len() {
-        bytes[i] = guess_byte(text[2 * i], text[2 * i + 1]);
+        let high = text[2 * i];
+        let low = text[2 * i + 1];
+        all &= is_lower_digit(high) & is_lower_digit(low);
+        bytes[i] = byte_of(high, low);
     }
+    all
 }
 
-// What two digits are as a byte: a digit's low four bits, and 9 more for a letter, which has bit 6.
+// What two digits are as a byte: a digit's low four bits, and 9 more for a letter, which has bit 6. No digit is told from another by a
+// branch. Of other characters it answers what it likes.
 #[inline(always)]
-fn guess_byte(high: u8, low: u8) -> u8
+fn byte_of(high: u8, low: u8) -> u8
     ensures { is_digit high ≡ true → is_digit low ≡ true →
         (slice_index lower_digits (result / 16) ≡ high) × (slice_index lower_digits (result % 16) ≡ low) }
 {
@@ -81,15 +85,21 @@ fn guess_byte(high: u8, low: u8) -> u8
     ((values.wrapping_shl(4) | (values >> 8)) & 0xff) as u8
 }
 
-// Whether the text is digits 0 to 9 and a to f alone. The test goes on after a byte that is none: with no way out of the loop, many
-// digits are tested at once.
+// Whether it is a digit 0 to 9 or a to f.
 #[inline(always)]
+fn is_lower_digit(character: u8) -> bool
+    ensures { result ≡ is_digit character }
+{
+    character.is_ascii_digit() || (character >= b'a' && character <= b'f')
+}
+
+// Whether the text is such digits alone.
 fn are_digits(text: &[u8]) -> bool
     ensures { result ≡ list_all is_digit text.now }
 {
     let mut all = true;
     for digit in text {
-        all &= digit.is_ascii_digit() || (*digit >= b'a' && *digit <= b'f');
+        all &= is_lower_digit(*digit);
     }
     all
 }

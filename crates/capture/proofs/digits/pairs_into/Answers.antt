@@ -1,12 +1,12 @@
-use Rattle.std.proofs.Common.{◌*◌, ◌-◌, ◌+◌, length, arith, sym, ◌∙◌}
+use Rattle.std.proofs.Common.{◌*◌, ◌-◌, ◌+◌, length, arith}
 use Rattle.capture.proofs.DigitsLaws.{pairs_of_others}
-use Rattle.capture.proofs.GuessLaws.{none_spelled, fewer_spelled, pairs_of_spelled, pairs_by}
+use Rattle.capture.proofs.SpelledLaws.{none_spelled, fewer_spelled, pairs_of_spelled, pairs_by}
 use Rattle.capture.proofs.digits.pairs_into.Goals as goal
 
 pub returns-then-len-lt-EIGHT : goal.returns-then-len-lt-EIGHT
 returns-then-len-lt-EIGHT c =
-    pairs_by c.args.text.now c.guess_each.new.bytes _ c.are_digits.result (omega arith) c.guess_each.ensures.bytes (omega arith) (omega arith)
-    (λ all. c.guess_each.ensures.spelled (sym c.are_digits.ensures ∙ all)) (λ other. sym c.are_digits.ensures ∙ other)
+    pairs_by c.args.text.now c.each_into.new.bytes _ c.each_into.result (omega arith) c.each_into.ensures.bytes (omega arith) (omega arith)
+    c.each_into.ensures.spelled c.each_into.ensures.others
 
 pub loop-block-init : goal.loop-block-init
 loop-block-init c = (none_spelled c.args.bytes.now c.args.text.now, λ i. omega (arith, c.type_inv.bytes i))

@@ -1,11 +1,12 @@
--- What two digits are guessed as is what they spell, and bytes that are spelled one after the other are spelled together.
+-- The byte of two digits is what they spell, and bytes that are spelled one after the other are spelled together.
 use Rattle.std.proofs.Common.{◌≡◌, ℕ, zero, suc, ◌+◌, ◌*◌, ◌/◌, ◌%◌, ◌<◌, ◌≤◌, ◌^◌, Bool, true, false, eqb, ◌&&◌, List, [], ◌∷◌, ◌++◌, length, take, drop, get_or, set}
-use Rattle.std.proofs.Common.{Option, Some, None, is_some, refl, sym, ap, ap₂, ◌∙◌, inl, inr, arith, bit_and, bit_or}
+use Rattle.std.proofs.Common.{Option, Some, None, is_some, refl, sym, ap, ap₂, ◌∙◌, arith, bit_and, bit_or}
 use Rattle.std.specs.List.{list_all}
-use Rattle.std.proofs.lemmas.Bool.{cases_Bool, and_parts, and_right, eqb-true}
+use Rattle.std.proofs.lemmas.Bool.{and_parts, and_right, eqb-true}
 use Rattle.std.proofs.lemmas.Grind.{take_at_read}
 use Rattle.std.proofs.lemmas.List.{take_more_set, take_at, take_all, take-take, take-append-drop, append_assoc, length-append, length-take-le}
-use Rattle.std.proofs.lemmas.List.Folds.{list_all_at, list_all-append}
+use Rattle.std.proofs.lemmas.List.Folds.{list_all_more, list_all-append}
+use Rattle.std.proofs.Math.Bool.{and_assoc}
 use Rattle.std.proofs.Math.Seq.{take-add}
 use Rattle.std.specs.Prelude.{if◌then◌else◌}
 use Rattle.hex.specs.Hex.{IsBytes, encode_lower, encode_with, is_hex_digit, hex_digit_value, lower_digits}
@@ -24,19 +25,19 @@ values digits = (bit_and digits 3855 + bit_and (digits / 64) 257 * 9 % 65536) % 
 abbrev joined : ℕ → ℕ
 joined both = bit_and (bit_or (both * 2 ^ 4 % 2 ^ 16) (both / 256)) 255
 
-abbrev pub guessed : ℕ → ℕ → ℕ
-guessed high low = joined (values (high + low * 256 ^ 1))
+abbrev pub byte_of : ℕ → ℕ → ℕ
+byte_of high low = joined (values (high + low * 256 ^ 1))
 
-spells_both : ℕ → ℕ → Bool
-spells_both v w =
+is_right : ℕ → ℕ → Bool
+is_right v w =
     let high = get_or lower_digits v 0 in
     let low = get_or lower_digits w 0 in
-    let byte = guessed high low in
+    let byte = byte_of high low in
     eqb (get_or lower_digits (byte / 16) 0) high && eqb (get_or lower_digits (byte % 16) 0) low
 
-guessed_at : (v w : ℕ) → v < 16 → w < 16 → spells_both v w ≡ true
-unfolding all_below spells_both
-guessed_at v w a b = all_below-at (spells_both v) 16 w (all_below-at (λ k. all_below (spells_both k) 16) 16 v refl a) b
+all_right : (v w : ℕ) → v < 16 → w < 16 → is_right v w ≡ true
+unfolding all_below is_right
+all_right v w a b = all_below-at (is_right v) 16 w (all_below-at (λ k. all_below (is_right k) 16) 16 v refl a) b
 
 -- the value of a digit
 digit_found : (d : ℕ) → is_digit d ≡ true → (v : ℕ) × (get_or lower_digits v 0 ≡ d) × (v < 16)
@@ -48,17 +49,17 @@ digit_found d e =
     of_value (Some v) is some = let back = digit_back d v (and_parts (is_lower d) (is_hex_digit d) e).0 is in (v, back.0, back.1)
     of_value None is some = absurd cc
 
--- two digits are what `hex` spells their guess as
-pub guessed_right : (high low : ℕ) → is_digit high ≡ true → is_digit low ≡ true →
-    (get_or lower_digits (guessed high low / 16) 0 ≡ high) × (get_or lower_digits (guessed high low % 16) 0 ≡ low)
-unfolding spells_both
-guessed_right high low a b =
+-- two digits are how `hex` spells their byte
+pub byte_right : (high low : ℕ) → is_digit high ≡ true → is_digit low ≡ true →
+    (get_or lower_digits (byte_of high low / 16) 0 ≡ high) × (get_or lower_digits (byte_of high low % 16) 0 ≡ low)
+unfolding is_right
+byte_right high low a b =
     let h = digit_found high a in
     let l = digit_found low b in
-    by_values high low h.0 l.0 h.1 l.1 (guessed_at h.0 l.0 h.2 l.2)
+    by_values high low h.0 l.0 h.1 l.1 (all_right h.0 l.0 h.2 l.2)
   where
-    by_values : (high low v w : ℕ) → get_or lower_digits v 0 ≡ high → get_or lower_digits w 0 ≡ low → spells_both v w ≡ true →
-        (get_or lower_digits (guessed high low / 16) 0 ≡ high) × (get_or lower_digits (guessed high low % 16) 0 ≡ low)
+    by_values : (high low v w : ℕ) → get_or lower_digits v 0 ≡ high → get_or lower_digits w 0 ≡ low → is_right v w ≡ true →
+        (get_or lower_digits (byte_of high low / 16) 0 ≡ high) × (get_or lower_digits (byte_of high low % 16) 0 ≡ low)
     by_values high low v w is also e =
         rw (← is, ← also) (let parts = and_parts _ _ e in (eqb-true _ _ parts.0, eqb-true _ _ parts.1))
 
@@ -74,13 +75,14 @@ pub none_spelled : (bytes text : List ℕ) → IsSpelled bytes text 0
 unfolding encode_with
 none_spelled bytes text = refl
 
--- a digit of a text that is digits
-pub digit_at : (text : List ℕ) (i : ℕ) → i < length text → list_all is_digit text ≡ true → is_digit (get_or text i 0) ≡ true
-digit_at text i lt all =
-    elim (cases_Bool (is_digit (get_or text i 0))) [
-      | inl digit ↦ digit
-      | inr other ↦ absurd (let none = list_all_at is_digit text i 0 lt other in cc)
-    ]
+-- two characters more
+pub two_more : (text : List ℕ) (i : ℕ) → 2 * i + 1 < length text → list_all is_digit (take (2 * (i + 1)) text) ≡
+    (list_all is_digit (take (2 * i) text) && (is_digit (get_or text (2 * i) 0) && is_digit (get_or text (2 * i + 1) 0)))
+two_more text i lt =
+    let whole : 2 * (i + 1) ≡ 2 * i + 1 + 1 = omega arith in
+    ap (λ k. list_all is_digit (take k text)) whole ∙ list_all_more is_digit text (2 * i + 1) 0 lt
+    ∙ ap (λ t. t && is_digit (get_or text (2 * i + 1) 0)) (list_all_more is_digit text (2 * i) 0 (omega (arith, lt)))
+    ∙ and_assoc (list_all is_digit (take (2 * i) text)) _ _
 
 one_spelled : (byte : ℕ) → encode_lower (byte ∷ []) ≡ get_or lower_digits (byte / 16) 0 ∷ get_or lower_digits (byte % 16) 0 ∷ []
 unfolding encode_with
