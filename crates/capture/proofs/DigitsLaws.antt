@@ -1,4 +1,4 @@
--- The digits of BYTES, as they are read: they are told by their spelling, piece by piece, and what is no such spelling departs.
+-- The digits of BYTES, as they are read: they are told by their spelling, and what is no such spelling departs.
 use Rattle.std.proofs.Common.{◌≡◌, ℕ, ◌*◌, ◌%◌, ◌<◌, true, false, leb, ◌⊎◌, List, [], ◌∷◌, length}
 use Rattle.std.proofs.Common.{Option, Some, None, Err, refl, sym, ap, ◌∙◌, inl, inr, arith}
 use Rattle.std.specs.Prelude.{codes}

@@ -14,7 +14,7 @@ use crate::bytes::Bytes;
 use crate::fault::{Departure, PartFault};
 use std::alloc::Global;
 
-// As many bytes are guessed at once.
+// As many bytes are read at once.
 const EIGHT: usize = 8;
 
 // Reads pairs of digits 0 to 9 and a to f: eight bytes at a time, the last eight too, some of which may have been read before.
@@ -73,8 +73,8 @@ fn each_into(text: &[u8], bytes: &mut [u8]) -> bool
     all
 }
 
-// What two digits are as a byte: a digit's low four bits, and 9 more for a letter, which has bit 6. No digit is told from another by a
-// branch. Of other characters it answers what it likes.
+// What two digits are as a byte: a digit's low four bits, and 9 more for a letter, which has bit 6. A branch for each digit would go wrong
+// at every other one. Of other characters it answers what it likes.
 #[inline(always)]
 fn byte_of(high: u8, low: u8) -> u8
     ensures { is_digit high ≡ true → is_digit low ≡ true →
@@ -93,7 +93,7 @@ fn is_lower_digit(character: u8) -> bool
     character.is_ascii_digit() || (character >= b'a' && character <= b'f')
 }
 
-// Whether the text is such digits alone.
+// Whether the text is such digits alone; many are tested at once, as above.
 fn are_digits(text: &[u8]) -> bool
     ensures { result ≡ list_all is_digit text.now }
 {
