@@ -13,7 +13,8 @@ use Rattle.dna_links.specs.declared.tag.LinkTag.{LinkTag}
 use Rattle.dna_links.specs.SegmentBook.{SegmentBook}
 use Rattle.dna_links.specs.Links.{LinkOf, LinksOf, LinkTruth, Carried, on_link, at_number, with_link, number_of}
 use Rattle.dna_links.specs.Queues.{in_use, may_send}
-use Rattle.dna_links.specs.Table.{Ask, Finds, FindsEither, FindsNone, FindsInUse, KnowsInUse, InPhase, InTurn, OrElse, ForThisLink, OfThisPair, Delivers}
+use Rattle.dna_links.specs.Table.{Ask, Finds, FindsEither, FindsNone, FindsInUse, KnowsInUse, InPhase, InTurn, OrElse, ForThisLink, OfThisPair}
+use Rattle.dna_links.specs.Table.{Delivers}
 use Rattle.dna_links.specs.Table.{SendsSegment, SendsAcks, Effect, OpenHere, GiveAddress, Connect, GoTo, End, Drop, EndAll, Say, Settle, Keep, HandIn}
 use Rattle.dna_links.specs.Table.{TakeSegment, TakeAcks, Row, Asks, user_row, sending_row, arrival_row}
 use Rattle.dna_links.specs.LinkBook.{are_same, blank, kept, otherwise, waits, sends_segment, sends_acks, asked, by_row, others, after, of_none}
@@ -71,7 +72,8 @@ module _ {D K R : Type 0} (queues : Queues) (book : SegmentBook D K) (rule : Boo
       good_check G (rule (are_same l.partner truth.tag.link && are_same n truth.tag.partner)) refusal _ (λ e. asked_good asks n l k)
   asked_good (Delivers message refusal ∷ asks) n l k =
       good_on G (ok_or (book.delivers message l.segments) refusal) _ (λ d made. asked_good asks n _ k)
-  asked_good (SendsSegment segment ∷ asks) n l k = segment_good queues segment l (asked queues book rule truth s answer effects asks n) (asked_good asks n)
+  asked_good (SendsSegment segment ∷ asks) n l k =
+      segment_good queues segment l (asked queues book rule truth s answer effects asks n) (asked_good asks n)
   asked_good (SendsAcks acks ∷ asks) n l k = acks_good queues acks l (asked queues book rule truth s answer effects asks n) (asked_good asks n)
 
 pub row_good : {D K R : Type 0} (queues : Queues) (book : SegmentBook D K) (rule : Bool → Bool) (truth : LinkTruth K) (s : LinksOf D)

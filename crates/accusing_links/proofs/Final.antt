@@ -1,112 +1,278 @@
--- A side for which records exist puts no unreadable packet into a data unit.
-use Rattle.std.proofs.Common.{◌≡◌, ℕ, Bool, true, cond, Option, Some, None, Result, Ok, Err, List, [], ◌∷◌, ◌++◌, IfSome}
-use Rattle.std.proofs.Common.{refl, sym, subst, ap, ◌∙◌}
+-- A side for which records exist puts no wrong packet into a data unit.
+use Rattle.std.proofs.Common.{◌≡◌, ℕ, Bool, true, ◌&&◌, ◌||◌, cond, eqb, Option, Some, None, Result, Ok, Err, List, [], ◌∷◌, ◌++◌, IfSome}
+use Rattle.std.proofs.Common.{refl, sym, subst, ap, ap₂, ◌∙◌, ◌⊎◌, inl, inr, append_assoc, append-nil}
+use Rattle.std.proofs.lemmas.Bool.{eq-eqb, and_from}
 use Rattle.ddcmp_msg.specs.Message.{MessageValue, Data, Ack, Nak, Rep, Strt, Stack}
 use Rattle.ddcmp_msg.specs.Reading.{ReadingValue, reading, Sound, HeaderBad, DataBad, Malformed}
 use Rattle.capture.specs.declared.fate.Fate.{Fate}
 use Rattle.capture.specs.declared.fate.Fate.TheVariants.{NotKept}
 use Rattle.capture.specs.declared.record.Record.{Record}
+use Rattle.dna_packet.specs.declared.ack_word.AckWord.{AckWord}
+use Rattle.dna_packet.specs.Nsp.{NspValue, DataSegment, DataAck, LinkService, OtherDataAck, ConnectAck, NoOperation, ConnectInitiate, ConnectConfirm}
+use Rattle.dna_packet.specs.Nsp.{DisconnectInitiate, DisconnectConfirm, IsInRange}
 use Rattle.dna_station.specs.declared.head.Head.{Head}
 use Rattle.dna_station.specs.declared.refusal.StepRefusal.{StepRefusal}
 use Rattle.dna_station.specs.Book.{body_of}
 use Rattle.dna_station.specs.Book as arrival
+use Rattle.dna_station.specs.WireStation.{HeldPacket}
 use Rattle.dna_links.specs.declared.queue.Queues.{Queues}
+use Rattle.dna_links.specs.declared.tag.LinkTag.{LinkTag}
 use Rattle.dna_links.specs.Links.{Carried}
-use Rattle.dna_links.specs.WireLinks.{WireLinks}
+use Rattle.dna_links.specs.User.{LinkEventValue}
+use Rattle.dna_links.specs.Sending.{Sent}
+use Rattle.dna_links.specs.WireSegments.{WireSegments}
+use Rattle.dna_links.specs.WireLinks.{WireLinks, wire_links_user, wire_links_sent, wire_links_arrived}
 use Rattle.dna_links.specs.Arriving.{of_anyone}
 use Rattle.dna_node.specs.Content.{content}
 use Rattle.dna_node.specs.WireLayers.{WireLayers, LayersTag, new_wire_layers_node}
-use Rattle.accusing.specs.Placing.{Passed, Own, Other, comes, IsPlacedFrom, Ends, Passes, Sends, Hears, HearsNoise, Acts}
+use Rattle.accusing.specs.Placing.{Passed, Own, Other, IsDamage, comes, IsPlacedFrom, Ends, Passes, Sends, Hears, HearsNoise, Acts}
 use Rattle.accusing_links.specs.declared.wrong.Wrong.{Wrong}
-use Rattle.accusing_links.specs.declared.wrong.Wrong.TheVariants.{WrongNode}
+use Rattle.accusing_links.specs.declared.wrong.Wrong.TheVariants.{WrongNode, WrongAck}
 use Rattle.accusing_links.specs.Placing.{node_machine, IsNodePlacing}
 use Rattle.accusing_links.specs.Answers.{IsWrong}
-use Rattle.accusing_links.specs.Wrong.{packet_in, goes_out, wrong_content, wrong_in, wrong_unit}
-use Rattle.accusing_links.proofs.Addresses.{HaveAddresses, user_keeps, arrived_keeps, sent_keeps}
-use Rattle.accusing_links.proofs.Held.{Carries}
+use Rattle.accusing_links.specs.Segments.{packet_in, segment_of, segment_in, segment_by, segments_passed}
+use Rattle.accusing_links.specs.Wrong.{wrong_content, wrong_in, wrong_unit}
+use Rattle.accusing_links.proofs.Answered.{Good}
+use Rattle.accusing_links.proofs.Addresses.{HaveAddresses, GoesOut, user_keeps, arrived_keeps, sent_keeps}
+use Rattle.accusing_links.proofs.Held.{AreHeld, Carries}
 use Rattle.accusing_links.proofs.Nodes.{HasFine, IsFine, MayCome, AreKept, IsRight, sends_right, arrives_right, acts_right}
+use Rattle.accusing_links.proofs.Received.{AreFine}
+use Rattle.accusing_links.proofs.RightLinks.{Numbers, AreRight, right_more}
+use Rattle.accusing_links.proofs.LinkSteps.{HasPassed, AcksFine, user_right, arrived_right}
+use Rattle.accusing_links.proofs.LinkSends.{sent_right, sent_fine}
+use Rattle.accusing_links.proofs.Passing.{AsNumbers, other_passed, passed_more, message_right}
 
 module _ (queues : Queues) (head : Head) where
-  abbrev Is : WireLinks → Type 0
-  Is s = HaveAddresses head.own head.peer s
+  module _ (before : List Passed) where
+    abbrev N : Numbers
+    N = AsNumbers (segments_passed before)
 
-  abbrev Fine : Carried → Type 0
-  Fine packet = goes_out head packet ≡ true
+    abbrev pub Is : WireLinks → Type 0
+    Is s = HaveAddresses head.own head.peer s × AreRight N queues s.links
 
-  abbrev Comes : Carried → Type 0
-  Comes packet = Unit {0}
+    abbrev pub Fine : Carried → Type 0
+    Fine packet = GoesOut head.own head.peer packet × AcksFine N packet.message
 
-  kept : AreKept queues Is Fine Comes
-  kept = record {
-    user = λ s event is. user_keeps queues head.own head.peer s is event;
-    sent = λ s packet is. sent_keeps queues head.own head.peer s is packet;
-    arrived = λ s packet tag is comes. arrived_keeps queues head.own head.peer s is of_anyone packet tag;
-  }
+    abbrev pub Comes : Carried → Type 0
+    Comes packet = HasPassed N packet.message
 
-  abbrev Right : WireLayers → Type 0
-  Right s = IsRight queues Is Fine Comes kept s
+    user_kept : (s : WireLinks) (event : LinkEventValue) → Is s → Good Is (wire_links_user queues s event)
+    user_kept s event is made e = (user_keeps queues head.own head.peer s is.0 event made e, user_right N queues s is.1 event made e)
 
-  any_may : (c : Result (Option Carried) StepRefusal) → MayCome Comes c
-  any_may (Ok None) = tt
-  any_may (Ok (Some packet)) = tt
-  any_may (Err refusal) = tt
+    sent_kept : (s : WireLinks) (packet : Carried) → Is s → IsInRange packet.message →
+        Good (λ (made : Sent WireSegments (Unit {0})). Is made.links × Fine packet) (wire_links_sent queues s packet)
+    sent_kept s packet is small made e =
+        let out = sent_keeps queues head.own head.peer s is.0 packet made e in
+        ((out.0, sent_right N queues s is.1 packet small made e), (out.1, sent_fine N queues s is.1 packet small made e))
 
-  comes_right : (s after : WireLayers) (tag : LayersTag) (fate : Fate) (r : ReadingValue) → comes (node_machine queues) s tag fate r ≡ Ok after →
-      Right s → Right after
-  comes_right s after tag fate (Sound m) e is =
-      arrives_right queues Is Fine Comes kept s after (arrival.Sound m tag) fate e (any_may (content (body_of m))) is
-  comes_right s after tag fate HeaderBad e is = arrives_right queues Is Fine Comes kept s after arrival.HeaderBad fate e tt is
-  comes_right s after tag fate DataBad e is = arrives_right queues Is Fine Comes kept s after arrival.DataBad fate e tt is
-  comes_right s after tag fate (Malformed departure) e is = let same : s ≡ after = cc in subst Right same is
+    arrived_kept : (s : WireLinks) (packet : Carried) (tag : LinkTag) → Is s → IsInRange packet.message → Comes packet →
+        Good Is (wire_links_arrived queues of_anyone s packet tag)
+    arrived_kept s packet tag is small came made e = (
+      arrived_keeps queues head.own head.peer s is.0 of_anyone packet tag made e,
+      arrived_right N queues s is.1 of_anyone packet tag small came made e,
+    )
 
-  -- ---- what is sent
+    pub kept : AreKept queues Is Fine Comes
+    kept = record { user = user_kept; sent = sent_kept; arrived = arrived_kept }
 
-  fine_content : (c : Result (Option Carried) StepRefusal) → HasFine Fine c → wrong_content head c ≡ None
-  fine_content (Ok None) fine = refl
-  fine_content (Ok (Some packet)) fine = ap (λ (b : Bool). cond b None (Some WrongNode)) fine
-  fine_content (Err refusal) fine = absurd fine
+    abbrev pub Right : WireLayers → Type 0
+    Right s = IsRight queues Is Fine Comes kept s
 
-  fine_message : (m : MessageValue) → Carries (IsFine Fine) m → wrong_in head (packet_in (Sound m)) ≡ None
-  fine_message (Data flags resp num body) fine = fine_content (content body) fine
-  fine_message (Ack flags resp) fine = refl
-  fine_message (Nak flags reason resp) fine = refl
-  fine_message (Rep flags num) fine = refl
-  fine_message (Strt flags) fine = refl
-  fine_message (Stack flags) fine = refl
+    -- ---- what comes
+
+    -- what is in a unit passed
+    abbrev pub Came : List ℕ → Type 0
+    Came unit = (own far number : ℕ) → segment_by (packet_in (reading unit)) own far number ≡ true → N own far number
+
+    this_passed : (m : NspValue) (c : Result (Option Carried) StepRefusal) (packet : Carried) → c ≡ Ok (Some packet) →
+        ((own far number : ℕ) → segment_in c own far number ≡ true → N own far number) → packet.message ≡ m → HasPassed N m
+    this_passed (DataSegment s) c packet read came same =
+        came s.dstaddr s.srcaddr s.number (
+        ap (λ (x : Result (Option Carried) StepRefusal). segment_in x s.dstaddr s.srcaddr s.number) read
+        ∙ ap (λ (x : NspValue). segment_of x s.dstaddr s.srcaddr s.number) same
+        ∙ and_from (eqb s.dstaddr s.dstaddr) (eqb s.srcaddr s.srcaddr && eqb s.number s.number) (eq-eqb s.dstaddr s.dstaddr refl)
+        (and_from (eqb s.srcaddr s.srcaddr) (eqb s.number s.number) (eq-eqb s.srcaddr s.srcaddr refl) (eq-eqb s.number s.number refl)))
+    this_passed (LinkService interrupt dst src rest) c packet read came same = tt
+    this_passed (DataAck dst src acks) c packet read came same = tt
+    this_passed (OtherDataAck dst src rest) c packet read came same = tt
+    this_passed (ConnectAck dst) c packet read came same = tt
+    this_passed (NoOperation rest) c packet read came same = tt
+    this_passed (ConnectInitiate retransmitted src services info segsize user_data) c packet read came same = tt
+    this_passed (ConnectConfirm dst src services info segsize user_data) c packet read came same = tt
+    this_passed (DisconnectInitiate dst src reason user_data) c packet read came same = tt
+    this_passed (DisconnectConfirm dst src reason) c packet read came same = tt
+
+    may_come : (c : Result (Option Carried) StepRefusal) → ((own far number : ℕ) → segment_in c own far number ≡ true → N own far number) →
+        MayCome Comes c
+    may_come (Ok None) came = tt
+    may_come (Ok (Some packet)) came = this_passed packet.message (Ok (Some packet)) packet refl came refl
+    may_come (Err refusal) came = tt
+
+    message_may : (m : MessageValue) → ((own far number : ℕ) → segment_by (packet_in (Sound m)) own far number ≡ true → N own far number) →
+        MayCome Comes (content (body_of m))
+    message_may (Data flags resp num body) came = may_come (content body) came
+    message_may (Ack flags resp) came = tt
+    message_may (Nak flags reason resp) came = tt
+    message_may (Rep flags num) came = tt
+    message_may (Strt flags) came = tt
+    message_may (Stack flags) came = tt
+
+    damage_right : (s after : WireLayers) (tag : LayersTag) (fate : Fate) (r : ReadingValue) → IsDamage r →
+        comes (node_machine queues) s tag fate r ≡ Ok after → Right s → Right after
+    damage_right s after tag fate HeaderBad damage e is = arrives_right queues Is Fine Comes kept s after arrival.HeaderBad fate e tt is
+    damage_right s after tag fate DataBad damage e is = arrives_right queues Is Fine Comes kept s after arrival.DataBad fate e tt is
+    damage_right s after tag fate (Sound m) damage e is = absurd damage
+    damage_right s after tag fate (Malformed departure) damage e is = absurd damage
+
+    unit_right : (s after : WireLayers) (tag : LayersTag) (fate : Fate) (unit : List ℕ) (r : ReadingValue) → reading unit ≡ r → Came unit →
+        comes (node_machine queues) s tag fate r ≡ Ok after → Right s → Right after
+    unit_right s after tag fate unit (Sound m) read came e is =
+        arrives_right queues Is Fine Comes kept s after (arrival.Sound m tag) fate e
+        (message_may m
+        (subst (λ (x : ReadingValue). (own far number : ℕ) → segment_by (packet_in x) own far number ≡ true → N own far number) read came))
+        is
+    unit_right s after tag fate unit HeaderBad read came e is = damage_right s after tag fate HeaderBad tt e is
+    unit_right s after tag fate unit DataBad read came e is = damage_right s after tag fate DataBad tt e is
+    unit_right s after tag fate unit (Malformed departure) read came e is = let same : s ≡ after = cc in subst Right same is
+
+    pub comes_right : (s after : WireLayers) (tag : LayersTag) (fate : Fate) (unit bytes : List ℕ) → (bytes ≡ unit) ⊎ IsDamage (reading bytes) →
+        Came unit → comes (node_machine queues) s tag fate (reading bytes) ≡ Ok after → Right s → Right after
+    comes_right s after tag fate unit bytes (inl same) came e is = unit_right s after tag fate unit (reading bytes) (ap reading (sym same)) came e is
+    comes_right s after tag fate unit bytes (inr damage) came e is = damage_right s after tag fate (reading bytes) damage e is
+
+    -- ---- what is sent
+
+    fine_content : (c : Result (Option Carried) StepRefusal) → HasFine Fine c → wrong_content head (segments_passed before) c ≡ None
+    fine_content (Ok None) fine = refl
+    fine_content (Ok (Some packet)) fine =
+        ap₂ (λ (a b : Bool). cond a (cond b None (Some WrongAck)) (Some WrongNode)) fine.0
+        (message_right (segments_passed before) packet.message fine.1)
+    fine_content (Err refusal) fine = absurd fine
+
+    pub fine_message : (m : MessageValue) → Carries (IsFine Fine) m → wrong_in head (segments_passed before) (packet_in (Sound m)) ≡ None
+    fine_message (Data flags resp num body) fine = fine_content (content body) fine
+    fine_message (Ack flags resp) fine = refl
+    fine_message (Nak flags reason resp) fine = refl
+    fine_message (Rep flags num) fine = refl
+    fine_message (Strt flags) fine = refl
+    fine_message (Stack flags) fine = refl
+
+  -- ---- one unit more passes
+
+  module _ (before : List Passed) (one : Passed) where
+    abbrev after : List Passed
+    after = before ++ one ∷ []
+
+    words_more : (own far : ℕ) (words : List AckWord) → AreFine (N before own far) words → AreFine (N after own far) words
+    words_more own far [] fine = tt
+    words_more own far (word ∷ words) fine = (λ e. go (fine.0 e), words_more own far words fine.1)
+      where
+        go : (word.number ≡ 0) ⊎ (segments_passed before own far word.number ≡ true) →
+            (word.number ≡ 0) ⊎ (segments_passed after own far word.number ≡ true)
+        go (inl none) = inl none
+        go (inr came) = inr (passed_more before one own far word.number came)
+
+    acks_more : (m : NspValue) → AcksFine (N before) m → AcksFine (N after) m
+    acks_more (DataSegment s) fine = words_more s.srcaddr s.dstaddr s.acks fine
+    acks_more (DataAck dst src acks) fine = words_more src dst acks fine
+    acks_more (LinkService interrupt dst src rest) fine = tt
+    acks_more (OtherDataAck dst src rest) fine = tt
+    acks_more (ConnectAck dst) fine = tt
+    acks_more (NoOperation rest) fine = tt
+    acks_more (ConnectInitiate retransmitted src services info segsize user_data) fine = tt
+    acks_more (ConnectConfirm dst src services info segsize user_data) fine = tt
+    acks_more (DisconnectInitiate dst src reason user_data) fine = tt
+    acks_more (DisconnectConfirm dst src reason) fine = tt
+
+    content_more : (c : Result (Option Carried) StepRefusal) → HasFine (Fine before) c → HasFine (Fine after) c
+    content_more (Ok None) fine = tt
+    content_more (Ok (Some packet)) fine = (fine.0, acks_more packet.message fine.1)
+    content_more (Err refusal) fine = absurd fine
+
+    held_more : (held : List (HeldPacket LinkTag)) → AreHeld (IsFine (Fine before)) held → AreHeld (IsFine (Fine after)) held
+    held_more [] are = tt
+    held_more (packet ∷ held) are = (content_more (content packet.body) are.0, held_more held are.1)
+
+    right_later : (s : WireLayers) → Right before s → Right after s
+    right_later s is = record {
+      links = (is.links.0, right_more (N before) (N after) queues (passed_more before one) s.links.links is.links.1);
+      held = held_more s.station.variables.held is.held;
+    }
+
+    came_later : (unit : List ℕ) → Came before unit → Came after unit
+    came_later unit came own far number e = passed_more before one own far number (came own far number e)
+
+  -- ---- the units that are coming
+
+  abbrev AllCame : List Passed → List (List ℕ) → Type 0
+  AllCame before [] = Unit {0}
+  AllCame before (unit ∷ units) = Came before unit × AllCame before units
+
+  all_later : (before : List Passed) (one : Passed) (units : List (List ℕ)) → AllCame before units → AllCame (before ++ one ∷ []) units
+  all_later before one [] all = tt
+  all_later before one (unit ∷ units) all = (came_later before one unit all.0, all_later before one units all.1)
+
+  one_came : (before : List Passed) (unit : List ℕ) → Came (before ++ Other unit ∷ []) unit
+  one_came before unit own far number e =
+      other_passed before unit own far number ∙ ap (λ (b : Bool). b || segments_passed before own far number) e
+
+  all_pushed : (before : List Passed) (units : List (List ℕ)) (unit : List ℕ) → AllCame before units → Came before unit →
+      AllCame before (units ++ unit ∷ [])
+  all_pushed before [] unit all this = (this, tt)
+  all_pushed before (first ∷ units) unit all this = (all.0, all_pushed before units unit all.1 this)
+
+  all_behind : (before : List Passed) (lost : List (List ℕ)) (unit : List ℕ) (later : List (List ℕ)) → AllCame before (lost ++ unit ∷ later) →
+      Came before unit × AllCame before later
+  all_behind before [] unit later all = (all.0, all.1)
+  all_behind before (first ∷ lost) unit later all = all_behind before lost unit later all.1
 
   -- ---- all records
 
-  abbrev AllFine : List Passed → Type 0
-  AllFine [] = Unit {0}
-  AllFine (Own unit ∷ passed) = (wrong_unit head unit ≡ None) × AllFine passed
-  AllFine (Other unit ∷ passed) = AllFine passed
+  abbrev AllFine : List Passed → List Passed → Type 0
+  AllFine before [] = Unit {0}
+  AllFine before (Own unit ∷ passed) = (wrong_unit head (segments_passed before) unit ≡ None) × AllFine (before ++ Own unit ∷ []) passed
+  AllFine before (Other unit ∷ passed) = AllFine (before ++ Other unit ∷ []) passed
 
   all_fine : {s : WireLayers} {front : ℕ} {coming : List (List ℕ)} {passed : List Passed} {records : List Record} →
-      IsPlacedFrom (node_machine queues) s front coming passed records → Right s → AllFine passed
-  all_fine Ends is = tt
-  all_fine (Passes later) is = all_fine later is
-  all_fine (Sends {s = s} {unit = unit} m after known read made later) is =
-      let sent = sends_right queues Is Fine Comes kept s after m known made is in
-      (ap (λ (r : ReadingValue). wrong_in head (packet_in r)) read ∙ fine_message m sent.1, all_fine later sent.0)
-  all_fine (Hears {s = s} lost unit rest are hint hinted bytes byte how tag fate after made later) is =
-      all_fine later (comes_right s after tag fate (reading bytes) made is)
-  all_fine (HearsNoise {s = s} bytes damage tag after made later) is = all_fine later (comes_right s after tag NotKept (reading bytes) made is)
-  all_fine (Acts {s = s} event after made later) is = all_fine later (acts_right queues Is Fine Comes kept s after event made is)
+      IsPlacedFrom (node_machine queues) s front coming passed records → (before : List Passed) → Right before s → AllCame before coming →
+      AllFine before passed
+  all_fine Ends before is came = tt
+  all_fine (Passes {s = s} {coming = coming} {unit = unit} later) before is came =
+      all_fine later (before ++ Other unit ∷ []) (right_later before (Other unit) s is)
+      (all_pushed (before ++ Other unit ∷ []) coming unit (all_later before (Other unit) coming came) (one_came before unit))
+  all_fine (Sends {s = s} {coming = coming} {unit = unit} m after known read made later) before is came =
+      let sent = sends_right queues (Is before) (Fine before) (Comes before) (kept before) s after m known made is in (
+        ap (λ (r : ReadingValue). wrong_in head (segments_passed before) (packet_in r)) read ∙ fine_message before m sent.1,
+        all_fine later (before ++ Own unit ∷ []) (right_later before (Own unit) after sent.0) (all_later before (Own unit) coming came),
+      )
+  all_fine (Hears {s = s} {coming = coming} lost unit rest are hint hinted bytes byte how tag fate after made later) before is came =
+      let all = all_behind before lost unit rest (subst (AllCame before) are came) in
+      all_fine later before (comes_right before s after tag fate unit bytes how all.0 made is) all.1
+  all_fine (HearsNoise {s = s} bytes damage tag after made later) before is came =
+      all_fine later before (damage_right before s after tag NotKept (reading bytes) damage made is) came
+  all_fine (Acts {s = s} event after made later) before is came =
+      all_fine later before (acts_right queues (Is before) (Fine before) (Comes before) (kept before) s after event made is) came
 
-  one_fine : (before : List Passed) (unit : List ℕ) (later : List Passed) → AllFine (before ++ Own unit ∷ later) → wrong_unit head unit ≡ None
-  one_fine [] unit later all = all.0
-  one_fine (Own first ∷ before) unit later all = one_fine before unit later all.1
-  one_fine (Other first ∷ before) unit later all = one_fine before unit later all
+  one_fine : (start before : List Passed) (unit : List ℕ) (later : List Passed) → AllFine start (before ++ Own unit ∷ later) →
+      wrong_unit head (segments_passed (start ++ before)) unit ≡ None
+  one_fine start [] unit later all =
+      subst (λ (x : List Passed). wrong_unit head (segments_passed x) unit ≡ None) (sym (append-nil start)) all.0
+  one_fine start (Own first ∷ before) unit later all =
+      subst (λ (x : List Passed). wrong_unit head (segments_passed x) unit ≡ None) (append_assoc start (Own first ∷ []) before)
+      (one_fine (start ++ Own first ∷ []) before unit later all.1)
+  one_fine start (Other first ∷ before) unit later all =
+      subst (λ (x : List Passed). wrong_unit head (segments_passed x) unit ≡ None) (append_assoc start (Other first ∷ []) before)
+      (one_fine (start ++ Other first ∷ []) before unit later all)
 
-  first_right : Right (new_wire_layers_node head).station
-  first_right = record { links = record { own = refl; other = refl }; held = tt }
+  first_right : Right [] (new_wire_layers_node head).station
+  first_right = record { links = (record { own = refl; other = refl }, tt); held = tt }
 
-  pub never_placed : (before later : List Passed) (unit : List ℕ) (records : List Record) (wrong : Wrong) → wrong_unit head unit ≡ Some wrong →
-      IsNodePlacing queues head (before ++ Own unit ∷ later) records → ⊥
+  pub never_placed : (before later : List Passed) (unit : List ℕ) (records : List Record) (wrong : Wrong) →
+      wrong_unit head (segments_passed before) unit ≡ Some wrong → IsNodePlacing queues head (before ++ Own unit ∷ later) records → ⊥
   never_placed before later unit records wrong refuted placing =
-      let fine = one_fine before unit later (all_fine placing first_right) in cc
+      let fine = one_fine [] before unit later (all_fine placing [] first_right tt) in cc
 
-pub wrong_own : (head : Head) (unit : List ℕ) (result : Option Wrong) → result ≡ wrong_unit head unit → (before : List Passed) →
-    IfSome result (λ wrong. IsWrong head (before ++ Own unit ∷ []))
-wrong_own head unit None is before = tt
-wrong_own head unit (Some wrong) is before = λ queues records placing. never_placed queues head before [] unit records wrong (sym is) placing
+pub wrong_own : (head : Head) (passed : List Passed) (unit : List ℕ) (result : Option Wrong) →
+    result ≡ wrong_unit head (segments_passed passed) unit → IfSome result (λ wrong. IsWrong head (passed ++ Own unit ∷ []))
+wrong_own head passed unit None is = tt
+wrong_own head passed unit (Some wrong) is = λ queues records placing. never_placed queues head passed [] unit records wrong (sym is) placing

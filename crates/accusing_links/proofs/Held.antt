@@ -113,7 +113,8 @@ module _ {L : Type 0} (P : List ℕ → Type 0) where
 
   -- ---- what the user does
 
-  pub user_held : (w after : WireStation L) (event : Event) → machine.user w event ≡ Ok after → AreHeld w.variables.held → AreHeld after.variables.held
+  pub user_held : (w after : WireStation L) (event : Event) → machine.user w event ≡ Ok after → AreHeld w.variables.held →
+      AreHeld after.variables.held
   user_held w after events.Start e is = subst In (not_refused _ _ after e).1 tt
   user_held w after events.Halt e is = let same : wire_after_event w Halt ≡ after = cc in subst In same is
   user_held w after events.Boot e is = let same : wire_after_event w Halt ≡ after = cc in subst In same is

@@ -6,5 +6,19 @@ pub mod Answered
 pub mod Addresses
 -- a node with any links that keep something
 pub mod Nodes
+-- what the words of a link stand for
+pub mod Words
+-- what a link received passed
+pub mod Pieces
+pub mod Received
+pub mod Sends
+-- so of every link of a node
+pub mod RightLinks
+pub mod LinkRows
+pub mod LinkSteps
+pub mod LinkSends
+pub mod Inserted
+-- what passed stays so
+pub mod Passing
 -- so what no node sends has no placing
 pub mod Final

@@ -22,7 +22,10 @@ use Rattle.dna_links.specs.Arriving.{of_anyone}
 use Rattle.dna_node.specs.TagRules.{Rules, by_bytes_with}
 use Rattle.dna_node.specs.Content.{content, link_event}
 use Rattle.dna_node.specs.WireLayers.{WireLayers, LayersTag, with_wire_links, with_tag, with_wire_composed, to_wire_station, tag_or_none}
-use Rattle.dna_node.specs.WireLayers.{wire_sends_first, wire_sends_again, wire_sends_on, wire_keeps_packet, wire_keeps, wire_meets_on, wire_user_on, wire_composes}
+use Rattle.dna_node.specs.WireLayers.{wire_sends_first, wire_sends_again, wire_sends_on, wire_keeps_packet, wire_keeps, wire_meets_on}
+use Rattle.dna_node.specs.WireLayers.{wire_user_on, wire_composes}
+use Rattle.dna_packet.specs.Nsp.{IsInRange}
+use Rattle.dna_node.proofs.ReadInRange.{content_in_range}
 use Rattle.accusing.specs.Placing.{machine}
 use Rattle.accusing_links.specs.Placing.{node_machine}
 use Rattle.accusing_links.proofs.Answered.{Good}
@@ -52,9 +55,9 @@ MayCome Comes (Err refusal) = Unit {0}
 -- Links keep this whatever they do, where of what comes this holds; and of what they send this holds
 pub record AreKept (queues : Queues) (Is : WireLinks → Type 0) (Fine Comes : Carried → Type 0) : Type 0 where
   pub user : (s : WireLinks) (event : LinkEventValue) → Is s → Good Is (wire_links_user queues s event)
-  pub sent : (s : WireLinks) (packet : Carried) → Is s →
+  pub sent : (s : WireLinks) (packet : Carried) → Is s → IsInRange packet.message →
       Good (λ (made : Sent WireSegments (Unit {0})). Is made.links × Fine packet) (wire_links_sent queues s packet)
-  pub arrived : (s : WireLinks) (packet : Carried) (tag : LinkTag) → Is s → Comes packet →
+  pub arrived : (s : WireLinks) (packet : Carried) (tag : LinkTag) → Is s → IsInRange packet.message → Comes packet →
       Good Is (wire_links_arrived queues of_anyone s packet tag)
 
 module _ (queues : Queues) (Is : WireLinks → Type 0) (Fine Comes : Carried → Type 0) (kept : AreKept queues Is Fine Comes) where
@@ -72,7 +75,8 @@ module _ (queues : Queues) (Is : WireLinks → Type 0) (Fine Comes : Carried →
       with_tag st r ≡ Ok (after, known) → (Fine packet → AreHeld (IsFine Fine) st.0.variables.held) → IsRight after × Fine packet
   with_tag_right st s packet after known (Ok made) good e held =
       let is = good made refl in
-      (subst IsRight (ok_first _ after known e) (record { links = is.0; held = label_held (IsFine Fine) st.0.variables.held made.truth.tag (held is.1) }), is.1)
+      let right : IsRight _ = record { links = is.0; held = label_held (IsFine Fine) st.0.variables.held made.truth.tag (held is.1) } in
+      (subst IsRight (ok_first _ after known e) right, is.1)
   with_tag_right st s packet after known (Err refusal) good e held = absurd cc
 
   first_right : (s : WireLayers) (m : MessageValue) (st : WireStation LinkTag × Tag) (after : WireLayers) (known : LayersTag)
@@ -82,7 +86,8 @@ module _ (queues : Queues) (Is : WireLinks → Type 0) (Fine Comes : Carried →
       let fine : IsFine Fine (body_of m) = subst (HasFine Fine) (sym is) tt in
       (subst IsRight (ok_first _ after known e) (record { links = links; held = label_held (IsFine Fine) st.0.variables.held _ (held fine) }), fine)
   first_right s m st after known (Ok (Some packet)) is e links held =
-      let all = with_tag_right st s packet after known (wire_links_sent queues s.links packet) (kept.sent s.links packet links) e
+      let all = with_tag_right st s packet after known (wire_links_sent queues s.links packet)
+      (kept.sent s.links packet links (content_in_range (body_of m) packet is)) e
       (λ fine. held (subst (HasFine Fine) (sym is) fine)) in
       (all.0, subst (HasFine Fine) (sym is) all.1)
   first_right s m st after known (Err refusal) is e links held = absurd cc
@@ -116,12 +121,13 @@ module _ (queues : Queues) (Is : WireLinks → Type 0) (Fine Comes : Carried →
   with_links_right s after (Ok links) good e held = subst IsRight (ok_is _ after e) (record { links = good links refl; held = held })
   with_links_right s after (Err refusal) good e held = absurd cc
 
-  packet_right : (s after : WireLayers) (tag : LinkTag) (c : Result (Option Carried) StepRefusal) → MayCome Comes c →
-      wire_keeps_packet rules s tag c ≡ Ok after → IsRight s → IsRight after
-  packet_right s after tag (Ok None) may e is = subst IsRight (ok_is _ after e) is
-  packet_right s after tag (Ok (Some packet)) may e is =
-      with_links_right s after (wire_links_arrived queues of_anyone s.links packet tag) (kept.arrived s.links packet tag is.links may) e is.held
-  packet_right s after tag (Err refusal) may e is = absurd cc
+  packet_right : (s after : WireLayers) (tag : LinkTag) (body : List ℕ) (c : Result (Option Carried) StepRefusal) → content body ≡ c →
+      MayCome Comes c → wire_keeps_packet rules s tag c ≡ Ok after → IsRight s → IsRight after
+  packet_right s after tag body (Ok None) read may e is = subst IsRight (ok_is _ after e) is
+  packet_right s after tag body (Ok (Some packet)) read may e is =
+      with_links_right s after (wire_links_arrived queues of_anyone s.links packet tag)
+      (kept.arrived s.links packet tag is.links (content_in_range body packet read) may) e is.held
+  packet_right s after tag body (Err refusal) read may e is = absurd cc
 
   -- the packet in what arrives may come
   abbrev pub MayArrive : ArrivalValue LayersTag → Type 0
@@ -131,7 +137,7 @@ module _ (queues : Queues) (Is : WireLinks → Type 0) (Fine Comes : Carried →
 
   keeps_right : (s after : WireLayers) (arrival : ArrivalValue LayersTag) → MayArrive arrival → wire_keeps rules s arrival ≡ Ok after →
       IsRight s → IsRight after
-  keeps_right s after (Sound m tag) may e is = packet_right s after (tag_or_none tag.link) (content (body_of m)) may e is
+  keeps_right s after (Sound m tag) may e is = packet_right s after (tag_or_none tag.link) (body_of m) (content (body_of m)) refl may e is
   keeps_right s after HeaderBad may e is = subst IsRight (ok_is _ after e) is
   keeps_right s after DataBad may e is = subst IsRight (ok_is _ after e) is
 
@@ -159,15 +165,17 @@ module _ (queues : Queues) (Is : WireLinks → Type 0) (Fine Comes : Carried →
 
   -- ---- what the user does
 
-  composed_right : (s after : WireLayers) (c : Result (Option Carried) StepRefusal) → wire_composes rules s c ≡ Ok after → IsRight s → IsRight after
-  composed_right s after (Ok None) e is = subst IsRight (ok_is _ after e) is
-  composed_right s after (Ok (Some packet)) e is = go (wire_links_sent queues s.links packet) (kept.sent s.links packet is.links) e
+  composed_right : (s after : WireLayers) (body : List ℕ) (c : Result (Option Carried) StepRefusal) → content body ≡ c →
+      wire_composes rules s c ≡ Ok after → IsRight s → IsRight after
+  composed_right s after body (Ok None) read e is = subst IsRight (ok_is _ after e) is
+  composed_right s after body (Ok (Some packet)) read e is =
+      go (wire_links_sent queues s.links packet) (kept.sent s.links packet is.links (content_in_range body packet read)) e
     where
       go : (r : Result (Sent WireSegments (Unit {0})) LinkRefusal) → Good (λ (made : Sent WireSegments (Unit {0})). Is made.links × Fine packet) r →
           with_wire_composed s r ≡ Ok after → IsRight after
       go (Ok made) good f = subst IsRight (ok_is _ after f) (record { links = (good made refl).0; held = is.held })
       go (Err refusal) good f = absurd cc
-  composed_right s after (Err refusal) e is = absurd cc
+  composed_right s after body (Err refusal) read e is = absurd cc
 
   user_on_right : (s after : WireLayers) (event : Event) (of_links : Option LinkEventValue) (r : Result (WireStation LinkTag) StepRefusal) →
       machine.user s.station event ≡ r → wire_user_on rules s of_links r ≡ Ok after → IsRight s → IsRight after
@@ -180,5 +188,5 @@ module _ (queues : Queues) (Is : WireLinks → Type 0) (Fine Comes : Carried →
   user_on_right s after event (Some of_links) (Err refusal) made e is = absurd cc
 
   pub acts_right : (s after : WireLayers) (event : Event) → (node_machine queues).user s event ≡ Ok after → IsRight s → IsRight after
-  acts_right s after (events.Composed packet) e is = composed_right s after (content packet) e is
+  acts_right s after (events.Composed packet) e is = composed_right s after packet (content packet) refl e is
   acts_right s after event e is = user_on_right s after event (link_event event) (machine.user s.station event) refl e is

@@ -7,11 +7,12 @@ ghost use Rattle.dna_links.specs.declared.queue.Queues.{Queues};
 ghost use Rattle.accusing.specs.Placing.{Passed, Own};
 ghost use Rattle.accusing_links.specs.declared.wrong.Wrong.{Wrong};
 ghost use Rattle.accusing_links.specs.Placing.{IsNodePlacing};
+ghost use Rattle.accusing_links.specs.Segments.{segments_passed};
 ghost use Rattle.accusing_links.specs.Wrong.{wrong_unit};
 
-/// Units of which an own one has a packet that can't be read, a message that can't, or a message between other nodes, have no placing: no right node
-/// sent the side's units among them, with queues or without.
-pub fn unreadable_packets_have_no_placing()
+/// Units of which an own one has a packet that can't be read, a message that can't, one between other nodes, or one that acknowledges a segment which
+/// had not passed, have no placing: no right node sent the side's units among them, with queues or without.
+pub fn wrong_packets_have_no_placing()
     ensures { (queues : Queues) (head : Head) (before later : List Passed) (unit : List ℕ) (records : List Record) (wrong : Wrong)
-        → wrong_unit head unit ≡ Some wrong → IsNodePlacing queues head (before ++ Own unit ∷ later) records → ⊥ }
+        → wrong_unit head (segments_passed before) unit ≡ Some wrong → IsNodePlacing queues head (before ++ Own unit ∷ later) records → ⊥ }
 {}

@@ -3,10 +3,12 @@
 //! there was and whatever its user did. It does not find every wrong packet. Of the units themselves crate `accusing` says the same.
 #![tactic(auto)]
 
+mod found;
 mod laws;
 mod link_accuser;
+mod segments;
 mod wrong;
 
-pub use laws::unreadable_packets_have_no_placing;
+pub use laws::wrong_packets_have_no_placing;
 pub use link_accuser::LinkAccuser;
 pub use wrong::Wrong;

@@ -9,4 +9,6 @@ pub enum Wrong {
     BadNsp,
     /// Its message is not from this node to the other one (16).
     WrongNode,
+    /// A word in it acknowledges a data segment that never passed (21).
+    WrongAck,
 }

@@ -30,6 +30,17 @@ b 96960507c00000014855
 a 8107000001016b8102020401040002121e
 ";
 
+// A link acknowledges segment 1, which passed, and then 2, which did not.
+const WRONG_ACK: &str = "ddwire 1 1.1 1.2
+a 0506c00000017595
+b 0507c00000014855
+a 810f000001018a40020204010400180000070001020002edfe
+b 810f00010101db80020104020400280700090001020002fe30
+b 810f00010201db7002010402040060070009000100686967dc
+a 810d0002020152b002020401040004090007000180ccad
+a 810d00020301532002020401040004090007000280cc5d
+";
+
 fn found(alloc: Global, text: &str) -> Result<Accused, TapFault> {
     found_over(alloc, text, false)
 }
@@ -82,4 +93,16 @@ fn a_packet_that_no_right_node_sent_is_found(rt: HostRuntime) {
         })
     );
     assert_eq!(rt; found_over(rt.alloc(), BAD_NSP, true), Ok(Accused::NOBODY));
+    let of_link = Passed {
+        side: Side::A,
+        unit: 3,
+        line: 8,
+    };
+    assert_eq!(rt;
+        found(rt.alloc(), WRONG_ACK),
+        Ok(Accused {
+            a: Some(of_link),
+            b: None
+        })
+    );
 }

@@ -38,15 +38,15 @@ pub fn find_accused<W: Read>(
         Err(fault) => return Err(reading_fault(fault)),
     };
     let (a, b) = (reader.node_a(), reader.node_b());
-    let mut of_a = SideUnits::of(alloc, Side::A, links_of(a, b, line_alone))?;
-    let mut of_b = SideUnits::of(alloc, Side::B, links_of(b, a, line_alone))?;
+    let mut of_a = SideUnits::of(alloc, Side::A, links_of(alloc, a, b, line_alone))?;
+    let mut of_b = SideUnits::of(alloc, Side::B, links_of(alloc, b, a, line_alone))?;
     for _ in 0..MAX_PIECES + 1 {
         match reader.advance(wire) {
             Ok(Some(side)) => {
                 let line = reader.items().saturating_add(1);
                 match side {
-                    Side::A => of_a.pass_bytes(reader.bytes(), line, &mut of_b.told.accuser)?,
-                    Side::B => of_b.pass_bytes(reader.bytes(), line, &mut of_a.told.accuser)?,
+                    Side::A => of_a.pass_bytes(reader.bytes(), line, &mut of_b.told.accusers)?,
+                    Side::B => of_b.pass_bytes(reader.bytes(), line, &mut of_a.told.accusers)?,
                 }
             }
             Ok(None) => break,
@@ -60,11 +60,11 @@ pub fn find_accused<W: Read>(
 }
 
 // What is asked of the packets of the node with this address, with that one at the other end; nothing over the line alone.
-fn links_of(own: u16, peer: u16, line_alone: bool) -> Option<LinkAccuser> {
+fn links_of(alloc: Global, own: u16, peer: u16, line_alone: bool) -> Option<LinkAccuser> {
     if line_alone {
         return None;
     }
-    Some(LinkAccuser::new(own, peer))
+    Some(LinkAccuser::new(alloc, own, peer))
 }
 
 // How the units of a side are found, and what they told.
@@ -76,12 +76,18 @@ struct SideUnits {
     begun: u64,
 }
 
+// What accuses a side: of its units, and if it is asked of what is in its data units.
+#[derive(Drop)]
+struct Accusers {
+    station: Accuser,
+    links: Option<LinkAccuser>,
+}
+
 // The units that a side sent so far, and the first one that it can't have sent.
 #[derive(Drop)]
 struct Told {
     side: Side,
-    accuser: Accuser,
-    links: Option<LinkAccuser>,
+    accusers: Accusers,
     count: u64,
     first: Option<Passed>,
 }
@@ -99,8 +105,10 @@ impl SideUnits {
             framer: Framer::new(alloc)?,
             told: Told {
                 side,
-                accuser: Accuser::new(alloc),
-                links,
+                accusers: Accusers {
+                    station: Accuser::new(alloc),
+                    links,
+                },
                 count: 0,
                 first: None,
             },
@@ -113,7 +121,7 @@ impl SideUnits {
         &mut self,
         piece: &[u8],
         line: u64,
-        other: &mut Accuser,
+        other: &mut Accusers,
     ) -> Result<(), AllocError> {
         let mut rest = piece;
         let most = self.framer.held().len() + piece.len() + 1;
@@ -131,7 +139,7 @@ impl SideUnits {
         &mut self,
         piece: &'a [u8],
         line: u64,
-        other: &mut Accuser,
+        other: &mut Accusers,
     ) -> Result<Next<'a>, AllocError> {
         match self.framer.next(piece) {
             Found::Unit {
@@ -165,13 +173,13 @@ impl Told {
         kind: Kind,
         unit: &[u8],
         line: u64,
-        other: &mut Accuser,
+        other: &mut Accusers,
     ) -> Result<(), AllocError> {
         if let Kind::Maintenance = kind {
             return Ok(());
         }
-        other.other_passed(unit);
-        if self.first.is_none() && self.accuses(unit)? {
+        other.other_passed(unit)?;
+        if self.first.is_none() && self.accusers.accuse(unit)? {
             self.first = Some(Passed {
                 side: self.side,
                 unit: self.count,
@@ -181,10 +189,21 @@ impl Told {
         self.count = self.count.saturating_add(1);
         Ok(())
     }
+}
+
+impl Accusers {
+    // This unit of the other side passed.
+    fn other_passed(&mut self, unit: &[u8]) -> Result<(), AllocError> {
+        self.station.other_passed(unit);
+        if let Some(links) = &mut self.links {
+            links.other_passed(unit)?;
+        }
+        Ok(())
+    }
 
     // No right node sent this unit.
-    fn accuses(&mut self, unit: &[u8]) -> Result<bool, AllocError> {
-        if let Answer::CannotHave(_) = self.accuser.sends(unit)? {
+    fn accuse(&mut self, unit: &[u8]) -> Result<bool, AllocError> {
+        if let Answer::CannotHave(_) = self.station.sends(unit)? {
             return Ok(true);
         }
         let Some(links) = &self.links else {
