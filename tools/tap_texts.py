@@ -18,7 +18,7 @@ ANSWERS = (
     # the unit begins in the line that is named, and ends in the next one
     ('number_skipped_in_two_pieces', 'unexplained a unit 7 line 16: 7 WrongNumber\n'),
     # a link acknowledges a segment that never passed; a message of flag byte 02
-    ('acknowledged_too_far', 'unexplained a unit 3 line 8: 21 WrongAck\nwhatever came to it, no right node sends a unit 3 line 8\n'),
+    ('acknowledged_too_far', 'unexplained a unit 4 line 9: 21 WrongAck\nwhatever came to it, no right node sends a unit 4 line 9\n'),
     ('unread_message', 'unexplained a unit 1 line 4: 17 BadNsp\nwhatever came to it, no right node sends a unit 1 line 4\n'),
     # 255 packets are outstanding
     ('full_window', 'accepted\na records 259 sent 257 received 1 damaged 0 kept 0'),
