@@ -1,5 +1,6 @@
 -- The byte of two digits is what they spell, and bytes that are spelled one after the other are spelled together.
-use Rattle.std.proofs.Common.{◌≡◌, ℕ, zero, suc, ◌+◌, ◌*◌, ◌/◌, ◌%◌, ◌<◌, ◌≤◌, ◌^◌, Bool, true, false, eqb, ◌&&◌, List, [], ◌∷◌, ◌++◌, length, take, drop, get_or, set}
+use Rattle.std.proofs.Common.{◌≡◌, ℕ, zero, suc, ◌+◌, ◌*◌, ◌/◌, ◌%◌, ◌<◌, ◌≤◌, ◌^◌, Bool, true, false, eqb, ◌&&◌, List, [], ◌∷◌, ◌++◌}
+use Rattle.std.proofs.Common.{length, take, drop, get_or, set}
 use Rattle.std.proofs.Common.{Option, Some, None, is_some, refl, sym, ap, ap₂, ◌∙◌, arith, bit_and, bit_or}
 use Rattle.std.specs.List.{list_all}
 use Rattle.std.proofs.lemmas.Bool.{and_parts, and_right, eqb-true}
@@ -132,7 +133,8 @@ fewer_spelled bytes text n m le e =
     ∙ take-take (2 * n) (2 * m) text (omega arith)
 
 -- all of them
-pub all_spelled : (bytes text : List ℕ) (n : ℕ) → length bytes ≡ n → length text ≡ 2 * length bytes → IsSpelled bytes text n → encode_lower bytes ≡ text
+pub all_spelled : (bytes text : List ℕ) (n : ℕ) → length bytes ≡ n → length text ≡ 2 * length bytes → IsSpelled bytes text n
+    → encode_lower bytes ≡ text
 all_spelled bytes text n long twice e =
     ap encode_lower (sym (take_all n bytes (omega (arith, long)))) ∙ e ∙ take_all (2 * n) text (omega (arith, long, twice))
 
