@@ -9,4 +9,6 @@ pub still_whole : (bindings : List Binding) (of : OwnAddress) (labels : List ℕ
     → IsLeftToo of labels old new → AreWhole bindings old → AreWhole bindings new
 still_whole bindings of labels old new groups left whole one other small small_too together is =
     (left bindings groups other small_too).1 (elim ((left bindings groups one small).0 is) [
-      inl was ↦ inl (whole one other small small_too together was) | inr of_group ↦ inr (Along of_group together) ])
+      | inl was ↦ inl (whole one other small small_too together was)
+      | inr of_group ↦ inr (Along of_group together)
+    ])
