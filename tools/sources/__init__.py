@@ -1,0 +1,1 @@
+"""What believed and claims read: the definitions and contracts of crates/."""
