@@ -4,4 +4,5 @@ pub mod Messages
 pub mod About
 pub mod Packets
 pub mod Records
+pub mod WrongNodes
 pub mod Texts

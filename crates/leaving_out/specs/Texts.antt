@@ -1,6 +1,8 @@
 -- The text in which what is left out is carried, and what is found in a text.
-use Rattle.std.specs.Prelude.{◌≡◌, ℕ, ◌+◌, ◌≤◌, ◌⊎◌, Bool, Option, None, List, [], ◌∷◌, ◌++◌, length, replicate, codes, Result, Ok, Err}
+use Rattle.std.specs.Prelude.{◌≡◌, ℕ, ◌+◌, ◌<◌, ◌≤◌, ◌⊎◌, Bool, true, false, Option, Some, None, List, [], ◌∷◌, ◌++◌, length, replicate, codes}
+use Rattle.std.specs.Prelude.{Result, Ok, Err}
 use Rattle.std.specs.Global.{Vec}
+use Rattle.std.specs.List.{AllByRecursion}
 use Rattle.wire_base.specs.declared.side.Side.{Side}
 use Rattle.capture.specs.declared.fault.CaptureFault.{CaptureFault}
 use Rattle.capture.specs.declared.fault.CaptureFault.TheVariants.{Departs, Read, OutOfMemory, Failed}
@@ -17,6 +19,7 @@ use Rattle.leaving_out.specs.declared.leaving.Leaving.{Leaving}
 use Rattle.link_groups.specs.Groups.{AreGroupsOf, Binding}
 use Rattle.leaving_out.specs.About.{about, bindings_of}
 use Rattle.leaving_out.specs.Records.{records_left}
+use Rattle.leaving_out.specs.WrongNodes.{is_wrong_node}
 
 -- ---- a text as far as it can be read
 
@@ -85,11 +88,39 @@ FindsAt side place text (Err Read) = Unit {0}
 FindsAt side place text (Err OutOfMemory) = Unit {0}
 FindsAt side place text (Err Failed) = ⊥
 
--- The groups of these bindings have become those of these and all of the text: none where its head departs.
+-- none of these records keeps a message between wrong nodes
+abbrev pub NoWrongNode : Leaving → Side → List Record → Type 0
+NoWrongNode leaving side records = AllByRecursion (λ r. is_wrong_node leaving side r ≡ false) records
+
+-- its record at this place is the first that does
+abbrev pub FirstWrongNode : Leaving → Side → ℕ → Option (List ℕ) → Type 0
+FirstWrongNode leaving side place text =
+    (read : ReadSoFar) × (r : Record) × (rest : Option (List ℕ)) × IsReadSoFar text (read_on read r rest) × (length read.records ≡ place)
+    × (is_wrong_node leaving side r ≡ true) × NoWrongNode leaving side read.records
+
+-- none does among so many, or among all that can be read
+abbrev pub NoneWithin : Leaving → Side → (made : ℕ) → Option (List ℕ) → Type 0
+NoneWithin leaving side made text =
+    (read : ReadSoFar) × IsReadSoFar text read × NoWrongNode leaving side read.records × ((length read.records ≡ made) ⊎ EndsOrDeparts read)
+
+-- the place of the first among so many records
+abbrev pub FindsWrongNode : Leaving → Side → (made : ℕ) → Option (List ℕ) → Result (Option ℕ) CaptureFault → Type 0
+FindsWrongNode leaving side made text (Ok (Some place)) = (place < made) × FirstWrongNode leaving side place text
+FindsWrongNode leaving side made text (Ok None) = NoneWithin leaving side made text
+FindsWrongNode leaving side made text (Err (Departs kind line)) = HeadDepartsAt text kind line
+FindsWrongNode leaving side made text (Err Read) = Unit {0}
+FindsWrongNode leaving side made text (Err OutOfMemory) = Unit {0}
+FindsWrongNode leaving side made text (Err Failed) = ⊥
+
+-- this is what it binds, as far as it can be read: nothing where its head departs
+abbrev pub Binds : Side → (alone : Bool) → Option (List ℕ) → List Binding → Type 0
+Binds side alone text bindings =
+    ((read : ReadSoFar) × IsReadSoFar text read × EndsOrDeparts read × (bindings ≡ bindings_of side alone read.records))
+    ⊎ ((kind : Departure) × HeadDepartsAt text kind 1 × (bindings ≡ []))
+
+-- the groups of these bindings have become those of these and all that the text binds
 abbrev pub BindsAll : Side → (alone : Bool) → Option (List ℕ) → List Binding → List ℕ → Result (Unit {0}) CaptureFault → Type 0
-BindsAll side alone text bindings groups (Ok done) =
-    ((read : ReadSoFar) × IsReadSoFar text read × EndsOrDeparts read × AreGroupsOf (bindings ++ bindings_of side alone read.records) groups)
-    ⊎ ((kind : Departure) × HeadDepartsAt text kind 1 × AreGroupsOf bindings groups)
+BindsAll side alone text bindings groups (Ok done) = (more : List Binding) × Binds side alone text more × AreGroupsOf (bindings ++ more) groups
 BindsAll side alone text bindings groups (Err (Departs kind line)) = ⊥
 BindsAll side alone text bindings groups (Err Read) = Unit {0}
 BindsAll side alone text bindings groups (Err OutOfMemory) = Unit {0}

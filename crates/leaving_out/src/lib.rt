@@ -1,5 +1,5 @@
 //! The text of a capture in which what is left out is carried, so that no link meets it: an end is judged by what is left. And which own
-//! address a record is about, and which own addresses a text binds to each other.
+//! address a record is about, which own addresses a text binds to each other, and which record keeps a message between wrong nodes.
 //!
 //! The crate decides by what a record says alone; it judges nothing, keeps no groups, and touches no file.
 #![tactic(auto)]
@@ -15,6 +15,7 @@ mod packet_left;
 mod record_left;
 mod text_left;
 mod unit_left;
+mod wrong_nodes;
 
 pub use binding::{bind_all, binding_of};
 pub use laws::{
@@ -24,3 +25,4 @@ pub use leaving::{Head, Leaving};
 pub use located::{address_at, head};
 pub use naming::about;
 pub use text_left::left_out;
+pub use wrong_nodes::wrong_node_at;

@@ -3,3 +3,5 @@
 
 #[cfg(test)]
 mod carried_lines;
+#[cfg(test)]
+mod wrong_nodes;

@@ -1,4 +1,4 @@
-use Rattle.std.proofs.Common.{◌≡◌, [], ◌∷◌, ◌++◌, List, ℕ, refl, sym, ap, subst, ◌∙◌, append-nil, inl}
+use Rattle.std.proofs.Common.{◌≡◌, [], ◌∷◌, ◌++◌, List, ℕ, refl, sym, ap, subst, ◌∙◌, append-nil, inl, inr}
 use Rattle.link_groups.specs.Groups.{AreGroupsOf, Binding}
 use Rattle.capture.specs.declared.record.Record.{Record}
 use Rattle.capture.specs.Entries.{record_with}
@@ -21,12 +21,23 @@ pub returns-in-Ok-None-clause-bindings : goal.returns-in-Ok-None-clause-bindings
 returns-in-Ok-None-clause-bindings g c = λ before are.
     let rs = c.loop.invariant.0 in
     let h = c.loop.invariant.1 in
-    let gives = rw c.in-Ok-None.field-0-is at c.in-Ok-None.ensures.gives h.reading in
-    inl (
-      so_far c.loop.capture.form c.loop.capture.own c.loop.capture.peer rs TheEnd,
-      at_end _ _ _ _ rs h gives.0,
-      inl refl,
+    let gives = rw c.in-Ok-None.field-0-is at c.in-Ok-None.ensures.gives h.reading in (
+      bindings_of c.args.side c.args.alone rs,
+      inl (
+        so_far c.loop.capture.form c.loop.capture.own c.loop.capture.peer rs TheEnd,
+        at_end _ _ _ _ rs h gives.0,
+        inl refl,
+        refl,
+      ),
       c.loop.invariant.2 before are,
+    )
+
+pub returns-in-Err-Departs-clause-bindings : goal.returns-in-Err-Departs-clause-bindings
+returns-in-Err-Departs-clause-bindings g c = λ before are.
+    let shows = rw c.in-Err-Departs.field-0-is at c.in-Err-Departs.ensures.opens in (
+      [],
+      inr (c.in-Err-Departs.field-0-0, record { departs = shows.1; line_is = refl }, refl),
+      subst (λ (x : List Binding). AreGroupsOf x c.args.groups.now) (sym (append-nil before)) are,
     )
 
 pub loop-preserved : goal.loop-preserved

@@ -1,0 +1,14 @@
+use Rattle.std.proofs.Common.{◌≡◌, List}
+use Rattle.wire_base.specs.Tally.{tally_faults, tally_lent}
+use Rattle.capture.specs.declared.record.Record.{Record}
+use Rattle.capture.specs.Lines.{to_come}
+use Rattle.leaving_out.specs.Texts.{NoWrongNode}
+use Rattle.leaving_out.proofs.Walk.{IsAt}
+use Rattle.leaving_out.proofs.wrong_nodes.wrong_node_at.Given as goal
+
+abbrev pub invariant-loop-place : goal.invariant-loop-place
+invariant-loop-place g l =
+    (rs : List Record)
+    × IsAt (g.R.Read.remaining (tally_lent l.fn.reader)) l.capture (to_come l.capture.unread (g.R.Read.remaining (tally_lent l.reader))) l.place rs
+    × NoWrongNode l.leaving l.side rs
+    × (tally_faults l.reader ≡ tally_faults l.fn.reader)
