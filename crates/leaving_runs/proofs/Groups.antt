@@ -24,11 +24,11 @@ same_if false false one other = refl
 same_if true false one other = let e = one refl in absurd cc
 same_if false true one other = let e = other refl in absurd cc
 
-first_bound : (o : Option Binding) (later : List Binding) → IfSome o (Contains (if_bound o later))
+pub first_bound : (o : Option Binding) (later : List Binding) → IfSome o (Contains (if_bound o later))
 first_bound None later = tt
 first_bound (Some binding) later = Contains-append_left (binding ∷ []) later binding (0, omega arith, refl)
 
-later_bound : (o : Option Binding) (later : List Binding) (binding : Binding) → Contains later binding → Contains (if_bound o later) binding
+pub later_bound : (o : Option Binding) (later : List Binding) (binding : Binding) → Contains later binding → Contains (if_bound o later) binding
 later_bound None later binding is = is
 later_bound (Some first) later binding is = Contains-append_right (first ∷ []) later binding is
 
@@ -43,7 +43,8 @@ module _ (leaving : Leaving) (bindings : List Binding) (whole : AreWhole binding
   left_too one other small small_too together is =
       ap is_marked (whole one other small small_too together (marked (slice_get leaving.left_out.now (place_of one)) is))
 
-  alike : (one other : OwnAddress) → one.address < 2 ^ 16 → other.address < 2 ^ 16 → Contains bindings (one, other) → IsAlike leaving (one, other)
+  pub alike : (one other : OwnAddress) → one.address < 2 ^ 16 → other.address < 2 ^ 16 → Contains bindings (one, other) →
+      IsAlike leaving (one, other)
   alike one other small small_too is =
       same_if (is_left leaving one) (is_left leaving other)
       (left_too one other small small_too (Bound is))

@@ -14,3 +14,4 @@ mod Refused
 mod RefusedRecords
 mod WholeRefused
 mod Groups
+pub mod Alone

@@ -103,7 +103,7 @@ module _ (leaving : Leaving) (side other : Side) (across : other_side side ≡ o
 -- ---- packets
 
 -- a packet of a message becomes a routing control packet
-unmet_none : (rtflg : ℕ) (rest : List ℕ) → rtflg < 128 → rtflg % 8 ≡ 2 → content (unmet (rtflg ∷ rest)) ≡ Ok None
+pub unmet_none : (rtflg : ℕ) (rest : List ℕ) → rtflg < 128 → rtflg % 8 ≡ 2 → content (unmet (rtflg ∷ rest)) ≡ Ok None
 unmet_none rtflg rest small short =
     let byte = 129 - rtflg in
     let low : leb 128 byte ≡ false = lt-leb _ _ (omega arith) in

@@ -24,6 +24,26 @@ use Rattle.dna_station.specs.StationBook.{with_data, asked, does, sending_refusa
 use Rattle.dna_station.specs.StationBook.{after_arrival}
 use Rattle.leaving_runs.specs.Stations.{Packets, with_body, past_left, station_left}
 
+-- where each check that is passed stays passed, none that fails comes
+pub first_passed : (p q : Check → Bool) → ((check : Check) → p check ≡ true → q check ≡ true) → (list : List Check) → first_failed p list ≡ None →
+    first_failed q list ≡ None
+first_passed p q along [] is = refl
+first_passed p q along (check ∷ list) is = at (p check) refl is (first_passed p q along list)
+  where
+    at : (b : Bool) → p check ≡ b → cond b (first_failed p list) (Some (refusal_of check)) ≡ None →
+        (first_failed p list ≡ None → first_failed q list ≡ None) → first_failed q (check ∷ list) ≡ None
+    at true passed is later =
+        ap (λ (b : Bool). cond b (first_failed q list) (Some (refusal_of check))) (along check passed) ∙ later is
+    at false passed is later = absurd cc
+
+-- what becomes of the packet makes no other row
+pub row_same : (packet : List ℕ → List ℕ) (state : State) (m : MessageValue) → row state (with_body packet m) ≡ row state m
+row_same packet Halted (Data flags resp num body) = refl
+row_same packet Istrt (Data flags resp num body) = refl
+row_same packet Astrt (Data flags resp num body) = refl
+row_same packet Running (Data flags resp num body) = refl
+row_same packet state m = refl
+
 module _ (p : Packets) where
   periods_same : (periods : List PastPeriod) → length (packets_of (map (past_left p) periods)) ≡ length (packets_of periods)
   periods_same [] = refl
@@ -77,21 +97,10 @@ module _ (p : Packets) (s : Station) where
   passes_left flags resp num body AsFirstGiven is =
       ap (λ (b : Bool). cond b true (as_first_given t (p.own body))) new_same ∙ as_first (Data flags resp num body) refl (is_new s) is
 
-  first_left : (m n : MessageValue) → ((check : Check) → passes s m check ≡ true → passes t n check ≡ true) → (list : List Check) →
-      first_failed (passes s m) list ≡ None → first_failed (passes t n) list ≡ None
-  first_left m n along [] is = refl
-  first_left m n along (check ∷ list) is = at (passes s m check) refl is (first_left m n along list)
-    where
-      at : (b : Bool) → passes s m check ≡ b → cond b (first_failed (passes s m) list) (Some (refusal_of check)) ≡ None →
-          (first_failed (passes s m) list ≡ None → first_failed (passes t n) list ≡ None) → first_failed (passes t n) (check ∷ list) ≡ None
-      at true passed is later =
-          ap (λ (b : Bool). cond b (first_failed (passes t n) list) (Some (refusal_of check))) (along check passed) ∙ later is
-      at false passed is later = absurd cc
-
   failed_left : (m : MessageValue) (state : State) → failed (passes s m) (checks state m) ≡ None →
       failed (passes t (with_body p.own m)) (checks state (with_body p.own m)) ≡ None
   failed_left (Data flags resp num body) Running is =
-      first_left (Data flags resp num body) (Data flags resp num (p.own body)) (passes_left flags resp num body)
+      first_passed (passes s (Data flags resp num body)) (passes t (Data flags resp num (p.own body))) (passes_left flags resp num body)
       (NumIsNext ∷ RespIsLast ∷ RoomIfNew ∷ AsFirstGiven ∷ []) is
   failed_left (Data flags resp num body) state is = is
   failed_left (Rep flags num) Running is =
@@ -171,16 +180,6 @@ module _ (p : Packets) (m : MessageValue) (u : Truth) (kept : Bool) where
   abbrev n : MessageValue
   n = with_body p.far m
 
-  row_same : (state : State) → row state n ≡ row state m
-  row_same state = at state m
-    where
-      at : (state : State) (m : MessageValue) → row state (with_body p.far m) ≡ row state m
-      at Halted (Data flags resp num body) = refl
-      at Istrt (Data flags resp num body) = refl
-      at Astrt (Data flags resp num body) = refl
-      at Running (Data flags resp num body) = refl
-      at state m = refl
-
   take_left : (s : Station) → body_of n ≡ p.far (body_of m) → does n u kept (station_left p s) TakePacket ≡ station_left p
       (does m u kept s TakePacket)
   take_left s is = at (is_next s u) kept
@@ -240,13 +239,14 @@ module _ (p : Packets) (m : MessageValue) (u : Truth) (kept : Bool) where
 
   pub arrival_left : (s : Station) → after_arrival (station_left p s) (Sound n u) kept ≡ station_left p (after_arrival s (Sound m u) kept)
   arrival_left s =
-      ap (λ (r : Row). fold (does n u kept) (station_left p s) r.effects) (row_same s.state) ∙ all_left (row s.state m).effects s (has_body s.state)
+      ap (λ (r : Row). fold (does n u kept) (station_left p s) r.effects) (row_same p.far s.state m)
+      ∙ all_left (row s.state m).effects s (has_body s.state)
 
   pub refusal_left : (rule : PeriodRule) (s : Station) →
       arrival_refusal rule (station_left p s) (Sound n u) kept ≡ arrival_refusal rule s (Sound m u) kept
   refusal_left rule s =
       ap (λ (r : Row). cond (rule (meets r.needs (tag_of s) u.tag)) (keep_refusal (has_packet r.effects && is_next s u) kept) (Some CrossedPeriod))
-      (row_same s.state)
+      (row_same p.far s.state m)
 
 -- damage
 pub counted_left : (p : Packets) (reason : NakReason) (s : Station) (b : Bool) →

@@ -18,6 +18,7 @@ use Rattle.dna_station.specs.Table.{user_refusal}
 use Rattle.dna_station.specs.Station.{Station, after_event}
 use Rattle.dna_station.specs.Machine.{does, user_step, step, unless_refused}
 use Rattle.dna_links.specs.declared.queue.Queues.{Queues}
+use Rattle.dna_links.specs.PacketAddresses.{goes}
 use Rattle.dna_links.specs.Links.{Carried, check}
 use Rattle.dna_links.specs.User.{LinkEventValue, Open, Accept, Reject, In, Up, Close, Boot, Abort}
 use Rattle.dna_links.specs.User as user
@@ -50,12 +51,17 @@ pub passed : {R : Type 0} (b : Bool) (refusal : LinkRefusal) (next : Result R Li
 passed true refusal next x e = refl
 passed false refusal next x e = absurd cc
 
+-- a packet that is not refused goes between these nodes
+pub goes_between : {R : Type 0} (packet : Carried) (src dst : ℕ) (next : Result R LinkRefusal) (x : R) → goes packet src dst next ≡ Ok x →
+    (packet.src ≡ src) × (packet.dst ≡ dst)
+goes_between packet src dst next x e =
+    let p = and_parts (packet.src == src) (packet.dst == dst) (passed (packet.src == src && packet.dst == dst) WrongNode next x e) in
+    (eqb-true packet.src src p.0, eqb-true packet.dst dst p.1)
+
 -- a packet that was sent goes from its node to the other one
 pub sent_from : (queues : Queues) (s : Links) (packet : Carried) (made : Sent TrueSegments Numbers) → links_sent queues s packet ≡ Ok made →
     (packet.src ≡ s.node) × (packet.dst ≡ s.peer)
-sent_from queues s packet made e =
-    let p = and_parts (packet.src == s.node) (packet.dst == s.peer) (passed (packet.src == s.node && packet.dst == s.peer) WrongNode _ made e) in
-    (eqb-true packet.src s.node p.0, eqb-true packet.dst s.peer p.1)
+sent_from queues s packet made e = goes_between packet s.node s.peer _ made e
 
 module _ (queues : Queues) (leaves : Leaves) (judged : Judged) (own other : Half LayersNode LayersUnit)
     (mine : SideRight leaves.out judged (side_of own 0) (side_of other 0))

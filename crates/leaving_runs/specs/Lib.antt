@@ -5,3 +5,5 @@ pub mod Records
 pub mod Fitting
 pub mod Meets
 pub mod Tied
+-- the same of one end alone
+pub mod OneEnd

@@ -22,6 +22,8 @@ ghost use Rattle.dna_links.specs.declared.queue.Queues.{Queues};
 ghost use Rattle.dna_node.specs.Layers.{LayersNode, LayersUnit};
 ghost use Rattle.dna_node.specs.LayersPair.{layers_pair_by, layers_start};
 ghost use Rattle.dna_node.specs.Kind.{layers_kind, IsRunOf};
+ghost use Rattle.dna_node.specs.WireLayers.{WireLayersNode};
+ghost use Rattle.dna_node.specs.Alone.{Accused, Passed, PassesBy, Refuses, judged_alone_by, layers_end_by, step_alone};
 ghost use Rattle.link_groups.specs.Groups.{Binding};
 ghost use Rattle.link_groups.specs.LeftOut.{AreWhole};
 ghost use Rattle.leaving_out.specs.declared.leaving.Leaving.{Leaving as Left};
@@ -33,6 +35,7 @@ ghost use Rattle.leaving_runs.specs.Records.{record_left};
 ghost use Rattle.leaving_runs.specs.Fitting.{PacketsFit, RecordFits};
 ghost use Rattle.leaving_runs.specs.Meets.{of_record, IsJudged};
 ghost use Rattle.leaving_runs.specs.Tied.{leaves_at, KnowsHead, AreAlike, AreAmong};
+ghost use Rattle.leaving_runs.specs.OneEnd.{seen_from_there, RecordAlikeAlone, AreAlikeAlone, ComesFromLink, AreAmongAlone, IsJudgedAlone};
 
 /// Whatever becomes of packets, a station makes of what is left what is left of what it made: events and arrivals alike, and what it may send it
 /// may still send, with the same truth. (Only data that are not those of the first sending may become the same as those.)
@@ -101,4 +104,34 @@ pub fn judged_record_of_a_pair_is_refused_alike()
 pub fn whole_groups_are_alike()
     ensures { (leaving : Left) (bindings : List Binding) (side : End) (records : List Record)
         → AreWhole bindings leaving.left_out.now → AllByRecursion IsRecord records → AreAmong bindings side records → AreAlike leaving side records }
+{}
+
+/// Of one end the same, alone: where its records pass, with queues or without, so does what the program makes of them. Asked is that it knows the
+/// head, and of the other end the same seen from there; that of no two own addresses that the records bind, a CC or a call that came included, one
+/// alone is left out (`whole_groups_are_alike_alone`); and that no CC that came names 0 as the address of its sender, which is that of no link.
+pub fn leaving_out_makes_no_refusal_of_one_end()
+    ensures { (queues : Queues) (leaving : Left) (head : Head) (records : List Record)
+        → KnowsHead leaving A head → KnowsHead leaving B (seen_from_there head) → AllByRecursion IsRecord records
+        → AreAlikeAlone leaving A records → AllByRecursion ComesFromLink records → PassesBy queues head records
+        → PassesBy queues head (records_left leaving A records) }
+{}
+
+/// And where the links refuse a record behind such records, for what either end did, and what it is about is judged, of what came at its sender too,
+/// what the program makes of the record is refused for the same reason, of the same end, behind what it makes of the records.
+pub fn judged_record_of_one_end_is_refused_alike()
+    ensures { (queues : Queues) (leaving : Left) (head : Head) (records : List Record) (n : WireLayersNode)
+        → KnowsHead leaving A head → KnowsHead leaving B (seen_from_there head) → AllByRecursion IsRecord records
+        → AreAlikeAlone leaving A records → AllByRecursion ComesFromLink records → judged_alone_by queues head records ≡ Passed n
+        → (r : Record) → IsRecord r → RecordAlikeAlone leaving A r → ComesFromLink r → IsJudgedAlone leaving A r
+        → (accused : Accused) (refusal : LinkRefusal) → step_alone (layers_end_by queues) n r ≡ Refuses accused (OfLinks refusal)
+        → (left : WireLayersNode) × (judged_alone_by queues head (records_left leaving A records) ≡ Passed left)
+        × (step_alone (layers_end_by queues) left (made_of leaving A r) ≡ Refuses accused (OfLinks refusal)) }
+{}
+
+/// Where whole groups are left out, of bindings among which are all of these records, what came included, both own addresses of each binding are, or
+/// none.
+pub fn whole_groups_are_alike_alone()
+    ensures { (leaving : Left) (bindings : List Binding) (side : End) (records : List Record)
+        → AreWhole bindings leaving.left_out.now → AllByRecursion IsRecord records → AreAmongAlone bindings side records
+        → AreAlikeAlone leaving side records }
 {}
