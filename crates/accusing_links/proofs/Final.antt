@@ -27,10 +27,12 @@ use Rattle.dna_node.specs.Content.{content}
 use Rattle.dna_node.specs.WireLayers.{WireLayers, LayersTag, new_wire_layers_node}
 use Rattle.accusing.specs.Placing.{Passed, Own, Other, IsDamage, comes, IsPlacedFrom, Ends, Passes, Sends, Hears, HearsNoise, Acts}
 use Rattle.accusing_links.specs.declared.wrong.Wrong.{Wrong}
-use Rattle.accusing_links.specs.declared.wrong.Wrong.TheVariants.{WrongNode, WrongAck}
+use Rattle.accusing_links.specs.declared.wrong.Wrong.TheVariants.{WrongNode, NoLink, WrongAck}
 use Rattle.accusing_links.specs.Placing.{node_machine, IsNodePlacing}
 use Rattle.accusing_links.specs.Answers.{IsWrong}
-use Rattle.accusing_links.specs.Segments.{packet_in, segment_of, segment_in, segment_by, segments_passed}
+use Rattle.accusing_links.specs.Segments.{Shown, packet_in, is_this, shown_in, shown_by, passed_of, segment_of}
+use Rattle.accusing_links.specs.Connects.{CI, CC, connect_of}
+use Rattle.accusing_links.specs.Heard.{heard}
 use Rattle.accusing_links.specs.Wrong.{wrong_content, wrong_in, wrong_unit}
 use Rattle.accusing_links.proofs.Answered.{Good}
 use Rattle.accusing_links.proofs.Addresses.{HaveAddresses, GoesOut, user_keeps, arrived_keeps, sent_keeps}
@@ -40,37 +42,63 @@ use Rattle.accusing_links.proofs.Received.{AreFine}
 use Rattle.accusing_links.proofs.RightLinks.{Numbers, AreRight, right_more}
 use Rattle.accusing_links.proofs.LinkSteps.{HasPassed, AcksFine, user_right, arrived_right}
 use Rattle.accusing_links.proofs.LinkSends.{sent_right, sent_fine}
-use Rattle.accusing_links.proofs.Passing.{AsNumbers, other_passed, passed_more, message_right}
+use Rattle.accusing_links.proofs.Tied.{AreTied, tied_more}
+use Rattle.accusing_links.proofs.TiedSteps.{ConnectPassed, user_tied, arrived_tied}
+use Rattle.accusing_links.proofs.TiedSends.{Joined, LinkFine, sent_tied, sent_linked}
+use Rattle.accusing_links.proofs.Passing.{AsNumbers, other_passed, passed_more, message_right, link_right}
 
 module _ (queues : Queues) (head : Head) where
   module _ (before : List Passed) where
     abbrev N : Numbers
-    N = AsNumbers (segments_passed before)
+    N = AsNumbers (passed_of segment_of before)
 
-    abbrev pub Is : WireLinks → Type 0
-    Is s = HaveAddresses head.own head.peer s × AreRight N queues s.links
+    abbrev P : Numbers
+    P = AsNumbers (passed_of connect_of before)
 
-    abbrev pub Fine : Carried → Type 0
-    Fine packet = GoesOut head.own head.peer packet × AcksFine N packet.message
+    pub record Is (s : WireLinks) : Type 0 where
+      pub addresses : HaveAddresses head.own head.peer s
+      pub right : AreRight N queues s.links
+      pub tied : AreTied P queues s.links
 
-    abbrev pub Comes : Carried → Type 0
-    Comes packet = HasPassed N packet.message
+    pub record Fine (packet : Carried) : Type 0 where
+      pub out : GoesOut head.own head.peer packet
+      pub acks : AcksFine N packet.message
+      pub link : LinkFine P packet.message
+
+    pub record Comes (packet : Carried) : Type 0 where
+      pub segment : HasPassed N packet.message
+      pub connect : ConnectPassed P packet.message
 
     user_kept : (s : WireLinks) (event : LinkEventValue) → Is s → Good Is (wire_links_user queues s event)
-    user_kept s event is made e = (user_keeps queues head.own head.peer s is.0 event made e, user_right N queues s is.1 event made e)
+    user_kept s event is made e = record {
+      addresses = user_keeps queues head.own head.peer s is.addresses event made e;
+      right = user_right N queues s is.right event made e;
+      tied = user_tied P queues s is.tied event made e;
+    }
 
     sent_kept : (s : WireLinks) (packet : Carried) → Is s → IsInRange packet.message →
         Good (λ (made : Sent WireSegments (Unit {0})). Is made.links × Fine packet) (wire_links_sent queues s packet)
     sent_kept s packet is small made e =
-        let out = sent_keeps queues head.own head.peer s is.0 packet made e in
-        ((out.0, sent_right N queues s is.1 packet small made e), (out.1, sent_fine N queues s is.1 packet small made e))
+        let out = sent_keeps queues head.own head.peer s is.addresses packet made e in (
+          record {
+            addresses = out.0;
+            right = sent_right N queues s is.right packet small made e;
+            tied = sent_tied P queues s is.tied packet made e;
+          },
+          record {
+            out = out.1;
+            acks = sent_fine N queues s is.right packet small made e;
+            link = sent_linked P queues s is.tied packet made e;
+          },
+        )
 
     arrived_kept : (s : WireLinks) (packet : Carried) (tag : LinkTag) → Is s → IsInRange packet.message → Comes packet →
         Good Is (wire_links_arrived queues of_anyone s packet tag)
-    arrived_kept s packet tag is small came made e = (
-      arrived_keeps queues head.own head.peer s is.0 of_anyone packet tag made e,
-      arrived_right N queues s is.1 of_anyone packet tag small came made e,
-    )
+    arrived_kept s packet tag is small came made e = record {
+      addresses = arrived_keeps queues head.own head.peer s is.addresses of_anyone packet tag made e;
+      right = arrived_right N queues s is.right of_anyone packet tag small came.segment made e;
+      tied = arrived_tied P queues s is.tied of_anyone packet tag came.connect made e;
+    }
 
     pub kept : AreKept queues Is Fine Comes
     kept = record { user = user_kept; sent = sent_kept; arrived = arrived_kept }
@@ -80,37 +108,48 @@ module _ (queues : Queues) (head : Head) where
 
     -- ---- what comes
 
-    -- what is in a unit passed
-    abbrev pub Came : List ℕ → Type 0
-    Came unit = (own far number : ℕ) → segment_by (packet_in (reading unit)) own far number ≡ true → N own far number
+    -- what is in a packet passed
+    pub record Came (packet : Option (List ℕ)) : Type 0 where
+      pub segments : (a b c : ℕ) → shown_by segment_of packet a b c ≡ true → N a b c
+      pub connects : (a b c : ℕ) → shown_by connect_of packet a b c ≡ true → P a b c
 
-    this_passed : (m : NspValue) (c : Result (Option Carried) StepRefusal) (packet : Carried) → c ≡ Ok (Some packet) →
-        ((own far number : ℕ) → segment_in c own far number ≡ true → N own far number) → packet.message ≡ m → HasPassed N m
-    this_passed (DataSegment s) c packet read came same =
-        came s.dstaddr s.srcaddr s.number (
-        ap (λ (x : Result (Option Carried) StepRefusal). segment_in x s.dstaddr s.srcaddr s.number) read
-        ∙ ap (λ (x : NspValue). segment_of x s.dstaddr s.srcaddr s.number) same
-        ∙ and_from (eqb s.dstaddr s.dstaddr) (eqb s.srcaddr s.srcaddr && eqb s.number s.number) (eq-eqb s.dstaddr s.dstaddr refl)
-        (and_from (eqb s.srcaddr s.srcaddr) (eqb s.number s.number) (eq-eqb s.srcaddr s.srcaddr refl) (eq-eqb s.number s.number refl)))
-    this_passed (LinkService interrupt dst src rest) c packet read came same = tt
-    this_passed (DataAck dst src acks) c packet read came same = tt
-    this_passed (OtherDataAck dst src rest) c packet read came same = tt
-    this_passed (ConnectAck dst) c packet read came same = tt
-    this_passed (NoOperation rest) c packet read came same = tt
-    this_passed (ConnectInitiate retransmitted src services info segsize user_data) c packet read came same = tt
-    this_passed (ConnectConfirm dst src services info segsize user_data) c packet read came same = tt
-    this_passed (DisconnectInitiate dst src reason user_data) c packet read came same = tt
-    this_passed (DisconnectConfirm dst src reason) c packet read came same = tt
+    this_is : (a b c : ℕ) → is_this (a, b, c) a b c ≡ true
+    this_is a b c =
+        and_from (eqb a a) (eqb b b && eqb c c) (eq-eqb a a refl) (and_from (eqb b b) (eqb c c) (eq-eqb b b refl) (eq-eqb c c refl))
 
-    may_come : (c : Result (Option Carried) StepRefusal) → ((own far number : ℕ) → segment_in c own far number ≡ true → N own far number) →
-        MayCome Comes c
-    may_come (Ok None) came = tt
-    may_come (Ok (Some packet)) came = this_passed packet.message (Ok (Some packet)) packet refl came refl
-    may_come (Err refusal) came = tt
+    segment_passed : (m : NspValue) → ((a b c : ℕ) → segment_of m a b c ≡ true → N a b c) → HasPassed N m
+    segment_passed (DataSegment s) came = came s.dstaddr s.srcaddr s.number (this_is s.dstaddr s.srcaddr s.number)
+    segment_passed (LinkService interrupt dst src rest) came = tt
+    segment_passed (DataAck dst src acks) came = tt
+    segment_passed (OtherDataAck dst src rest) came = tt
+    segment_passed (ConnectAck dst) came = tt
+    segment_passed (NoOperation rest) came = tt
+    segment_passed (ConnectInitiate retransmitted src services info segsize user_data) came = tt
+    segment_passed (ConnectConfirm dst src services info segsize user_data) came = tt
+    segment_passed (DisconnectInitiate dst src reason user_data) came = tt
+    segment_passed (DisconnectConfirm dst src reason) came = tt
 
-    message_may : (m : MessageValue) → ((own far number : ℕ) → segment_by (packet_in (Sound m)) own far number ≡ true → N own far number) →
-        MayCome Comes (content (body_of m))
-    message_may (Data flags resp num body) came = may_come (content body) came
+    connect_passed : (m : NspValue) → ((a b c : ℕ) → connect_of m a b c ≡ true → P a b c) → ConnectPassed P m
+    connect_passed (ConnectInitiate retransmitted src services info segsize user_data) came = came CI 0 src (this_is CI 0 src)
+    connect_passed (ConnectConfirm dst src services info segsize user_data) came = came CC dst src (this_is CC dst src)
+    connect_passed (DataSegment s) came = tt
+    connect_passed (LinkService interrupt dst src rest) came = tt
+    connect_passed (DataAck dst src acks) came = tt
+    connect_passed (OtherDataAck dst src rest) came = tt
+    connect_passed (ConnectAck dst) came = tt
+    connect_passed (NoOperation rest) came = tt
+    connect_passed (DisconnectInitiate dst src reason user_data) came = tt
+    connect_passed (DisconnectConfirm dst src reason) came = tt
+
+    may_come : (c : Result (Option Carried) StepRefusal) → ((a b c' : ℕ) → shown_in segment_of c a b c' ≡ true → N a b c') →
+        ((a b c' : ℕ) → shown_in connect_of c a b c' ≡ true → P a b c') → MayCome Comes c
+    may_come (Ok None) segments connects = tt
+    may_come (Ok (Some packet)) segments connects =
+        record { segment = segment_passed packet.message segments; connect = connect_passed packet.message connects }
+    may_come (Err refusal) segments connects = tt
+
+    message_may : (m : MessageValue) → Came (packet_in (Sound m)) → MayCome Comes (content (body_of m))
+    message_may (Data flags resp num body) came = may_come (content body) came.segments came.connects
     message_may (Ack flags resp) came = tt
     message_may (Nak flags reason resp) came = tt
     message_may (Rep flags num) came = tt
@@ -124,32 +163,31 @@ module _ (queues : Queues) (head : Head) where
     damage_right s after tag fate (Sound m) damage e is = absurd damage
     damage_right s after tag fate (Malformed departure) damage e is = absurd damage
 
-    unit_right : (s after : WireLayers) (tag : LayersTag) (fate : Fate) (unit : List ℕ) (r : ReadingValue) → reading unit ≡ r → Came unit →
+    unit_right : (s after : WireLayers) (tag : LayersTag) (fate : Fate) (unit : List ℕ) (r : ReadingValue) → reading unit ≡ r → Came (packet_in (reading unit)) →
         comes (node_machine queues) s tag fate r ≡ Ok after → Right s → Right after
     unit_right s after tag fate unit (Sound m) read came e is =
         arrives_right queues Is Fine Comes kept s after (arrival.Sound m tag) fate e
-        (message_may m
-        (subst (λ (x : ReadingValue). (own far number : ℕ) → segment_by (packet_in x) own far number ≡ true → N own far number) read came))
-        is
+        (message_may m (subst (λ (x : ReadingValue). Came (packet_in x)) read came)) is
     unit_right s after tag fate unit HeaderBad read came e is = damage_right s after tag fate HeaderBad tt e is
     unit_right s after tag fate unit DataBad read came e is = damage_right s after tag fate DataBad tt e is
     unit_right s after tag fate unit (Malformed departure) read came e is = let same : s ≡ after = cc in subst Right same is
 
     pub comes_right : (s after : WireLayers) (tag : LayersTag) (fate : Fate) (unit bytes : List ℕ) → (bytes ≡ unit) ⊎ IsDamage (reading bytes) →
-        Came unit → comes (node_machine queues) s tag fate (reading bytes) ≡ Ok after → Right s → Right after
+        Came (packet_in (reading unit)) → comes (node_machine queues) s tag fate (reading bytes) ≡ Ok after → Right s → Right after
     comes_right s after tag fate unit bytes (inl same) came e is = unit_right s after tag fate unit (reading bytes) (ap reading (sym same)) came e is
     comes_right s after tag fate unit bytes (inr damage) came e is = damage_right s after tag fate (reading bytes) damage e is
 
     -- ---- what is sent
 
-    fine_content : (c : Result (Option Carried) StepRefusal) → HasFine Fine c → wrong_content head (segments_passed before) c ≡ None
+    fine_content : (c : Result (Option Carried) StepRefusal) → HasFine Fine c → wrong_content head (heard before) c ≡ None
     fine_content (Ok None) fine = refl
     fine_content (Ok (Some packet)) fine =
-        ap₂ (λ (a b : Bool). cond a (cond b None (Some WrongAck)) (Some WrongNode)) fine.0
-        (message_right (segments_passed before) packet.message fine.1)
+        ap₂ (λ (b : Bool) (o : Option Wrong). cond b o (Some WrongNode)) fine.out
+        (ap₂ (λ (a b : Bool). cond a (cond b None (Some WrongAck)) (Some NoLink))
+        (link_right (passed_of connect_of before) packet.message fine.link) (message_right (passed_of segment_of before) packet.message fine.acks))
     fine_content (Err refusal) fine = absurd fine
 
-    pub fine_message : (m : MessageValue) → Carries (IsFine Fine) m → wrong_in head (segments_passed before) (packet_in (Sound m)) ≡ None
+    pub fine_message : (m : MessageValue) → Carries (IsFine Fine) m → wrong_in head (heard before) (packet_in (Sound m)) ≡ None
     fine_message (Data flags resp num body) fine = fine_content (content body) fine
     fine_message (Ack flags resp) fine = refl
     fine_message (Nak flags reason resp) fine = refl
@@ -167,10 +205,9 @@ module _ (queues : Queues) (head : Head) where
     words_more own far [] fine = tt
     words_more own far (word ∷ words) fine = (λ e. go (fine.0 e), words_more own far words fine.1)
       where
-        go : (word.number ≡ 0) ⊎ (segments_passed before own far word.number ≡ true) →
-            (word.number ≡ 0) ⊎ (segments_passed after own far word.number ≡ true)
+        go : (word.number ≡ 0) ⊎ N before own far word.number → (word.number ≡ 0) ⊎ N after own far word.number
         go (inl none) = inl none
-        go (inr came) = inr (passed_more before one own far word.number came)
+        go (inr came) = inr (passed_more segment_of before one own far word.number came)
 
     acks_more : (m : NspValue) → AcksFine (N before) m → AcksFine (N after) m
     acks_more (DataSegment s) fine = words_more s.srcaddr s.dstaddr s.acks fine
@@ -184,9 +221,26 @@ module _ (queues : Queues) (head : Head) where
     acks_more (DisconnectInitiate dst src reason user_data) fine = tt
     acks_more (DisconnectConfirm dst src reason) fine = tt
 
+    joined_more : (own far : ℕ) → Joined (P before) own far → Joined (P after) own far
+    joined_more own far (inl called) = inl (passed_more connect_of before one CI 0 far called)
+    joined_more own far (inr answered) = inr (passed_more connect_of before one CC own far answered)
+
+    link_more : (m : NspValue) → LinkFine (P before) m → LinkFine (P after) m
+    link_more (DataSegment s) fine = joined_more s.srcaddr s.dstaddr fine
+    link_more (DataAck dst src acks) fine = joined_more src dst fine
+    link_more (LinkService interrupt dst src rest) fine = joined_more src dst fine
+    link_more (OtherDataAck dst src rest) fine = joined_more src dst fine
+    link_more (ConnectAck dst) fine = passed_more connect_of before one CI 0 dst fine
+    link_more (NoOperation rest) fine = tt
+    link_more (ConnectInitiate retransmitted src services info segsize user_data) fine = tt
+    link_more (ConnectConfirm dst src services info segsize user_data) fine = passed_more connect_of before one CI 0 dst fine
+    link_more (DisconnectInitiate dst src reason user_data) fine = joined_more src dst fine
+    link_more (DisconnectConfirm dst src reason) fine = tt
+
     content_more : (c : Result (Option Carried) StepRefusal) → HasFine (Fine before) c → HasFine (Fine after) c
     content_more (Ok None) fine = tt
-    content_more (Ok (Some packet)) fine = (fine.0, acks_more packet.message fine.1)
+    content_more (Ok (Some packet)) fine =
+        record { out = fine.out; acks = acks_more packet.message fine.acks; link = link_more packet.message fine.link }
     content_more (Err refusal) fine = absurd fine
 
     held_more : (held : List (HeldPacket LinkTag)) → AreHeld (IsFine (Fine before)) held → AreHeld (IsFine (Fine after)) held
@@ -195,34 +249,47 @@ module _ (queues : Queues) (head : Head) where
 
     right_later : (s : WireLayers) → Right before s → Right after s
     right_later s is = record {
-      links = (is.links.0, right_more (N before) (N after) queues (passed_more before one) s.links.links is.links.1);
+      links = record {
+        addresses = is.links.addresses;
+        right = right_more (N before) (N after) queues (passed_more segment_of before one) s.links.links is.links.right;
+        tied = tied_more (P before) (P after) queues (passed_more connect_of before one) s.links.links is.links.tied;
+      };
       held = held_more s.station.variables.held is.held;
     }
 
-    came_later : (unit : List ℕ) → Came before unit → Came after unit
-    came_later unit came own far number e = passed_more before one own far number (came own far number e)
+    came_later : (packet : Option (List ℕ)) → Came before packet → Came after packet
+    came_later packet came = record {
+      segments = λ a b c e. passed_more segment_of before one a b c (came.segments a b c e);
+      connects = λ a b c e. passed_more connect_of before one a b c (came.connects a b c e);
+    }
 
   -- ---- the units that are coming
 
+  abbrev UnitCame : List Passed → List ℕ → Type 0
+  UnitCame before unit = Came before (packet_in (reading unit))
+
   abbrev AllCame : List Passed → List (List ℕ) → Type 0
   AllCame before [] = Unit {0}
-  AllCame before (unit ∷ units) = Came before unit × AllCame before units
+  AllCame before (unit ∷ units) = UnitCame before unit × AllCame before units
 
   all_later : (before : List Passed) (one : Passed) (units : List (List ℕ)) → AllCame before units → AllCame (before ++ one ∷ []) units
   all_later before one [] all = tt
-  all_later before one (unit ∷ units) all = (came_later before one unit all.0, all_later before one units all.1)
+  all_later before one (unit ∷ units) all = (came_later before one (packet_in (reading unit)) all.0, all_later before one units all.1)
 
-  one_came : (before : List Passed) (unit : List ℕ) → Came (before ++ Other unit ∷ []) unit
-  one_came before unit own far number e =
-      other_passed before unit own far number ∙ ap (λ (b : Bool). b || segments_passed before own far number) e
+  this_came : (of : NspValue → Shown) (before : List Passed) (unit : List ℕ) (a b c : ℕ) → shown_by of (packet_in (reading unit)) a b c ≡ true →
+      passed_of of (before ++ Other unit ∷ []) a b c ≡ true
+  this_came of before unit a b c e = other_passed of before unit a b c ∙ ap (λ (x : Bool). x || passed_of of before a b c) e
 
-  all_pushed : (before : List Passed) (units : List (List ℕ)) (unit : List ℕ) → AllCame before units → Came before unit →
+  one_came : (before : List Passed) (unit : List ℕ) → UnitCame (before ++ Other unit ∷ []) unit
+  one_came before unit = record { segments = this_came segment_of before unit; connects = this_came connect_of before unit }
+
+  all_pushed : (before : List Passed) (units : List (List ℕ)) (unit : List ℕ) → AllCame before units → UnitCame before unit →
       AllCame before (units ++ unit ∷ [])
   all_pushed before [] unit all this = (this, tt)
   all_pushed before (first ∷ units) unit all this = (all.0, all_pushed before units unit all.1 this)
 
   all_behind : (before : List Passed) (lost : List (List ℕ)) (unit : List ℕ) (later : List (List ℕ)) → AllCame before (lost ++ unit ∷ later) →
-      Came before unit × AllCame before later
+      UnitCame before unit × AllCame before later
   all_behind before [] unit later all = (all.0, all.1)
   all_behind before (first ∷ lost) unit later all = all_behind before lost unit later all.1
 
@@ -230,7 +297,7 @@ module _ (queues : Queues) (head : Head) where
 
   abbrev AllFine : List Passed → List Passed → Type 0
   AllFine before [] = Unit {0}
-  AllFine before (Own unit ∷ passed) = (wrong_unit head (segments_passed before) unit ≡ None) × AllFine (before ++ Own unit ∷ []) passed
+  AllFine before (Own unit ∷ passed) = (wrong_unit head (heard before) unit ≡ None) × AllFine (before ++ Own unit ∷ []) passed
   AllFine before (Other unit ∷ passed) = AllFine (before ++ Other unit ∷ []) passed
 
   all_fine : {s : WireLayers} {front : ℕ} {coming : List (List ℕ)} {passed : List Passed} {records : List Record} →
@@ -242,7 +309,7 @@ module _ (queues : Queues) (head : Head) where
       (all_pushed (before ++ Other unit ∷ []) coming unit (all_later before (Other unit) coming came) (one_came before unit))
   all_fine (Sends {s = s} {coming = coming} {unit = unit} m after known read made later) before is came =
       let sent = sends_right queues (Is before) (Fine before) (Comes before) (kept before) s after m known made is in (
-        ap (λ (r : ReadingValue). wrong_in head (segments_passed before) (packet_in r)) read ∙ fine_message before m sent.1,
+        ap (λ (r : ReadingValue). wrong_in head (heard before) (packet_in r)) read ∙ fine_message before m sent.1,
         all_fine later (before ++ Own unit ∷ []) (right_later before (Own unit) after sent.0) (all_later before (Own unit) coming came),
       )
   all_fine (Hears {s = s} {coming = coming} lost unit rest are hint hinted bytes byte how tag fate after made later) before is came =
@@ -254,25 +321,25 @@ module _ (queues : Queues) (head : Head) where
       all_fine later before (acts_right queues (Is before) (Fine before) (Comes before) (kept before) s after event made is) came
 
   one_fine : (start before : List Passed) (unit : List ℕ) (later : List Passed) → AllFine start (before ++ Own unit ∷ later) →
-      wrong_unit head (segments_passed (start ++ before)) unit ≡ None
+      wrong_unit head (heard (start ++ before)) unit ≡ None
   one_fine start [] unit later all =
-      subst (λ (x : List Passed). wrong_unit head (segments_passed x) unit ≡ None) (sym (append-nil start)) all.0
+      subst (λ (x : List Passed). wrong_unit head (heard x) unit ≡ None) (sym (append-nil start)) all.0
   one_fine start (Own first ∷ before) unit later all =
-      subst (λ (x : List Passed). wrong_unit head (segments_passed x) unit ≡ None) (append_assoc start (Own first ∷ []) before)
+      subst (λ (x : List Passed). wrong_unit head (heard x) unit ≡ None) (append_assoc start (Own first ∷ []) before)
       (one_fine (start ++ Own first ∷ []) before unit later all.1)
   one_fine start (Other first ∷ before) unit later all =
-      subst (λ (x : List Passed). wrong_unit head (segments_passed x) unit ≡ None) (append_assoc start (Other first ∷ []) before)
+      subst (λ (x : List Passed). wrong_unit head (heard x) unit ≡ None) (append_assoc start (Other first ∷ []) before)
       (one_fine (start ++ Other first ∷ []) before unit later all)
 
   first_right : Right [] (new_wire_layers_node head).station
-  first_right = record { links = (record { own = refl; other = refl }, tt); held = tt }
+  first_right = record { links = record { addresses = record { own = refl; other = refl }; right = tt; tied = tt }; held = tt }
 
   pub never_placed : (before later : List Passed) (unit : List ℕ) (records : List Record) (wrong : Wrong) →
-      wrong_unit head (segments_passed before) unit ≡ Some wrong → IsNodePlacing queues head (before ++ Own unit ∷ later) records → ⊥
+      wrong_unit head (heard before) unit ≡ Some wrong → IsNodePlacing queues head (before ++ Own unit ∷ later) records → ⊥
   never_placed before later unit records wrong refuted placing =
       let fine = one_fine [] before unit later (all_fine placing [] first_right tt) in cc
 
 pub wrong_own : (head : Head) (passed : List Passed) (unit : List ℕ) (result : Option Wrong) →
-    result ≡ wrong_unit head (segments_passed passed) unit → IfSome result (λ wrong. IsWrong head (passed ++ Own unit ∷ []))
+    result ≡ wrong_unit head (heard passed) unit → IfSome result (λ wrong. IsWrong head (passed ++ Own unit ∷ []))
 wrong_own head passed unit None is = tt
 wrong_own head passed unit (Some wrong) is = λ queues records placing. never_placed queues head passed [] unit records wrong (sym is) placing

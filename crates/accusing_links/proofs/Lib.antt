@@ -17,6 +17,11 @@ pub mod RightLinks
 pub mod LinkRows
 pub mod LinkSteps
 pub mod LinkSends
+-- a link has its far address by a CI or a CC that passed
+pub mod Tied
+pub mod TiedRows
+pub mod TiedSteps
+pub mod TiedSends
 pub mod Inserted
 -- what passed stays so
 pub mod Passing

@@ -33,7 +33,7 @@ use Rattle.accusing_links.proofs.RightLinks.{Numbers, IsLinkRight, AreRight, rig
 use Rattle.accusing_links.proofs.LinkRows.{IsCalmRow, after_right, calm_row}
 use Rattle.accusing_links.proofs.LinkSteps.{at_is, AcksFine}
 
-good_always : {R : Type 0} (X : Type 0) → X → (r : Result R LinkRefusal) → Good (λ (made : R). X) r
+pub good_always : {R : Type 0} (X : Type 0) → X → (r : Result R LinkRefusal) → Good (λ (made : R). X) r
 good_always {R} X x r made e = x
 
 module _ (Q : Numbers) (queues : Queues) (s : WireLinks) (are : AreRight Q queues s.links) where

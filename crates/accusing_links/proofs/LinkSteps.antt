@@ -71,19 +71,19 @@ in_run With l connected = go (is_live l.port.phase) (connected_live l.port.phase
     go true e = record { late = refl; own = refl; far = refl }
     go false e = absurd cc
 
-kept_open : (q : Queues) (own : ℕ) → kept q (GiveAddress own ∷ OpenHere ∷ []) ≡ GiveAddress own ∷ OpenHere ∷ []
+pub kept_open : (q : Queues) (own : ℕ) → kept q (GiveAddress own ∷ OpenHere ∷ []) ≡ GiveAddress own ∷ OpenHere ∷ []
 kept_open Without own = refl
 kept_open With own = refl
 
-kept_answer : (q : Queues) (own : ℕ) (phase : Phase) → kept q (GiveAddress own ∷ GoTo phase ∷ []) ≡ GiveAddress own ∷ GoTo phase ∷ []
+pub kept_answer : (q : Queues) (own : ℕ) (phase : Phase) → kept q (GiveAddress own ∷ GoTo phase ∷ []) ≡ GiveAddress own ∷ GoTo phase ∷ []
 kept_answer Without own phase = refl
 kept_answer With own phase = refl
 
-kept_connect : (q : Queues) (far segsize : ℕ) → kept q (Connect far segsize ∷ []) ≡ Connect far segsize ∷ []
+pub kept_connect : (q : Queues) (far segsize : ℕ) → kept q (Connect far segsize ∷ []) ≡ Connect far segsize ∷ []
 kept_connect Without far segsize = refl
 kept_connect With far segsize = refl
 
-kept_confirm : (q : Queues) (far segsize : ℕ) → kept q (Connect far segsize ∷ GoTo Running ∷ []) ≡ Connect far segsize ∷ GoTo Running ∷ []
+pub kept_confirm : (q : Queues) (far segsize : ℕ) → kept q (Connect far segsize ∷ GoTo Running ∷ []) ≡ Connect far segsize ∷ GoTo Running ∷ []
 kept_confirm Without far segsize = refl
 kept_confirm With far segsize = refl
 

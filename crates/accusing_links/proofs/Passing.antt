@@ -1,4 +1,4 @@
--- Segments that passed stay so; and tests of words that answer alike.
+-- What passed stays so; and tests of what passed that answer alike.
 use Rattle.std.proofs.Common.{◌≡◌, ℕ, Bool, true, false, ◌&&◌, ◌||◌, not, cond, eqb, Option, Some, None, Result, Ok, Err, List, [], ◌∷◌, ◌++◌}
 use Rattle.std.proofs.Common.{refl, sym}
 use Rattle.std.proofs.Common.{ap, ap₂, ◌∙◌, ◌⊎◌, inl, inr, OnOk, OnErr}
@@ -15,13 +15,17 @@ use Rattle.dna_links.specs.Links.{Carried}
 use Rattle.dna_links.specs.SegmentBook.{is_of_data}
 use Rattle.dna_node.specs.Content.{content}
 use Rattle.accusing.specs.Placing.{Passed, Own, Other}
-use Rattle.accusing_links.specs.declared.wrong.Wrong.TheVariants.{WrongNode, WrongAck}
+use Rattle.accusing_links.specs.declared.wrong.Wrong.{Wrong}
+use Rattle.accusing_links.specs.declared.wrong.Wrong.TheVariants.{WrongNode, NoLink, WrongAck}
 use Rattle.accusing_links.specs.Answers.{Sight, IsAfter}
-use Rattle.accusing_links.specs.Segments.{Segments, has, packet_in, segment_by, segments_passed}
-use Rattle.accusing_links.specs.Wrong.{goes_out, is_right_word, are_right_words, wrong_content, wrong_in, wrong_unit}
+use Rattle.accusing_links.specs.Segments.{Shown, has, packet_in, shown_by, passed_of, segment_of}
+use Rattle.accusing_links.specs.Connects.{CI, CC, connect_of, was_joined, has_link}
+use Rattle.accusing_links.specs.Heard.{Heard}
+use Rattle.accusing_links.specs.Wrong.{goes_out, is_right_word, are_right_words, wrong_of_link, wrong_content, wrong_in, wrong_unit}
 use Rattle.accusing_links.proofs.RightLinks.{Numbers}
 use Rattle.accusing_links.proofs.Received.{AreFine}
 use Rattle.accusing_links.proofs.LinkSteps.{AcksFine}
+use Rattle.accusing_links.proofs.TiedSends.{Joined, LinkFine}
 
 -- ---- what passed
 
@@ -35,30 +39,31 @@ or_same true b false d e = refl
 or_same false b c d e = e
 
 -- one unit more
-pub own_passed : (passed : List Passed) (unit : List ℕ) (own far number : ℕ) →
-    segments_passed (passed ++ Own unit ∷ []) own far number ≡ segments_passed passed own far number
-own_passed [] unit own far number = refl
-own_passed (Own first ∷ passed) unit own far number = own_passed passed unit own far number
-own_passed (Other first ∷ passed) unit own far number =
-    ap (λ (b : Bool). segment_by (packet_in (reading first)) own far number || b) (own_passed passed unit own far number)
+module _ (of : NspValue → Shown) where
+  pub own_passed : (passed : List Passed) (unit : List ℕ) (a b c : ℕ) → passed_of of (passed ++ Own unit ∷ []) a b c ≡ passed_of of passed a b c
+  own_passed [] unit a b c = refl
+  own_passed (Own first ∷ passed) unit a b c = own_passed passed unit a b c
+  own_passed (Other first ∷ passed) unit a b c = ap (λ (x : Bool). shown_by of (packet_in (reading first)) a b c || x) (own_passed passed unit a b c)
 
-pub other_passed : (passed : List Passed) (unit : List ℕ) (own far number : ℕ) →
-    segments_passed (passed ++ Other unit ∷ []) own far number
-    ≡ (segment_by (packet_in (reading unit)) own far number || segments_passed passed own far number)
-other_passed [] unit own far number = refl
-other_passed (Own first ∷ passed) unit own far number = other_passed passed unit own far number
-other_passed (Other first ∷ passed) unit own far number =
-    or_same (segment_by (packet_in (reading first)) own far number) _ _ _ (other_passed passed unit own far number)
+  pub other_passed : (passed : List Passed) (unit : List ℕ) (a b c : ℕ) →
+      passed_of of (passed ++ Other unit ∷ []) a b c ≡ (shown_by of (packet_in (reading unit)) a b c || passed_of of passed a b c)
+  other_passed [] unit a b c = refl
+  other_passed (Own first ∷ passed) unit a b c = other_passed passed unit a b c
+  other_passed (Other first ∷ passed) unit a b c =
+      or_same (shown_by of (packet_in (reading first)) a b c) _ _ _ (other_passed passed unit a b c)
 
-pub passed_more : (passed : List Passed) (one : Passed) (own far number : ℕ) → segments_passed passed own far number ≡ true →
-    segments_passed (passed ++ one ∷ []) own far number ≡ true
-passed_more passed (Own unit) own far number e = own_passed passed unit own far number ∙ e
-passed_more passed (Other unit) own far number e =
-    other_passed passed unit own far number ∙ or_later (segment_by (packet_in (reading unit)) own far number) _ e
+  pub passed_more : (passed : List Passed) (one : Passed) (a b c : ℕ) → passed_of of passed a b c ≡ true →
+      passed_of of (passed ++ one ∷ []) a b c ≡ true
+  passed_more passed (Own unit) a b c e = own_passed passed unit a b c ∙ e
+  passed_more passed (Other unit) a b c e = other_passed passed unit a b c ∙ or_later (shown_by of (packet_in (reading unit)) a b c) _ e
 
 -- ---- tests that answer alike
 
-module _ (head : Head) (one two : Segments) (same : (own far number : ℕ) → one own far number ≡ two own far number) where
+-- of the same numbers
+abbrev pub Alike : Shown → Shown → Type 0
+Alike one two = (a b c : ℕ) → one a b c ≡ two a b c
+
+module _ (one two : Shown) (same : Alike one two) where
   word_same : (own far : ℕ) (word : AckWord) → is_right_word (one own far) word ≡ is_right_word (two own far) word
   word_same own far word = rw (same own far word.number) refl
 
@@ -78,10 +83,30 @@ module _ (head : Head) (one two : Segments) (same : (own far number : ℕ) → o
   message_same (DisconnectInitiate dst src reason user_data) = refl
   message_same (DisconnectConfirm dst src reason) = refl
 
+  joined_same : (own far : ℕ) → was_joined one own far ≡ was_joined two own far
+  joined_same own far = ap₂ (λ (a b : Bool). a || b) (same CI 0 far) (same CC own far)
+
+  link_same : (m : NspValue) → has_link one m ≡ has_link two m
+  link_same (DataSegment s) = joined_same _ _
+  link_same (DataAck dst src acks) = joined_same _ _
+  link_same (LinkService interrupt dst src rest) = joined_same _ _
+  link_same (OtherDataAck dst src rest) = joined_same _ _
+  link_same (ConnectAck dst) = same CI 0 dst
+  link_same (NoOperation rest) = refl
+  link_same (ConnectInitiate retransmitted src services info segsize user_data) = refl
+  link_same (ConnectConfirm dst src services info segsize user_data) = same CI 0 dst
+  link_same (DisconnectInitiate dst src reason user_data) = joined_same _ _
+  link_same (DisconnectConfirm dst src reason) = refl
+
+module _ (head : Head) (one two : Heard) (segments : Alike one.segments two.segments) (connects : Alike one.connects two.connects) where
+  of_link_same : (m : NspValue) → wrong_of_link one m ≡ wrong_of_link two m
+  of_link_same m =
+      ap₂ (λ (a b : Bool). cond a (cond b None (Some WrongAck)) (Some NoLink)) (link_same one.connects two.connects connects m)
+      (message_same one.segments two.segments segments m)
+
   content_same : (c : Result (Option Carried) StepRefusal) → wrong_content head one c ≡ wrong_content head two c
   content_same (Ok None) = refl
-  content_same (Ok (Some packet)) =
-      ap (λ (b : Bool). cond (goes_out head packet) (cond b None (Some WrongAck)) (Some WrongNode)) (message_same packet.message)
+  content_same (Ok (Some packet)) = ap (λ (o : Option Wrong). cond (goes_out head packet) o (Some WrongNode)) (of_link_same packet.message)
   content_same (Err reason.BadPacket) = refl
   content_same (Err refusal) = refl
 
@@ -94,7 +119,7 @@ module _ (head : Head) (one two : Segments) (same : (own far number : ℕ) → o
 
 -- ---- words that acknowledge what passed
 
-abbrev pub AsNumbers : Segments → Numbers
+abbrev pub AsNumbers : Shown → Numbers
 AsNumbers passed own far number = passed own far number ≡ true
 
 word_right : (passed : ℕ → Bool) (word : AckWord) → (is_of_data word.qualifier ≡ true → (word.number ≡ 0) ⊎ (passed word.number ≡ true)) →
@@ -113,7 +138,7 @@ words_right : (passed : ℕ → Bool) (words : List AckWord) → AreFine (λ n. 
 words_right passed [] fine = refl
 words_right passed (word ∷ words) fine = ap₂ (λ (a b : Bool). a && b) (word_right passed word fine.0) (words_right passed words fine.1)
 
-pub message_right : (passed : Segments) (m : NspValue) → AcksFine (AsNumbers passed) m → are_right_words passed m ≡ true
+pub message_right : (passed : Shown) (m : NspValue) → AcksFine (AsNumbers passed) m → are_right_words passed m ≡ true
 message_right passed (DataSegment s) fine = words_right (passed s.srcaddr s.dstaddr) s.acks fine
 message_right passed (DataAck dst src acks) fine = words_right (passed src dst) acks fine
 message_right passed (LinkService interrupt dst src rest) fine = refl
@@ -125,18 +150,55 @@ message_right passed (ConnectConfirm dst src services info segsize user_data) fi
 message_right passed (DisconnectInitiate dst src reason user_data) fine = refl
 message_right passed (DisconnectConfirm dst src reason) fine = refl
 
+-- ---- links that can be
+
+was_right : (connects : Shown) (own far : ℕ) → Joined (AsNumbers connects) own far → was_joined connects own far ≡ true
+was_right connects own far (inl called) = ap (λ (b : Bool). b || connects CC own far) called
+was_right connects own far (inr answered) = or_later (connects CI 0 far) (connects CC own far) answered
+
+pub link_right : (connects : Shown) (m : NspValue) → LinkFine (AsNumbers connects) m → has_link connects m ≡ true
+link_right connects (DataSegment s) fine = was_right connects _ _ fine
+link_right connects (DataAck dst src acks) fine = was_right connects _ _ fine
+link_right connects (LinkService interrupt dst src rest) fine = was_right connects _ _ fine
+link_right connects (OtherDataAck dst src rest) fine = was_right connects _ _ fine
+link_right connects (ConnectAck dst) fine = fine
+link_right connects (NoOperation rest) fine = refl
+link_right connects (ConnectInitiate retransmitted src services info segsize user_data) fine = refl
+link_right connects (ConnectConfirm dst src services info segsize user_data) fine = fine
+link_right connects (DisconnectInitiate dst src reason user_data) fine = was_right connects _ _ fine
+link_right connects (DisconnectConfirm dst src reason) fine = refl
+
 -- ---- what is known after a unit of the other side
 
+module _ (of : NspValue → Shown) (passed : List Passed) (unit : List ℕ) (old new : Shown) (is : Alike old (passed_of of passed)) where
+  shown_noted : ((a b c : ℕ) → new a b c ≡ (shown_by of (packet_in (reading unit)) a b c || old a b c)) →
+      Alike new (passed_of of (passed ++ Other unit ∷ []))
+  shown_noted more a b c =
+      more a b c ∙ ap (λ (x : Bool). shown_by of (packet_in (reading unit)) a b c || x) (is a b c) ∙ sym (other_passed of passed unit a b c)
+
 module _ {X Y : Type 0} where
+  -- by what is said of each of both sets
   pub noted : (passed : List Passed) (unit : List ℕ) (old new : Sight) (result : Result X Y) → IsAfter old passed →
-      ((o f n : ℕ) → OnOk result (has new.segments o f n ≡ (segment_by (packet_in (reading unit)) o f n || has old.segments o f n))) →
+      ((o f n : ℕ) → OnOk result (has new.segments o f n ≡ (shown_by segment_of (packet_in (reading unit)) o f n || has old.segments o f n))) →
+      ((m o f : ℕ) → OnOk result (has new.connects m o f ≡ (shown_by connect_of (packet_in (reading unit)) m o f || has old.connects m o f))) →
       OnOk result (IsAfter new (passed ++ Other unit ∷ []))
-  noted passed unit old new (Ok x) is more = λ own far number.
-      more own far number ∙ ap (λ (b : Bool). segment_by (packet_in (reading unit)) own far number || b) (is own far number)
-      ∙ sym (other_passed passed unit own far number)
-  noted passed unit old new (Err y) is more = tt
+  noted passed unit old new (Ok x) is segments connects = record {
+    segments = shown_noted segment_of passed unit (has old.segments) (has new.segments) is.segments segments;
+    connects = shown_noted connect_of passed unit (has old.connects) (has new.connects) is.connects connects;
+  }
+  noted passed unit old new (Err y) is segments connects = tt
 
   pub kept_as_was : (passed : List Passed) (old new : Sight) (result : Result X Y) → IsAfter old passed →
-      ((o f n : ℕ) → OnErr result (has new.segments o f n ≡ has old.segments o f n)) → OnErr result (IsAfter new passed)
-  kept_as_was passed old new (Ok x) is same = tt
-  kept_as_was passed old new (Err y) is same = λ own far number. same own far number ∙ is own far number
+      ((o f n : ℕ) → OnErr result (has new.segments o f n ≡ has old.segments o f n)) →
+      ((m o f : ℕ) → OnErr result (has new.connects m o f ≡ has old.connects m o f)) → OnErr result (IsAfter new passed)
+  kept_as_was passed old new (Ok x) is segments connects = tt
+  kept_as_was passed old new (Err y) is segments connects = record {
+    segments = λ own far number. segments own far number ∙ is.segments own far number;
+    connects = λ msgflg own far. connects msgflg own far ∙ is.connects msgflg own far;
+  }
+
+pub own_noted : (passed : List Passed) (unit : List ℕ) (sight : Sight) → IsAfter sight passed → IsAfter sight (passed ++ Own unit ∷ [])
+own_noted passed unit sight is = record {
+  segments = λ own far number. is.segments own far number ∙ sym (own_passed segment_of passed unit own far number);
+  connects = λ msgflg own far. is.connects msgflg own far ∙ sym (own_passed connect_of passed unit msgflg own far);
+}

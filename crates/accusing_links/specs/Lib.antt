@@ -2,6 +2,8 @@
 pub mod Placing
 -- what no right node puts into a data unit
 pub mod Segments
+pub mod Connects
+pub mod Heard
 pub mod Wrong
 -- what is said of a unit, and what it means
 pub mod Answers

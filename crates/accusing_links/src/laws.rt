@@ -7,12 +7,12 @@ ghost use Rattle.dna_links.specs.declared.queue.Queues.{Queues};
 ghost use Rattle.accusing.specs.Placing.{Passed, Own};
 ghost use Rattle.accusing_links.specs.declared.wrong.Wrong.{Wrong};
 ghost use Rattle.accusing_links.specs.Placing.{IsNodePlacing};
-ghost use Rattle.accusing_links.specs.Segments.{segments_passed};
+ghost use Rattle.accusing_links.specs.Heard.{heard};
 ghost use Rattle.accusing_links.specs.Wrong.{wrong_unit};
 
-/// Units of which an own one has a packet that can't be read, a message that can't, one between other nodes, or one that acknowledges a segment which
-/// had not passed, have no placing: no right node sent the side's units among them, with queues or without.
+/// Units of which an own one has a packet that can't be read, a message that can't, one between other nodes, one of a link that can't be, or one that
+/// acknowledges a segment which had not passed, have no placing: no right node sent the side's units among them, with queues or without.
 pub fn wrong_packets_have_no_placing()
     ensures { (queues : Queues) (head : Head) (before later : List Passed) (unit : List ℕ) (records : List Record) (wrong : Wrong)
-        → wrong_unit head (segments_passed before) unit ≡ Some wrong → IsNodePlacing queues head (before ++ Own unit ∷ later) records → ⊥ }
+        → wrong_unit head (heard before) unit ≡ Some wrong → IsNodePlacing queues head (before ++ Own unit ∷ later) records → ⊥ }
 {}

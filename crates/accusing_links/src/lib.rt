@@ -6,7 +6,7 @@
 mod found;
 mod laws;
 mod link_accuser;
-mod segments;
+mod triples;
 mod wrong;
 
 pub use laws::wrong_packets_have_no_placing;

@@ -1,17 +1,18 @@
-use Rattle.std.proofs.Common.{sym, ◌∙◌}
-use Rattle.accusing_links.specs.Segments.{has, segments_passed}
+use Rattle.std.proofs.Common.{◌∙◌}
+use Rattle.accusing_links.specs.Answers.{heard_by}
+use Rattle.accusing_links.specs.Heard.{heard}
 use Rattle.accusing_links.proofs.Final.{wrong_own}
-use Rattle.accusing_links.proofs.Passing.{own_passed, unit_same}
+use Rattle.accusing_links.proofs.Passing.{own_noted, unit_same}
 use Rattle.accusing_links.proofs.link_accuser.LinkAccuser.sends.Goals as goal
 
 pub returns-clause-known : goal.returns-clause-known
 returns-clause-known c = λ passed is.
-    c.finds.ensures ∙ unit_same c.args.self.now.head (has c.args.self.now.segments) (segments_passed passed) is c.args.unit.now
+    c.finds.ensures ∙ unit_same c.args.self.now.head (heard_by c.args.self.now) (heard passed) is.segments is.connects c.args.unit.now
 
 pub returns-clause-after : goal.returns-clause-after
-returns-clause-after c = λ passed is own far number. is own far number ∙ sym (own_passed passed c.args.unit.now own far number)
+returns-clause-after c = λ passed is. own_noted passed c.args.unit.now c.args.self.now is
 
 pub returns-clause-wrong : goal.returns-clause-wrong
 returns-clause-wrong c = λ passed is.
     wrong_own c.args.self.now.head passed c.args.unit.now c.finds.result (
-    c.finds.ensures ∙ unit_same c.args.self.now.head (has c.args.self.now.segments) (segments_passed passed) is c.args.unit.now)
+    c.finds.ensures ∙ unit_same c.args.self.now.head (heard_by c.args.self.now) (heard passed) is.segments is.connects c.args.unit.now)

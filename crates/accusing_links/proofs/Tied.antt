@@ -1,0 +1,148 @@
+-- A link gets its far address by a CI or a CC that passed, and tells by its phase which; what becomes of that by each effect of a row.
+use Rattle.std.proofs.Common.{◌≡◌, ℕ, Bool, true, false, Some, List, [], ◌∷◌, ◌++◌, map, zero, suc, fold, refl, subst}
+use Rattle.std.specs.Prelude.{slice_get, slice_set}
+use Rattle.dna_links.specs.declared.port.Phase.{Phase}
+use Rattle.dna_links.specs.declared.port.Phase.TheVariants.{Calling, Called, Confirming, Running}
+use Rattle.dna_links.specs.declared.port.Port.{Port}
+use Rattle.dna_links.specs.declared.queue.LinkQueue.{LinkQueue}
+use Rattle.dna_links.specs.declared.queue.Queues.{Queues}
+use Rattle.dna_links.specs.declared.queue.Queues.TheVariants.{Without, With}
+use Rattle.dna_links.specs.LookUps.{is_live}
+use Rattle.dna_links.specs.Links.{LinkOf, LinkTruth}
+use Rattle.dna_links.specs.Queues.{reached, goes_on, goes_to, ends_by_message, drops, booted_link, forgotten}
+use Rattle.dna_links.specs.Table.{Effect, OpenHere, GiveAddress, Connect, GoTo, End, Drop, EndAll, Say, Settle, Keep, HandIn, TakeSegment, TakeAcks}
+use Rattle.dna_links.specs.WireSegments.{WireSegments, wire_segments}
+use Rattle.dna_links.specs.LinkBook.{blank, does}
+use Rattle.accusing_links.specs.Connects.{CI, CC}
+use Rattle.accusing_links.proofs.RightLinks.{Numbers}
+
+-- a link in this phase was opened here, or begun by a CI
+abbrev pub Begun : Phase → Bool → Type 0
+Begun Calling opened = opened ≡ true
+Begun Called opened = opened ≡ false
+Begun Confirming opened = opened ≡ false
+Begun phase opened = Unit {0}
+
+-- `P` tells of the CIs and CCs that passed
+pub record IsTied (P : Numbers) (port : Port) (accepted : Bool) : Type 0 where
+  pub by_call : port.opened ≡ false → (far : ℕ) → port.far ≡ Some far → P CI 0 far
+  pub by_answer : port.opened ≡ true → (own far : ℕ) → port.own ≡ Some own → port.far ≡ Some far → P CC own far
+  pub begun : Begun port.phase port.opened
+  pub on_accept : accepted ≡ true → port.opened ≡ false
+
+module _ (P : Numbers) (queues : Queues) where
+  abbrev pub Is : LinkOf WireSegments → Type 0
+  Is l = IsTied P l.port l.queue.accepted
+
+  -- a link that begins by a CI, or is opened here
+  pub blank_tied : Is (blank queues wire_segments)
+  blank_tied = record { by_call = λ e far f. absurd cc; by_answer = λ e own far f g. absurd cc; begun = refl; on_accept = λ e. refl }
+
+  -- ---- phases
+
+  reached_tied : (phase : Phase) (queue : LinkQueue) (opened : Bool) → Begun phase opened → (queue.accepted ≡ true → opened ≡ false) →
+      (reached phase queue).accepted ≡ true → opened ≡ false
+  reached_tied Confirming queue opened begun was e = begun
+  reached_tied Running queue opened begun was e = was e
+  reached_tied phase queue opened begun was e = was e
+
+  pub goes_tied : (q : Queues) (phase : Phase) (l : LinkOf WireSegments) → Begun phase l.port.opened → Is l → Is (goes_to wire_segments q phase l)
+  goes_tied Without phase l begun is = record { by_call = is.by_call; by_answer = is.by_answer; begun = begun; on_accept = is.on_accept }
+  goes_tied With phase l begun is = go (is_live l.port.phase)
+    where
+      go : (b : Bool) → Is (goes_on wire_segments b phase l)
+      go true = record {
+        by_call = is.by_call;
+        by_answer = is.by_answer;
+        begun = begun;
+        on_accept = reached_tied phase l.queue l.port.opened begun is.on_accept;
+      }
+      go false = record { by_call = is.by_call; by_answer = is.by_answer; begun = is.begun; on_accept = is.on_accept }
+
+  ended_tied : (q : Queues) (l : LinkOf WireSegments) → Is l → Is (ends_by_message wire_segments q l)
+  ended_tied Without l is = record { by_call = is.by_call; by_answer = is.by_answer; begun = tt; on_accept = is.on_accept }
+  ended_tied With l is = record { by_call = is.by_call; by_answer = is.by_answer; begun = tt; on_accept = is.on_accept }
+
+  dropped_tied : (q : Queues) (l : LinkOf WireSegments) → Is l → Is (drops wire_segments q l)
+  dropped_tied Without l is = record { by_call = is.by_call; by_answer = is.by_answer; begun = tt; on_accept = is.on_accept }
+  dropped_tied With l is = record { by_call = is.by_call; by_answer = is.by_answer; begun = tt; on_accept = is.on_accept }
+
+  -- an address that is given again
+  pub forgotten_tied : (q : Queues) (l : LinkOf WireSegments) → Is l → Is (forgotten wire_segments q l)
+  forgotten_tied Without l is = record { by_call = is.by_call; by_answer = λ e own far f g. absurd cc; begun = is.begun; on_accept = is.on_accept }
+  forgotten_tied With l is = record { by_call = is.by_call; by_answer = λ e own far f g. absurd cc; begun = is.begun; on_accept = is.on_accept }
+
+  -- ---- effects
+
+  -- by which effects it stays so, whatever it is
+  abbrev pub IsCalm : Effect → Type 0
+  IsCalm (GoTo phase) = (opened : Bool) → Begun phase opened
+  IsCalm OpenHere = ⊥
+  IsCalm (GiveAddress own) = ⊥
+  IsCalm (Connect far segsize) = ⊥
+  IsCalm effect = Unit {0}
+
+  abbrev pub AreCalm : List Effect → Type 0
+  AreCalm [] = Unit {0}
+  AreCalm (effect ∷ effects) = IsCalm effect × AreCalm effects
+
+  does_tied : (truth : LinkTruth (Unit {0})) (l : LinkOf WireSegments) (effect : Effect) → IsCalm effect → Is l →
+      Is (does queues wire_segments truth l effect)
+  does_tied truth l (GoTo phase) calm is = goes_tied queues phase l (calm l.port.opened) is
+  does_tied truth l End calm is = ended_tied queues l is
+  does_tied truth l Drop calm is = dropped_tied queues l is
+  does_tied truth l EndAll calm is = is
+  does_tied truth l (Say said) calm is = is
+  does_tied truth l (Settle own) calm is = is
+  does_tied truth l Keep calm is = is
+  does_tied truth l (HandIn message) calm is = is
+  does_tied truth l (TakeSegment segment) calm is = is
+  does_tied truth l (TakeAcks acks) calm is = is
+  does_tied truth l OpenHere calm is = absurd calm
+  does_tied truth l (GiveAddress own) calm is = absurd calm
+  does_tied truth l (Connect far segsize) calm is = absurd calm
+
+  pub all_tied : (truth : LinkTruth (Unit {0})) (l : LinkOf WireSegments) (effects : List Effect) → AreCalm effects → Is l →
+      Is (fold (does queues wire_segments truth) l effects)
+  all_tied truth l [] calm is = is
+  all_tied truth l (effect ∷ effects) calm is =
+      all_tied truth (does queues wire_segments truth l effect) effects calm.1 (does_tied truth l effect calm.0 is)
+
+  -- ---- all links of a node
+
+  abbrev pub AreTied : List (LinkOf WireSegments) → Type 0
+  AreTied [] = Unit {0}
+  AreTied (l ∷ links) = Is l × AreTied links
+
+  pub tied_at : (links : List (LinkOf WireSegments)) (n : ℕ) (l : LinkOf WireSegments) → AreTied links → slice_get links n ≡ Some l → Is l
+  tied_at [] n l are at = absurd cc
+  tied_at (first ∷ links) zero l are at = let same : first ≡ l = cc in subst Is same are.0
+  tied_at (first ∷ links) (suc n) l are at = tied_at links n l are.1 at
+
+  pub tied_pushed : (links : List (LinkOf WireSegments)) (l : LinkOf WireSegments) → AreTied links → Is l → AreTied (links ++ l ∷ [])
+  tied_pushed [] l are is = (is, tt)
+  tied_pushed (first ∷ links) l are is = (are.0, tied_pushed links l are.1 is)
+
+  pub tied_changed : (links : List (LinkOf WireSegments)) (n : ℕ) (l : LinkOf WireSegments) → AreTied links → Is l → AreTied (slice_set links n l)
+  tied_changed [] n l are is = tt
+  tied_changed (first ∷ links) zero l are is = (is, are.1)
+  tied_changed (first ∷ links) (suc n) l are is = (are.0, tied_changed links n l are.1 is)
+
+  pub tied_booted : (links : List (LinkOf WireSegments)) → AreTied links → AreTied (map (booted_link wire_segments queues) links)
+  tied_booted [] are = tt
+  tied_booted (l ∷ links) are =
+      (forgotten_tied queues (drops wire_segments queues l) (dropped_tied queues l are.0), tied_booted links are.1)
+
+-- where more passed
+module _ (P R : Numbers) (queues : Queues) (more : (msgflg own far : ℕ) → P msgflg own far → R msgflg own far) where
+  pub tied_more : (links : List (LinkOf WireSegments)) → AreTied P queues links → AreTied R queues links
+  tied_more [] are = tt
+  tied_more (l ∷ links) are = (
+    record {
+      by_call = λ e far f. more CI 0 far (are.0.by_call e far f);
+      by_answer = λ e own far f g. more CC own far (are.0.by_answer e own far f g);
+      begun = are.0.begun;
+      on_accept = are.0.on_accept;
+    },
+    tied_more links are.1,
+  )

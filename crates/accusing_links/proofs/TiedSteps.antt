@@ -1,0 +1,178 @@
+-- What the user does and what comes keeps it that links have their far addresses by CIs and CCs that passed.
+use Rattle.std.proofs.Common.{◌≡◌, ℕ, Bool, true, false, ◌&&◌, eqb, Option, Some, None, Result, List, [], ◌∷◌, refl, sym, subst}
+use Rattle.std.specs.Prelude.{slice_get}
+use Rattle.std.proofs.lemmas.Bool.{and_parts}
+use Rattle.dna_packet.specs.Nsp.{NspValue, DataSegment, LinkService, DataAck, OtherDataAck, ConnectAck, NoOperation, ConnectInitiate}
+use Rattle.dna_packet.specs.Nsp.{ConnectConfirm, DisconnectInitiate, DisconnectConfirm}
+use Rattle.dna_station.specs.declared.link_refusal.LinkRefusal.{LinkRefusal}
+use Rattle.dna_station.specs.declared.link_refusal.LinkRefusal.TheVariants.{NoLink, AddressInUse, CrossedLink, WrongNode}
+use Rattle.dna_links.specs.declared.port.Phase.{Phase}
+use Rattle.dna_links.specs.declared.port.Phase.TheVariants.{Calling, Called, Confirming, Running, Disconnecting, Ended}
+use Rattle.dna_links.specs.declared.port.LinkTest.TheVariants.{LiveAt, LiveTo, CallingAt, CalledBy}
+use Rattle.dna_links.specs.declared.queue.Queues.{Queues}
+use Rattle.dna_links.specs.declared.tag.LinkTag.{LinkTag}
+use Rattle.dna_links.specs.LookUps.{is_in, is_at}
+use Rattle.dna_links.specs.Links.{LinkOf, LinkTruth, Carried}
+use Rattle.dna_links.specs.Table.{Ask, Finds, FindsNone, ForThisLink, Effect, OpenHere, GiveAddress, Connect, GoTo, user_row, arrival_row}
+use Rattle.dna_links.specs.User.{LinkEventValue, Open, Accept, Reject, In, Up, Close, Abort, Boot}
+use Rattle.dna_links.specs.WireSegments.{WireSegments, wire_segments}
+use Rattle.dna_links.specs.WireLinks.{WireLinks, wire_links_user, wire_links_arrived}
+use Rattle.dna_links.specs.LinkBook.{blank, asked, by_row, after, of_none}
+use Rattle.dna_links.specs.Arriving.{PartnerRule}
+use Rattle.accusing_links.specs.Connects.{CI, CC}
+use Rattle.accusing_links.proofs.Answered.{Good, good_ok, good_err, good_check, link_good}
+use Rattle.accusing_links.proofs.RightLinks.{Numbers}
+use Rattle.accusing_links.proofs.LinkSteps.{at_is, kept_open, kept_answer, kept_connect, kept_confirm}
+use Rattle.accusing_links.proofs.Tied.{Begun, Is, goes_tied, AreTied, tied_at}
+use Rattle.accusing_links.proofs.TiedRows.{IsCalmRow, after_tied, calm_row}
+
+pub is_in_same : (wanted phase : Phase) → is_in wanted phase ≡ true → phase ≡ wanted
+is_in_same Calling Calling e = refl
+is_in_same Called Called e = refl
+is_in_same Confirming Confirming e = refl
+is_in_same Running Running e = refl
+is_in_same Disconnecting Disconnecting e = refl
+is_in_same Ended Ended e = refl
+is_in_same wanted phase e = absurd cc
+
+-- a link in this phase was opened here, or begun by a CI
+pub begun_in : (wanted phase : Phase) (opened : Bool) → is_in wanted phase ≡ true → Begun phase opened → Begun wanted opened
+begun_in wanted phase opened e begun = subst (λ (x : Phase). Begun x opened) (is_in_same wanted phase e) begun
+
+-- a CI or a CC that comes passed
+abbrev pub ConnectPassed : Numbers → NspValue → Type 0
+ConnectPassed P (ConnectInitiate retransmitted src services info segsize user_data) = P CI 0 src
+ConnectPassed P (ConnectConfirm dst src services info segsize user_data) = P CC dst src
+ConnectPassed P m = Unit {0}
+
+module _ (P : Numbers) (queues : Queues) (s : WireLinks) (are : AreTied P queues s.links) where
+  abbrev Are : WireLinks → Type 0
+  Are x = AreTied P queues x.links
+
+  abbrev to_links : List Effect → Option ℕ → LinkOf WireSegments → Unit {0} → WireLinks
+  to_links es n l k = after queues wire_segments s es n l k
+
+  abbrev each : (es : List Effect) (n : Option ℕ) (l : LinkOf WireSegments) (k : Unit {0}) → Is P queues l → Are (to_links es n l k)
+  each = after_tied P queues s are
+
+  there : (n : ℕ) (l : LinkOf WireSegments) → slice_get s.links n ≡ Some l → Is P queues l
+  there n l at = tied_at P queues s.links n l are at
+
+  -- ---- rows by which a link begins, or gets an address
+
+  module _ (rule : Bool → Bool) (truth : LinkTruth (Unit {0})) where
+    abbrev asks_by : List Effect → List Ask → Result WireLinks LinkRefusal
+    asks_by es asks = asked queues wire_segments rule truth s to_links es asks None (blank queues wire_segments) truth.known
+
+    open_good : (own : ℕ) (es : List Effect) → es ≡ GiveAddress own ∷ OpenHere ∷ [] →
+        Good Are (asks_by es (FindsNone (LiveAt own) (Some AddressInUse) ∷ []))
+    open_good own es same = subst (λ (x : List Effect). Good Are (asks_by x (FindsNone (LiveAt own) (Some AddressInUse) ∷ []))) (sym same)
+        (link_good Are (LiveAt own) s _ _
+        (good_ok Are _ (each (GiveAddress own ∷ OpenHere ∷ []) None _ tt
+        (record { by_call = λ e far f. absurd cc; by_answer = λ e o far f g. absurd cc; begun = refl; on_accept = λ e. absurd cc })))
+        (λ n l found. good_err Are AddressInUse))
+
+    -- a called link gets an address
+    addressed : (own : ℕ) (l : LinkOf WireSegments) → l.port.opened ≡ false → Is P queues l →
+        Is P queues (record l { port = record l.port { own = Some own } })
+    addressed own l called is =
+        record { by_call = is.by_call; by_answer = λ e o far f g. absurd cc; begun = is.begun; on_accept = is.on_accept }
+
+    answer_good : (far own : ℕ) (phase : Phase) (es : List Effect) → ((opened : Bool) → opened ≡ false → Begun phase opened) →
+        es ≡ GiveAddress own ∷ GoTo phase ∷ [] →
+        Good Are (asks_by es (Finds (CalledBy far) (Some NoLink) ∷ FindsNone (LiveAt own) (Some AddressInUse) ∷ []))
+    answer_good far own phase es begun same =
+        subst (λ (x : List Effect). Good Are (asks_by x (Finds (CalledBy far) (Some NoLink) ∷ FindsNone (LiveAt own) (Some AddressInUse) ∷ [])))
+        (sym same)
+        (link_good Are (CalledBy far) s _ _ (good_err Are NoLink) (λ n l found.
+        let is = there n l found.there in
+        let called : l.port.opened ≡ false = begun_in Called l.port.phase l.port.opened
+        (and_parts (is_in Called l.port.phase) (is_at l.port.far far) found.passes).0 is.begun in
+        link_good Are (LiveAt own) s _ _
+        (good_ok Are _ (each (GiveAddress own ∷ GoTo phase ∷ []) (Some n) _ tt
+        (goes_tied P queues queues phase (record l { port = record l.port { own = Some own } }) (begun l.port.opened called) (addressed own l called is))))
+        (λ m x other. good_err Are AddressInUse)))
+
+    connect_good : (far segsize : ℕ) (es : List Effect) → P CI 0 far → es ≡ Connect far segsize ∷ [] →
+        Good Are (asks_by es (FindsNone (LiveTo far) None ∷ []))
+    connect_good far segsize es came same =
+        subst (λ (x : List Effect). Good Are (asks_by x (FindsNone (LiveTo far) None ∷ []))) (sym same)
+        (link_good Are (LiveTo far) s _ _
+        (good_ok Are _ (each (Connect far segsize ∷ []) None _ tt (record {
+          by_call = λ e f g. let this : far ≡ f = cc in subst (P CI 0) this came;
+          by_answer = λ e o f g h. absurd cc;
+          begun = refl;
+          on_accept = λ e. absurd cc;
+        })))
+        (λ n l found. good_ok Are s are))
+
+    -- a calling link is answered
+    joined : (own far segsize : ℕ) (l : LinkOf WireSegments) → P CC own far → l.port.own ≡ Some own → l.port.opened ≡ true → Is P queues l →
+        Is P queues (record l { port = record l.port { far = Some far }; partner = truth.tag.link; segsize = segsize })
+    joined own far segsize l came at opened is = record {
+      by_call = λ e f g. absurd cc;
+      by_answer = λ e o f g h.
+          let same_own : own ≡ o = cc in
+          let same_far : far ≡ f = cc in
+          subst (λ (x : ℕ). P CC x f) same_own (subst (P CC own) same_far came);
+      begun = is.begun;
+      on_accept = is.on_accept;
+    }
+
+    confirm_good : (own far segsize : ℕ) (es : List Effect) → P CC own far → es ≡ Connect far segsize ∷ GoTo Running ∷ [] →
+        Good Are (asks_by es (Finds (CallingAt own) None ∷ ForThisLink CrossedLink ∷ []))
+    confirm_good own far segsize es came same =
+        subst (λ (x : List Effect). Good Are (asks_by x (Finds (CallingAt own) None ∷ ForThisLink CrossedLink ∷ []))) (sym same)
+        (link_good Are (CallingAt own) s _ _ (good_ok Are s are) (λ n l found.
+        let is = there n l found.there in
+        let parts = and_parts (is_in Calling l.port.phase) (is_at l.port.own own) found.passes in
+        let opened : l.port.opened ≡ true = begun_in Calling l.port.phase l.port.opened parts.0 is.begun in
+        good_check Are _ CrossedLink _ (λ e.
+        good_ok Are _ (each (Connect far segsize ∷ GoTo Running ∷ []) (Some n) _ tt
+        (goes_tied P queues queues Running
+        (record l { port = record l.port { far = Some far }; partner = truth.tag.link; segsize = segsize }) tt
+        (joined own far segsize l came (at_is l.port.own own parts.1) opened is))))))
+
+  -- ---- all that may happen
+
+  calm : (event : LinkEventValue) → IsCalmRow P queues (user_row event) → Good Are (wire_links_user queues s event)
+  calm event is = calm_row P queues s are (λ test. test) (of_none queues wire_segments) to_links (user_row event) Are is each
+
+  pub user_tied : (event : LinkEventValue) → Good Are (wire_links_user queues s event)
+  user_tied (Open own) = open_good (λ test. test) (of_none queues wire_segments) own _ (kept_open queues own)
+  user_tied (Accept far own) =
+      answer_good (λ test. test) (of_none queues wire_segments) far own Confirming _ (λ opened e. e) (kept_answer queues own Confirming)
+  user_tied (Reject far own) =
+      answer_good (λ test. test) (of_none queues wire_segments) far own Disconnecting _ (λ opened e. tt) (kept_answer queues own Disconnecting)
+  user_tied (In own message) = calm (In own message) (tt, tt)
+  user_tied (Up own message) = calm (Up own message) (tt, tt)
+  user_tied (Close own) = calm (Close own) (λ opened. tt, tt)
+  user_tied (Abort own) = calm (Abort own) (tt, tt)
+  user_tied Boot = calm Boot (tt, tt)
+
+  module _ (rule : PartnerRule) (tag : LinkTag) where
+    abbrev truth : LinkTruth (Unit {0})
+    truth = record { tag = tag; known = tt }
+
+    comes_calm : (m : NspValue) → IsCalmRow P queues (arrival_row m) →
+        Good Are (by_row queues wire_segments rule truth s to_links (arrival_row m))
+    comes_calm m calm = calm_row P queues s are rule truth to_links (arrival_row m) Are calm each
+
+    message_tied : (m : NspValue) → ConnectPassed P m → Good Are (by_row queues wire_segments rule truth s to_links (arrival_row m))
+    message_tied (ConnectInitiate retransmitted src services info segsize user_data) came =
+        connect_good rule truth src segsize _ came (kept_connect queues src segsize)
+    message_tied (ConnectConfirm dst src services info segsize user_data) came =
+        confirm_good rule truth dst src segsize _ came (kept_confirm queues src segsize)
+    message_tied (DataSegment segment) came = comes_calm (DataSegment segment) (λ opened. tt, (tt, tt))
+    message_tied (DataAck dst src acks) came = comes_calm (DataAck dst src acks) (λ opened. tt, (tt, tt))
+    message_tied (LinkService interrupt dst src rest) came = comes_calm (LinkService interrupt dst src rest) (λ opened. tt, tt)
+    message_tied (OtherDataAck dst src rest) came = comes_calm (OtherDataAck dst src rest) (λ opened. tt, tt)
+    message_tied (ConnectAck dst) came = comes_calm (ConnectAck dst) tt
+    message_tied (NoOperation rest) came = comes_calm (NoOperation rest) tt
+    message_tied (DisconnectInitiate dst src reason user_data) came = comes_calm (DisconnectInitiate dst src reason user_data) (tt, tt)
+    message_tied (DisconnectConfirm dst src reason) came = comes_calm (DisconnectConfirm dst src reason) (tt, tt)
+
+  pub arrived_tied : (rule : PartnerRule) (packet : Carried) (tag : LinkTag) → ConnectPassed P packet.message →
+      Good Are (wire_links_arrived queues rule s packet tag)
+  arrived_tied rule packet tag came =
+      good_check Are (eqb packet.src s.peer && eqb packet.dst s.node) WrongNode _ (λ e. message_tied rule tag packet.message came)

@@ -1,0 +1,37 @@
+-- Of which messages no link can be, by the CIs and CCs of the other side that passed (NSP 4.0, session control interface, port states): by one of
+-- them a link gets its far address, and by nothing else.
+use Rattle.std.specs.Prelude.{ℕ, Bool, true, false, ◌||◌}
+use Rattle.dna_packet.specs.Nsp.{NspValue, DataSegment, LinkService, DataAck, OtherDataAck, ConnectAck, ConnectInitiate, ConnectConfirm}
+use Rattle.dna_packet.specs.Nsp.{DisconnectInitiate}
+use Rattle.accusing_links.specs.Segments.{Shown, is_this}
+
+-- the MSGFLG of a CI, which is 0x68 where it is sent again, and of a CC
+abbrev pub CI : ℕ
+CI = 0x18
+
+abbrev pub CC : ℕ
+CC = 0x28
+
+-- a CI or a CC: its MSGFLG, DSTADDR, of a CI 0, and SRCADDR
+abbrev pub connect_of : NspValue → Shown
+connect_of (ConnectInitiate retransmitted src services info segsize user_data) msgflg own far = is_this (CI, 0, src) msgflg own far
+connect_of (ConnectConfirm dst src services info segsize user_data) msgflg own far = is_this (CC, dst, src) msgflg own far
+connect_of other msgflg own far = false
+
+-- a CI passed from this link; that, or a CC from it to that one
+abbrev pub was_called : Shown → (far : ℕ) → Bool
+was_called connects far = connects CI 0 far
+
+abbrev pub was_joined : Shown → (own far : ℕ) → Bool
+was_joined connects own far = was_called connects far || connects CC own far
+
+-- A link can be of which this message may be sent: one that a CI began for a CC or a connect acknowledgement, one with both addresses for the others
+abbrev pub has_link : Shown → NspValue → Bool
+has_link connects (ConnectAck dst) = was_called connects dst
+has_link connects (ConnectConfirm dst src services info segsize user_data) = was_called connects dst
+has_link connects (DisconnectInitiate dst src reason user_data) = was_joined connects src dst
+has_link connects (DataSegment s) = was_joined connects s.srcaddr s.dstaddr
+has_link connects (DataAck dst src acks) = was_joined connects src dst
+has_link connects (LinkService interrupt dst src rest) = was_joined connects src dst
+has_link connects (OtherDataAck dst src rest) = was_joined connects src dst
+has_link connects m = true

@@ -1,0 +1,50 @@
+//! What a side showed by messages that passed, three numbers for each thing.
+
+ghost use Rattle.std.specs.Prelude.{◌≡◌, ◌||◌, ℕ, false, OnOk, OnErr};
+ghost use Rattle.accusing_links.specs.Segments.{has, is_this};
+
+use std::alloc::{AllocError, Global};
+use std::collections::BTreeSet;
+use std::marker::Model;
+
+/// What a side showed by messages that passed, three numbers for each thing: a data segment by the link that it is for, the one that it is from, and
+/// its number; a CI or a CC by its MSGFLG and both links. It takes memory for each once, and so for at most 4,096 segments of two links.
+#[derive(Drop)]
+pub struct Triples {
+    shown: BTreeSet<(u16, u16, u16)>,
+}
+
+impl Model for Triples {
+    ghost use Rattle.std.specs.Prelude.{ℕ, List};
+
+    ghost Value = { List (ℕ × ℕ × ℕ) };
+
+    ghost view = { λ s. s.shown.keys };
+}
+
+impl Triples {
+    /// None. It takes no memory.
+    pub fn none(alloc: Global) -> Triples
+        ensures { (first second third : ℕ) → has result first second third ≡ false }
+    {
+        Triples {
+            shown: BTreeSet::new(alloc),
+        }
+    }
+
+    /// Whether these were shown.
+    pub fn has(&self, first: u16, second: u16, third: u16) -> bool
+        ensures { result ≡ has self.now first second third }
+    {
+        self.shown.contains(&(first, second, third))
+    }
+
+    /// These are shown. Where memory is refused, nothing changes.
+    pub fn show(&mut self, first: u16, second: u16, third: u16) -> Result<(), AllocError>
+        ensures ok { (a b c : ℕ) → OnOk result (has self.new a b c ≡ (is_this (first, second, third) a b c || has self.old a b c)) }
+        ensures err { (a b c : ℕ) → OnErr result (has self.new a b c ≡ has self.old a b c) }
+    {
+        self.shown.insert((first, second, third))?;
+        Ok(())
+    }
+}
