@@ -1,9 +1,9 @@
 mod Judged
-mod LookUps
+pub mod LookUps
 mod Effects
 pub mod After
 mod Asked
-mod Answered
+pub mod Answered
 mod Rows
 pub mod Steps
 pub mod Lists

@@ -14,7 +14,8 @@ use Rattle.dna_links.specs.declared.port.LinkTest.TheVariants.{TheLink, OpenedAt
 use Rattle.dna_links.specs.declared.queue.Queues.{Queues}
 use Rattle.dna_links.specs.declared.queue.Queues.TheVariants.{Without, With}
 use Rattle.dna_links.specs.LookUps.{passes, is_at, is_live}
-use Rattle.dna_links.specs.Links.{LinkOf, Carried, with_seen}
+use Rattle.dna_links.specs.SegmentBook.{SegmentBook}
+use Rattle.dna_links.specs.Links.{LinkOf, LinksOf, Carried, with_seen}
 use Rattle.dna_links.specs.Queues.{in_use, with_in_use}
 use Rattle.dna_links.specs.Sending.{Sent, message_sent, sent_step}
 use Rattle.dna_links.specs.TrueSegments.{TrueSegments, Numbers, true_segments}
@@ -142,11 +143,11 @@ module _ (out : LeftOut) where
   told_binds (ConnectConfirm dst src services info segsize user_data) told = (never_zero src told.0, λ one. sym told.1)
   told_binds m told = tt
 
-  module _ (queues : Queues) (judged : Judged) (s : Links) (fit : AreFit out judged s) where
+  module _ {D K : Type 0} (queues : Queues) (book : SegmentBook D K) (judged : Judged) (s : LinksOf D) (fit : AreFit out judged s) where
     -- a link passes this test, by its own port or another
-    in_use_told : (C : Type 0) (test : LinkTest) → ((n : ℕ) (l : LinkOf TrueSegments) → slice_get s.links n ≡ Some l → (port : Port) →
+    in_use_told : (C : Type 0) (test : LinkTest) → ((n : ℕ) (l : LinkOf D) → slice_get s.links n ≡ Some l → (port : Port) →
         port.own ≡ l.port.own → port.far ≡ l.port.far → passes test port ≡ true → C) → {R : Type 0} (q : Queues)
-        (next : ℕ → LinkOf TrueSegments → Result R LinkRefusal) → IfMade (λ (x : R). C) (with_in_use q test s (Err NoLink) next)
+        (next : ℕ → LinkOf D → Result R LinkRefusal) → IfMade (λ (x : R). C) (with_in_use q test s (Err NoLink) next)
     in_use_told C test found {R} Without next =
         look_holds (IfMade (λ (x : R). C)) its_port test s (Err NoLink) next tt
         (λ n l there passed. if_held C (found n l there l.port refl refl passed) (next n l))
@@ -157,17 +158,17 @@ module _ (out : LeftOut) where
         (found n l there (in_use With l) (in_use_is.own l) (in_use_is.far l) passed) (next n l)))
         (λ n l there passed. if_held C (found n l there l.port refl refl passed) (next n l))
 
-    own_told : (n : ℕ) (l : LinkOf TrueSegments) → slice_get s.links n ≡ Some l → (own : Option ℕ) → own ≡ l.port.own → (src : ℕ) →
+    own_told : (n : ℕ) (l : LinkOf D) → slice_get s.links n ≡ Some l → (own : Option ℕ) → own ≡ l.port.own → (src : ℕ) →
         is_at own src ≡ true → (1 ≤ src) × (out.own src ≡ not (judged.here n))
     own_told n l there own same src at =
         own_at out (judged.here n) l.port.own src (ap (λ (o : Option ℕ). is_at o src) (sym same) ∙ at) (fit n l there).own
 
-    far_told : (n : ℕ) (l : LinkOf TrueSegments) → slice_get s.links n ≡ Some l → (far : Option ℕ) → far ≡ l.port.far → (dst : ℕ) →
+    far_told : (n : ℕ) (l : LinkOf D) → slice_get s.links n ≡ Some l → (far : Option ℕ) → far ≡ l.port.far → (dst : ℕ) →
         is_at far dst ≡ true → out.far dst ≡ not (judged.here n)
     far_told n l there far same dst at =
         far_at out (judged.here n) l.port.far dst (ap (λ (o : Option ℕ). is_at o dst) (sym same) ∙ at) (fit n l there).far
 
-    the_link_told : (src dst : ℕ) {R : Type 0} (next : ℕ → LinkOf TrueSegments → Result R LinkRefusal) →
+    the_link_told : (src dst : ℕ) {R : Type 0} (next : ℕ → LinkOf D → Result R LinkRefusal) →
         IfMade (λ (x : R). (1 ≤ src) × (out.own src ≡ out.far dst)) (with_in_use queues (TheLink src dst) s (Err NoLink) next)
     the_link_told src dst next =
         in_use_told ((1 ≤ src) × (out.own src ≡ out.far dst)) (TheLink src dst)
@@ -176,7 +177,7 @@ module _ (out : LeftOut) where
         let at_own = own_told n l there port.own own src both.0 in
         (at_own.0, at_own.1 ∙ sym (far_told n l there port.far far dst both.1))) queues next
 
-    opened_told : (src : ℕ) {R : Type 0} (next : ℕ → LinkOf TrueSegments → Result R LinkRefusal) →
+    opened_told : (src : ℕ) {R : Type 0} (next : ℕ → LinkOf D → Result R LinkRefusal) →
         IfMade (λ (x : R). 1 ≤ src) (with_in_use queues (OpenedAt src) s (Err NoLink) next)
     opened_told src next =
         in_use_told (1 ≤ src) (OpenedAt src)
@@ -184,10 +185,10 @@ module _ (out : LeftOut) where
         (own_told n l there port.own own src (and_parts port.opened (is_at port.own src) (and_parts
         (is_live port.phase) _ passed).1).1).0) queues next
 
-    abbrev Told : NspValue → Sent TrueSegments Numbers → Type 0
+    abbrev Told : NspValue → Sent D K → Type 0
     Told m made = MessageTold m
 
-    message_told : (m : NspValue) → IfMade (Told m) (message_sent queues true_segments s m)
+    message_told : (m : NspValue) → IfMade (Told m) (message_sent queues book s m)
     message_told (ConnectInitiate retransmitted src services info segsize user_data) = opened_told src _
     message_told (ConnectConfirm dst src services info segsize user_data) = the_link_told src dst _
     message_told (DisconnectInitiate dst src reason user_data) = the_link_told src dst _
@@ -195,14 +196,14 @@ module _ (out : LeftOut) where
     message_told (DataAck dst src acks) = the_link_told src dst _
     message_told (LinkService interrupt dst src rest) = the_link_told src dst _
     message_told (OtherDataAck dst src rest) = the_link_told src dst _
-    message_told (ConnectAck dst) = if_held (Unit {0}) tt (message_sent queues true_segments s (ConnectAck dst))
+    message_told (ConnectAck dst) = if_held (Unit {0}) tt (message_sent queues book s (ConnectAck dst))
     message_told (NoOperation rest) = tt
-    message_told (DisconnectConfirm dst src reason) = if_held (Unit {0}) tt (message_sent queues true_segments s (DisconnectConfirm dst src reason))
+    message_told (DisconnectConfirm dst src reason) = if_held (Unit {0}) tt (message_sent queues book s (DisconnectConfirm dst src reason))
 
-    pub sent_told : (packet : Carried) → IfMade (Told packet.message) (sent_step queues true_segments s packet)
+    pub sent_told : (packet : Carried) → IfMade (Told packet.message) (sent_step queues book s packet)
     sent_told packet =
         check_holds (Told packet.message) (eqb packet.src s.node && eqb packet.dst s.peer) WrongNode
-        (message_sent queues true_segments s packet.message) (message_told packet.message)
+        (message_sent queues book s packet.message) (message_told packet.message)
 
 none_out : (m : NspValue) → message_out nothing_out m ≡ false
 none_out m = go (source_of m == 0) (destination_of m == 0)
@@ -262,7 +263,9 @@ module _ (queues : Queues) (out : LeftOut) (judged : Judged) (s : Links) (fit : 
     (known : AreFit nothing_out (there_are (length s.links) there) s) (packet : Carried) (made : Sent TrueSegments Numbers)
     (made_is : links_sent queues s packet ≡ Ok made) where
   told : MessageTold out packet.message
-  told = subst (IfMade (λ (x : Sent TrueSegments Numbers). MessageTold out packet.message)) made_is (sent_told out queues judged s fit packet)
+  told =
+      subst (IfMade (λ (x : Sent TrueSegments Numbers). MessageTold out packet.message)) made_is
+      (sent_told out queues true_segments judged s fit packet)
 
   pub unit_sent : UnitRight out judged (length s.links) there (record { packet = packet; truth = made.truth })
   unit_sent = record {

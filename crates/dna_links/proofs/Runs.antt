@@ -5,6 +5,8 @@ pub mod Pieces
 pub mod Sends
 pub mod Loose
 pub mod LateWords
+pub mod Bare
+pub mod LateSending
 pub mod Late
 pub mod Ends
 pub mod Sides

@@ -1,13 +1,6 @@
 -- What nodes without queues make, nodes with queues make as well: two machines, and the node over both layers
 pub mod Nodes
 pub mod Layers
--- the same of links over any book of segments
-pub mod Plain
-pub mod Fit
-pub mod User
-pub mod Sending
-pub mod Arriving
-pub mod WireBook
 -- the node of one end alone, and all that it makes
 pub mod WireLayers
 pub mod Alone

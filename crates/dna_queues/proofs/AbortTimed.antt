@@ -1,15 +1,14 @@
 -- A call is given up by its user: nothing is composed of it before.
-use Rattle.std.proofs.Common.{◌≡◌, ℕ, true, Option, Some, None, List, ◌∷◌, Ok, Err, refl, sym, ap, ◌∙◌, subst}
+use Rattle.std.proofs.Common.{◌≡◌, ℕ, true, Some, List, ◌∷◌, Ok, Err, refl, sym, ap, ◌∙◌, subst}
 use Rattle.std.specs.Prelude.{slice_get}
 use Rattle.dna_station.specs.declared.link_refusal.LinkRefusal.TheVariants.{NoLink, LinkState}
-use Rattle.dna_links.specs.declared.port.Phase.{Phase}
 use Rattle.dna_links.specs.declared.port.Phase.TheVariants.{Ended}
 use Rattle.dna_links.specs.declared.port.Port.{Port}
 use Rattle.dna_links.specs.declared.port.LinkTest.TheVariants.{LiveAt}
 use Rattle.dna_links.specs.declared.queue.Queues.TheVariants.{With}
 use Rattle.dna_links.specs.LookUps.{is_calling}
 use Rattle.dna_links.specs.Links.{Carried, changed}
-use Rattle.dna_links.specs.Queues.{port_of_waiting, ended, drops}
+use Rattle.dna_links.specs.Queues.{ended, drops}
 use Rattle.dna_links.specs.LinkBook.{user_step}
 use Rattle.dna_links.specs.User.{Abort}
 use Rattle.dna_links.specs.TrueSegments.{true_segments}
@@ -19,7 +18,7 @@ use Rattle.dna_queues.proofs.Facts.{passed_check, same_Ok}
 use Rattle.dna_queues.specs.Records.{LinkRecord, OfUser}
 use Rattle.dna_queues.specs.Hidden.{late_segments, Node}
 use Rattle.dna_queues.specs.Made.{UserDoes}
-use Rattle.dna_queues.proofs.Goes.{Link, phase_of}
+use Rattle.dna_queues.proofs.Goes.{Link, phase_of, use_port}
 use Rattle.dna_queues.proofs.LinkLists.{IsUnique, IsSet, set_changed, at_found}
 use Rattle.dna_queues.proofs.Sending.{live_owns}
 use Rattle.dna_queues.proofs.Early.{CanGo, none_before}
@@ -28,11 +27,6 @@ use Rattle.dna_queues.proofs.MachineSends.{IsUsed, used, live_at}
 use Rattle.dna_queues.proofs.Dues.{none_link, AreSane}
 use Rattle.dna_queues.proofs.SentTimed.{Sound}
 use Rattle.dna_queues.proofs.UserTimed.{Changes, one_sound}
-
--- the phase in use is none that is left
-pub use_ended : (waits : Option Phase) (p : Port) → record (port_of_waiting waits p) { phase = Ended } ≡ record p { phase = Ended }
-use_ended None p = refl
-use_ended (Some phase) p = refl
 
 module _ (s : machine.Links) (sane : AreSane s) (later : List LinkRecord) (left : machine.Links) (rest : AreSane left → Sound left later) where
   pub abort_sound : (own : ℕ) → user_step With true_segments s (Abort own) ≡ Ok left → Sound s (OfUser (Abort own) ∷ later)
@@ -58,7 +52,8 @@ module _ (s : machine.Links) (sane : AreSane s) (later : List LinkRecord) (left 
           step n x y unique q there =
               let here = there ∙ ap (λ (z : Link). Some (hide z)) q.0 in
               let h = ended late_segments (hide l) in
-              let is : h ≡ hide (drops true_segments With l) = ap (λ (p : Port). record (hide l) { port = p }) (use_ended l.queue.waits l.port) in
+              let is : h ≡ hide (drops true_segments With l) =
+              ap (λ (p : Port). record (hide l) { port = p }) (use_port l.queue.waits l.port Ended) in
               record {
                 links = changed i h n.links;
                 makes = UserDoes (Abort own) (changed i h n.links) tt

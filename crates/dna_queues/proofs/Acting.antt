@@ -1,8 +1,7 @@
 -- A link of the node with queues: what it may send, what it is seen as, and what acting on a packet makes of it.
 use Rattle.std.proofs.Common.{◌≡◌, ℕ, ◌-◌, ◌≤◌, Bool, true, false, ◌||◌, cond, Option, Some, None, [], refl, sym, ap, ◌∙◌, subst}
-use Rattle.std.proofs.lemmas.Bool.{and_parts}
-use Rattle.dna_packet.specs.Nsp.{NspValue, DataSegment, LinkService, DataAck, OtherDataAck, ConnectAck, NoOperation, ConnectInitiate}
-use Rattle.dna_packet.specs.Nsp.{ConnectConfirm, DisconnectInitiate, DisconnectConfirm}
+use Rattle.std.proofs.lemmas.Bool.{and_parts, cond_both}
+use Rattle.dna_packet.specs.Nsp.{NspValue, DataSegment, LinkService, DataAck, OtherDataAck, ConnectConfirm, DisconnectInitiate, DisconnectConfirm}
 use Rattle.dna_links.specs.declared.port.Phase.{Phase}
 use Rattle.dna_links.specs.declared.port.Phase.TheVariants.{Calling, Confirming, Running, Disconnecting, Ended}
 use Rattle.dna_links.specs.declared.port.LinkTest.TheVariants.{TheLink, CallingAt, ActedOn}
@@ -18,6 +17,7 @@ use Rattle.dna_queues.specs.Hidden.{LateSegments, over}
 use Rattle.dna_queues.proofs.Goes.{Link}
 use Rattle.dna_queues.proofs.Ahead.{Seen, confirmed_if, ended_if, ran_if, taken_if, acted_as, takes_numbers}
 use Rattle.dna_queues.proofs.Came.{acks_taken}
+use Rattle.dna_queues.proofs.Facts.{no_case, no_other}
 
 abbrev pub LateLink : Type 0
 LateLink = LinkOf LateSegments
@@ -74,11 +74,8 @@ acts_as (LinkService interrupt dst src rest) truth h = cond (passes (ActedOn dst
 acts_as (OtherDataAck dst src rest) truth h = cond (passes (ActedOn dst src) h.port) (run_late h.segments.segments h) h
 acts_as m truth h = h
 
-pub record ActsOn (m : NspValue) (truth : LinkTruth Numbers) (used : Phase) (h k : LateLink) : Type 0 where
-  pub then_used : Phase
-  pub of_use : is_live k.port.phase ≡ true → then_used ≡ k.port.phase
-  pub seen : acted_as m truth (seen_as used h) ≡ seen_as then_used k
-  pub fresh : is_calling k.port.phase ≡ true → k.port.far ≡ None
+-- what of a link acting on a packet leaves as it was, or does not begin
+pub record Acts (m : NspValue) (truth : LinkTruth Numbers) (h k : LateLink) : Type 0 where
   pub own : k.port.own ≡ h.port.own
   pub opened : k.port.opened ≡ h.port.opened
   pub live : is_live k.port.phase ≡ true → is_live h.port.phase ≡ true
@@ -95,52 +92,23 @@ pub record ActsOn (m : NspValue) (truth : LinkTruth Numbers) (used : Phase) (h k
   pub within : (high : ℕ) → h.segments.segments.acknowledged ≤ high →
       (takes_numbers m h.port ≡ true → AreAtMost high truth.known.acknowledgements) → k.segments.segments.acknowledged ≤ high
 
+pub record ActsOn (m : NspValue) (truth : LinkTruth Numbers) (used : Phase) (h k : LateLink) : Type 0 where
+  pub then_used : Phase
+  pub of_use : is_live k.port.phase ≡ true → then_used ≡ k.port.phase
+  pub seen : acted_as m truth (seen_as used h) ≡ seen_as then_used k
+  pub fresh : is_calling k.port.phase ≡ true → k.port.far ≡ None
+  pub acts : Acts m truth h k
+  pub open acts use *
+
 module _ (used : Phase) (h : LateLink) (of_use : is_live h.port.phase ≡ true → used ≡ h.port.phase)
     (fresh : is_calling h.port.phase ≡ true → h.port.far ≡ None) where
   acts_still : (m : NspValue) (truth : LinkTruth Numbers) → acted_as m truth (seen_as used h) ≡ seen_as used h → ActsOn m truth used h h
-  acts_still m truth same = record {
-    then_used = used;
-    of_use = of_use;
-    seen = same;
-    fresh = fresh;
-    own = refl;
-    opened = refl;
-    live = λ e. e;
-    closing = λ e. e;
-    confirming = λ e. e;
-    called = λ e. e;
-    silent = λ e. e;
-    is_not_over = λ e. e;
-    given = refl;
-    last = refl;
-    unsent = refl;
-    passed = refl;
-    gap = refl;
-    within = λ high low taken. low;
-  }
+  acts_still m truth same = record { then_used = used; of_use = of_use; seen = same; fresh = fresh; acts = assumption }
 
   acts_ended : (m : NspValue) (truth : LinkTruth Numbers) → acted_as m truth (seen_as used h) ≡ ended_if true (seen_as used h) →
       ActsOn m truth used h (ended_late h)
-  acts_ended m truth ends = record {
-    then_used = used;
-    of_use = λ e. absurd cc;
-    seen = ends;
-    fresh = λ e. absurd cc;
-    own = refl;
-    opened = refl;
-    live = λ e. absurd cc;
-    closing = λ e. absurd cc;
-    confirming = λ e. absurd cc;
-    called = λ e. absurd cc;
-    silent = λ e. absurd cc;
-    is_not_over = λ e. absurd cc;
-    given = refl;
-    last = refl;
-    unsent = refl;
-    passed = refl;
-    gap = refl;
-    within = λ high low taken. low;
-  }
+  acts_ended m truth ends =
+      record { then_used = used; of_use = λ e. absurd cc; seen = ends; fresh = λ e. absurd cc; acts = search (no_case, no_other) }
 
   may_run : (p : Phase) → (is_in Calling p || is_connected p) ≡ true → (is_live p ≡ true) × (is_over (level p) ≡ false)
   may_run Calling e = (refl, refl)
@@ -162,29 +130,30 @@ module _ (used : Phase) (h : LateLink) (of_use : is_live h.port.phase ≡ true �
         of_use = λ e. sym run;
         seen = seen;
         fresh = λ e. absurd (run_is_not is_calling refl e);
-        own = own;
-        opened = opened;
-        live = λ e. r.0;
-        closing = λ e. absurd (run_is_not (is_in Disconnecting) refl e);
-        confirming = λ e. absurd (run_is_not (is_in Confirming) refl e);
-        called = λ e. absurd (run_is_not is_called refl e);
-        silent = λ e. absurd (run_is_not (λ p. is_silent (level p)) refl e);
-        is_not_over = λ e. r.1;
-        given = ap (λ (f : TrueSegments). f.given) same;
-        last = ap (λ (f : TrueSegments). f.last) same;
-        unsent = ap (λ (f : TrueSegments). f.unsent) same;
-        passed = ap (λ (f : TrueSegments). f.passed) same;
-        gap = gap;
-        within = λ high low taken. subst (λ (n : ℕ). n ≤ high) (sym is) (within high low taken);
+        acts = record {
+          own = own;
+          opened = opened;
+          live = λ e. r.0;
+          closing = λ e. absurd (run_is_not (is_in Disconnecting) refl e);
+          confirming = λ e. absurd (run_is_not (is_in Confirming) refl e);
+          called = λ e. absurd (run_is_not is_called refl e);
+          silent = λ e. absurd (run_is_not (λ p. is_silent (level p)) refl e);
+          is_not_over = λ e. r.1;
+          given = ap (λ (f : TrueSegments). f.given) same;
+          last = ap (λ (f : TrueSegments). f.last) same;
+          unsent = ap (λ (f : TrueSegments). f.unsent) same;
+          passed = ap (λ (f : TrueSegments). f.passed) same;
+          gap = gap;
+          within = λ high low taken. subst (λ (n : ℕ). n ≤ high) (sym is) (within high low taken);
+        };
       }
     where
       run_is_not : (test : Phase → Bool) → test Running ≡ false → test k.port.phase ≡ true → ⊥
       run_is_not test never so = let same : true ≡ false = sym so ∙ ap test run ∙ never in absurd cc
 
-  acts_if : (m : NspValue) (truth : LinkTruth Numbers) (k : LateLink) (b : Bool) (c : Bool) → c ≡ b → (c ≡ true → ActsOn m truth used h k) →
+  acts_if : (m : NspValue) (truth : LinkTruth Numbers) (k : LateLink) (c : Bool) → (c ≡ true → ActsOn m truth used h k) →
       (c ≡ false → ActsOn m truth used h h) → ActsOn m truth used h (cond c k h)
-  acts_if m truth k true c e some none = subst (λ (b : Bool). ActsOn m truth used h (cond b k h)) (sym e) (some e)
-  acts_if m truth k false c e some none = subst (λ (b : Bool). ActsOn m truth used h (cond b k h)) (sym e) (none e)
+  acts_if m truth k c some none = cond_both c k h (λ x. ActsOn m truth used h x) some none
 
   or_connected : (own far : ℕ) → passes (ActedOn own far) h.port ≡ true → (is_in Calling h.port.phase || is_connected h.port.phase) ≡ true
   or_connected own far e = go h.port.phase (and_parts (is_connected h.port.phase) (has_both h.port own far) e).0
@@ -203,24 +172,24 @@ module _ (used : Phase) (h : LateLink) (of_use : is_live h.port.phase ≡ true �
 
   pub acts_on : (m : NspValue) (truth : LinkTruth Numbers) → ActsOn m truth used h (acts_as m truth h)
   acts_on (ConnectConfirm dst src services info segsize user_data) truth =
-      acts_if _ truth (confirmed_late src segsize truth.tag.link h) _ (passes (CallingAt dst) h.port) refl
+      acts_if _ truth (confirmed_late src segsize truth.tag.link h) (passes (CallingAt dst) h.port)
       (λ e. acts_run _ truth (confirmed_late src segsize truth.tag.link h) (or_calling dst e) refl
       (ap (λ (b : Bool). confirmed_if b src segsize truth.tag.link (seen_as used h)) e) refl refl refl h.segments.segments.acknowledged refl refl
       (λ high low taken. low))
       (λ e. acts_still _ truth (ap (λ (b : Bool). confirmed_if b src segsize truth.tag.link (seen_as used h)) e))
   acts_on (DisconnectInitiate dst src reason user_data) truth =
-      acts_if _ truth (ended_late h) _ (passes (TheLink dst src) h.port || passes (CallingAt dst) h.port) refl
+      acts_if _ truth (ended_late h) (passes (TheLink dst src) h.port || passes (CallingAt dst) h.port)
       (λ e. acts_ended _ truth (ap (λ (b : Bool). ended_if b (seen_as used h)) e))
       (λ e. acts_still _ truth (ap (λ (b : Bool). ended_if b (seen_as used h)) e))
   acts_on (DisconnectConfirm dst src reason) truth =
-      acts_if _ truth (ended_late h) _ (passes (TheLink dst src) h.port || passes (CallingAt dst) h.port) refl
+      acts_if _ truth (ended_late h) (passes (TheLink dst src) h.port || passes (CallingAt dst) h.port)
       (λ e. acts_ended _ truth (ap (λ (b : Bool). ended_if b (seen_as used h)) e))
       (λ e. acts_still _ truth (ap (λ (b : Bool). ended_if b (seen_as used h)) e))
   acts_on (DataSegment s) truth =
       let f = h.segments.segments in
       let t = acks_taken f truth.known.acknowledgements in
       let place = truth.known.segment - 1 in
-      acts_if _ truth (run_late (takes_segment s truth.known f) h) _ (passes (ActedOn s.dstaddr s.srcaddr) h.port) refl
+      acts_if _ truth (run_late (takes_segment s truth.known f) h) (passes (ActedOn s.dstaddr s.srcaddr) h.port)
       (λ e. acts_run _ truth (run_late (takes_segment s truth.known f) h) (or_connected s.dstaddr s.srcaddr e) refl
       (ap (λ (b : Bool). taken_if b s truth.known (seen_as used h)) e
       ∙ ap (λ (g : TrueSegments). seen_as Running (run_late (record g { received = hold place (piece_of s) g.received }) h))
@@ -232,7 +201,7 @@ module _ (used : Phase) (h : LateLink) (of_use : is_live h.port.phase ≡ true �
   acts_on (DataAck dst src acks) truth =
       let f = h.segments.segments in
       let t = acks_taken f truth.known.acknowledgements in
-      acts_if _ truth (run_late (takes_acks acks truth.known f) h) _ (passes (ActedOn dst src) h.port) refl
+      acts_if _ truth (run_late (takes_acks acks truth.known f) h) (passes (ActedOn dst src) h.port)
       (λ e. acts_run _ truth (run_late (takes_acks acks truth.known f) h) (or_connected dst src e) refl
       (ap (λ (b : Bool). ran_if b (seen_as used h)) e ∙ ap (λ (g : TrueSegments). seen_as Running (run_late g h)) (sym t.is))
       refl refl refl t.most
@@ -240,15 +209,13 @@ module _ (used : Phase) (h : LateLink) (of_use : is_live h.port.phase ≡ true �
       (λ high low taken. t.within high low (taken e)))
       (λ e. acts_still _ truth (ap (λ (b : Bool). ran_if b (seen_as used h)) e))
   acts_on (LinkService interrupt dst src rest) truth =
-      acts_if _ truth (run_late h.segments.segments h) _ (passes (ActedOn dst src) h.port) refl
+      acts_if _ truth (run_late h.segments.segments h) (passes (ActedOn dst src) h.port)
       (λ e. acts_run _ truth (run_late h.segments.segments h) (or_connected dst src e) refl (ap (λ (b : Bool). ran_if b (seen_as used h)) e)
       refl refl refl h.segments.segments.acknowledged refl refl (λ high low taken. low))
       (λ e. acts_still _ truth (ap (λ (b : Bool). ran_if b (seen_as used h)) e))
   acts_on (OtherDataAck dst src rest) truth =
-      acts_if _ truth (run_late h.segments.segments h) _ (passes (ActedOn dst src) h.port) refl
+      acts_if _ truth (run_late h.segments.segments h) (passes (ActedOn dst src) h.port)
       (λ e. acts_run _ truth (run_late h.segments.segments h) (or_connected dst src e) refl (ap (λ (b : Bool). ran_if b (seen_as used h)) e)
       refl refl refl h.segments.segments.acknowledged refl refl (λ high low taken. low))
       (λ e. acts_still _ truth (ap (λ (b : Bool). ran_if b (seen_as used h)) e))
-  acts_on (ConnectInitiate retransmitted src services info segsize user_data) truth = acts_still _ truth refl
-  acts_on (ConnectAck dst) truth = acts_still _ truth refl
-  acts_on (NoOperation rest) truth = acts_still _ truth refl
+  acts_on m truth = acts_still _ truth refl

@@ -1,6 +1,5 @@
 -- Where an address is given, or a DC has it, what waits for it is acted on before; and its link then has nothing more to say of what is past.
-use Rattle.std.proofs.Common.{◌≡◌, ℕ, Bool, true, false, ◌&&◌, Option, Some, None, List, [], ◌∷◌}
-use Rattle.std.proofs.Common.{refl, sym, ap, ap₂, ◌∙◌, subst}
+use Rattle.std.proofs.Common.{◌≡◌, ℕ, Bool, true, false, ◌&&◌, Option, Some, None, List, [], ◌∷◌, refl, sym, ap, ap₂, ◌∙◌, subst}
 use Rattle.std.specs.Prelude.{slice_get}
 use Rattle.std.proofs.lemmas.Option.{same_Some}
 use Rattle.dna_links.specs.declared.port.Phase.{Phase}
@@ -15,21 +14,20 @@ use Rattle.dna_links.specs.Queues.{in_use, port_of_waiting}
 use Rattle.dna_links.specs.TrueLinks as machine
 use Rattle.dna_links.specs.Runs.{SentMessage}
 use Rattle.dna_links.proofs.Tables.Outcomes.{IsFound, looked}
-use Rattle.dna_queues.proofs.Facts.{dead_phase}
+use Rattle.dna_queues.proofs.Facts.{dead_phase, by_test}
 use Rattle.dna_queues.specs.Hidden.{Links, Node, waiting, link_it_is_for, link_it_is_of}
 use Rattle.dna_queues.specs.Made.{IsFree}
 use Rattle.dna_queues.proofs.Goes.{Link, phase_of, use_own}
 use Rattle.dna_queues.proofs.Acting.{ended_late}
-use Rattle.dna_queues.proofs.LinkLists.{IsSet, set_changed, none_passes, number_same}
-use Rattle.dna_queues.proofs.Beside.{there_too}
+use Rattle.dna_queues.proofs.LinkLists.{IsSet, set_changed, none_passes, number_same, there_too}
 use Rattle.dna_queues.proofs.Turns.{Sane, can_end}
 use Rattle.dna_queues.proofs.Early.{CanGo, AreEarly}
 use Rattle.dna_queues.proofs.Hide.{LateLink, hide}
 use Rattle.dna_queues.proofs.Dues.{put_packets, none_link, Due, put, put_here, Went, went_use, AreDue, AreSane}
-use Rattle.dna_queues.proofs.Timed.{Awaits, kept_as, is_end, packets_of}
-use Rattle.dna_queues.proofs.Timed.{Timed, unique_hidden}
+use Rattle.dna_queues.proofs.Timed.{Awaits, kept_as, is_end, packets_of, Timed, unique_hidden}
 use Rattle.dna_queues.proofs.Prepared.{due_none, set_timed_but}
 use Rattle.dna_queues.proofs.Pending.{AreGood, GoodFor, then_ended, Flushed, flush}
+use Rattle.std.proofs.lemmas.Bool.{false_from_ne_true}
 
 -- the link of the node as what all would come to has it
 abbrev pub stripped : Link → Link → LateLink
@@ -55,15 +53,14 @@ module _ (l x : Link) (sane : Sane l) (went : Went l x) where
       ended : (p : Port) → in_use With x ≡ p → record p { phase = Ended } ≡ l.port → ended_late (hide x) ≡ stripped l x
       ended p in_use_is same = ap (λ (q : Port). record (hide x) { port = q }) (ap (λ (q : Port). record q { phase = Ended }) in_use_is ∙ same)
 
-      over : (kept : List SentMessage) (unit : SentMessage) → Awaits l (unit ∷ kept) → (b : Bool) → is_live l.port.phase ≡ b →
-          record l.port { phase = Ended } ≡ l.port
-      over kept unit a false e = ap (λ (p : Phase). record l.port { phase = p }) (sym (dead_phase l.port.phase e))
-      over kept unit a true e = let never : unit ∷ kept ≡ [] = a.live e in absurd cc
+      over : (unit : SentMessage) (kept : List SentMessage) → Awaits l (unit ∷ kept) → record l.port { phase = Ended } ≡ l.port
+      over unit kept a = ap (λ (p : Phase). record l.port { phase = p }) (sym (dead_phase l.port.phase (false_from_ne_true _ (λ e.
+          let never : unit ∷ kept ≡ [] = a.live e in absurd cc))))
 
       go : (w : Option Phase) → l.queue.waits ≡ w → (kept : List SentMessage) → Awaits l kept → then_ended kept (hide x) ≡ stripped l x
       go None e [] a = of_port l.port (went_use l x went ∙ ap (λ (w : Option Phase). port_of_waiting w l.port) e) refl
       go None e (unit ∷ units) a =
-          ended l.port (went_use l x went ∙ ap (λ (w : Option Phase). port_of_waiting w l.port) e) (over units unit a _ refl)
+          ended l.port (went_use l x went ∙ ap (λ (w : Option Phase). port_of_waiting w l.port) e) (over unit units a)
       go (Some p) e [] a = absurd (a.over p e)
       go (Some p) e (unit ∷ units) a =
           ended (record l.port { phase = p }) (went_use l x went ∙ ap (λ (w : Option Phase). port_of_waiting w l.port) e)
@@ -98,16 +95,14 @@ called_use far l sane = go l.queue.waits refl
 
 module _ (s : machine.Links) (sane : AreSane s) where
   pub good_timed : (dues : ℕ → Due) (n : Node) → Timed s dues n → AreGood n.links n.kept
-  good_timed dues n t i h at = go (there_too s.links n.links.links i h (sym t.size) at)
-    where
-      go : (l : Link) × (slice_get s.links i ≡ Some l) → GoodFor h (waiting link_it_is_for h.port.own n.kept)
-      go l =
-          let went = t.went i l.0 l.1 in
-          let same : hide (dues i).link ≡ h = same_Some _ h (sym (t.all i l.0 l.1) ∙ at) in
-          let own : (hide (dues i).link).port.own ≡ l.0.port.own = use_own (dues i).link ∙ ap (λ (p : Port). p.own) went.port in
-          subst (λ (g : LateLink). GoodFor g (waiting link_it_is_for g.port.own n.kept)) same
-          (subst (λ (o : Option ℕ). GoodFor (hide (dues i).link) (waiting link_it_is_for o n.kept)) (sym own)
-          (good_link l.0 (dues i).link (sane.each i l.0 l.1) went _ (t.awaits i l.0 l.1)))
+  good_timed dues n t i h at =
+      let l = there_too s.links n.links.links i h (sym t.size) at in
+      let went = t.went i l.0 l.1 in
+      let same : hide (dues i).link ≡ h = same_Some _ h (sym (t.all i l.0 l.1) ∙ at) in
+      let own : (hide (dues i).link).port.own ≡ l.0.port.own = use_own (dues i).link ∙ ap (λ (p : Port). p.own) went.port in
+      subst (λ (g : LateLink). GoodFor g (waiting link_it_is_for g.port.own n.kept)) same
+      (subst (λ (o : Option ℕ). GoodFor (hide (dues i).link) (waiting link_it_is_for o n.kept)) (sym own)
+      (good_link l.0 (dues i).link (sane.each i l.0 l.1) went _ (t.awaits i l.0 l.1)))
 
   pub flushed : (dues : ℕ → Due) (n : Node) → Timed s dues n → (address : ℕ) → Flushed n address
   flushed dues n t address =
@@ -138,15 +133,11 @@ module _ (s : machine.Links) (sane : AreSane s) where
         passes test (in_use With l) ≡ passes test l.port) → number_of test (flushed dues n t address).next.links ≡ number_of test s
     flushed_number test same =
         number_same (flushed dues n t address).next.links s ((flushed dues n t address).size ∙ t.size) test
-        (λ j h l at_h at_l. go j h l at_h at_l (is_at l.port.own address) refl)
-      where
-        go : (j : ℕ) (h : LateLink) (l : Link) → slice_get (flushed dues n t address).next.links.links j ≡ Some h → slice_get s.links j ≡ Some l →
-            (b : Bool) → is_at l.port.own address ≡ b → passes test h.port ≡ passes test l.port
-        go j h l at_h at_l true own =
-            ap (λ (g : LateLink). passes test g.port) (same_Some h (stripped l (dues j).link) (sym at_h ∙ flushed_here dues n t address j l at_l own))
-        go j h l at_h at_l false own =
-            ap (λ (g : LateLink). passes test g.port) (same_Some h (hide (dues j).link) (sym at_h ∙ flushed_other dues n t address j l at_l own))
-            ∙ ap (passes test) (went_use l (dues j).link (t.went j l at_l)) ∙ same j l at_l own
+        (λ j h l at_h at_l. by_test (is_at l.port.own address)
+        (λ own. ap (λ (g : LateLink). passes test g.port) (same_Some h (stripped l (dues j).link) (sym at_h
+        ∙ flushed_here dues n t address j l at_l own)))
+        (λ own. ap (λ (g : LateLink). passes test g.port) (same_Some h (hide (dues j).link) (sym at_h
+        ∙ flushed_other dues n t address j l at_l own)) ∙ ap (passes test) (went_use l (dues j).link (t.went j l at_l)) ∙ same j l at_l own))
 
     pub flushed_owner : number_of (HasAddress address) (flushed dues n t address).next.links ≡ number_of (HasAddress address) s
     flushed_owner = flushed_number (HasAddress address) (λ j l at own. ap (λ (o : Option ℕ). is_at o address) (use_own l))
@@ -246,11 +237,7 @@ module _ (s : machine.Links) (sane : AreSane s) where
                 ∙ same_Some l x (sym found.there ∙ ap (slice_get s.links) (sym (same_number j x other)) ∙ other.there))
 
             own_other : (j : ℕ) (x : Link) → (j ≡ i → ⊥) → slice_get s.links j ≡ Some x → is_at x.port.own address ≡ false
-            own_other j x differs at = go (is_at x.port.own address) refl
-              where
-                go : (b : Bool) → is_at x.port.own address ≡ b → is_at x.port.own address ≡ false
-                go false e = e
-                go true e = absurd (differs (sane.unique j i x l at found.there address e found.passed))
+            own_other j x differs at = false_from_ne_true _ (λ e. differs (sane.unique j i x l at found.there address e found.passed))
 
             nothing : (dues i).packets ≡ []
             nothing = let d = due.each i (g l) set.here in none i l found (dues i).packets (λ x. x ≡ (dues i).link) d.early d.can

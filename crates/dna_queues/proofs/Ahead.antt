@@ -1,6 +1,5 @@
 -- What a link comes to once what waits for it is acted on, beside the link of the machine.
-use Rattle.std.proofs.Common.{◌≡◌, ℕ, ◌-◌, ◌≤◌, Bool, true, false, ◌||◌, Option, Some, None, List, [], ◌∷◌, refl, sym, ap, ◌∙◌}
-use Rattle.std.proofs.Common.{arith}
+use Rattle.std.proofs.Common.{◌≡◌, ℕ, ◌-◌, ◌≤◌, Bool, true, false, ◌||◌, Option, Some, None, List, [], ◌∷◌, refl, sym, ap, ◌∙◌, arith, cond}
 use Rattle.std.proofs.lemmas.Bool.{and_parts}
 use Rattle.dna_packet.specs.Nsp.{SegmentValue, NspValue, DataSegment, LinkService, DataAck, OtherDataAck, ConnectAck, NoOperation, ConnectInitiate}
 use Rattle.dna_packet.specs.Nsp.{ConnectConfirm, DisconnectInitiate, DisconnectConfirm}
@@ -29,29 +28,18 @@ pub record Seen : Type 0 where
 -- ---- one packet
 
 abbrev pub confirmed_if : Bool → (far size : ℕ) → Option ℕ → Seen → Seen
-confirmed_if true far size partner a = record a {
-  port = record a.port { phase = Running; far = Some far };
-  partner = partner;
-  segsize = size;
-  used = Running;
-}
-confirmed_if false far size partner a = a
+confirmed_if b far size partner a =
+    cond b (record a { port = record a.port { phase = Running; far = Some far }; partner = partner; segsize = size; used = Running }) a
 
 abbrev pub ended_if : Bool → Seen → Seen
-ended_if true a = record a { port = record a.port { phase = Ended } }
-ended_if false a = a
+ended_if b a = cond b (record a { port = record a.port { phase = Ended } }) a
 
 abbrev pub ran_if : Bool → Seen → Seen
-ran_if true a = record a { port = record a.port { phase = Running }; used = Running }
-ran_if false a = a
+ran_if b a = cond b (record a { port = record a.port { phase = Running }; used = Running }) a
 
 abbrev pub taken_if : Bool → SegmentValue → Numbers → Seen → Seen
-taken_if true s known a = record a {
-  port = record a.port { phase = Running };
-  used = Running;
-  received = hold (known.segment - 1) (piece_of s) a.received;
-}
-taken_if false s known a = a
+taken_if b s known a =
+    cond b (record a { port = record a.port { phase = Running }; used = Running; received = hold (known.segment - 1) (piece_of s) a.received }) a
 
 abbrev pub acted_as : NspValue → LinkTruth Numbers → Seen → Seen
 acted_as (ConnectConfirm dst src services info segsize user_data) truth a =
@@ -126,19 +114,11 @@ later phase other = false
 
 later_itself : (p : Phase) → later p p ≡ true
 later_itself Calling = refl
-later_itself Called = refl
-later_itself Confirming = refl
-later_itself Running = refl
-later_itself Disconnecting = refl
-later_itself Ended = refl
+later_itself p = refl
 
 later_run : (p q : Phase) → later p Running ≡ true → later Running q ≡ true → later p q ≡ true
 later_run p Running a b = a
-later_run p Calling a b = absurd cc
-later_run p Called a b = absurd cc
-later_run p Confirming a b = absurd cc
-later_run p Disconnecting a b = absurd cc
-later_run p Ended a b = absurd cc
+later_run p q a b = absurd cc
 
 pub record IsFresh (a : Seen) : Type 0 where
   pub calling : is_calling a.port.phase ≡ true → a.port.far ≡ None
@@ -156,7 +136,7 @@ calling_is : (p : Phase) → is_in Calling p ≡ true → p ≡ Calling
 calling_is Calling e = refl
 calling_is p e = absurd cc
 
-none_at : (o : Option ℕ) (n : ℕ) → o ≡ None → is_at o n ≡ true → ⊥
+pub none_at : (o : Option ℕ) (n : ℕ) → o ≡ None → is_at o n ≡ true → ⊥
 none_at None n e at = absurd cc
 none_at (Some k) n e at = absurd cc
 
@@ -184,14 +164,8 @@ module _ (a : Seen) (l : Link) (fresh : IsFresh a) where
 
   ended_behind : (b : Bool) → Behind (ended_if b a) l → Behind a l
   ended_behind false behind = behind
-  ended_behind true behind = record {
-    own = behind.own;
-    opened = behind.opened;
-    far = behind.far;
-    used = behind.used;
-    segsize = λ none. behind.segsize refl;
-    received = behind.received;
-  }
+  ended_behind true behind =
+      let segsize : is_calling a.port.phase ≡ false → a.segsize ≡ l.segsize = λ none. behind.segsize refl in assumption (segsize, behind)
 
   ran_behind : (own far : ℕ) (b : Bool) → passes (ActedOn own far) a.port ≡ b → Behind (ran_if b a) l → Behind a l
   ran_behind own far false e behind = behind
@@ -233,9 +207,7 @@ module _ (a : Seen) (l : Link) (fresh : IsFresh a) where
   acted_behind (DataAck dst src acks) truth behind = ran_behind dst src _ refl behind
   acted_behind (LinkService interrupt dst src rest) truth behind = ran_behind dst src _ refl behind
   acted_behind (OtherDataAck dst src rest) truth behind = ran_behind dst src _ refl behind
-  acted_behind (ConnectInitiate retransmitted src services info segsize user_data) truth behind = behind
-  acted_behind (ConnectAck dst) truth behind = behind
-  acted_behind (NoOperation rest) truth behind = behind
+  acted_behind m truth behind = behind
 
 -- ---- a link is as fresh as before once something was acted on
 
@@ -261,12 +233,10 @@ module _ (a : Seen) (fresh : IsFresh a) where
   acted_fresh (DisconnectInitiate dst src reason user_data) truth = ended_fresh _
   acted_fresh (DisconnectConfirm dst src reason) truth = ended_fresh _
   acted_fresh (DataSegment s) truth = taken_fresh _ s truth.known
-  acted_fresh (DataAck dst src acks) truth = ran_fresh _
-  acted_fresh (LinkService interrupt dst src rest) truth = ran_fresh _
-  acted_fresh (OtherDataAck dst src rest) truth = ran_fresh _
   acted_fresh (ConnectInitiate retransmitted src services info segsize user_data) truth = fresh
   acted_fresh (ConnectAck dst) truth = fresh
   acted_fresh (NoOperation rest) truth = fresh
+  acted_fresh m truth = ran_fresh _
 
 pub behind : (units : List SentMessage) (a : Seen) (l : Link) → IsFresh a → Ahead units a l → Behind a l
 behind [] a l fresh meets = record {

@@ -1,6 +1,5 @@
 -- What all would come to: the links as the machine has them.
-use Rattle.std.proofs.Common.{◌≡◌, ℕ, true, ◌&&◌, ◌==◌, Option, Some}
-use Rattle.std.proofs.Common.{sym, ap, ap₂, ◌∙◌}
+use Rattle.std.proofs.Common.{◌≡◌, ℕ, true, ◌&&◌, ◌==◌, Option, Some, sym, ap, ap₂, ◌∙◌}
 use Rattle.std.specs.Prelude.{slice_get}
 use Rattle.std.proofs.lemmas.Option.{same_Some}
 use Rattle.dna_links.specs.declared.port.Port.{Port}
@@ -11,12 +10,10 @@ use Rattle.dna_links.specs.TrueLinks as machine
 use Rattle.dna_links.specs.Runs.{SentMessage}
 use Rattle.dna_queues.specs.Hidden.{Node, waiting, link_it_is_for}
 use Rattle.dna_queues.proofs.Goes.{Link, use_own}
-use Rattle.dna_queues.proofs.LinkLists.{number_same}
-use Rattle.dna_queues.proofs.Beside.{there_too}
+use Rattle.dna_queues.proofs.LinkLists.{number_same, there_too}
 use Rattle.dna_queues.proofs.Hide.{LateLink, hide}
 use Rattle.dna_queues.proofs.Dues.{Due, AreSane}
-use Rattle.dna_queues.proofs.Timed.{kept_as}
-use Rattle.dna_queues.proofs.Timed.{Timed, unique_hidden}
+use Rattle.dna_queues.proofs.Timed.{kept_as, Timed, unique_hidden}
 use Rattle.dna_queues.proofs.Pending.{ComesAll, comes_all, then_ended}
 use Rattle.dna_queues.proofs.Addressed.{stripped, stripped_is, good_timed}
 
@@ -35,24 +32,14 @@ module _ (s : machine.Links) (sane : AreSane s) (dues : ℕ → Due) (n : Node) 
   -- each of its links is the machine's, as it is seen
   pub all_seen : (i : ℕ) (h : LateLink) → slice_get all_come.links.links i ≡ Some h →
       (l : Link) × (slice_get s.links i ≡ Some l) × (h.port ≡ l.port) × (h.partner ≡ l.partner)
-  all_seen i h at = go (there_too s.links all_come.links.links i h (sym (all_come.size ∙ t.size)) at)
-    where
-      go : (l : Link) × (slice_get s.links i ≡ Some l) →
-          (l : Link) × (slice_get s.links i ≡ Some l) × (h.port ≡ l.port) × (h.partner ≡ l.partner)
-      go l =
-          let same : h ≡ stripped l.0 (dues i).link = same_Some h _ (sym at ∙ all_is i l.0 l.1) in (
-            l.0,
-            l.1,
-            ap (λ (x : LateLink). x.port) same,
-            ap (λ (x : LateLink). x.partner) same ∙ (t.went i l.0 l.1).partner,
-          )
+  all_seen i h at =
+      let l = there_too s.links all_come.links.links i h (sym (all_come.size ∙ t.size)) at in
+      let same : h ≡ stripped l.0 (dues i).link = same_Some h _ (sym at ∙ all_is i l.0 l.1) in
+      (l.0, l.1, ap (λ (x : LateLink). x.port) same, ap (λ (x : LateLink). x.partner) same ∙ (t.went i l.0 l.1).partner)
 
   pub all_number : (test : LinkTest) → number_of test all_come.links ≡ number_of test s
-  all_number test = number_same all_come.links s (all_come.size ∙ t.size) test (λ i h l at_h at_l. go i h l at_h at_l (all_seen i h at_h))
-    where
-      go : (i : ℕ) (h : LateLink) (l : Link) → slice_get all_come.links.links i ≡ Some h → slice_get s.links i ≡ Some l →
-          (k : Link) × (slice_get s.links i ≡ Some k) × (h.port ≡ k.port) × (h.partner ≡ k.partner) → passes test h.port ≡ passes test l.port
-      go i h l at_h at_l k = ap (passes test) k.2 ∙ ap (λ (x : Link). passes test x.port) (same_Some k.0 l (sym k.1 ∙ at_l))
+  all_number test = number_same all_come.links s (all_come.size ∙ t.size) test (λ i h l at_h at_l. let k = all_seen i h at_h in
+      ap (passes test) k.2 ∙ ap (λ (x : Link). passes test x.port) (same_Some k.0 l (sym k.1 ∙ at_l)))
 
   pub all_may : (unit : SentMessage) → (unit.packet.src == s.peer && unit.packet.dst == s.node) ≡ true →
       (unit.packet.src == all_come.links.peer && unit.packet.dst == all_come.links.node) ≡ true

@@ -1,6 +1,5 @@
 -- A call is answered: its link gets an address, and what waits for that is acted on before.
-use Rattle.std.proofs.Common.{◌≡◌, ℕ, ◌≤◌, Bool, true, false, Option, Some, None, List, [], ◌∷◌, Ok, Err}
-use Rattle.std.proofs.Common.{refl, sym, ap, ap₂, ◌∙◌, subst, eqb-true}
+use Rattle.std.proofs.Common.{◌≡◌, ℕ, ◌≤◌, Bool, true, false, Option, Some, None, List, [], ◌∷◌, Ok, Err, refl, sym, ap, ap₂, ◌∙◌, subst, eqb-true}
 use Rattle.std.specs.Prelude.{slice_get}
 use Rattle.dna_station.specs.declared.link_refusal.LinkRefusal.TheVariants.{NoLink, AddressInUse}
 use Rattle.dna_links.specs.declared.port.Phase.{Phase}
@@ -25,7 +24,7 @@ use Rattle.dna_queues.specs.Made.{IsFree, MayBe, UserDoes, MadeByHidden, Makes}
 use Rattle.dna_queues.proofs.Goes.{Link, phase_of, use_own}
 use Rattle.dna_queues.proofs.Given.{freed_changed}
 use Rattle.dna_queues.proofs.LinkLists.{IsSet, set_changed, at_none, at_found}
-use Rattle.dna_queues.proofs.Turns.{Began, has_run, IsMute}
+use Rattle.dna_queues.proofs.Turns.{Began, has_run, IsMute, live_waits, live_use, called_phase}
 use Rattle.dna_queues.proofs.Early.{CanGo, AreEarly, none_before, none_refused}
 use Rattle.dna_queues.proofs.Hide.{LateLink, hide}
 use Rattle.dna_queues.proofs.Dues.{put_packets, none_link, Due, put, put_here, AreSane}
@@ -34,7 +33,7 @@ use Rattle.dna_queues.proofs.Prepared.{due_none, set_timed, set_sane_free}
 use Rattle.dna_queues.proofs.SentTimed.{Sound}
 use Rattle.dna_queues.proofs.Addressed.{awaits_nothing, called_use, flushed, flushed_number, flushed_other}
 use Rattle.dna_queues.proofs.GivenTimed.{left, over, left_is, no_owner, left_sane, none_then, own_not_zero, Gives, gives, open_sound}
-use Rattle.dna_queues.proofs.Turns.{live_waits, live_use, called_phase}
+use Rattle.std.proofs.lemmas.Bool.{false_from_ne_true}
 
 module _ (s : machine.Links) (sane : AreSane s) (own : ℕ) (one : 1 ≤ own) (none_live : number_of (LiveAt own) s ≡ None) where
   abbrev given : machine.Links
@@ -48,11 +47,7 @@ module _ (s : machine.Links) (sane : AreSane s) (own : ℕ) (one : 1 ≤ own) (n
     phase_is = called_phase far l.port found.passed
 
     not_own : is_at l.port.own own ≡ false
-    not_own = go (is_at l.port.own own) refl
-      where
-        go : (b : Bool) → is_at l.port.own own ≡ b → is_at l.port.own own ≡ false
-        go false e = e
-        go true e = let never : Called ≡ Ended = sym phase_is ∙ over s sane own one none_live i l found.there e in absurd cc
+    not_own = false_from_ne_true _ (λ e. let never : Called ≡ Ended = sym phase_is ∙ over s sane own one none_live i l found.there e in cc)
 
     there : slice_get (left s sane own one none_live).links i ≡ Some l
     there = (left_is s sane own one none_live).other i l found.there not_own

@@ -1,10 +1,8 @@
 -- A packet that waits for a link, acted on by the node with queues: it changes the link with that address.
-use Rattle.std.proofs.Common.{◌≡◌, ℕ, Bool, true, false, ◌||◌, cond, Some, Result, Ok}
-use Rattle.std.proofs.Common.{refl, sym, ap, ap₂, ◌∙◌, subst}
-use Rattle.std.proofs.lemmas.Bool.{and_parts}
+use Rattle.std.proofs.Common.{◌≡◌, ℕ, Bool, true, ◌||◌, cond, Some, Result, Ok, refl, sym, ap, ap₂, ◌∙◌, subst, inl, inr}
+use Rattle.std.proofs.lemmas.Bool.{and_parts, or_right, or_cases}
 use Rattle.std.proofs.lemmas.Option.{same_Some}
-use Rattle.dna_packet.specs.Nsp.{NspValue, DataSegment, LinkService, DataAck, OtherDataAck, ConnectAck, NoOperation, ConnectInitiate}
-use Rattle.dna_packet.specs.Nsp.{ConnectConfirm, DisconnectInitiate, DisconnectConfirm}
+use Rattle.dna_packet.specs.Nsp.{NspValue, DataSegment, LinkService, DataAck, OtherDataAck, ConnectConfirm, DisconnectInitiate, DisconnectConfirm}
 use Rattle.dna_station.specs.declared.link_refusal.LinkRefusal.{LinkRefusal}
 use Rattle.dna_station.specs.declared.link_refusal.LinkRefusal.TheVariants.{CrossedLink}
 use Rattle.dna_links.specs.declared.port.Phase.TheVariants.{Calling}
@@ -20,6 +18,7 @@ use Rattle.dna_links.proofs.Tables.Outcomes.{IsFound, looked, checked}
 use Rattle.dna_queues.specs.Hidden.{late_segments, Links, dstaddr}
 use Rattle.dna_queues.proofs.Acting.{LateLink, confirmed_late, ended_late, run_late, acts_as}
 use Rattle.dna_queues.proofs.LinkLists.{IsUnique, IsChanged, changed_none, changed_one, at_found, none_passes}
+use Rattle.dna_queues.proofs.Facts.{same_Ok}
 
 -- ---- whose test it is
 
@@ -33,18 +32,12 @@ pub acted_owns : (own far : ℕ) (p : Port) → passes (ActedOn own far) p ≡ t
 acted_owns own far p e = (and_parts (is_at p.own own) (is_at p.far far) (and_parts (is_connected p.phase) (has_both p own far) e).1).0
 
 either_owns : (own far : ℕ) (p : Port) → (passes (TheLink own far) p || passes (CallingAt own) p) ≡ true → is_at p.own own ≡ true
-either_owns own far p e = go (passes (TheLink own far) p) refl e
-  where
-    go : (b : Bool) → passes (TheLink own far) p ≡ b → (b || passes (CallingAt own) p) ≡ true → is_at p.own own ≡ true
-    go true first e = link_owns own far p first
-    go false first e = calling_owns own p e
+either_owns own far p e =
+    elim (or_cases (passes (TheLink own far) p) _ e) [ inl first ↦ link_owns own far p first | inr second ↦ calling_owns own p second ]
 
 -- ---- rows of one link
 
 module _ {D : Type 0} (s : LinksOf D) (unique : IsUnique s) (address : ℕ) where
-  same_Ok : (x y : LinksOf D) → ◌≡◌ {A = Result (LinksOf D) LinkRefusal} (Ok x) (Ok y) → x ≡ y
-  same_Ok x y e = cc
-
   pub record MadeRow (does : Result (LinksOf D) LinkRefusal) (test : Port → Bool) (f : LinkOf D → LinkOf D) : Type 0 where
     pub left : LinksOf D
     pub is : does ≡ Ok left
@@ -96,7 +89,7 @@ module _ {D : Type 0} (s : LinksOf D) (unique : IsUnique s) (address : ℕ) wher
         (λ n l found e. record {
           left = changed n (f l) s;
           is = sym e;
-          changed = changed_one s unique address test f owned n l found.there (or_right (passes (TheLink own far) l.port) found.passed);
+          changed = changed_one s unique address test f owned n l found.there (or_right (passes (TheLink own far) l.port) _ found.passed);
         }))
         (λ n l found e. record {
           left = changed n (f l) s;
@@ -104,10 +97,6 @@ module _ {D : Type 0} (s : LinksOf D) (unique : IsUnique s) (address : ℕ) wher
           changed = changed_one s unique address test f owned n l found.there
               (ap (λ (b : Bool). b || passes (CallingAt own) l.port) found.passed);
         })
-      where
-        or_right : (b : Bool) {c : Bool} → c ≡ true → (b || c) ≡ true
-        or_right true e = refl
-        or_right false e = e
 
     pub either_left : (left : LinksOf D) → either ≡ Ok left → IsChanged s left address (λ l. cond (test l.port) (f l) l)
     either_left left e =
@@ -145,6 +134,4 @@ module _ (s left : Links) (unique : IsUnique s) (truth : LinkTruth Numbers) wher
   hidden_acts (OtherDataAck dst src rest) address is e =
       hidden_row (ActedOn dst src) dst address (same_Some dst address is) (acted_owns dst src) (λ n l. is_of_pair n l.partner truth.tag)
       (λ l. run_late l.segments.segments l) e
-  hidden_acts (ConnectInitiate retransmitted src services info segsize user_data) address is e = absurd cc
-  hidden_acts (ConnectAck dst) address is e = absurd cc
-  hidden_acts (NoOperation rest) address is e = absurd cc
+  hidden_acts m address is e = absurd cc

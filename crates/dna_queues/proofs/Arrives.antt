@@ -1,10 +1,9 @@
 -- A packet that the machine acts on the node with queues may act on: what it does to the link with its address in both.
-use Rattle.std.proofs.Common.{◌≡◌, ℕ, Bool, true, false, ◌||◌, cond, Option, Some, None, Result, Ok, refl, sym, ap, ◌∙◌, subst}
+use Rattle.std.proofs.Common.{◌≡◌, ℕ, Bool, true, false, ◌||◌, cond, Option, Some, None, Result, Ok, refl, sym, ap, ◌∙◌, subst, inl, inr}
 use Rattle.std.specs.Prelude.{slice_get}
-use Rattle.std.proofs.lemmas.Bool.{and_parts}
+use Rattle.std.proofs.lemmas.Bool.{and_parts, cond_both, or_cases}
 use Rattle.std.proofs.lemmas.Option.{same_Some}
-use Rattle.dna_packet.specs.Nsp.{NspValue, DataSegment, LinkService, DataAck, OtherDataAck, ConnectAck, NoOperation, ConnectInitiate}
-use Rattle.dna_packet.specs.Nsp.{ConnectConfirm, DisconnectInitiate, DisconnectConfirm}
+use Rattle.dna_packet.specs.Nsp.{NspValue, DataSegment, LinkService, DataAck, OtherDataAck, ConnectConfirm, DisconnectInitiate, DisconnectConfirm}
 use Rattle.dna_station.specs.declared.link_refusal.LinkRefusal.{LinkRefusal}
 use Rattle.dna_station.specs.declared.link_refusal.LinkRefusal.TheVariants.{CrossedLink}
 use Rattle.dna_links.specs.declared.port.Phase.{Phase}
@@ -131,9 +130,7 @@ module _ (s left : machine.Links) (unique : IsUnique s) (truth : LinkTruth Numbe
       row_both _ (ActedOn dst src) dst (same_Some dst address is) (acted_owns dst src) (λ n partner. is_of_pair n partner truth.tag)
       (λ l. goes_on true_segments (is_live l.port.phase) Running l) (λ l. run_late l.segments.segments l) e (λ t. refl)
       (λ l. if_same (passes (ActedOn dst src) l.port) l _ _ (run_is dst src (λ f. f) l)) (λ h. refl)
-  arrives_both (ConnectInitiate retransmitted src services info segsize user_data) is e = absurd cc
-  arrives_both (ConnectAck dst) is e = absurd cc
-  arrives_both (NoOperation rest) is e = absurd cc
+  arrives_both m is e = absurd cc
 
 -- ---- the link
 
@@ -168,16 +165,11 @@ module _ (truth : LinkTruth Numbers) (l : Link) (sane : Sane l) (live : is_live 
         waits = λ p e. let never : None ≡ Some p = sym waits ∙ e in absurd cc;
       }) (ap is_live run) waits (ap (is_in Disconnecting) now) acts
 
-  by_test : (m : NspValue) (test : Port → Bool) (k : Link) (g : LateLink → LateLink) →
+  if_so : (m : NspValue) (test : Port → Bool) (k : Link) (g : LateLink → LateLink) →
       ((h : LateLink) → acts_as m truth h ≡ cond (test h.port) (g h) h) → (test l.port ≡ true → CameTo m truth l k) →
       CameTo m truth l (cond (test l.port) k l)
-  by_test m test k g acts some = go (test l.port) refl
-    where
-      go : (b : Bool) → test l.port ≡ b → CameTo m truth l (cond (test l.port) k l)
-      go true e = subst (λ (b : Bool). CameTo m truth l (cond b k l)) (sym e) (some e)
-      go false e =
-          subst (λ (b : Bool). CameTo m truth l (cond b k l)) (sym e)
-          (Still (λ h same. acts h ∙ ap (λ (b : Bool). cond b (g h) h) (ap test same ∙ e)))
+  if_so m test k g acts some = cond_both (test l.port) k l (λ x. CameTo m truth l x) some
+      (λ e. Still (λ h same. acts h ∙ ap (λ (b : Bool). cond b (g h) h) (ap test same ∙ e)))
 
   run_acts : (own far : ℕ) (takes : TrueSegments → TrueSegments) → passes (ActedOn own far) l.port ≡ true →
       cond (passes (ActedOn own far) (in_use With l)) (run_late (takes l.segments) (hide l)) (hide l) ≡ hide (run_link (takes l.segments) l)
@@ -190,7 +182,7 @@ module _ (truth : LinkTruth Numbers) (l : Link) (sane : Sane l) (live : is_live 
 
   pub came_kind : (m : NspValue) → CameTo m truth l (came_as m truth l)
   came_kind (ConnectConfirm dst src services info segsize user_data) =
-      by_test _ (passes (CallingAt dst)) (confirmed_link src segsize truth.tag.link l) (confirmed_late src segsize truth.tag.link) (λ h. refl)
+      if_so _ (passes (CallingAt dst)) (confirmed_link src segsize truth.tag.link l) (confirmed_late src segsize truth.tag.link) (λ h. refl)
       (λ e. goes_on_as _ (confirmed_link src segsize truth.tag.link l) none refl refl refl
       (λ called. absurd (not_both _ (calling_opened l.port.phase (and_parts (is_in Calling l.port.phase) (is_at l.port.own dst) e).0 began) called))
       refl refl (confirms dst src segsize e))
@@ -215,28 +207,26 @@ module _ (truth : LinkTruth Numbers) (l : Link) (sane : Sane l) (live : is_live 
             segsize = segsize;
           }) (sym none)
   came_kind (DisconnectInitiate dst src reason user_data) =
-      by_test _ (λ p. passes (TheLink dst src) p || passes (CallingAt dst) p) (ended_link l) ended_late (λ h. refl) (λ e. IsOver e)
+      if_so _ (λ p. passes (TheLink dst src) p || passes (CallingAt dst) p) (ended_link l) ended_late (λ h. refl) (λ e. IsOver e)
   came_kind (DisconnectConfirm dst src reason) =
-      by_test _ (λ p. passes (TheLink dst src) p || passes (CallingAt dst) p) (ended_link l) ended_late (λ h. refl) (λ e. IsOver e)
+      if_so _ (λ p. passes (TheLink dst src) p || passes (CallingAt dst) p) (ended_link l) ended_late (λ h. refl) (λ e. IsOver e)
   came_kind (DataSegment g) =
-      by_test _ (passes (ActedOn g.dstaddr g.srcaddr)) (run_link (takes_segment g truth.known l.segments) l)
+      if_so _ (passes (ActedOn g.dstaddr g.srcaddr)) (run_link (takes_segment g truth.known l.segments) l)
       (λ h. run_late (takes_segment g truth.known h.segments.segments) h) (λ h. refl)
       (λ e. goes_on_as _ (run_link (takes_segment g truth.known l.segments) l) none refl refl refl (λ called. refl) refl refl
       (run_acts g.dstaddr g.srcaddr (takes_segment g truth.known) e))
   came_kind (DataAck dst src acks) =
-      by_test _ (passes (ActedOn dst src)) (run_link (takes_acks acks truth.known l.segments) l)
+      if_so _ (passes (ActedOn dst src)) (run_link (takes_acks acks truth.known l.segments) l)
       (λ h. run_late (takes_acks acks truth.known h.segments.segments) h) (λ h. refl)
       (λ e. goes_on_as _ (run_link (takes_acks acks truth.known l.segments) l) none refl refl refl (λ called. refl) refl refl
       (run_acts dst src (takes_acks acks truth.known) e))
   came_kind (LinkService interrupt dst src rest) =
-      by_test _ (passes (ActedOn dst src)) (run_link l.segments l) (λ h. run_late h.segments.segments h) (λ h. refl)
+      if_so _ (passes (ActedOn dst src)) (run_link l.segments l) (λ h. run_late h.segments.segments h) (λ h. refl)
       (λ e. goes_on_as _ (run_link l.segments l) none refl refl refl (λ called. refl) refl refl (run_acts dst src (λ f. f) e))
   came_kind (OtherDataAck dst src rest) =
-      by_test _ (passes (ActedOn dst src)) (run_link l.segments l) (λ h. run_late h.segments.segments h) (λ h. refl)
+      if_so _ (passes (ActedOn dst src)) (run_link l.segments l) (λ h. run_late h.segments.segments h) (λ h. refl)
       (λ e. goes_on_as _ (run_link l.segments l) none refl refl refl (λ called. refl) refl refl (run_acts dst src (λ f. f) e))
-  came_kind (ConnectInitiate retransmitted src services info segsize user_data) = Still (λ h same. refl)
-  came_kind (ConnectAck dst) = Still (λ h same. refl)
-  came_kind (NoOperation rest) = Still (λ h same. refl)
+  came_kind m = Still (λ h same. refl)
 
 -- a link that is over is left as it is
 dead_if : (test : Port → Bool) (l k : Link) → ((p : Port) → test p ≡ true → is_live p.phase ≡ true) → is_live l.port.phase ≡ false →
@@ -258,11 +248,11 @@ acted_live : (own far : ℕ) (p : Port) → passes (ActedOn own far) p ≡ true 
 acted_live own far p e = connected_live p.phase (and_parts (is_connected p.phase) (has_both p own far) e).0
 
 either_live : (own far : ℕ) (p : Port) → (passes (TheLink own far) p || passes (CallingAt own) p) ≡ true → is_live p.phase ≡ true
-either_live own far p e = go (passes (TheLink own far) p) refl e
-  where
-    go : (b : Bool) → passes (TheLink own far) p ≡ b → (b || passes (CallingAt own) p) ≡ true → is_live p.phase ≡ true
-    go true is e = (and_parts (is_live p.phase) (has_both p own far) is).0
-    go false is e = calling_live own p e
+either_live own far p e =
+    elim (or_cases (passes (TheLink own far) p) _ e) [
+      | inl first ↦ (and_parts (is_live p.phase) (has_both p own far) first).0
+      | inr second ↦ calling_live own p second
+    ]
 
 pub came_dead : (m : NspValue) (truth : LinkTruth Numbers) (l : Link) → is_live l.port.phase ≡ false → came_as m truth l ≡ l
 came_dead (ConnectConfirm dst src services info segsize user_data) truth l over = dead_if (passes (CallingAt dst)) l _ (calling_live dst) over
@@ -274,6 +264,4 @@ came_dead (DataSegment g) truth l over = dead_if (passes (ActedOn g.dstaddr g.sr
 came_dead (DataAck dst src acks) truth l over = dead_if (passes (ActedOn dst src)) l _ (acted_live dst src) over
 came_dead (LinkService interrupt dst src rest) truth l over = dead_if (passes (ActedOn dst src)) l _ (acted_live dst src) over
 came_dead (OtherDataAck dst src rest) truth l over = dead_if (passes (ActedOn dst src)) l _ (acted_live dst src) over
-came_dead (ConnectInitiate retransmitted src services info segsize user_data) truth l over = refl
-came_dead (ConnectAck dst) truth l over = refl
-came_dead (NoOperation rest) truth l over = refl
+came_dead m truth l over = refl

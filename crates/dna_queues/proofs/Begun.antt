@@ -4,8 +4,7 @@ use Rattle.std.proofs.Common.{Result, Ok, refl, sym, ap, ap₂, ◌∙◌, subst
 use Rattle.std.specs.Prelude.{slice_get}
 use Rattle.std.proofs.lemmas.Option.{slice_get_within}
 use Rattle.two_nodes.proofs.NumberedSteps.{at_pushed}
-use Rattle.dna_packet.specs.Nsp.{NspValue, DataSegment, LinkService, DataAck, OtherDataAck, ConnectAck, NoOperation, ConnectInitiate, ConnectConfirm}
-use Rattle.dna_packet.specs.Nsp.{DisconnectInitiate, DisconnectConfirm}
+use Rattle.dna_packet.specs.Nsp.{NspValue, ConnectAck, NoOperation, ConnectInitiate}
 use Rattle.dna_station.specs.declared.link_refusal.LinkRefusal.{LinkRefusal}
 use Rattle.dna_station.specs.declared.link_refusal.LinkRefusal.TheVariants.{WrongNode}
 use Rattle.dna_links.specs.declared.tag.LinkTag.{LinkTag}
@@ -21,7 +20,7 @@ use Rattle.dna_links.specs.TrueSegments.{Numbers, true_segments}
 use Rattle.dna_links.specs.TrueLinks as machine
 use Rattle.dna_links.specs.Runs.{SentMessage}
 use Rattle.dna_links.proofs.Tables.Outcomes.{IsFound, looked, checked}
-use Rattle.dna_queues.proofs.Facts.{passed_check}
+use Rattle.dna_queues.proofs.Facts.{passed_check, same_Ok}
 use Rattle.dna_queues.specs.Records.{AreAnswered, next_links}
 use Rattle.dna_queues.specs.Records as records
 use Rattle.dna_queues.specs.Hidden.{late_segments, Links, Node, dstaddr, link_it_is_for, link_it_is_of, waiting, ComesTo}
@@ -35,6 +34,7 @@ use Rattle.dna_queues.proofs.Waiting.{AreOf, of_more}
 use Rattle.dna_queues.proofs.Beside.{Beside, follows_as, eqb-other}
 use Rattle.dna_queues.proofs.SentOn.{Follow}
 use Rattle.dna_queues.proofs.Kept.{comes_beside, came_alike}
+use Rattle.dna_queues.proofs.WaitsToGo.{grows_itself}
 
 of_new : (node peer size : ℕ) (units : List SentMessage) → AreOf node peer size units → waiting link_it_is_of (Some size) units ≡ []
 of_new node peer size [] are = refl
@@ -100,20 +100,7 @@ called_follows far size tag = record {
   accepted = λ e. absurd cc;
   usable = λ e. refl;
   fits = record { waits = λ e. refl; ran = λ e. absurd cc; calling = λ e. absurd cc };
-  can = record {
-    own = λ n at. at;
-    far = λ n at. at;
-    opened = refl;
-    usable = λ e. e;
-    closing = λ e. e;
-    ran = λ e. e;
-    accepted = λ e. e;
-    silent = λ e. e;
-    over = λ e. e;
-    gap = refl;
-    segsize = λ e. refl;
-    segments = record { given = refl; last = refl; received = omega arith; acknowledged = omega arith; unsent = refl; answered = omega arith };
-  };
+  can = grows_itself (called true_segments of_partner far size tag) (omega arith);
 }
 
 pub opened_follows : (own : ℕ) → Follows (opened late_segments own) (opened true_segments own) [] []
@@ -128,20 +115,7 @@ opened_follows own = record {
   accepted = λ e. absurd cc;
   usable = λ e. refl;
   fits = record { waits = λ e. refl; ran = λ e. absurd cc; calling = λ e. (refl, refl) };
-  can = record {
-    own = λ n at. at;
-    far = λ n at. at;
-    opened = refl;
-    usable = λ e. e;
-    closing = λ e. e;
-    ran = λ e. e;
-    accepted = λ e. e;
-    silent = λ e. e;
-    over = λ e. e;
-    gap = refl;
-    segsize = λ e. refl;
-    segments = record { given = refl; last = refl; received = omega arith; acknowledged = omega arith; unsent = refl; answered = omega arith };
-  };
+  can = grows_itself (opened true_segments own) (omega arith);
 }
 
 -- ---- what is kept for no link
@@ -163,9 +137,6 @@ module _ (n : Node) (t : machine.Links) (b : Beside n t) (all left : Links) (ali
     pub is : message_arrived With true_segments of_partner t m truth ≡ Ok made
     pub beside : Beside with_new made
 
-  same_left : (x : Links) → ◌≡◌ {A = Result Links LinkRefusal} (Ok x) (Ok left) → x ≡ left
-  same_left x e = cc
-
   nothing_new : (m : NspValue) → message_arrived With true_segments of_partner t m truth ≡ Ok t →
       ◌≡◌ {A = Result Links LinkRefusal} (Ok all) (Ok left) → MadeAtOnce m
   nothing_new m does e = record {
@@ -176,7 +147,7 @@ module _ (n : Node) (t : machine.Links) (b : Beside n t) (all left : Links) (ali
   }
     where
       none : [] ≡ new
-      none = append_same all.links [] new (append-nil all.links ∙ ap (λ (s : Links). s.links) (same_left all e) ∙ grown)
+      none = append_same all.links [] new (append-nil all.links ∙ ap (λ (s : Links). s.links) (same_Ok all left e) ∙ grown)
 
   pub made_at_once : (m : NspValue) → dstaddr m ≡ None → message_arrived Without late_segments of_partner all m truth ≡ Ok left → MadeAtOnce m
   made_at_once (ConnectInitiate retransmitted src services info segsize user_data) is e =
@@ -187,7 +158,7 @@ module _ (n : Node) (t : machine.Links) (b : Beside n t) (all left : Links) (ali
         beside = subst (λ (xs : List LateLink). Beside (record n { links = record n.links { links = n.links.links ++ xs } })
             (begun (called true_segments of_partner src segsize truth.tag) t))
             (append_same all.links (called late_segments of_partner src segsize truth.tag ∷ []) new
-            (ap (λ (s : Links). s.links) (same_left _ e) ∙ grown))
+            (ap (λ (s : Links). s.links) (same_Ok _ left e) ∙ grown))
             (begun_beside n t b (called late_segments of_partner src segsize truth.tag) (called true_segments of_partner src segsize truth.tag)
             (waiting_none link_it_is_for n.kept) (λ i g at own own_g own_h. absurd cc) (called_follows src segsize truth.tag));
       })
@@ -202,13 +173,7 @@ module _ (n : Node) (t : machine.Links) (b : Beside n t) (all left : Links) (ali
           (λ j l found e. sym e)
   made_at_once (ConnectAck dst) is e = nothing_new (ConnectAck dst) refl e
   made_at_once (NoOperation rest) is e = nothing_new (NoOperation rest) refl e
-  made_at_once (ConnectConfirm dst src services info segsize user_data) is e = absurd cc
-  made_at_once (DisconnectInitiate dst src reason user_data) is e = absurd cc
-  made_at_once (DisconnectConfirm dst src reason) is e = absurd cc
-  made_at_once (DataSegment segment) is e = absurd cc
-  made_at_once (DataAck dst src acks) is e = absurd cc
-  made_at_once (LinkService interrupt dst src rest) is e = absurd cc
-  made_at_once (OtherDataAck dst src rest) is e = absurd cc
+  made_at_once m is e = absurd cc
 
 pub at_once_beside : (n : Node) (t : machine.Links) → Beside n t → AreAnswered t → (unit : SentMessage) (all left : Links) (new : List LateLink) →
     dstaddr unit.packet.message ≡ None → ComesTo n all → arrived_step Without late_segments of_partner all unit.packet unit.truth ≡ Ok left →

@@ -1,6 +1,6 @@
 -- A link begins, in the machine and in the node with queues.
 use Rattle.std.proofs.Common.{◌≡◌, ℕ, zero, suc, true, false, ◌⊎◌, inl, inr, Option, Some, None, List, [], ◌∷◌, ◌++◌, length}
-use Rattle.std.proofs.Common.{refl, sym, ap, ◌∙◌, subst, arith, length-append}
+use Rattle.std.proofs.Common.{refl, sym, ap, ◌∙◌, arith, length-append}
 use Rattle.std.specs.Prelude.{slice_get}
 use Rattle.two_nodes.proofs.NumberedSteps.{at_pushed}
 use Rattle.dna_links.specs.LookUps.{is_at}
@@ -13,6 +13,7 @@ use Rattle.dna_queues.proofs.Early.{none_before}
 use Rattle.dna_queues.proofs.Hide.{hide}
 use Rattle.dna_queues.proofs.Dues.{none_link, Due, went_can, IsDue, AreDue, AreSane}
 use Rattle.dna_queues.proofs.Timed.{Awaits, Timed}
+use Rattle.dna_queues.proofs.LinkLists.{pushed_each}
 
 there_still : {X : Type 0} (xs : List X) (y x : X) (i : ℕ) → slice_get xs i ≡ Some x → slice_get (xs ++ y ∷ []) i ≡ Some x
 there_still [] y x i at = absurd cc
@@ -28,8 +29,8 @@ module _ (s : machine.Links) (k : Link) where
       ((i : ℕ) (x : Link) (n : ℕ) → slice_get s.links i ≡ Some x → is_at x.port.own n ≡ true → is_at k.port.own n ≡ true → ⊥) → AreSane (begun k s)
   begun_sane sane is not_zero free = record {
     unique = λ i j x y at_i at_j n own_x own_y. unique i j x y n own_x own_y (at_pushed s.links k x i at_i) (at_pushed s.links k y j at_j);
-    each = λ i x at. each i x (at_pushed s.links k x i at);
-    not_zero = λ i x at. zero_not i x (at_pushed s.links k x i at);
+    each = pushed_each s.links k (λ i x. Sane x) sane.each is;
+    not_zero = pushed_each s.links k (λ i x. is_at x.port.own 0 ≡ false) sane.not_zero not_zero;
   }
     where
       unique : (i j : ℕ) (x y : Link) (n : ℕ) → is_at x.port.own n ≡ true → is_at y.port.own n ≡ true →
@@ -39,14 +40,6 @@ module _ (s : machine.Links) (k : Link) where
       unique i j x y n own_x own_y (inl p) (inr q) = absurd (free i x n p own_x (ap (λ (z : Link). is_at z.port.own n) q.1 ∙ own_y))
       unique i j x y n own_x own_y (inr p) (inl q) = absurd (free j y n q own_y (ap (λ (z : Link). is_at z.port.own n) p.1 ∙ own_x))
       unique i j x y n own_x own_y (inr p) (inr q) = p.0 ∙ sym q.0
-
-      each : (i : ℕ) (x : Link) → (slice_get s.links i ≡ Some x) ⊎ ((i ≡ length s.links) × (k ≡ x)) → Sane x
-      each i x (inl p) = sane.each i x p
-      each i x (inr p) = subst Sane p.1 is
-
-      zero_not : (i : ℕ) (x : Link) → (slice_get s.links i ≡ Some x) ⊎ ((i ≡ length s.links) × (k ≡ x)) → is_at x.port.own 0 ≡ false
-      zero_not i x (inl p) = sane.not_zero i x p
-      zero_not i x (inr p) = ap (λ (z : Link). is_at z.port.own 0) (sym p.1) ∙ not_zero
 
   -- before RUN nothing is due of it
   module _ (before : has_run (phase_of k) ≡ false) (dues : ℕ → Due) (due : AreDue (begun k s) dues) where
@@ -67,11 +60,9 @@ module _ (s : machine.Links) (k : Link) where
       where
         go : (i : ℕ) → slice_get s.links i ≡ None → (o : Option Link) → slice_get (s.links ++ k ∷ []) i ≡ o → (dues i).packets ≡ []
         go i none None e = due.beyond i e
-        go i none (Some x) e = by (at_pushed s.links k x i e)
-          where
-            by : (slice_get s.links i ≡ Some x) ⊎ ((i ≡ length s.links) × (k ≡ x)) → (dues i).packets ≡ []
-            by (inl p) = let never : None ≡ Some x = sym none ∙ p in absurd cc
-            by (inr p) = ap (λ (m : ℕ). (dues m).packets) p.0 ∙ none_due
+        go i none (Some x) e =
+            pushed_each s.links k (λ i x. slice_get s.links i ≡ None → (dues i).packets ≡ [])
+            (λ i x p none. let never : None ≡ Some x = sym none ∙ p in absurd cc) (λ none. none_due) i x e none
 
     pub begun_timed : (n : Node) → Timed s dues n → Awaits k (waiting link_it_is_for k.port.own n.kept) →
         Timed (begun k s) dues (record n { links = begun (hide k) n.links })
@@ -79,21 +70,12 @@ module _ (s : machine.Links) (k : Link) where
       node = t.node;
       peer = t.peer;
       size = let p = length-append n.links.links (hide k ∷ []) in let q = length-append s.links (k ∷ []) in let r = t.size in omega (arith, p, q, r);
-      all = λ i x at. all i x (at_pushed s.links k x i at);
+      all = pushed_each s.links k (λ i x. slice_get (n.links.links ++ hide k ∷ []) i ≡ Some (hide (dues i).link))
+          (λ i x p. there_still n.links.links (hide k) (hide (dues i).link) i (t.all i x p))
+          (ap (slice_get (n.links.links ++ hide k ∷ [])) (sym t.size) ∙ there_last n.links.links (hide k)
+          ∙ ap (λ (z : Link). Some (hide z)) last_link);
       went = λ i x at. let d = due.each i x at in went_can s.node s.peer (dues i).packets x (dues i).link d.can;
       kept = t.kept;
-      awaits = λ i x at. awaits_all i x (at_pushed s.links k x i at);
+      awaits = pushed_each s.links k (λ i x. Awaits x (waiting link_it_is_for x.port.own n.kept)) t.awaits awaits;
       composed = t.composed;
     }
-      where
-        all : (i : ℕ) (x : Link) → (slice_get s.links i ≡ Some x) ⊎ ((i ≡ length s.links) × (k ≡ x)) →
-            slice_get (n.links.links ++ hide k ∷ []) i ≡ Some (hide (dues i).link)
-        all i x (inl p) = there_still n.links.links (hide k) (hide (dues i).link) i (t.all i x p)
-        all i x (inr p) =
-            ap (slice_get (n.links.links ++ hide k ∷ [])) (p.0 ∙ sym t.size) ∙ there_last n.links.links (hide k)
-            ∙ ap (λ (z : Link). Some (hide z)) last_link ∙ ap (λ (m : ℕ). Some (hide (dues m).link)) (sym p.0)
-
-        awaits_all : (i : ℕ) (x : Link) → (slice_get s.links i ≡ Some x) ⊎ ((i ≡ length s.links) × (k ≡ x)) →
-            Awaits x (waiting link_it_is_for x.port.own n.kept)
-        awaits_all i x (inl p) = t.awaits i x p
-        awaits_all i x (inr p) = subst (λ (z : Link). Awaits z (waiting link_it_is_for z.port.own n.kept)) p.1 awaits

@@ -1,9 +1,9 @@
 -- The node with queues beside the machine: each link of the machine follows that of the node, and hidden steps change nothing of that.
-use Rattle.std.proofs.Common.{◌≡◌, ℕ, Bool, true, false, ◌&&◌, ◌||◌, ◌==◌, cond, ◌⊎◌, inl, inr, Option, Some, None, List, [], ◌∷◌, ◌++◌, length}
+use Rattle.std.proofs.Common.{◌≡◌, ℕ, Bool, true, false, ◌&&◌, ◌||◌, ◌==◌, cond, Option, Some, None, List, [], ◌∷◌, ◌++◌, length}
 use Rattle.std.proofs.Common.{Ok, refl, sym, ap, ◌∙◌, subst, arith, eqb-true, append-nil}
 use Rattle.std.specs.Prelude.{slice_get}
 use Rattle.std.proofs.lemmas.Option.{slice_get_within}
-use Rattle.dna_packet.specs.Nsp.{NspValue, DataSegment, LinkService, DataAck, OtherDataAck, ConnectAck, NoOperation, ConnectInitiate, ConnectConfirm}
+use Rattle.dna_packet.specs.Nsp.{NspValue, DataSegment, LinkService, DataAck, OtherDataAck, ConnectAck, ConnectConfirm}
 use Rattle.dna_packet.specs.Nsp.{DisconnectInitiate, DisconnectConfirm, IsInRange}
 use Rattle.dna_station.specs.declared.link_refusal.LinkRefusal.TheVariants.{WrongNode}
 use Rattle.dna_links.specs.declared.port.Phase.TheVariants.{Running, Confirming}
@@ -21,20 +21,19 @@ use Rattle.dna_links.specs.TrueSegments.{Numbers, takes_segment, takes_acks}
 use Rattle.dna_links.specs.TrueLinks as machine
 use Rattle.dna_links.specs.Runs.{SentMessage}
 use Rattle.dna_links.proofs.Tables.Outcomes.{checked}
-use Rattle.dna_links.proofs.Runs.Owners.{there_is}
 use Rattle.dna_queues.specs.Records.{AreAnswered}
-use Rattle.dna_queues.specs.Hidden.{LateSegments, late_segments, Links, Node, link_it_is_for, link_it_is_of, waiting, Takes}
-use Rattle.dna_queues.specs.Hidden.{is_composed}
+use Rattle.dna_queues.specs.Hidden.{LateSegments, late_segments, Links, Node, link_it_is_for, link_it_is_of, waiting, Takes, is_composed}
 use Rattle.dna_queues.proofs.Goes.{Link, Goes, Grows, goes_too}
 use Rattle.dna_queues.proofs.WaitsToGo.{CanSend, can_push}
 use Rattle.dna_queues.proofs.Ahead.{Seen, Ahead}
 use Rattle.dna_queues.proofs.Acting.{LateLink, lift, confirmed_late, ended_late, run_late, acts_as}
 use Rattle.dna_queues.proofs.Follows.{Follows, act_follows, is_behind}
 use Rattle.dna_queues.proofs.Lists.{takes_first, takes_other, waiting_push}
-use Rattle.dna_queues.proofs.LinkLists.{was_set, unique_set, IsUnique, WasAt, was_at, unique_changed}
+use Rattle.dna_queues.proofs.LinkLists.{unique_set, IsUnique, unique_changed, changed_each, there_too, set_each}
 use Rattle.dna_queues.proofs.Arrivals.{hidden_acts}
 use Rattle.dna_queues.proofs.Composing.{Composed, composes, acknowledges, Keeps}
 use Rattle.dna_queues.proofs.Waiting.{AreFor, for_taken, AreOf, of_push, of_same}
+use Rattle.std.proofs.lemmas.Bool.{false_from_ne_true}
 
 pub record Beside (n : Node) (t : machine.Links) : Type 0 where
   pub node : n.links.node ≡ t.node
@@ -45,10 +44,6 @@ pub record Beside (n : Node) (t : machine.Links) : Type 0 where
   pub of_links : AreOf n.links.node n.links.peer (length n.links.links) n.composed
   pub all : (i : ℕ) (h : LateLink) (l : Link) → slice_get n.links.links i ≡ Some h → slice_get t.links i ≡ Some l →
       Follows h l (waiting link_it_is_for h.port.own n.kept) (waiting link_it_is_of (Some i) n.composed)
-
-pub there_too : {X Y : Type 0} (xs : List X) (ys : List Y) (i : ℕ) (y : Y) → length xs ≡ length ys → slice_get ys i ≡ Some y →
-    (x : X) × (slice_get xs i ≡ Some x)
-there_too xs ys i y size at = let w = slice_get_within ys i y at in there_is xs i (omega (arith, w, size))
 
 -- at most one link of the machine has an address
 pub unique_too : (n : Node) (t : machine.Links) → Beside n t → IsUnique t
@@ -68,11 +63,7 @@ pub eqb-same : (i number : ℕ) → i ≡ number → (i == number) ≡ true
 eqb-same i number e = grind (arith, e)
 
 pub eqb-other : (i number : ℕ) → (i ≡ number → ⊥) → (i == number) ≡ false
-eqb-other i number differs = go (i == number) refl
-  where
-    go : (b : Bool) → (i == number) ≡ b → (i == number) ≡ false
-    go true e = absurd (differs (eqb-true i number e))
-    go false e = e
+eqb-other i number differs = false_from_ne_true (i == number) (λ e. differs (eqb-true i number e))
 
 pub follows_as : (h : LateLink) (l : Link) (kept kept' composed composed' : List SentMessage) → kept ≡ kept' → composed ≡ composed' →
     Follows h l kept composed → Follows h l kept' composed'
@@ -98,9 +89,7 @@ acts_own (DataAck dst src acks) truth h =
     own_if (passes (ActedOn dst src) h.port) (run_late (takes_acks acks truth.known h.segments.segments) h) h refl
 acts_own (LinkService interrupt dst src rest) truth h = own_if (passes (ActedOn dst src) h.port) (run_late h.segments.segments h) h refl
 acts_own (OtherDataAck dst src rest) truth h = own_if (passes (ActedOn dst src) h.port) (run_late h.segments.segments h) h refl
-acts_own (ConnectInitiate retransmitted src services info segsize user_data) truth h = refl
-acts_own (ConnectAck dst) truth h = refl
-acts_own (NoOperation rest) truth h = refl
+acts_own m truth h = refl
 
 module _ (n : Node) (t : machine.Links) (b : Beside n t) (answered : AreAnswered t) where
   pub acts_beside : (unit : SentMessage) (left : List SentMessage) (links : Links) → Takes link_it_is_for n.kept unit left →
@@ -117,32 +106,20 @@ module _ (n : Node) (t : machine.Links) (b : Beside n t) (answered : AreAnswered
         unique = unique_changed n.links links address (acts_as unit.packet.message unit.truth) c (acts_own unit.packet.message unit.truth) b.unique;
         for_links = r.1;
         of_links = of_same _ _ _ links.node links.peer (length links.links) n.composed c.node c.peer c.size b.of_links;
-        all = λ i k l at_k at_l. go address r.0.1 i k l at_l (was_at n.links links address (acts_as unit.packet.message unit.truth) c i k at_k);
+        all = λ i k l at_k at_l. changed_each n.links links address (acts_as unit.packet.message unit.truth) c
+            (λ x. Follows x l (waiting link_it_is_for x.port.own left) (waiting link_it_is_of (Some i) n.composed)) i
+            (λ h there own. follows_as (acts_as unit.packet.message unit.truth h) l (waiting link_it_is_for h.port.own left) _ _ _
+            (ap (λ (o : Option ℕ). waiting link_it_is_for o left) (sym (acts_own unit.packet.message unit.truth h))) refl
+            (act_follows h l unit (waiting link_it_is_for h.port.own left) (waiting link_it_is_of (Some i) n.composed) (answered i l at_l)
+            (follows_as h l _ _ _ _ (takes_first link_it_is_for n.kept left unit h.port.own takes (same address r.0.1 h ∙ own)) refl
+            (b.all i h l there at_l))))
+            (λ h there own. follows_as h l _ _ _ _ (takes_other link_it_is_for n.kept left unit h.port.own takes (same address r.0.1 h ∙ own)) refl
+            (b.all i h l there at_l)) k at_k;
       }
     where
-      go : (address : ℕ) → link_it_is_for unit ≡ Some address → (i : ℕ) (k : LateLink) (l : Link) → slice_get t.links i ≡ Some l →
-          WasAt n.links address (acts_as unit.packet.message unit.truth) i k →
-          Follows k l (waiting link_it_is_for k.port.own left) (waiting link_it_is_of (Some i) n.composed)
-      go address is i k l at_l w = at w.is
-        where
-          same : are_same (link_it_is_for unit) w.link.port.own ≡ is_at w.link.port.own address
-          same = ap (λ (o : Option ℕ). are_same o w.link.port.own) is
-
-          at : ((is_at w.link.port.own address ≡ true) × (acts_as unit.packet.message unit.truth w.link ≡ k)) ⊎
-              ((is_at w.link.port.own address ≡ false) × (w.link ≡ k)) →
-              Follows k l (waiting link_it_is_for k.port.own left) (waiting link_it_is_of (Some i) n.composed)
-          at (inl a) =
-              subst (λ (x : LateLink). Follows x l (waiting link_it_is_for x.port.own left) (waiting link_it_is_of (Some i) n.composed)) a.1
-              (follows_as (acts_as unit.packet.message unit.truth w.link) l (waiting link_it_is_for w.link.port.own left) _ _ _
-              (ap (λ (o : Option ℕ). waiting link_it_is_for o left) (sym (acts_own unit.packet.message unit.truth w.link))) refl
-              (act_follows w.link l unit (waiting link_it_is_for w.link.port.own left) (waiting link_it_is_of (Some i) n.composed) (answered i l
-              at_l)
-              (follows_as w.link l _ _ _ _ (takes_first link_it_is_for n.kept left unit w.link.port.own takes (same ∙ a.0)) refl
-              (b.all i w.link l w.there at_l))))
-          at (inr a) =
-              subst (λ (x : LateLink). Follows x l (waiting link_it_is_for x.port.own left) (waiting link_it_is_of (Some i) n.composed)) a.1
-              (follows_as w.link l _ _ _ _ (takes_other link_it_is_for n.kept left unit w.link.port.own takes (same ∙ a.0)) refl
-              (b.all i w.link l w.there at_l))
+      same : (address : ℕ) → link_it_is_for unit ≡ Some address → (h : LateLink) →
+          are_same (link_it_is_for unit) h.port.own ≡ is_at h.port.own address
+      same address is h = ap (λ (o : Option ℕ). are_same o h.port.own) is
 
   -- ---- a message is composed
 
@@ -187,7 +164,18 @@ module _ (n : Node) (t : machine.Links) (b : Beside n t) (answered : AreAnswered
         of_links = of_same _ _ _ made.links.node made.links.peer (length made.links.links) (n.composed ++ unit ∷ []) c.set.node c.set.peer c.set.size
             (of_push n.links.node n.links.peer (length n.links.links) n.composed unit b.of_links
             (record { number = c.number; is = of_link; within = within; goes = may }));
-        all = λ i k l at_k at_l. go c of_link i k l at_l (was_set n.links made.links c.number c.left c.set i k at_k);
+        all = λ i k l at_k at_l. set_each n.links made.links c.number c.left c.set
+            (λ i k. slice_get t.links i ≡ Some l →
+            Follows k l (waiting link_it_is_for k.port.own n.kept) (waiting link_it_is_of (Some i) (n.composed ++ unit ∷ [])))
+            (λ at_l. follows_as c.left l (waiting link_it_is_for c.link.port.own n.kept) _
+            (waiting link_it_is_of (Some c.number) n.composed ++ unit ∷ []) _
+            (ap (λ (o : Option ℕ). waiting link_it_is_for o n.kept) (sym (own c)))
+            (sym (pushed of_link c.number (eqb-same c.number c.number refl)))
+            (composed_follows c.link c.left l (waiting link_it_is_for c.link.port.own n.kept) (waiting link_it_is_of (Some c.number) n.composed) unit
+            small (c.goes small) (c.keeps small) (b.all c.number c.link l c.there at_l)))
+            (λ i k differs at_h at_l. follows_as k l _ _ (waiting link_it_is_of (Some i) n.composed) _ refl
+            (sym (pushed of_link i (eqb-other i c.number differs) ∙ append-nil (waiting link_it_is_of (Some i) n.composed)))
+            (b.all i k l at_h at_l)) i k at_k at_l;
       }
     where
       keeps : (c : Composed n.links unit.packet.message made) → IsAnswered c.link.segments.segments → Keeps c.link c.left
@@ -205,26 +193,12 @@ module _ (n : Node) (t : machine.Links) (b : Beside n t) (answered : AreAnswered
       own : (c : Composed n.links unit.packet.message made) → c.left.port.own ≡ c.link.port.own
       own c = ap (λ (a : Seen). a.port.own) ((c.keeps small (near c)).seen Running)
 
-      go : (c : Composed n.links unit.packet.message made) → link_it_is_of unit ≡ Some c.number → (i : ℕ) (k : LateLink) (l : Link) →
-          slice_get t.links i ≡ Some l → ((i ≡ c.number) × (c.left ≡ k)) ⊎ ((i ≡ c.number → ⊥) × (slice_get n.links.links i ≡ Some k)) →
-          Follows k l (waiting link_it_is_for k.port.own n.kept) (waiting link_it_is_of (Some i) (n.composed ++ unit ∷ []))
-      go c of_link i k l at_l (inl a) =
-          subst (λ (x : LateLink). Follows x l (waiting link_it_is_for x.port.own n.kept) (waiting link_it_is_of (Some i) (n.composed ++ unit ∷
-          []))) a.1
-          (follows_as c.left l (waiting link_it_is_for c.link.port.own n.kept) _ (waiting link_it_is_of (Some i) n.composed ++ unit ∷ []) _
-          (ap (λ (o : Option ℕ). waiting link_it_is_for o n.kept) (sym (own c)))
-          (sym (waiting_push link_it_is_of n.composed unit (Some i)
+      pushed : {number : ℕ} → link_it_is_of unit ≡ Some number → (i : ℕ) {b : Bool} → (i == number) ≡ b →
+          waiting link_it_is_of (Some i) (n.composed ++ unit ∷ []) ≡ waiting link_it_is_of (Some i) n.composed ++ cond b (unit ∷ []) []
+      pushed of_link i e =
+          waiting_push link_it_is_of n.composed unit (Some i)
           ∙ ap (λ (b : Bool). waiting link_it_is_of (Some i) n.composed ++ cond b (unit ∷ []) [])
-          (ap (λ (o : Option ℕ). are_same o (Some i)) of_link ∙ eqb-same i c.number a.0)))
-          (composed_follows c.link c.left l (waiting link_it_is_for c.link.port.own n.kept) (waiting link_it_is_of (Some i) n.composed) unit small
-          (c.goes small) (c.keeps small) (b.all i c.link l (ap (slice_get n.links.links) a.0 ∙ c.there) at_l)))
-      go c of_link i k l at_l (inr a) =
-          follows_as k l _ _ (waiting link_it_is_of (Some i) n.composed) _ refl
-          (sym (waiting_push link_it_is_of n.composed unit (Some i)
-          ∙ ap (λ (b : Bool). waiting link_it_is_of (Some i) n.composed ++ cond b (unit ∷ []) [])
-          (ap (λ (o : Option ℕ). are_same o (Some i)) of_link ∙ eqb-other i c.number a.0)
-          ∙ append-nil (waiting link_it_is_of (Some i) n.composed)))
-          (b.all i k l a.1 at_l)
+          (ap (λ (o : Option ℕ). are_same o (Some i)) of_link ∙ e)
 
   pub composes_beside : (unit : SentMessage) (made : Sent LateSegments Numbers) → is_composed unit.packet.message ≡ true →
       IsInRange unit.packet.message → sent_step Without late_segments n.links unit.packet ≡ Ok made → unit.truth ≡ made.truth →

@@ -14,10 +14,9 @@ use Rattle.dna_links.specs.User.{Boot}
 use Rattle.dna_links.specs.TrueSegments.{true_segments}
 use Rattle.dna_links.specs.TrueLinks as machine
 use Rattle.dna_links.proofs.Runs.Sides.{all_map}
-use Rattle.dna_queues.proofs.Facts.{same_Ok}
+use Rattle.dna_queues.proofs.Facts.{same_Ok, by_option}
 use Rattle.dna_queues.specs.Records.{LinkRecord, OfUser}
-use Rattle.dna_queues.specs.Hidden.{late_segments, Node, link_it_is_for}
-use Rattle.dna_queues.specs.Hidden.{waiting}
+use Rattle.dna_queues.specs.Hidden.{late_segments, Node, link_it_is_for, waiting}
 use Rattle.dna_queues.specs.Made.{MadeByHidden, Boots, Makes}
 use Rattle.dna_queues.proofs.Goes.{Link}
 use Rattle.dna_queues.proofs.Turns.{Sane}
@@ -84,11 +83,8 @@ module _ (s : machine.Links) (sane : AreSane s) (later : List LinkRecord) where
       link_is i l at = none_link s.node s.peer (over l) (r.dues i) (is_due i l at) (nothing i l at)
 
       nothing_at : (i : ℕ) → (r.dues i).packets ≡ []
-      nothing_at i = go (slice_get s.links i) refl
-        where
-          go : (o : Option Link) → slice_get s.links i ≡ o → (r.dues i).packets ≡ []
-          go None none = r.due.beyond i (slice_get-map over s.links i ∙ ap (option_map over) none)
-          go (Some l) at = nothing i l at
+      nothing_at i = by_option (slice_get s.links i) (λ none. r.due.beyond i (slice_get-map over s.links i ∙ ap (option_map over) none))
+          (λ l at. nothing i l at)
 
       next : Node → Node
       next n = record { links = booted late_segments Without n.links; kept = []; composed = [] }

@@ -16,12 +16,13 @@ use Rattle.dna_queues.specs.Records.{LinkRecord, OfUser, AreAnswered, AreNear, n
 use Rattle.dna_queues.specs.Hidden.{late_segments, Node}
 use Rattle.dna_queues.proofs.Pieces.{below_itself}
 use Rattle.dna_queues.proofs.Goes.{Link, Grows}
-use Rattle.dna_queues.proofs.Came.{grown_still}
+use Rattle.dna_queues.proofs.WaitsToGo.{grows_itself}
 use Rattle.dna_queues.proofs.Acting.{LateLink, lift}
 use Rattle.dna_queues.proofs.Follows.{Follows}
-use Rattle.dna_queues.proofs.Beside.{Beside, there_too, can_end}
+use Rattle.dna_queues.proofs.Beside.{Beside, can_end}
 use Rattle.dna_queues.proofs.Gone.{IsGone, AreSameOrGone, Alike}
 use Rattle.dna_queues.proofs.GoneOn.{made_alike, near_alike}
+use Rattle.dna_queues.proofs.LinkLists.{there_too}
 
 abbrev pub booted_node : Node → Node
 booted_node n = record { links = booted late_segments Without n.links; kept = []; composed = [] }
@@ -36,33 +37,13 @@ over_follows h answered = record {
   of_use = λ e. absurd cc;
   fresh = λ e. absurd cc;
   called = λ e. absurd cc;
-  ahead = record {
-    port = refl;
-    partner = refl;
-    segsize = refl;
-    received = below_itself h.segments.segments.received;
-    exact = λ e. absurd cc;
-    used = λ e. absurd cc;
-  };
+  ahead = let received = below_itself h.segments.segments.received in assumption received;
   acknowledged = omega arith;
   passed = refl;
   accepted = λ e. absurd cc;
   usable = λ e. absurd cc;
   fits = record { waits = λ e. absurd cc; ran = λ e. absurd cc; calling = λ e. absurd cc };
-  can = record {
-    own = λ n at. at;
-    far = λ n at. at;
-    opened = refl;
-    usable = λ e. e;
-    closing = λ e. e;
-    ran = λ e. e;
-    accepted = λ e. e;
-    silent = λ e. e;
-    over = λ e. e;
-    gap = refl;
-    segsize = λ e. refl;
-    segments = grown_still h.segments.segments answered;
-  };
+  can = grows_itself (lift (over h)) answered;
 }
 
 module _ (n : Node) (t : machine.Links) (b : Beside n t) (answered : AreAnswered t) where

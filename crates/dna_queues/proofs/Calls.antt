@@ -1,10 +1,9 @@
 -- One link becomes another in both, as where a call is answered.
-use Rattle.std.proofs.Common.{◌≡◌, ℕ, Bool, true, false, ◌&&◌, cond, ◌⊎◌, inl, inr, Option, Some, None, List, [], ◌∷◌, length, Result, Ok, Err}
+use Rattle.std.proofs.Common.{◌≡◌, ℕ, Bool, true, false, ◌&&◌, cond, Option, Some, None, List, [], ◌∷◌, length, Result, Ok, Err}
 use Rattle.std.proofs.Common.{refl, sym, ap, ◌∙◌, subst, ◌||◌, eqb-true}
 use Rattle.std.specs.Prelude.{slice_get}
-use Rattle.std.proofs.lemmas.Bool.{and_parts}
-use Rattle.dna_packet.specs.Nsp.{SegmentValue, NspValue, DataSegment, LinkService, DataAck, OtherDataAck, ConnectAck, NoOperation, ConnectInitiate}
-use Rattle.dna_packet.specs.Nsp.{ConnectConfirm, DisconnectInitiate, DisconnectConfirm}
+use Rattle.std.proofs.lemmas.Bool.{and_parts, false_from_ne_true}
+use Rattle.dna_packet.specs.Nsp.{NspValue, DataSegment, LinkService, DataAck, OtherDataAck, ConnectConfirm, DisconnectInitiate, DisconnectConfirm}
 use Rattle.dna_station.specs.declared.link_refusal.LinkRefusal.{LinkRefusal}
 use Rattle.dna_station.specs.declared.link_refusal.LinkRefusal.TheVariants.{NoLink, AddressInUse}
 use Rattle.dna_links.specs.declared.port.Phase.{Phase}
@@ -23,23 +22,24 @@ use Rattle.dna_links.specs.TrueSegments.{Numbers, true_segments}
 use Rattle.dna_links.specs.TrueLinks as machine
 use Rattle.dna_links.specs.Runs.{SentMessage}
 use Rattle.dna_links.proofs.Tables.Outcomes.{IsFound}
-use Rattle.dna_queues.proofs.Facts.{not_both}
+use Rattle.dna_queues.proofs.Facts.{not_both, by_test}
 use Rattle.dna_queues.specs.Records.{AreAnswered, next_links}
 use Rattle.dna_queues.specs.Records as records
 use Rattle.dna_queues.specs.Hidden.{late_segments, Links, Node, link_it_is_for, link_it_is_of, waiting}
 use Rattle.dna_queues.specs.Made.{IsFree}
 use Rattle.dna_queues.proofs.Goes.{Link, phase_of, Grows}
-use Rattle.dna_queues.proofs.WaitsToGo.{can_more, can_grow}
-use Rattle.dna_queues.proofs.Ahead.{Seen, Ahead, acted, acted_as, confirmed_if, ended_if, ran_if, taken_if, is_open}
-use Rattle.dna_queues.proofs.Came.{live_phase, grown_still}
+use Rattle.dna_queues.proofs.WaitsToGo.{can_more, can_grow, grown_itself}
+use Rattle.dna_queues.proofs.Ahead.{Seen, Ahead, acted, acted_as, confirmed_if, ended_if, ran_if, taken_if, is_open, none_at}
+use Rattle.dna_queues.proofs.Came.{live_phase}
 use Rattle.dna_queues.proofs.Acting.{LateLink, lift, level, seen_as}
 use Rattle.dna_queues.proofs.Follows.{Follows}
 use Rattle.dna_queues.proofs.Lists.{waiting_none}
-use Rattle.dna_queues.proofs.LinkLists.{IsSet, set_changed, was_set, IsUnique, at_none, at_found, number_same}
+use Rattle.dna_queues.proofs.LinkLists.{IsSet, set_changed, IsUnique, at_none, at_found, number_same, there_too, set_each, unique_free}
 use Rattle.dna_queues.proofs.Waiting.{of_same}
-use Rattle.dna_queues.proofs.Beside.{Beside, follows_as, there_too}
+use Rattle.dna_queues.proofs.Beside.{Beside, follows_as}
 use Rattle.dna_queues.proofs.SentOn.{Follow, grows_on, phase_same}
 use Rattle.dna_queues.proofs.Given.{meets_now, live_same, free_beside, no_owner, left_h, left_l, free_node}
+use Rattle.std.proofs.lemmas.Option.{same_Some}
 
 -- ---- one link becomes another in both
 
@@ -53,19 +53,12 @@ set_beside n t b s u number k y set_h set_l unique f = record {
   unique = unique;
   for_links = b.for_links;
   of_links = of_same _ _ _ s.node s.peer (length s.links) n.composed set_h.node set_h.peer set_h.size b.of_links;
-  all = λ i x z at_x at_z. one i x z (was_set n.links s number k set_h i x at_x) (was_set t u number y set_l i z at_z);
+  all = λ i x z at_x. set_each n.links s number k set_h
+      (λ i x. slice_get u.links i ≡ Some z → Follows x z (waiting link_it_is_for x.port.own n.kept) (waiting link_it_is_of (Some i) n.composed))
+      (λ at_z. subst (λ (v : Link). Follows k v (waiting link_it_is_for k.port.own n.kept) (waiting link_it_is_of (Some number) n.composed))
+      (same_Some y z (sym set_l.here ∙ at_z)) f)
+      (λ i x differs at_h at_z. b.all i x z at_h (sym (set_l.others i differs) ∙ at_z)) i x at_x;
 }
-  where
-    one : (i : ℕ) (x : LateLink) (z : Link) → ((i ≡ number) × (k ≡ x)) ⊎ ((i ≡ number → ⊥) × (slice_get n.links.links i ≡ Some x)) →
-        ((i ≡ number) × (y ≡ z)) ⊎ ((i ≡ number → ⊥) × (slice_get t.links i ≡ Some z)) →
-        Follows x z (waiting link_it_is_for x.port.own n.kept) (waiting link_it_is_of (Some i) n.composed)
-    one i x z (inl p) (inl q) =
-        subst (λ (v : LateLink). Follows v z (waiting link_it_is_for v.port.own n.kept) (waiting link_it_is_of (Some i) n.composed)) p.1
-        (subst (λ (v : Link). Follows k v (waiting link_it_is_for k.port.own n.kept) (waiting link_it_is_of (Some i) n.composed)) q.1
-        (subst (λ (j : ℕ). Follows k y (waiting link_it_is_for k.port.own n.kept) (waiting link_it_is_of (Some j) n.composed)) (sym p.0) f))
-    one i x z (inl p) (inr q) = absurd (q.0 p.0)
-    one i x z (inr p) (inl q) = absurd (p.0 q.0)
-    one i x z (inr p) (inr q) = b.all i x z p.1 q.1
 
 -- ---- a call is answered
 
@@ -74,44 +67,19 @@ called_if : (b : Bool) (x a : Seen) → is_called x.port.phase ≡ false → is_
 called_if true x a never e = absurd (not_both _ e never)
 called_if false x a never e = e
 
-confirmed_is : (b : Bool) (far size : ℕ) (partner : Option ℕ) (a : Seen) →
-    confirmed_if b far size partner a ≡ cond b (confirmed_if true far size partner a) a
-confirmed_is true far size partner a = refl
-confirmed_is false far size partner a = refl
-
-ended_is : (b : Bool) (a : Seen) → ended_if b a ≡ cond b (ended_if true a) a
-ended_is true a = refl
-ended_is false a = refl
-
-ran_is : (b : Bool) (a : Seen) → ran_if b a ≡ cond b (ran_if true a) a
-ran_is true a = refl
-ran_is false a = refl
-
-taken_is : (b : Bool) (s : SegmentValue) (known : Numbers) (a : Seen) → taken_if b s known a ≡ cond b (taken_if true s known a) a
-taken_is true s known a = refl
-taken_is false s known a = refl
-
-called_as : (x y a : Seen) (b : Bool) → x ≡ cond b y a → is_called y.port.phase ≡ false → is_called x.port.phase ≡ true →
-    is_called a.port.phase ≡ true
-called_as x y a b same never e = called_if b y a never (ap (λ (z : Seen). is_called z.port.phase) (sym same) ∙ e)
-
 called_before : (m : NspValue) (truth : LinkTruth Numbers) (a : Seen) → is_called (acted_as m truth a).port.phase ≡ true →
     is_called a.port.phase ≡ true
 called_before (ConnectConfirm dst src services info segsize user_data) truth a e =
-    called_as _ (confirmed_if true src segsize truth.tag.link a) a (passes (CallingAt dst) a.port) (confirmed_is _ src segsize truth.tag.link a)
-    refl e
+    called_if (passes (CallingAt dst) a.port) (confirmed_if true src segsize truth.tag.link a) a refl e
 called_before (DisconnectInitiate dst src reason user_data) truth a e =
-    called_as _ (ended_if true a) a (passes (TheLink dst src) a.port || passes (CallingAt dst) a.port) (ended_is _ a) refl e
+    called_if (passes (TheLink dst src) a.port || passes (CallingAt dst) a.port) (ended_if true a) a refl e
 called_before (DisconnectConfirm dst src reason) truth a e =
-    called_as _ (ended_if true a) a (passes (TheLink dst src) a.port || passes (CallingAt dst) a.port) (ended_is _ a) refl e
-called_before (DataSegment s) truth a e =
-    called_as _ (taken_if true s truth.known a) a (passes (ActedOn s.dstaddr s.srcaddr) a.port) (taken_is _ s truth.known a) refl e
-called_before (DataAck dst src acks) truth a e = called_as _ (ran_if true a) a (passes (ActedOn dst src) a.port) (ran_is _ a) refl e
-called_before (LinkService interrupt dst src rest) truth a e = called_as _ (ran_if true a) a (passes (ActedOn dst src) a.port) (ran_is _ a) refl e
-called_before (OtherDataAck dst src rest) truth a e = called_as _ (ran_if true a) a (passes (ActedOn dst src) a.port) (ran_is _ a) refl e
-called_before (ConnectInitiate retransmitted src services info segsize user_data) truth a e = e
-called_before (ConnectAck dst) truth a e = e
-called_before (NoOperation rest) truth a e = e
+    called_if (passes (TheLink dst src) a.port || passes (CallingAt dst) a.port) (ended_if true a) a refl e
+called_before (DataSegment s) truth a e = called_if (passes (ActedOn s.dstaddr s.srcaddr) a.port) (taken_if true s truth.known a) a refl e
+called_before (DataAck dst src acks) truth a e = called_if (passes (ActedOn dst src) a.port) (ran_if true a) a refl e
+called_before (LinkService interrupt dst src rest) truth a e = called_if (passes (ActedOn dst src) a.port) (ran_if true a) a refl e
+called_before (OtherDataAck dst src rest) truth a e = called_if (passes (ActedOn dst src) a.port) (ran_if true a) a refl e
+called_before m truth a e = e
 
 ahead_called : (units : List SentMessage) (a : Seen) (l : Link) → Ahead units a l → is_called l.port.phase ≡ true → is_called a.port.phase ≡ true
 ahead_called [] a l meets e = ap (λ (p : Port). is_called p.phase) meets.port ∙ e
@@ -130,20 +98,11 @@ module _ (n : Node) (t : machine.Links) (b : Beside n t) where
 
   -- the same calls wait in both
   pub called_same : (far : ℕ) → number_of (CalledBy far) n.links ≡ number_of (CalledBy far) t
-  called_same far = number_same n.links t b.size (CalledBy far) (λ i h l at_h at_l. go i h l at_h at_l (is_called h.port.phase) refl)
-    where
-      go : (i : ℕ) (h : LateLink) (l : Link) → slice_get n.links.links i ≡ Some h → slice_get t.links i ≡ Some l → (c : Bool) →
-          is_called h.port.phase ≡ c → passes (CalledBy far) h.port ≡ passes (CalledBy far) l.port
-      go i h l at_h at_l true e =
-          ap (passes (CalledBy far)) (meets_now h l _ _ (b.all i h l at_h at_l) (called_meets i h l at_h at_l e)).port
-      go i h l at_h at_l false e =
-          ap (λ (c : Bool). c && is_at h.port.far far) e ∙ sym (ap (λ (c : Bool). c && is_at l.port.far far) (never (is_called l.port.phase) refl))
-        where
-          never : (c : Bool) → is_called l.port.phase ≡ c → is_called l.port.phase ≡ false
-          never false f = f
-          never true f =
-              let x = b.all i h l at_h at_l in
-              absurd (not_both _ (ahead_called (waiting link_it_is_for h.port.own n.kept) (seen_as x.used h) l x.ahead f) e)
+  called_same far = number_same n.links t b.size (CalledBy far) (λ i h l at_h at_l. by_test (is_called h.port.phase)
+      (λ e. ap (passes (CalledBy far)) (meets_now h l _ _ (b.all i h l at_h at_l) (called_meets i h l at_h at_l e)).port)
+      (λ e. ap (λ (c : Bool). c && is_at h.port.far far) e ∙ sym (ap (λ (c : Bool). c && is_at l.port.far far)
+      (false_from_ne_true (is_called l.port.phase) (λ f. let x = b.all i h l at_h at_l in
+      not_both _ (ahead_called (waiting link_it_is_for h.port.own n.kept) (seen_as x.used h) l x.ahead f) e)))))
 
 -- one link that a user has answered, in this phase
 answer_follows : (own : ℕ) (phase : Phase) (q : LinkQueue) (h : LateLink) (l : Link) (composed : List SentMessage) → IsAnswered l.segments →
@@ -168,14 +127,8 @@ answer_follows own phase q h l composed near kind same accepted confirms called 
       of_use = λ e. refl;
       fresh = λ e. absurd (not_both _ e kind.2);
       called = λ e. absurd (not_both _ e kind.3);
-      ahead = record {
-        port = ap (λ (p : Port). record p { phase = phase; own = Some own }) meets.port;
-        partner = meets.partner;
-        segsize = meets.segsize;
-        received = meets.received;
-        exact = λ e. meets.exact (ap is_open is_l);
-        used = λ e. sym now;
-      };
+      ahead = let port = ap (λ (p : Port). record p { phase = phase; own = Some own }) meets.port in
+          let exact = meets.exact (ap is_open is_l) in let used = sym now in assumption (port, exact, used, meets);
       acknowledged = f.acknowledged;
       passed = f.passed;
       accepted = confirms;
@@ -198,7 +151,7 @@ answer_follows own phase q h l composed near kind same accepted confirms called 
             over = λ e. ap is_over same.2 ∙ e;
             gap = same.3;
             segsize = λ e. refl;
-            segments = grown_still l.segments near;
+            segments = grown_itself l.segments near;
           }) f.can (λ x z grows p. grows_on None (lift h) x z p grows))
           (λ e s g. record {
             own = λ n at. ap (λ (p : Port). is_at p.own n) s.port ∙ at;
@@ -215,10 +168,6 @@ answer_follows own phase q h l composed near kind same accepted confirms called 
             segments = g.segments;
           });
     }
-  where
-    none_at : (o : Option ℕ) (m : ℕ) → o ≡ None → is_at o m ≡ true → ⊥
-    none_at None m e at = absurd cc
-    none_at (Some k) m e at = absurd cc
 
 module _ (n : Node) (t : machine.Links) (b : Beside n t) (near : AreAnswered t) where
   pub answers_beside : (event : LinkEventValue) (far own number : ℕ) (h : LateLink) (phase : Phase) → IsFree own n →
@@ -282,16 +231,5 @@ module _ (n : Node) (t : machine.Links) (b : Beside n t) (near : AreAnswered t) 
           -- at most one link has this address, which none had
           unique_given : (s left : Links) (k : LateLink) → k.port.own ≡ Some own → IsSet s left number k → IsUnique s →
               ((i : ℕ) (g : LateLink) → slice_get s.links i ≡ Some g → is_at g.port.own own ≡ true → ⊥) → IsUnique left
-          unique_given s left k is set unique none i j x z at_x at_z m own_x own_z =
-              one (was_set s left number k set i x at_x) (was_set s left number k set j z at_z)
-            where
-              given : {x : LateLink} → k ≡ x → is_at x.port.own m ≡ true → own ≡ m
-              given same own_x =
-                  eqb-true own m (ap (λ (o : Option ℕ). is_at o m) (sym is) ∙ ap (λ (g : LateLink). is_at g.port.own m) same ∙ own_x)
-
-              one : ((i ≡ number) × (k ≡ x)) ⊎ ((i ≡ number → ⊥) × (slice_get s.links i ≡ Some x)) →
-                  ((j ≡ number) × (k ≡ z)) ⊎ ((j ≡ number → ⊥) × (slice_get s.links j ≡ Some z)) → i ≡ j
-              one (inl p) (inl q) = p.0 ∙ sym q.0
-              one (inl p) (inr q) = absurd (none j z q.1 (ap (is_at z.port.own) (given p.1 own_x) ∙ own_z))
-              one (inr p) (inl q) = absurd (none i x p.1 (ap (is_at x.port.own) (given q.1 own_z) ∙ own_x))
-              one (inr p) (inr q) = unique i j x z p.1 q.1 m own_x own_z
+          unique_given s left k is set unique none = unique_free s left number k set unique (λ i x m differs at own_x own_k.
+              none i x at (ap (is_at x.port.own) (eqb-true own m (ap (λ (o : Option ℕ). is_at o m) (sym is) ∙ own_k)) ∙ own_x))

@@ -1,8 +1,7 @@
 -- A link of the machine, and what comes for it, on which it acts at once.
 use Rattle.std.proofs.Common.{◌≡◌, ℕ, ◌≤◌, Bool, true, false, ◌&&◌, ◌||◌, nat_lt, nat_le, cond, Option, Some, None, List, [], ◌∷◌, fold, refl}
 use Rattle.std.proofs.Common.{sym, ap, ◌∙◌, subst, arith}
-use Rattle.dna_packet.specs.Nsp.{NspValue, DataSegment, LinkService, DataAck, OtherDataAck}
-use Rattle.dna_packet.specs.Nsp.{ConnectConfirm, DisconnectInitiate, DisconnectConfirm}
+use Rattle.dna_packet.specs.Nsp.{NspValue, DataSegment, LinkService, DataAck, OtherDataAck, ConnectConfirm, DisconnectInitiate, DisconnectConfirm}
 use Rattle.dna_links.specs.declared.port.Phase.{Phase}
 use Rattle.dna_links.specs.declared.port.Phase.TheVariants.{Running, Ended}
 use Rattle.dna_links.specs.declared.port.LinkTest.TheVariants.{TheLink, CallingAt, ActedOn}
@@ -14,9 +13,9 @@ use Rattle.dna_links.specs.TrueSegments.{TrueSegments, Numbers, takes_segment, t
 use Rattle.dna_links.specs.Runs.{SentMessage}
 use Rattle.dna_links.proofs.Tables.Words.{AreAtMost}
 use Rattle.dna_queues.proofs.Facts.{not_both}
-use Rattle.dna_queues.proofs.Words.{Grown}
 use Rattle.dna_queues.proofs.Goes.{Link, phase_of, Grows}
 use Rattle.dna_queues.proofs.Ahead.{Seen, acted, takes_numbers, AreTaken, Meets}
+use Rattle.dna_queues.proofs.WaitsToGo.{grows_itself}
 
 -- ---- acknowledgements
 
@@ -119,29 +118,12 @@ pub record ComesOn (unit : SentMessage) (l k : Link) : Type 0 where
   pub live : is_live (phase_of l) ≡ true → is_live (phase_of k) ≡ true
   pub meets : (a : Seen) → Meets a l → AreTaken unit a.port k × Meets (acted unit a) k
 
-pub grown_still : (f : TrueSegments) → IsAnswered f → Grown None f f
-grown_still f answered =
-    record { given = refl; last = refl; received = omega arith; acknowledged = omega arith; unsent = refl; answered = answered }
-
 -- one that changes nothing
 pub comes_still : (unit : SentMessage) (l : Link) → Fits l → (takes_numbers unit.packet.message l.port ≡ false) →
     ((a : Seen) → a.port ≡ l.port → acted unit a ≡ a) → ComesOn unit l l
 comes_still unit l fits none still = record {
   fits = fits;
-  grows = λ answered. record {
-    own = λ n at. at;
-    far = λ n at. at;
-    opened = refl;
-    usable = λ e. e;
-    closing = λ e. e;
-    ran = λ e. e;
-    accepted = λ e. e;
-    silent = λ e. e;
-    over = λ e. e;
-    gap = refl;
-    segsize = λ e. refl;
-    segments = grown_still l.segments answered;
-  };
+  grows = λ answered. grows_itself l answered;
   acknowledged = omega arith;
   passed = refl;
   accepted = refl;

@@ -1,9 +1,8 @@
 -- By what comes for it a link of the machine comes further, and is met as before.
 use Rattle.std.proofs.Common.{◌≡◌, ℕ, ◌-◌, ◌≤◌, Bool, true, false, ◌||◌, cond, Option, Some, None, List, [], ◌∷◌, ◌++◌, fold, refl}
-use Rattle.std.proofs.Common.{sym, ap, ◌∙◌, subst, arith}
-use Rattle.std.proofs.lemmas.Bool.{and_parts}
-use Rattle.dna_packet.specs.Nsp.{SegmentValue, NspValue, DataSegment, LinkService, DataAck, OtherDataAck, ConnectAck, NoOperation, ConnectInitiate}
-use Rattle.dna_packet.specs.Nsp.{ConnectConfirm, DisconnectInitiate, DisconnectConfirm}
+use Rattle.std.proofs.Common.{sym, ap, ◌∙◌, subst, arith, inl, inr}
+use Rattle.std.proofs.lemmas.Bool.{and_parts, cond_both, or_cases}
+use Rattle.dna_packet.specs.Nsp.{NspValue, DataSegment, LinkService, DataAck, OtherDataAck, ConnectConfirm, DisconnectInitiate, DisconnectConfirm}
 use Rattle.dna_links.specs.declared.port.Phase.{Phase}
 use Rattle.dna_links.specs.declared.port.Phase.TheVariants.{Calling, Confirming, Running, Disconnecting, Ended}
 use Rattle.dna_links.specs.declared.port.Port.{Port}
@@ -20,9 +19,10 @@ use Rattle.dna_queues.proofs.Facts.{not_both}
 use Rattle.dna_queues.proofs.Pieces.{Below, below_itself, below_hold, below_order}
 use Rattle.dna_queues.proofs.Words.{Grown}
 use Rattle.dna_queues.proofs.Goes.{Link, phase_of}
-use Rattle.dna_queues.proofs.Ahead.{Seen, confirmed_if, ended_if, ran_if, taken_if, acted, takes_numbers, Meets, Ahead, is_open, at_most_more}
+use Rattle.dna_queues.proofs.Ahead.{Seen, confirmed_if, ended_if, acted, takes_numbers, Meets, Ahead, is_open, at_most_more, none_at}
 use Rattle.dna_queues.proofs.Came.{acks_taken, Fits, live_phase, confirmed_link, ended_link, run_link}
-use Rattle.dna_queues.proofs.Came.{came_as, came, AreNearHere, ComesOn, grown_still, comes_still}
+use Rattle.dna_queues.proofs.Came.{came_as, came, AreNearHere, ComesOn, comes_still}
+use Rattle.dna_queues.proofs.WaitsToGo.{grown_itself}
 
 module _ (l : Link) (fits : Fits l) where
   -- it ends
@@ -34,20 +34,9 @@ module _ (l : Link) (fits : Fits l) where
       ran = λ e. fits.ran (ap (is_in Running) (live_phase l fits live) ∙ e);
       calling = λ e. absurd cc;
     };
-    grows = λ answered. record {
-      own = λ n at. at;
-      far = λ n at. at;
-      opened = refl;
-      usable = λ e. live;
-      closing = λ e. ap (is_in Disconnecting) (sym (live_phase l fits live)) ∙ e;
-      ran = λ e. e;
-      accepted = λ e. e;
-      silent = λ e. e;
-      over = λ e. e;
-      gap = refl;
-      segsize = λ e. refl;
-      segments = grown_still l.segments answered;
-    };
+    grows = λ answered. let segments = grown_itself l.segments answered in
+        let closing : is_in Disconnecting (phase_of l) ≡ true → is_in Disconnecting l.port.phase ≡ true =
+        λ e. ap (is_in Disconnecting) (sym (live_phase l fits live)) ∙ e in assumption (segments, closing);
     acknowledged = omega arith;
     passed = refl;
     accepted = refl;
@@ -75,10 +64,6 @@ module _ (l : Link) (fits : Fits l) where
   connected_live Running e = (refl, refl, refl)
   connected_live p e = absurd cc
 
-  none_at : (o : Option ℕ) (n : ℕ) → o ≡ None → is_at o n ≡ true → ⊥
-  none_at None n e at = absurd cc
-  none_at (Some k) n e at = absurd cc
-
   -- it is confirmed
   comes_confirmed : (unit : SentMessage) (far size : ℕ) → takes_numbers unit.packet.message l.port ≡ false → is_in Calling l.port.phase ≡ true →
       ((a : Seen) → a.port ≡ l.port → acted unit a ≡ confirmed_if true far size unit.truth.tag.link a) →
@@ -90,20 +75,13 @@ module _ (l : Link) (fits : Fits l) where
       let k = confirmed_link far size unit.truth.tag.link l in
       record {
         fits = record { waits = λ e. fits.waits c.0; ran = λ e. refl; calling = λ e. absurd cc };
-        grows = λ answered. record {
-          own = λ n at. at;
-          far = λ n at. absurd (none_at l.port.far n (fits.calling calling).0 at);
-          opened = refl;
-          usable = λ e. ap is_live running;
-          closing = λ e. absurd (not_both _ (ap (is_in Disconnecting) (sym (live_phase l fits c.0)) ∙ e) c.1);
-          ran = λ e. refl;
-          accepted = λ e. e;
-          silent = λ e. e;
-          over = λ e. e;
-          gap = refl;
-          segsize = λ e. absurd (not_both _ e (fits.calling calling).1);
-          segments = grown_still l.segments answered;
-        };
+        grows = λ answered. let segments = grown_itself l.segments answered in let usable = ap is_live running in
+            let far_too : (n : ℕ) → is_at l.port.far n ≡ true → is_at (Some far) n ≡ true =
+            λ n at. absurd (none_at l.port.far n (fits.calling calling).0 at) in
+            let closing : is_in Disconnecting (phase_of l) ≡ true → is_in Disconnecting (phase_of k) ≡ true =
+            λ e. absurd (not_both _ (ap (is_in Disconnecting) (sym (live_phase l fits c.0)) ∙ e) c.1) in
+            let segsize : l.queue.ran ≡ true → size ≡ l.segsize = λ e. absurd (not_both _ e (fits.calling calling).1) in
+            assumption (segments, usable, far_too, closing, segsize);
         acknowledged = omega arith;
         passed = refl;
         accepted = refl;
@@ -135,20 +113,9 @@ module _ (l : Link) (fits : Fits l) where
       ap (λ (w : Option Phase). (port_of_waiting w (record l.port { phase = Running })).phase) (fits.waits c.0) in
       record {
         fits = record { waits = λ e. fits.waits c.0; ran = λ e. refl; calling = λ e. absurd cc };
-        grows = λ answered. record {
-          own = λ n at. at;
-          far = λ n at. at;
-          opened = refl;
-          usable = λ e. ap is_live running;
-          closing = λ e. absurd (not_both _ (ap (is_in Disconnecting) (sym (live_phase l fits c.0)) ∙ e) c.1);
-          ran = λ e. refl;
-          accepted = λ e. e;
-          silent = λ e. e;
-          over = λ e. e;
-          gap = refl;
-          segsize = λ e. refl;
-          segments = grown answered;
-        };
+        grows = λ answered. let segments = grown answered in let usable = ap is_live running in
+            let closing : is_in Disconnecting (phase_of l) ≡ true → is_in Disconnecting (phase_of k) ≡ true =
+            λ e. absurd (not_both _ (ap (is_in Disconnecting) (sym (live_phase l fits c.0)) ∙ e) c.1) in assumption (segments, usable, closing);
         acknowledged = more;
         passed = passed;
         accepted = refl;
@@ -169,32 +136,26 @@ module _ (l : Link) (fits : Fits l) where
 
   -- ---- by message
 
-  ran_is : (b : Bool) (a : Seen) → ran_if b a
-      ≡ cond b (record a { port = record a.port { phase = Running }; used = Running; received = a.received }) a
-  ran_is true a = refl
-  ran_is false a = refl
-
-  acted_if : (unit : SentMessage) (b : Bool) (k : Link) (test : Port → Bool) → test l.port ≡ b → (test l.port ≡ true → ComesOn unit l k) →
+  acted_if : (unit : SentMessage) (k : Link) (test : Port → Bool) → (test l.port ≡ true → ComesOn unit l k) →
       (test l.port ≡ false → ComesOn unit l l) → ComesOn unit l (cond (test l.port) k l)
-  acted_if unit true k test e some none = subst (λ (b : Bool). ComesOn unit l (cond b k l)) (sym e) (some e)
-  acted_if unit false k test e some none = subst (λ (b : Bool). ComesOn unit l (cond b k l)) (sym e) (none e)
+  acted_if unit k test some none = cond_both (test l.port) k l (λ x. ComesOn unit l x) some none
 
   ended_comes : (unit : SentMessage) (own far : ℕ) → takes_numbers unit.packet.message l.port ≡ false →
       ((a : Seen) → acted unit a ≡ ended_if (passes (TheLink own far) a.port || passes (CallingAt own) a.port) a) →
       ComesOn unit l (cond (passes (TheLink own far) l.port || passes (CallingAt own) l.port) (ended_link l) l)
   ended_comes unit own far none is =
-      acted_if unit _ (ended_link l) (λ p. passes (TheLink own far) p || passes (CallingAt own) p) refl
-      (λ e. comes_ended unit none (live _ refl e)
+      acted_if unit (ended_link l) (λ p. passes (TheLink own far) p || passes (CallingAt own) p)
+      (λ e. comes_ended unit none (live e)
       (λ a same. is a ∙ ap (λ (b : Bool). ended_if b a) (ap (λ (p : Port). passes (TheLink own far) p || passes (CallingAt own) p) same ∙ e)))
       (λ e. comes_still unit l fits none
       (λ a same. is a ∙ ap (λ (b : Bool). ended_if b a) (ap (λ (p : Port). passes (TheLink own far) p || passes (CallingAt own) p) same ∙ e)))
     where
-      live : (b : Bool) → passes (TheLink own far) l.port ≡ b → (passes (TheLink own far) l.port || passes (CallingAt own) l.port) ≡ true →
-          is_live l.port.phase ≡ true
-      live true e f = (and_parts (is_live l.port.phase) (has_both l.port own far) e).0
-      live false e f =
-          (calling_live l.port.phase (and_parts (is_in Calling l.port.phase) (is_at l.port.own own)
-          (ap (λ (b : Bool). b || passes (CallingAt own) l.port) (sym e) ∙ f)).0).0
+      live : (passes (TheLink own far) l.port || passes (CallingAt own) l.port) ≡ true → is_live l.port.phase ≡ true
+      live e =
+          elim (or_cases (passes (TheLink own far) l.port) _ e) [
+            | inl first ↦ (and_parts (is_live l.port.phase) (has_both l.port own far) first).0
+            | inr second ↦ (calling_live l.port.phase (and_parts (is_in Calling l.port.phase) (is_at l.port.own own) second).0).0
+          ]
 
   ran_comes : (unit : SentMessage) (own far : ℕ) (f : TrueSegments) (received : Seen → List (Option Piece)) →
       (IsAnswered f → Grown None l.segments f) → f.passed ≡ l.segments.passed → l.segments.acknowledged ≤ f.acknowledged →
@@ -205,7 +166,7 @@ module _ (l : Link) (fits : Fits l) where
       (passes (ActedOn own far) l.port ≡ false → takes_numbers unit.packet.message l.port ≡ false) →
       ComesOn unit l (cond (passes (ActedOn own far) l.port) (run_link f l) l)
   ran_comes unit own far f received grown passed more is same taken none =
-      acted_if unit _ (run_link f l) (passes (ActedOn own far)) refl
+      acted_if unit (run_link f l) (passes (ActedOn own far))
       (λ e. comes_run unit f received (and_parts (is_connected l.port.phase) (has_both l.port own far) e).0 grown passed more
       (λ a port. is a ∙ ap (λ (b : Bool). cond b (record a { port = record a.port { phase = Running }; used = Running; received = received a }) a)
       (ap (passes (ActedOn own far)) port ∙ e)) same taken)
@@ -220,7 +181,7 @@ module _ (l : Link) (fits : Fits l) where
 
   comes : (m : NspValue) → by_message m
   comes (ConnectConfirm dst src services info segsize user_data) d s truth near =
-      acted_if _ _ (confirmed_link src segsize truth.tag.link l) (passes (CallingAt dst)) refl
+      acted_if _ (confirmed_link src segsize truth.tag.link l) (passes (CallingAt dst))
       (λ e. comes_confirmed _ src segsize refl (and_parts (is_in Calling l.port.phase) (is_at l.port.own dst) e).0
       (λ a same. ap (λ (b : Bool). confirmed_if b src segsize truth.tag.link a) (ap (passes (CallingAt dst)) same ∙ e)))
       (λ e. comes_still _ l fits refl (λ a same. ap (λ (b : Bool). confirmed_if b src segsize truth.tag.link a) (ap (passes (CallingAt dst)) same
@@ -248,19 +209,10 @@ module _ (l : Link) (fits : Fits l) where
         answered = answered;
       })
       (ap (λ (g : TrueSegments). g.passed) t.is) (omega (arith, most, more))
-      (λ a. taken_is (passes (ActedOn segment.dstaddr segment.srcaddr) a.port) segment truth.known a)
+      (λ a. refl)
       (λ a e. ap (hold place (piece_of segment)) e ∙ sym held)
       (λ e. subst (λ (n : ℕ). AreAtMost n truth.known.acknowledgements) (sym most) (t.all (near e)))
       (λ e. e)
-    where
-      taken_is : (b : Bool) (segment : SegmentValue) (known : Numbers) (a : Seen) → taken_if b segment known a ≡
-          cond b (record a {
-            port = record a.port { phase = Running };
-            used = Running;
-            received = hold (known.segment - 1) (piece_of segment) a.received;
-          }) a
-      taken_is true segment known a = refl
-      taken_is false segment known a = refl
   comes (DataAck dst src acks) d s truth near =
       let t = acks_taken l.segments truth.known.acknowledgements in
       let f = takes_acks acks truth.known l.segments in
@@ -277,18 +229,16 @@ module _ (l : Link) (fits : Fits l) where
         answered = answered;
       })
       (ap (λ (g : TrueSegments). g.passed) t.is) (omega (arith, most, more))
-      (λ a. ran_is (passes (ActedOn dst src) a.port) a) (λ a e. e ∙ sym still)
+      (λ a. refl) (λ a e. e ∙ sym still)
       (λ e. subst (λ (n : ℕ). AreAtMost n truth.known.acknowledgements) (sym most) (t.all (near e)))
       (λ e. e)
   comes (LinkService interrupt dst src rest) d s truth near =
-      ran_comes _ dst src l.segments (λ a. a.received) (grown_still l.segments) refl (omega arith)
-      (λ a. ran_is (passes (ActedOn dst src) a.port) a) (λ a e. e) (λ e. absurd cc) (λ e. refl)
+      ran_comes _ dst src l.segments (λ a. a.received) (grown_itself l.segments) refl (omega arith)
+      (λ a. refl) (λ a e. e) (λ e. absurd cc) (λ e. refl)
   comes (OtherDataAck dst src rest) d s truth near =
-      ran_comes _ dst src l.segments (λ a. a.received) (grown_still l.segments) refl (omega arith)
-      (λ a. ran_is (passes (ActedOn dst src) a.port) a) (λ a e. e) (λ e. absurd cc) (λ e. refl)
-  comes (ConnectInitiate retransmitted src services info segsize user_data) d s truth near = comes_still _ l fits refl (λ a same. refl)
-  comes (ConnectAck dst) d s truth near = comes_still _ l fits refl (λ a same. refl)
-  comes (NoOperation rest) d s truth near = comes_still _ l fits refl (λ a same. refl)
+      ran_comes _ dst src l.segments (λ a. a.received) (grown_itself l.segments) refl (omega arith)
+      (λ a. refl) (λ a e. e) (λ e. absurd cc) (λ e. refl)
+  comes m d s truth near = comes_still _ l fits refl (λ a same. refl)
 
   pub came_on : (unit : SentMessage) → AreNearHere unit l → ComesOn unit l (came unit l)
   came_on unit near = comes unit.packet.message unit.packet.dst unit.packet.src unit.truth near

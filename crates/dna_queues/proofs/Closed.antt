@@ -9,17 +9,18 @@ use Rattle.dna_links.specs.Queues.{port_of_waiting, goes_on, keeps_numbers, is_s
 use Rattle.dna_links.specs.CutSegments.{IsAnswered}
 use Rattle.dna_links.specs.TrueSegments.{TrueSegments, true_segments}
 use Rattle.dna_links.specs.Runs.{SentMessage}
-use Rattle.dna_queues.proofs.Facts.{lets_still, not_both}
+use Rattle.dna_queues.proofs.Facts.{lets_still, not_both, no_case, no_other}
 use Rattle.dna_queues.proofs.Pieces.{Below, below_itself, below_on}
 use Rattle.dna_queues.proofs.Words.{Grown}
 use Rattle.dna_queues.proofs.Goes.{Link, phase_of, Grows}
-use Rattle.dna_queues.proofs.WaitsToGo.{can_more, can_grow}
+use Rattle.dna_queues.proofs.WaitsToGo.{can_more, can_grow, grown_itself}
 use Rattle.dna_queues.proofs.Ahead.{Seen, Meets, is_open}
-use Rattle.dna_queues.proofs.Came.{Fits, grown_still}
+use Rattle.dna_queues.proofs.Came.{Fits}
 use Rattle.dna_queues.proofs.Acting.{LateLink, lift, seen_as}
 use Rattle.dna_queues.proofs.Follows.{Follows}
 use Rattle.dna_queues.proofs.SentOn.{grows_on, phase_same}
 use Rattle.dna_queues.proofs.Closing.{closing, over, closed, connected_is, ahead_closing}
+use Rattle.std.proofs.lemmas.Bool.{cond_both}
 
 -- ---- the link of the machine
 
@@ -37,9 +38,7 @@ closes_as l = go (is_live l.port.phase)
     go true = refl
     go false = ap (λ (f : TrueSegments). record late { segments = f }) (lets_still (keeps_numbers l) (keeps_numbers late) l.segments)
 
-pub record IsClosed (l k : Link) : Type 0 where
-  pub phase : phase_of k ≡ Disconnecting
-  pub fits : Fits k
+pub record IsAlike (l k : Link) : Type 0 where
   pub own : k.port.own ≡ l.port.own
   pub far : k.port.far ≡ l.port.far
   pub opened : k.port.opened ≡ l.port.opened
@@ -50,11 +49,17 @@ pub record IsClosed (l k : Link) : Type 0 where
   pub said : k.queue.said ≡ l.queue.said
   pub gap : k.queue.gap ≡ l.queue.gap
   pub segments : k.segments ≡ l.segments
+
+pub record IsClosed (l k : Link) : Type 0 where
+  pub phase : phase_of k ≡ Disconnecting
+  pub fits : Fits k
+  pub alike : IsAlike l k
+  pub open alike use *
   pub meets : (a c : Seen) → Meets a l → c.partner ≡ a.partner → c.segsize ≡ a.segsize → Below c.received a.received → c.used ≡ Disconnecting →
       c.port ≡ record a.port { phase = cond (is_live l.port.phase) Disconnecting l.port.phase } → Meets c k
 
 pub is_closed : (l : Link) → Fits l → IsClosed l (closed_link l)
-is_closed l fits = go (is_live l.port.phase) refl
+is_closed l fits = cond_both (is_live l.port.phase) _ _ (λ x. IsClosed l x) at_live at_end
   where
     calling_live : (p : Phase) → is_calling p ≡ true → is_live p ≡ true
     calling_live Calling e = refl
@@ -79,16 +84,7 @@ is_closed l fits = go (is_live l.port.phase) refl
             ran = λ e. absurd (not_both _ e (ap (is_in Running) phase));
             calling = λ e. absurd cc;
           };
-          own = refl;
-          far = refl;
-          opened = refl;
-          partner = refl;
-          segsize = refl;
-          ran = refl;
-          accepted = refl;
-          said = refl;
-          gap = refl;
-          segments = refl;
+          alike = assumption;
           meets = λ a c m partner size below used port. record {
             port = port ∙ ap₂ (λ (b : Bool) (p : Port). record p { phase = cond b Disconnecting l.port.phase }) live m.port;
             partner = partner ∙ m.partner;
@@ -107,16 +103,7 @@ is_closed l fits = go (is_live l.port.phase) refl
         ran = λ e. absurd cc;
         calling = λ e. absurd (not_both _ (calling_live l.port.phase e) over);
       };
-      own = refl;
-      far = refl;
-      opened = refl;
-      partner = refl;
-      segsize = refl;
-      ran = refl;
-      accepted = refl;
-      said = refl;
-      gap = refl;
-      segments = refl;
+      alike = assumption;
       meets = λ a c m partner size below used port. record {
         port = port ∙ ap₂ (λ (b : Bool) (p : Port). record p { phase = cond b Disconnecting l.port.phase }) over m.port;
         partner = partner ∙ m.partner;
@@ -126,14 +113,6 @@ is_closed l fits = go (is_live l.port.phase) refl
         used = λ e. used;
       };
     }
-
-    go : (b : Bool) → is_live l.port.phase ≡ b → IsClosed l (closed_link l)
-    go true e =
-        subst (λ (b : Bool). IsClosed l (cond b (record l { port = record l.port { phase = Disconnecting } })
-        (record l { queue = record l.queue { waits = Some Disconnecting } }))) (sym e) (at_live e)
-    go false e =
-        subst (λ (b : Bool). IsClosed l (cond b (record l { port = record l.port { phase = Disconnecting } })
-        (record l { queue = record l.queue { waits = Some Disconnecting } }))) (sym e) (at_end e)
 
 -- ---- both
 
@@ -175,20 +154,8 @@ close_follows h l kept composed answered connected f =
             over = λ e. ap is_over c.said ∙ e;
             gap = c.gap;
             segsize = λ e. c.segsize;
-            segments = subst (Grown None l.segments) (sym c.segments) (grown_still l.segments answered);
+            segments = subst (Grown None l.segments) (sym c.segments) (grown_itself l.segments answered);
           }) f.can (λ x y grows p. grows_on None (lift h) x y p grows))
-          (λ e same g. record {
-            own = g.own;
-            far = g.far;
-            opened = g.opened;
-            usable = λ live. ap is_live (phase_same k e same ∙ c.phase);
-            closing = λ closing. ap (is_in Disconnecting) (phase_same k e same ∙ c.phase);
-            ran = λ run. absurd cc;
-            accepted = λ confirming. absurd cc;
-            silent = λ silent. absurd cc;
-            over = λ not_over. absurd cc;
-            gap = g.gap;
-            segsize = λ run. absurd cc;
-            segments = g.segments;
-          });
+          (λ e same g. let usable = ap is_live (phase_same k e same ∙ c.phase) in
+          let closing = ap (is_in Disconnecting) (phase_same k e same ∙ c.phase) in search (no_case, no_other, usable, closing, g));
     }

@@ -1,11 +1,10 @@
 -- A link is closed by its user: what it says until then in the phase that is over is composed before.
-use Rattle.std.proofs.Common.{◌≡◌, ℕ, Bool, true, false, not, ◌&&◌, ◌||◌, cond, Option, Some, None, List, [], ◌∷◌}
-use Rattle.std.proofs.Common.{Ok, Err, refl, sym, ap, ap₂, ◌∙◌, subst}
+use Rattle.std.proofs.Common.{◌≡◌, ℕ, Bool, true, false, ◌&&◌, ◌||◌, cond, Option, Some, None, List, [], ◌∷◌, Ok, Err, refl, sym, ap, ap₂, ◌∙◌, subst}
+use Rattle.std.proofs.Common.{inl, inr}
 use Rattle.std.specs.Prelude.{slice_get}
-use Rattle.std.proofs.lemmas.Bool.{and_parts}
+use Rattle.std.proofs.lemmas.Bool.{and_parts, or_cases}
 use Rattle.std.proofs.lemmas.Option.{same_Some}
-use Rattle.dna_packet.specs.Nsp.{NspValue, DataSegment, LinkService, DataAck, OtherDataAck, ConnectAck, NoOperation, ConnectInitiate, ConnectConfirm}
-use Rattle.dna_packet.specs.Nsp.{DisconnectInitiate, DisconnectConfirm}
+use Rattle.dna_packet.specs.Nsp.{NspValue, NoOperation, DisconnectInitiate, DisconnectConfirm}
 use Rattle.dna_station.specs.declared.link_refusal.LinkRefusal.TheVariants.{NoLink, LinkState}
 use Rattle.dna_links.specs.declared.port.Phase.{Phase}
 use Rattle.dna_links.specs.declared.port.Phase.TheVariants.{Calling, Confirming, Running, Disconnecting, Ended}
@@ -21,11 +20,11 @@ use Rattle.dna_links.specs.TrueSegments.{TrueSegments, true_segments}
 use Rattle.dna_links.specs.TrueLinks as machine
 use Rattle.dna_links.specs.Runs.{SentMessage}
 use Rattle.dna_links.proofs.Tables.Outcomes.{checked}
-use Rattle.dna_queues.proofs.Facts.{dead_phase, passed_check, same_Ok}
+use Rattle.dna_queues.proofs.Facts.{dead_phase, passed_check, same_Ok, not_both}
 use Rattle.dna_queues.specs.Records.{LinkRecord, OfUser}
 use Rattle.dna_queues.specs.Hidden.{Node, over}
 use Rattle.dna_queues.specs.Made.{UserDoes}
-use Rattle.dna_queues.proofs.Goes.{Link, phase_of, test_of}
+use Rattle.dna_queues.proofs.Goes.{Link, phase_of, test_of, use_port}
 use Rattle.dna_queues.proofs.Closed.{closed_link, closes_as}
 use Rattle.dna_queues.proofs.LinkLists.{IsUnique, IsSet, set_changed, at_found}
 use Rattle.dna_queues.proofs.Sending.{live_owns}
@@ -44,23 +43,8 @@ use Rattle.dna_queues.proofs.UserTimed.{Changes, one_sound}
 -- a live link passes a test on what it sends in each live phase
 pub passes_phase : (m : NspValue) (p : Port) (now other : Phase) → is_live other ≡ true → passes (test_of m) (record p { phase = now }) ≡ true →
     passes (test_of m) (record p { phase = other }) ≡ true
-passes_phase (ConnectInitiate retransmitted src services info segsize user_data) p now other live e =
-    ap₂ (λ (a b : Bool). a && b) live (and_parts (is_live now) (p.opened && is_at p.own src) e).1
-passes_phase (ConnectAck dst) p now other live e = ap₂ (λ (a b : Bool). a && b) live (and_parts (is_live now) (not p.opened && is_at p.far dst) e).1
-passes_phase (ConnectConfirm dst src services info segsize user_data) p now other live e =
-    ap₂ (λ (a b : Bool). a && b) live (and_parts (is_live now) (has_both p src dst) e).1
-passes_phase (DisconnectInitiate dst src reason user_data) p now other live e =
-    ap₂ (λ (a b : Bool). a && b) live (and_parts (is_live now) (has_both p src dst) e).1
-passes_phase (DisconnectConfirm dst src reason) p now other live e =
-    ap₂ (λ (a b : Bool). a && b) live (and_parts (is_live now) (has_both p src dst) e).1
-passes_phase (DataSegment segment) p now other live e =
-    ap₂ (λ (a b : Bool). a && b) live (and_parts (is_live now) (has_both p segment.srcaddr segment.dstaddr) e).1
-passes_phase (DataAck dst src acks) p now other live e = ap₂ (λ (a b : Bool). a && b) live (and_parts (is_live now) (has_both p src dst) e).1
-passes_phase (LinkService interrupt dst src rest) p now other live e =
-    ap₂ (λ (a b : Bool). a && b) live (and_parts (is_live now) (has_both p src dst) e).1
-passes_phase (OtherDataAck dst src rest) p now other live e =
-    ap₂ (λ (a b : Bool). a && b) live (and_parts (is_live now) (has_both p src dst) e).1
 passes_phase (NoOperation rest) p now other live e = e
+passes_phase m p now other live e = ap₂ (λ (a b : Bool). a && b) live (and_parts (is_live now) _ e).1
 
 connected_live : (p : Phase) → is_connected p ≡ true → (is_live p ≡ true) × (is_in Calling p ≡ false)
 connected_live Confirming e = (refl, refl)
@@ -69,12 +53,11 @@ connected_live p e = absurd cc
 
 module _ (dst src : ℕ) (p : Port) (connected : is_connected p.phase ≡ true) where
   closed_too : (passes (TheLink dst src) p || passes (CallingAt dst) p) ≡ true → (has_both p dst src || false) ≡ true
-  closed_too e = go (passes (TheLink dst src) p) refl e
-    where
-      go : (b : Bool) → passes (TheLink dst src) p ≡ b → (b || passes (CallingAt dst) p) ≡ true → (has_both p dst src || false) ≡ true
-      go true is e = ap (λ (c : Bool). c || false) (and_parts (is_live p.phase) (has_both p dst src) is).1
-      go false is e =
-          let x : true ≡ false = sym (and_parts (is_in Calling p.phase) (is_at p.own dst) e).0 ∙ (connected_live p.phase connected).1 in absurd cc
+  closed_too e =
+      elim (or_cases (passes (TheLink dst src) p) _ e) [
+        | inl first ↦ ap (λ (c : Bool). c || false) (and_parts (is_live p.phase) (has_both p dst src) first).1
+        | inr second ↦ absurd (not_both _ (and_parts (is_in Calling p.phase) (is_at p.own dst) second).0 (connected_live p.phase connected).1)
+      ]
 
 ends_closed : (m : NspValue) (p : Port) → is_connected p.phase ≡ true → is_end m p ≡ true → is_end m (record p { phase = Disconnecting }) ≡ true
 ends_closed (DisconnectInitiate dst src reason user_data) p connected e = closed_too dst src p connected e
@@ -155,15 +138,9 @@ module _ (s : machine.Links) (sane : AreSane s) (later : List LinkRecord) (left 
           closes own i l u connected l.port (Some Disconnecting)
           (ap (λ (x : Link). changed i x s) (sym (ap (λ (b : Bool). cond b (record l { port = record l.port { phase = Disconnecting } })
           (record l { queue = record l.queue { waits = Some Disconnecting } })) over)) ∙ same)
-          (by_waits l.queue.waits refl) refl refl (λ e. e) (sane.each i l u.there).called
+          (sym (use_port l.queue.waits l.port Disconnecting)) refl refl (λ e. e) (sane.each i l u.there).called
           (λ p e. (dead_phase l.port.phase over, ap can_end (sym (same_Some Disconnecting p e)), waiting_phase l.queue.waits refl))
         where
-          by_waits : (w : Option Phase) → l.queue.waits ≡ w → port_of_waiting (Some Disconnecting) l.port ≡ record (in_use With l) {
-            phase = Disconnecting;
-          }
-          by_waits None e = ap (λ (w : Option Phase). record (port_of_waiting w l.port) { phase = Disconnecting }) (sym e)
-          by_waits (Some p) e = ap (λ (w : Option Phase). record (port_of_waiting w l.port) { phase = Disconnecting }) (sym e)
-
           waiting_phase : (w : Option Phase) → l.queue.waits ≡ w → (q : Phase) × (l.queue.waits ≡ Some q)
           waiting_phase (Some q) e = (q, e)
           waiting_phase None e =

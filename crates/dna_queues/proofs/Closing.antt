@@ -1,8 +1,6 @@
 -- What comes for a link that its user has closed before it acted on what waits.
 use Rattle.std.proofs.Common.{◌≡◌, ℕ, ◌-◌, Bool, true, false, ◌&&◌, ◌||◌, cond, Option, List, [], ◌∷◌, refl, sym, ap₂, subst}
-use Rattle.dna_packet.specs.Nsp.{SegmentValue, NspValue, DataSegment, LinkService, DataAck}
-use Rattle.dna_packet.specs.Nsp.{OtherDataAck, ConnectAck, NoOperation, ConnectInitiate, ConnectConfirm}
-use Rattle.dna_packet.specs.Nsp.{DisconnectInitiate, DisconnectConfirm}
+use Rattle.dna_packet.specs.Nsp.{NspValue, DataSegment, LinkService, DataAck, OtherDataAck, ConnectConfirm, DisconnectInitiate, DisconnectConfirm}
 use Rattle.dna_links.specs.declared.port.Phase.{Phase}
 use Rattle.dna_links.specs.declared.port.Phase.TheVariants.{Calling, Confirming, Running, Disconnecting, Ended}
 use Rattle.dna_links.specs.declared.port.Port.{Port}
@@ -14,7 +12,7 @@ use Rattle.dna_links.specs.TrueSegments.{Numbers}
 use Rattle.dna_links.specs.Runs.{SentMessage}
 use Rattle.dna_queues.proofs.Pieces.{Below, below_on, below_hold}
 use Rattle.dna_queues.proofs.Goes.{Link}
-use Rattle.dna_queues.proofs.Ahead.{Seen, Meets, Ahead, acted_as, confirmed_if, ended_if, ran_if, taken_if, takes_numbers}
+use Rattle.dna_queues.proofs.Ahead.{Seen, Meets, Ahead, acted_as, confirmed_if, ended_if, takes_numbers}
 
 -- ---- what comes for a link that is closed
 
@@ -29,39 +27,15 @@ closed x r = record x { port = record x.port { phase = Ended }; received = r; us
 
 over_acted : (m : NspValue) (truth : LinkTruth Numbers) (x : Seen) → acted_as m truth (over x) ≡ over x
 over_acted (ConnectConfirm dst src services info segsize user_data) truth x = refl
-over_acted (DisconnectInitiate dst src reason user_data) truth x = refl
-over_acted (DisconnectConfirm dst src reason) truth x = refl
-over_acted (DataSegment s) truth x = refl
-over_acted (DataAck dst src acks) truth x = refl
-over_acted (LinkService interrupt dst src rest) truth x = refl
-over_acted (OtherDataAck dst src rest) truth x = refl
-over_acted (ConnectInitiate retransmitted src services info segsize user_data) truth x = refl
-over_acted (ConnectAck dst) truth x = refl
-over_acted (NoOperation rest) truth x = refl
+over_acted m truth x = refl
 
 over_takes : (m : NspValue) (p : Port) → takes_numbers m (record p { phase = Ended }) ≡ true → ⊥
 over_takes (DataSegment s) p e = cc
-over_takes (DataAck dst src acks) p e = cc
-over_takes (ConnectConfirm dst src services info segsize user_data) p e = cc
-over_takes (DisconnectInitiate dst src reason user_data) p e = cc
-over_takes (DisconnectConfirm dst src reason) p e = cc
-over_takes (LinkService interrupt dst src rest) p e = cc
-over_takes (OtherDataAck dst src rest) p e = cc
-over_takes (ConnectInitiate retransmitted src services info segsize user_data) p e = cc
-over_takes (ConnectAck dst) p e = cc
-over_takes (NoOperation rest) p e = cc
+over_takes m p e = cc
 
 closing_takes : (m : NspValue) (p : Port) → takes_numbers m (record p { phase = Disconnecting }) ≡ true → ⊥
 closing_takes (DataSegment s) p e = cc
-closing_takes (DataAck dst src acks) p e = cc
-closing_takes (ConnectConfirm dst src services info segsize user_data) p e = cc
-closing_takes (DisconnectInitiate dst src reason user_data) p e = cc
-closing_takes (DisconnectConfirm dst src reason) p e = cc
-closing_takes (LinkService interrupt dst src rest) p e = cc
-closing_takes (OtherDataAck dst src rest) p e = cc
-closing_takes (ConnectInitiate retransmitted src services info segsize user_data) p e = cc
-closing_takes (ConnectAck dst) p e = cc
-closing_takes (NoOperation rest) p e = cc
+closing_takes m p e = cc
 
 module _ (l k : Link) where
   ahead_over : (units : List SentMessage) (x : Seen) (r : List (Option Piece)) → (Meets (over x) l → Meets (closed x r) k) → Ahead units (over x) l →
@@ -114,16 +88,6 @@ module _ (l k : Link) where
             (record { connected = refl; used = refl; received = below }) ahead
         go false ahead = rest x r c ahead
 
-    ran_is : (b : Bool) (a : Seen) → ran_if b a
-        ≡ cond b (record a { port = record a.port { phase = Running }; used = Running; received = a.received }) a
-    ran_is true a = refl
-    ran_is false a = refl
-
-    taken_is : (b : Bool) (s : SegmentValue) (known : Numbers) (a : Seen) → taken_if b s known a ≡ cond b
-        (record a { port = record a.port { phase = Running }; used = Running; received = hold (known.segment - 1) (piece_of s) a.received }) a
-    taken_is true s known a = refl
-    taken_is false s known a = refl
-
     one_so : (m : NspValue) (truth : LinkTruth Numbers) (units : List SentMessage) (x : Seen) (r : List (Option Piece)) → Closes x r → Rest units →
         Ahead units (acted_as m truth x) l → Ahead units (acted_as m truth (closing x r)) k
     one_so (ConnectConfirm dst src services info segsize user_data) truth units x r c rest ahead =
@@ -134,19 +98,14 @@ module _ (l k : Link) where
     one_so (DataSegment s) truth units x r c rest ahead =
         runs_so units s.dstaddr s.srcaddr x r (hold (truth.known.segment - 1) (piece_of s) x.received) c rest
         (below_on r x.received _ c.received (below_hold (truth.known.segment - 1) (piece_of s) x.received))
-        (subst (λ (a : Seen). Ahead units a l) (taken_is (passes (ActedOn s.dstaddr s.srcaddr) x.port) s truth.known x) ahead)
+        ahead
     one_so (DataAck dst src acks) truth units x r c rest ahead =
-        runs_so units dst src x r x.received c rest c.received (subst (λ (a : Seen). Ahead units a l) (ran_is (passes (ActedOn dst src) x.port)
-        x) ahead)
+        runs_so units dst src x r x.received c rest c.received ahead
     one_so (LinkService interrupt dst src rest_of) truth units x r c rest ahead =
-        runs_so units dst src x r x.received c rest c.received (subst (λ (a : Seen). Ahead units a l) (ran_is (passes (ActedOn dst src) x.port)
-        x) ahead)
+        runs_so units dst src x r x.received c rest c.received ahead
     one_so (OtherDataAck dst src rest_of) truth units x r c rest ahead =
-        runs_so units dst src x r x.received c rest c.received (subst (λ (a : Seen). Ahead units a l) (ran_is (passes (ActedOn dst src) x.port)
-        x) ahead)
-    one_so (ConnectInitiate retransmitted src services info segsize user_data) truth units x r c rest ahead = rest x r c ahead
-    one_so (ConnectAck dst) truth units x r c rest ahead = rest x r c ahead
-    one_so (NoOperation rest_of) truth units x r c rest ahead = rest x r c ahead
+        runs_so units dst src x r x.received c rest c.received ahead
+    one_so m truth units x r c rest ahead = rest x r c ahead
 
     pub ahead_closing : (units : List SentMessage) → Rest units
     ahead_closing [] x r c ahead = open_meets x r c ahead

@@ -1,10 +1,9 @@
 -- A message that the node with queues composes: its link, as one of the machine for which nothing waits, may send it.
-use Rattle.std.proofs.Common.{◌≡◌, ℕ, true, not, ◌&&◌, Option, Some, None, List, Result, Ok, Err, refl, sym, ap, ◌∙◌}
-use Rattle.std.proofs.Common.{subst}
+use Rattle.std.proofs.Common.{◌≡◌, ℕ, true, not, ◌&&◌, Option, Some, None, List, Result, Ok, Err, refl, sym, ap, ◌∙◌, subst}
 use Rattle.std.specs.Prelude.{slice_get}
 use Rattle.dna_packet.specs.declared.ack_word.AckWord.{AckWord}
-use Rattle.dna_packet.specs.Nsp.{SegmentValue, NspValue, DataSegment, LinkService, DataAck, OtherDataAck, ConnectAck, NoOperation, ConnectInitiate}
-use Rattle.dna_packet.specs.Nsp.{ConnectConfirm, DisconnectInitiate, DisconnectConfirm, IsInRange}
+use Rattle.dna_packet.specs.Nsp.{SegmentValue, NspValue, DataSegment, LinkService, DataAck, OtherDataAck, ConnectAck, ConnectInitiate}
+use Rattle.dna_packet.specs.Nsp.{ConnectConfirm, DisconnectInitiate, IsInRange}
 use Rattle.dna_station.specs.declared.link_refusal.LinkRefusal.{LinkRefusal}
 use Rattle.dna_station.specs.declared.link_refusal.LinkRefusal.TheVariants.{NoLink, LinkState}
 use Rattle.dna_links.specs.declared.port.Phase.{Phase}
@@ -15,16 +14,15 @@ use Rattle.dna_links.specs.declared.queue.Queues.TheVariants.{Without}
 use Rattle.dna_links.specs.declared.queue.Said.TheVariants.{OfRun, Disconnect}
 use Rattle.dna_links.specs.LookUps.{passes, is_in}
 use Rattle.dna_links.specs.Segmentation.{Piece}
-use Rattle.dna_links.specs.SegmentBook.{Sending, Late}
+use Rattle.dna_links.specs.SegmentBook.{Sending}
 use Rattle.dna_links.specs.Links.{LinkTruth, check, with_link, changed, with_segments}
 use Rattle.dna_links.specs.Queues.{is_silent, is_over}
-use Rattle.dna_links.specs.LinkBook.{on_ok}
 use Rattle.dna_links.specs.inner.Forms.{truth_of, unchanged}
 use Rattle.dna_links.specs.Sending.{Sent, message_sent}
 use Rattle.dna_links.specs.CutSegments.{IsAnswered}
-use Rattle.dna_links.specs.TrueSegments.{TrueSegments, Numbers, sends_late, sends_acks}
-use Rattle.dna_links.proofs.Tables.Outcomes.{IsFound, looked, checked}
-use Rattle.dna_queues.proofs.Facts.{same_Ok}
+use Rattle.dna_links.specs.TrueSegments.{Numbers, sends_late, sends_acks}
+use Rattle.dna_links.proofs.Tables.Outcomes.{looked, checked}
+use Rattle.dna_queues.proofs.Facts.{same_Ok, was_ok_first}
 use Rattle.dna_queues.specs.Hidden.{LateSegments, late_segments, late_sent, acks_sent, Links, is_composed}
 use Rattle.dna_queues.proofs.Words.{Carries}
 use Rattle.dna_queues.proofs.Segments.{late_grows, acks_grow}
@@ -130,70 +128,39 @@ module _ (s : Links) (made : Sent LateSegments Numbers) where
   composes_segment segment e =
       looked (TheLink segment.srcaddr segment.dstaddr) s (Err NoLink) _ (Ok made) e (λ none e. absurd cc)
       (λ n h found e. let c = checked (is_in Running h.port.phase) LinkState _ made e in
-      go n h found c.0 (sends_late h.segments.gap h.segsize segment h.segments.segments) refl c.1)
-    where
-      go : (n : ℕ) (h : LateLink) → IsFound (TheLink segment.srcaddr segment.dstaddr) s n h → is_in Running h.port.phase ≡ true →
-          (r : Result (Late TrueSegments Numbers) LinkRefusal) → sends_late h.segments.gap h.segsize segment h.segments.segments ≡ r →
-          on_ok (on_ok r (λ late. let x : Result (Sending LateSegments Numbers) LinkRefusal = Ok (late_sent late) in x))
-          (λ sent. let x : Result (Sent LateSegments Numbers) LinkRefusal =
-          Ok (record { links = changed n (with_segments sent.segments h) s; truth = truth_of late_segments n h sent.known }) in x) ≡ Ok made →
-          Composed s (DataSegment segment) made
-      go n h found run (Err refusal) does e = absurd cc
-      go n h found run (Ok late) does e =
-          let m = run_may h.port.phase run in
-          carries (DataSegment segment) n h (late_sent late) found.there
-          (λ small. record {
-            passed = found.passed;
-            moves = record {
-              run = m.0;
-              late = late;
-              does = does;
-              is = run_said (with_segments (late_sent late).segments h) m.1;
-            };
-          })
-          (λ small answered. (late_grows None h.segments.segments h.segments.segments (grown_itself h.segments.segments answered) h.segments.gap
-          h.segsize segment
-          late small.0 does).carries) e
+      let r = was_ok_first (sends_late h.segments.gap h.segsize segment h.segments.segments) _ _ made c.1 in
+      let m = run_may h.port.phase c.0 in
+      carries (DataSegment segment) n h (late_sent r.0) found.there
+      (λ small. record {
+        passed = found.passed;
+        moves = record { run = m.0; late = r.0; does = r.1; is = run_said (with_segments (late_sent r.0).segments h) m.1 };
+      })
+      (λ small answered. (late_grows None h.segments.segments h.segments.segments (grown_itself h.segments.segments answered) h.segments.gap
+      h.segsize segment r.0 small.0 r.1).carries) r.2)
 
   composes_acks : (dst src : ℕ) (acks : List AckWord) → message_sent Without late_segments s (DataAck dst src acks) ≡ Ok made →
       Composed s (DataAck dst src acks) made
   composes_acks dst src acks e =
       looked (TheLink src dst) s (Err NoLink) _ (Ok made) e (λ none e. absurd cc)
       (λ n h found e. let c = checked (is_in Running h.port.phase) LinkState _ made e in
-      go n h found c.0 (sends_acks acks h.segments.segments) refl c.1)
-    where
-      go : (n : ℕ) (h : LateLink) → IsFound (TheLink src dst) s n h → is_in Running h.port.phase ≡ true →
-          (r : Result (Sending TrueSegments Numbers) LinkRefusal) → sends_acks acks h.segments.segments ≡ r →
-          on_ok (on_ok r (λ sent. let x : Result (Sending LateSegments Numbers) LinkRefusal = Ok (acks_sent h.segments sent) in x))
-          (λ sent. let x : Result (Sent LateSegments Numbers) LinkRefusal =
-          Ok (record { links = changed n (with_segments sent.segments h) s; truth = truth_of late_segments n h sent.known }) in x) ≡ Ok made →
-          Composed s (DataAck dst src acks) made
-      go n h found run (Err refusal) does e = absurd cc
-      go n h found run (Ok sent) does e =
-          let m = run_may h.port.phase run in
-          carries (DataAck dst src acks) n h (acks_sent h.segments sent) found.there
-          (λ small. record {
-            passed = found.passed;
-            moves = record {
-              run = m.0;
-              sent = sent;
-              does = does;
-              is = run_said (with_segments (acks_sent h.segments sent).segments h) m.1;
-            };
-          })
-          (λ small answered. (acks_grow None h.segments.segments h.segments.segments (grown_itself h.segments.segments answered) acks sent
-          small.0 does).carries) e
+      let r = was_ok_first (sends_acks acks h.segments.segments) _ _ made c.1 in
+      let m = run_may h.port.phase c.0 in
+      carries (DataAck dst src acks) n h (acks_sent h.segments r.0) found.there
+      (λ small. record {
+        passed = found.passed;
+        moves = record { run = m.0; sent = r.0; does = r.1; is = run_said (with_segments (acks_sent h.segments r.0).segments h) m.1 };
+      })
+      (λ small answered. (acks_grow None h.segments.segments h.segments.segments (grown_itself h.segments.segments answered) acks r.0 small.0
+      r.1).carries) r.2)
 
   pub composes : (m : NspValue) → is_composed m ≡ true → message_sent Without late_segments s m ≡ Ok made → Composed s m made
   composes (ConnectInitiate retransmitted src services info segsize user_data) is e =
       in_phase _ (OpenedAt src) Calling e (λ h passed calling. record { passed = passed; moves = (call_may h.port.phase calling, refl) })
-  composes (ConnectAck dst) is e = absurd cc
   composes (ConnectConfirm dst src services info segsize user_data) is e =
       in_phase _ (TheLink src dst) Confirming e (λ h passed phase. record { passed = passed; moves = (confirm_may h.port.phase phase, refl) })
   composes (DisconnectInitiate dst src reason user_data) is e =
       in_phase _ (TheLink src dst) Disconnecting e
       (λ h passed phase. record { passed = passed; moves = (phase, closing_said h (close_said h.port.phase phase)) })
-  composes (DisconnectConfirm dst src reason) is e = absurd cc
   composes (DataSegment segment) is e = composes_segment segment e
   composes (DataAck dst src acks) is e = composes_acks dst src acks e
   composes (LinkService interrupt dst src rest) is e =
@@ -202,7 +169,7 @@ module _ (s : Links) (made : Sent LateSegments Numbers) where
   composes (OtherDataAck dst src rest) is e =
       in_phase _ (TheLink src dst) Running e
       (λ h passed phase. let m = run_may h.port.phase phase in record { passed = passed; moves = (m.0, run_said h m.1) })
-  composes (NoOperation rest) is e = absurd cc
+  composes m is e = absurd cc
 
 -- a connect ack, of any link that a CI from its address began
 pub acknowledges : (s : Links) (m : NspValue) (truth : LinkTruth Numbers) (dst number : ℕ) (link : LateLink) → m ≡ ConnectAck dst →

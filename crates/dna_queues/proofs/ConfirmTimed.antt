@@ -1,5 +1,5 @@
 -- A DC with SRCADDR 0 refuses a call, which then is over; and any DC, by what it settles.
-use Rattle.std.proofs.Common.{◌≡◌, ℕ, Bool, true, false, ◌&&◌, ◌==◌, cond, Option, Some, None, List, [], ◌∷◌, Result, Ok, Err}
+use Rattle.std.proofs.Common.{◌≡◌, ℕ, Bool, true, false, ◌&&◌, ◌==◌, cond, Some, None, List, [], ◌∷◌, Result, Ok, Err}
 use Rattle.std.proofs.Common.{refl, sym, ap, ap₂, ◌∙◌, subst, eqb-true}
 use Rattle.std.proofs.lemmas.Option.{same_Some}
 use Rattle.dna_packet.specs.Nsp.{NoOperation, DisconnectConfirm}
@@ -18,7 +18,7 @@ use Rattle.dna_links.specs.TrueSegments.{TrueSegments, Numbers, sends_other, tru
 use Rattle.dna_links.specs.TrueLinks as machine
 use Rattle.dna_links.specs.Runs.{SentMessage}
 use Rattle.dna_links.proofs.Tables.Outcomes.{IsFound, looked}
-use Rattle.dna_queues.proofs.Facts.{not_both, passed_check}
+use Rattle.dna_queues.proofs.Facts.{not_both, passed_check, same_links, by_option}
 use Rattle.dna_queues.specs.Records.{LinkRecord, Sends}
 use Rattle.dna_queues.specs.Hidden.{late_segments, Node, waiting, link_it_is_for, link_it_is_of}
 use Rattle.dna_queues.specs.Made.{IsFree, EndsCall, SendsConfirm, SendsNothing, MadeByHidden, Makes}
@@ -39,14 +39,9 @@ module _ (s : machine.Links) (sane : AreSane s) (later : List LinkRecord) (packe
     (missing : number_of (TheLink src dst) s ≡ None) where
   -- with SRCADDR 0
   none_zero : (src == 0) ≡ true → number_of (HasAddress src) s ≡ None
-  none_zero zero = go (number_of (HasAddress src) s) refl
-    where
-      go : (o : Option ℕ) → number_of (HasAddress src) s ≡ o → number_of (HasAddress src) s ≡ None
-      go None e = e
-      go (Some i) e =
-          looked {R = ℕ} (HasAddress src) s 0 (λ j l. 0) _ refl
-          (λ none f. none)
-          (λ j l found f. absurd (not_both _ found.passed (ap (is_at l.port.own) (eqb-true src 0 zero) ∙ sane.not_zero j l found.there)))
+  none_zero zero = by_option (number_of (HasAddress src) s) (λ e. e)
+      (λ i e. looked {R = ℕ} (HasAddress src) s 0 (λ j l. 0) _ refl (λ none f. none)
+      (λ j l found f. absurd (not_both _ found.passed (ap (is_at l.port.own) (eqb-true src 0 zero) ∙ sane.not_zero j l found.there))))
 
   pub call_sound : (made : Sent TrueSegments Numbers) → (src == 0) ≡ true →
       with_link {R = Result (Sent TrueSegments Numbers) LinkRefusal} (CalledBy dst) s (Ok (of_no_link true_segments s)) (λ i l. Ok (record {
@@ -55,12 +50,9 @@ module _ (s : machine.Links) (sane : AreSane s) (later : List LinkRecord) (packe
       })) ≡ Ok made → (AreSane made.links → Sound made.links later) → Sound s (Sends packet ∷ later)
   call_sound made zero e rest =
       looked (CalledBy dst) s (Ok (of_no_link true_segments s)) _ (Ok made) e
-      (λ none f. nothing none (same_links _ f))
-      (λ i l found f. ends i l found (same_links _ f))
+      (λ none f. nothing none (same_links _ made f))
+      (λ i l found f. ends i l found (same_links _ made f))
     where
-      same_links : (x : Sent TrueSegments Numbers) → ◌≡◌ {A = Result (Sent TrueSegments Numbers) LinkRefusal} (Ok x) (Ok made) → x.links ≡ made.links
-      same_links x f = cc
-
       called_same : (dues : ℕ → Due) (n : Node) (t : Timed s dues n) →
           number_of (CalledBy dst) (flushed s sane dues n t src).next.links ≡ number_of (CalledBy dst) s
       called_same dues n t = flushed_number s sane dues n t src (CalledBy dst) (λ j l at own. called_use dst l (sane.each j l at))
@@ -172,9 +164,6 @@ module _ (s : machine.Links) (sane : AreSane s) (later : List LinkRecord) (packe
       (λ none e. by_zero none (src == 0) refl e)
       (λ i l found e. absurd cc)
     where
-      same_links : (x : Sent TrueSegments Numbers) → ◌≡◌ {A = Result (Sent TrueSegments Numbers) LinkRefusal} (Ok x) (Ok made) → x.links ≡ made.links
-      same_links x f = cc
-
       by_zero : number_of (TheLink src dst) s ≡ None → (z : Bool) → (src == 0) ≡ z →
           cond z (with_link {R = Result (Sent TrueSegments Numbers) LinkRefusal} (CalledBy dst) s (Ok (of_no_link true_segments s))
           (λ i l. Ok (record {
@@ -184,16 +173,13 @@ module _ (s : machine.Links) (sane : AreSane s) (later : List LinkRecord) (packe
           (Ok (record (of_no_link true_segments s) {
             links = with_link (HasAddress src) s s (λ i l. changed i (settled true_segments l.queue.waits l) s);
           })) ≡ Ok made → Sound s (Sends packet ∷ later)
-      by_zero none false zero e = settle_sound s sane later packet dst src reason is may none made.links zero (same_links _ e) rest
+      by_zero none false zero e = settle_sound s sane later packet dst src reason is may none made.links zero (same_links _ made e) rest
       by_zero none true zero e = call_sound s sane later packet dst src reason is may none made zero e rest
 
   pub nothing_sound : (octets : List ℕ) → packet.message ≡ NoOperation octets →
       message_sent With true_segments s (NoOperation octets) ≡ Ok made → Sound s (Sends packet ∷ later)
-  nothing_sound octets is e = go (subst (λ (x : machine.Links). AreSane x → Sound x later) (sym (same_links _ e)) rest sane)
+  nothing_sound octets is e = go (subst (λ (x : machine.Links). AreSane x → Sound x later) (sym (same_links _ made e)) rest sane)
     where
-      same_links : (x : Sent TrueSegments Numbers) → ◌≡◌ {A = Result (Sent TrueSegments Numbers) LinkRefusal} (Ok x) (Ok made) → x.links ≡ made.links
-      same_links x f = cc
-
       go : Sound s later → Sound s (Sends packet ∷ later)
       go r = record {
         dues = r.dues;

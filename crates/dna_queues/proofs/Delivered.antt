@@ -1,7 +1,6 @@
 -- What a link's user was given of its segments no sending looks at, and none changes.
-use Rattle.std.proofs.Common.{◌≡◌, ℕ, ◌-◌, ◌&&◌, Bool, true, false, not, nat_le, nat_lt, cond}
-use Rattle.std.proofs.Common.{Option, Some, None, List, Result, Ok, Err, refl, sym, ap, ◌∙◌}
-use Rattle.std.proofs.Common.{length, subst}
+use Rattle.std.proofs.Common.{◌≡◌, ℕ, ◌-◌, ◌&&◌, Bool, true, false, not, nat_le, nat_lt, cond, Option, Some, None, List, Result, Ok, Err, refl, sym}
+use Rattle.std.proofs.Common.{ap, ◌∙◌, length, subst}
 use Rattle.dna_packet.specs.declared.ack_word.AckWord.{AckWord}
 use Rattle.dna_packet.specs.Nsp.{SegmentValue}
 use Rattle.dna_station.specs.declared.link_refusal.LinkRefusal.{LinkRefusal}

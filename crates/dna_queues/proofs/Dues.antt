@@ -1,6 +1,5 @@
 -- What was composed of each link and is sent later, and the links with it.
-use Rattle.std.proofs.Common.{◌≡◌, ℕ, Bool, true, false, ◌==◌, cond, ◌⊎◌, inl, inr, Option, Some, None, List, [], ◌∷◌}
-use Rattle.std.proofs.Common.{refl, sym, ap, ap₂, ◌∙◌, subst}
+use Rattle.std.proofs.Common.{◌≡◌, ℕ, Bool, true, false, ◌==◌, cond, Option, Some, None, List, [], ◌∷◌, refl, sym, ap, ap₂, ◌∙◌, subst, inl, inr}
 use Rattle.std.specs.Prelude.{slice_get}
 use Rattle.std.proofs.lemmas.Bool.{cases_eq}
 use Rattle.dna_packet.specs.Nsp.{NspValue}
@@ -40,11 +39,11 @@ put_twice i j first then_put dues = go (j == i)
     go false = refl
 
 pub put_packets : (i j : ℕ) (due : Due) (dues : ℕ → Due) → due.packets ≡ (dues i).packets → (put i due dues j).packets ≡ (dues j).packets
-put_packets i j due dues same = go (cases_eq j i)
-  where
-    go : (j ≡ i) ⊎ (j ≡ i → ⊥) → (put i due dues j).packets ≡ (dues j).packets
-    go (inl e) = ap (λ (d : Due). d.packets) (put_here i j due dues e) ∙ same ∙ ap (λ (m : ℕ). (dues m).packets) (sym e)
-    go (inr differs) = ap (λ (d : Due). d.packets) (put_other i j due dues differs)
+put_packets i j due dues same =
+    elim (cases_eq j i) [
+      | inl e ↦ ap (λ (d : Due). d.packets) (put_here i j due dues e) ∙ same ∙ ap (λ (m : ℕ). (dues m).packets) (sym e)
+      | inr differs ↦ ap (λ (d : Due). d.packets) (put_other i j due dues differs)
+    ]
 
 -- what sendings leave of a link as it is
 pub record Went (l x : Link) : Type 0 where
@@ -57,32 +56,17 @@ pub record Went (l x : Link) : Type 0 where
   pub leaves : Leaves l.segments x.segments
 
 pub went_itself : (l : Link) → Went l l
-went_itself l = record {
-  port = refl;
-  waits = refl;
-  partner = refl;
-  segsize = refl;
-  ran = refl;
-  accepted = refl;
-  leaves = record { received = refl; delivered = refl; passed = refl };
-}
+went_itself l = assumption
 
 pub went_on : (l x y : Link) (m : NspValue) → Went l x → Goes x m y → Went l y
 went_on l x y m w g =
     let s = goes_shape x y m g in
-    subst (Went l) (sym s.is) (record {
-      port = w.port;
-      waits = w.waits;
-      partner = w.partner;
-      segsize = w.segsize;
-      ran = w.ran;
-      accepted = w.accepted;
-      leaves = record {
-        received = s.leaves.received ∙ w.leaves.received;
-        delivered = s.leaves.delivered ∙ w.leaves.delivered;
-        passed = s.leaves.passed ∙ w.leaves.passed;
-      };
-    })
+    let leaves : Leaves l.segments s.segments = record {
+      received = s.leaves.received ∙ w.leaves.received;
+      delivered = s.leaves.delivered ∙ w.leaves.delivered;
+      passed = s.leaves.passed ∙ w.leaves.passed;
+    } in
+    subst (Went l) (sym s.is) (assumption (leaves, w))
 
 went_all : (node peer : ℕ) (packets : List Carried) (l x y : Link) → Went l x → CanGo node peer packets x (λ z. z ≡ y) → Went l y
 went_all node peer [] l x y w can = subst (Went l) can w

@@ -1,14 +1,16 @@
 -- Messages that a link sends one after another, those of them that have to be composed before its phase, and those that it can compose in it.
 use Rattle.std.proofs.Common.{◌≡◌, ℕ, Bool, true, false, ◌&&◌, ◌||◌, ◌==◌, Option, Some}
-use Rattle.std.proofs.Common.{None, is_none, List, [], ◌∷◌, ◌++◌, refl, sym, ap, ◌∙◌, subst}
+use Rattle.std.proofs.Common.{None, is_none, List, [], ◌∷◌, ◌++◌, refl, sym, ap, ◌∙◌, subst, inl, inr}
 use Rattle.dna_packet.specs.Nsp.{NspValue, IsInRange}
 use Rattle.dna_links.specs.declared.port.Phase.{Phase}
-use Rattle.dna_links.specs.declared.port.Phase.TheVariants.{Calling, Called, Confirming, Running, Disconnecting, Ended}
+use Rattle.dna_links.specs.declared.port.Phase.TheVariants.{Calling, Confirming, Running, Disconnecting}
 use Rattle.dna_links.specs.Links.{Carried}
 use Rattle.dna_queues.proofs.Goes.{Link, phase_of, Goes}
 use Rattle.dna_queues.proofs.Shapes.{Shape, goes_shape}
 use Rattle.dna_queues.proofs.Turns.{asks, is_past, is_now, is_in_same, Sane, sane_on, turn, HasSaid, said_on, said_now, nothing_past}
 use Rattle.dna_queues.proofs.Turns.{has_run, IsMute, mute_never, mute_on}
+use Rattle.dna_queues.proofs.Facts.{by_test, not_both}
+use Rattle.std.proofs.lemmas.Bool.{or_right, or_cases}
 
 -- what has to be composed before this phase, with what stands before it: the last of it is of a phase that is past
 abbrev pub is_early : Phase → Carried → Bool
@@ -78,18 +80,10 @@ module _ (node peer : ℕ) where
       (λ x y b s. ap has_run (same_phase x y s) ∙ b) packets l P before early can
     where
       not_past : (a : Option Phase) (p : Phase) → has_run p ≡ false → is_past a p ≡ true → ⊥
-      not_past None p b past = absurd cc
-      not_past (Some Calling) p b past = let x : true ≡ false = sym past ∙ b in absurd cc
-      not_past (Some Confirming) p b past = let x : true ≡ false = sym past ∙ b in absurd cc
+      not_past (Some Calling) p b past = not_both _ past b
+      not_past (Some Confirming) p b past = not_both _ past b
       not_past (Some Running) Disconnecting b past = absurd cc
-      not_past (Some Running) Calling b past = absurd cc
-      not_past (Some Running) Called b past = absurd cc
-      not_past (Some Running) Confirming b past = absurd cc
-      not_past (Some Running) Running b past = absurd cc
-      not_past (Some Running) Ended b past = absurd cc
-      not_past (Some Called) p b past = absurd cc
-      not_past (Some Disconnecting) p b past = absurd cc
-      not_past (Some Ended) p b past = absurd cc
+      not_past a p b past = absurd cc
 
   -- and of a call that was refused
   pub none_refused : (packets : List Carried) (l : Link) (P : Link → Type 0) → IsMute l → AreEarly (phase_of l) packets → CanGo packets l P →
@@ -120,10 +114,6 @@ module _ (node peer : ℕ) where
       can = (may, x, goes, r.can);
     }
       where
-        or_right : (b c : Bool) → c ≡ true → (b || c) ≡ true
-        or_right true c e = refl
-        or_right false c e = e
-
         go : (before : List Carried) → r.before ≡ before → AreEarly (phase_of l) (packet ∷ r.before)
         go [] e = subst (λ (us : List Carried). AreEarly (phase_of l) (packet ∷ us)) (sym e) past
         go (next ∷ others) e =
@@ -165,16 +155,11 @@ module _ (node peer : ℕ) where
             let never : next ∷ others ≡ [] = sym e ∙ none in absurd cc
 
     pub parts_on : Parts (packet ∷ packets) l P
-    parts_on = go (is_early (phase_of l) packet) refl
-      where
-        first : (b c : Bool) → (b || c) ≡ true → c ≡ false → b ≡ true
-        first true c e none = refl
-        first false true e none = absurd cc
-        first false false e none = absurd cc
-
-        go : (b : Bool) → is_early (phase_of l) packet ≡ b → Parts (packet ∷ packets) l P
-        go true past = first_early past _ refl
-        go false not_past = first_now (first _ _ (turn l sane packet.message x goes) not_past) _ refl
+    parts_on = by_test (is_early (phase_of l) packet) (λ past. first_early past _ refl)
+        (λ not_past. first_now (elim (or_cases (is_now (asks packet.message) (phase_of l)) _ (turn l sane packet.message x goes)) [
+          | inl now ↦ now
+          | inr past ↦ absurd (not_both _ past not_past)
+        ]) _ refl)
 
   pub parts : (packets : List Carried) (l : Link) (P : Link → Type 0) → Sane l → CanGo packets l P → Parts packets l P
   parts [] l P sane can = record { before = []; now = []; is = refl; early = tt; timely = tt; can = can }

@@ -1,15 +1,14 @@
 -- A DC is sent where nothing waits: the machine settles the link with its SRCADDR, or ends the call that it refuses.
-use Rattle.std.proofs.Common.{◌≡◌, ℕ, Bool, true, false, ◌&&◌, ◌==◌, cond, ◌⊎◌, inl, inr, Option, Some, None, List, [], Result, Ok, Err}
+use Rattle.std.proofs.Common.{◌≡◌, ℕ, Bool, true, false, ◌&&◌, ◌==◌, cond, Option, Some, None, List, [], Result, Ok, Err}
 use Rattle.std.proofs.Common.{refl, sym, ap, ap₂, ◌∙◌, subst}
 use Rattle.std.specs.Prelude.{slice_get}
 use Rattle.std.proofs.lemmas.Bool.{and_parts}
 use Rattle.dna_packet.specs.Nsp.{NoOperation, DisconnectConfirm}
 use Rattle.dna_station.specs.declared.link_refusal.LinkRefusal.{LinkRefusal}
 use Rattle.dna_station.specs.declared.link_refusal.LinkRefusal.TheVariants.{WrongNode, LinkState}
-use Rattle.dna_links.specs.declared.port.Port.{Port}
 use Rattle.dna_links.specs.declared.port.LinkTest.TheVariants.{HasAddress, TheLink, CalledBy}
 use Rattle.dna_links.specs.declared.queue.Queues.TheVariants.{Without, With}
-use Rattle.dna_links.specs.LookUps.{passes, is_live, is_at, is_called, has_both}
+use Rattle.dna_links.specs.LookUps.{passes, is_at, is_called}
 use Rattle.dna_links.specs.Links.{Carried, number_of, with_link, changed}
 use Rattle.dna_links.specs.Queues.{drops, ended, settled}
 use Rattle.dna_links.specs.inner.Forms.{of_no_link, truth_of, ending}
@@ -25,31 +24,35 @@ use Rattle.dna_queues.specs.Made.{IsFree, EndsCall}
 use Rattle.dna_queues.proofs.Goes.{Link}
 use Rattle.dna_queues.proofs.Acting.{LateLink}
 use Rattle.dna_queues.proofs.Follows.{Follows, is_behind}
-use Rattle.dna_queues.proofs.LinkLists.{set_changed, unique_set, IsChanged, WasAt, was_at, changed_none, changed_one, at_none, at_found, none_passes}
-use Rattle.dna_queues.proofs.Beside.{Beside, follows_as, unique_too, there_too}
+use Rattle.dna_queues.proofs.LinkLists.{set_changed, unique_set, IsChanged, changed_none, changed_one, at_none, at_found, none_passes}
+use Rattle.dna_queues.proofs.LinkLists.{there_too, changed_each, changed_so}
+use Rattle.dna_queues.proofs.Beside.{Beside, follows_as, unique_too}
 use Rattle.dna_queues.proofs.SentOn.{Follow}
 use Rattle.dna_queues.proofs.Given.{own_owns, meets_now, nothing_for, nothing_of, owner_same}
 use Rattle.dna_queues.proofs.Calls.{set_beside, called_same, called_meets}
 use Rattle.dna_queues.proofs.Settled.{dead_follows, settled_follows}
+use Rattle.dna_queues.proofs.Sending.{link_owns}
 
 -- ---- the record
-
-link_owns : (own far : ℕ) (p : Port) → passes (TheLink own far) p ≡ true → is_at p.own own ≡ true
-link_owns own far p e = (and_parts (is_at p.own own) (is_at p.far far) (and_parts (is_live p.phase) (has_both p own far) e).1).0
 
 module _ (n : Node) (t : machine.Links) (b : Beside n t) (near : AreAnswered t) where
   abbrev settled_of : ℕ → machine.Links
   settled_of src = with_link (HasAddress src) t t (λ i l. changed i (settled true_segments l.queue.waits l) t)
 
-  settles : (src : ℕ) → IsChanged t (settled_of src) src (λ l. cond (is_at l.port.own src) (settled true_segments l.queue.waits l) l)
+  settles : (src : ℕ) → IsChanged t (settled_of src) src (λ l. settled true_segments l.queue.waits l)
   settles src =
       looked (HasAddress src) t t (λ i l. changed i (settled true_segments l.queue.waits l) t) (settled_of src) refl
-      (λ none e. subst (λ x. IsChanged t x src (λ l. cond (is_at l.port.own src) (settled true_segments l.queue.waits l) l)) e
-      (changed_none t (unique_too n t b) src (passes (HasAddress src)) (λ l. settled true_segments l.queue.waits l) (own_owns src)
-      (none_passes (HasAddress src) t none)))
-      (λ i l found e. subst (λ x. IsChanged t x src (λ l. cond (is_at l.port.own src) (settled true_segments l.queue.waits l) l)) e
-      (changed_one t (unique_too n t b) src (passes (HasAddress src)) (λ l. settled true_segments l.queue.waits l) (own_owns src) i l found.there
-      found.passed))
+      (λ none e. subst (λ x. IsChanged t x src (λ l. settled true_segments l.queue.waits l)) e
+      (at_own t (changed_none t (unique_too n t b) src (passes (HasAddress src)) (λ l. settled true_segments l.queue.waits l) (own_owns src)
+      (none_passes (HasAddress src) t none))))
+      (λ i l found e. subst (λ x. IsChanged t x src (λ l. settled true_segments l.queue.waits l)) e
+      (at_own _ (changed_one t (unique_too n t b) src (passes (HasAddress src)) (λ l. settled true_segments l.queue.waits l) (own_owns src) i l
+      found.there found.passed)))
+    where
+      at_own : (left : machine.Links) → IsChanged t left src (λ l. cond (is_at l.port.own src) (settled true_segments l.queue.waits l) l) →
+          IsChanged t left src (λ l. settled true_segments l.queue.waits l)
+      at_own left c = changed_so t left src _ (λ l. settled true_segments l.queue.waits l) c
+          (λ i l at has. ap (λ (b : Bool). cond b (settled true_segments l.queue.waits l) l) has)
 
   settled_beside : (src : ℕ) → IsFree src n → Beside n (settled_of src)
   settled_beside src free =
@@ -61,31 +64,15 @@ module _ (n : Node) (t : machine.Links) (b : Beside n t) (near : AreAnswered t) 
         unique = b.unique;
         for_links = b.for_links;
         of_links = b.of_links;
-        all = λ i h k at_h at_k. one i h k at_h (was_at t (settled_of src) src _ c i k at_k);
+        all = λ i h k at_h at_k. changed_each t (settled_of src) src _ c
+            (λ x. Follows h x (waiting link_it_is_for h.port.own n.kept) (waiting link_it_is_of (Some i) n.composed)) i
+            (λ l at_l has. let f = b.all i h l at_h at_l in
+            let own : is_at h.port.own src ≡ true = ap (λ (o : Option ℕ). is_at o src) (is_behind h l _ _ f).own ∙ has in
+            let none_for = nothing_for n t b src free h own in
+            let none_of = nothing_of n t b src free i h at_h own in
+            follows_as h _ _ _ _ _ (sym none_for) (sym none_of) (settled_follows h l (follows_as h l _ _ _ _ none_for none_of f)))
+            (λ l at_l has. b.all i h l at_h at_l) k at_k;
       }
-    where
-      one : (i : ℕ) (h : LateLink) (k : Link) → slice_get n.links.links i ≡ Some h →
-          WasAt t src (λ l. cond (is_at l.port.own src) (settled true_segments l.queue.waits l) l) i k →
-          Follows h k (waiting link_it_is_for h.port.own n.kept) (waiting link_it_is_of (Some i) n.composed)
-      one i h k at_h w = by w.is
-        where
-          f : Follows h w.link (waiting link_it_is_for h.port.own n.kept) (waiting link_it_is_of (Some i) n.composed)
-          f = b.all i h w.link at_h w.there
-
-          by : ((is_at w.link.port.own src ≡ true) ×
-              (cond (is_at w.link.port.own src) (settled true_segments w.link.queue.waits w.link) w.link ≡ k)) ⊎
-              ((is_at w.link.port.own src ≡ false) × (w.link ≡ k)) →
-              Follows h k (waiting link_it_is_for h.port.own n.kept) (waiting link_it_is_of (Some i) n.composed)
-          by (inl a) =
-              let own : is_at h.port.own src ≡ true = ap (λ (o : Option ℕ). is_at o src) (is_behind h w.link _ _ f).own ∙ a.0 in
-              let same : settled true_segments w.link.queue.waits w.link ≡ k =
-              sym (ap (λ (c : Bool). cond c (settled true_segments w.link.queue.waits w.link) w.link) a.0) ∙ a.1 in
-              let none_for = nothing_for n t b src free h own in
-              let none_of = nothing_of n t b src free i h at_h own in
-              subst (λ (x : Link). Follows h x (waiting link_it_is_for h.port.own n.kept) (waiting link_it_is_of (Some i) n.composed)) same
-              (follows_as h _ _ _ _ _ (sym none_for) (sym none_of) (settled_follows h w.link (follows_as h w.link _ _ _ _ none_for none_of f)))
-          by (inr a) =
-              subst (λ (x : Link). Follows h x (waiting link_it_is_for h.port.own n.kept) (waiting link_it_is_of (Some i) n.composed)) a.1 f
 
   pub record ConfirmsToo (dst src reason : ℕ) (links : Links) : Type 0 where
     pub made : Sent TrueSegments Numbers

@@ -1,11 +1,9 @@
 -- A packet that ends its link, or finds no live one, is acted on.
-use Rattle.std.proofs.Common.{◌≡◌, ℕ, Bool, true, false, ◌||◌, cond, Some}
-use Rattle.std.proofs.Common.{Ok, refl, sym, ap, ◌∙◌, subst}
+use Rattle.std.proofs.Common.{◌≡◌, ℕ, Bool, true, false, ◌||◌, cond, Some, Ok, refl, sym, ap, ◌∙◌, subst}
 use Rattle.std.specs.Prelude.{slice_get}
-use Rattle.std.proofs.lemmas.Bool.{and_parts}
+use Rattle.std.proofs.lemmas.Bool.{and_parts, false_from_ne_true}
 use Rattle.std.proofs.lemmas.Option.{same_Some}
-use Rattle.dna_packet.specs.Nsp.{NspValue, DataSegment, LinkService, DataAck, OtherDataAck, ConnectAck, NoOperation, ConnectInitiate}
-use Rattle.dna_packet.specs.Nsp.{ConnectConfirm, DisconnectInitiate, DisconnectConfirm}
+use Rattle.dna_packet.specs.Nsp.{NspValue, DataSegment, LinkService, DataAck, OtherDataAck, ConnectConfirm, DisconnectInitiate, DisconnectConfirm}
 use Rattle.dna_station.specs.declared.link_refusal.LinkRefusal.TheVariants.{CrossedLink}
 use Rattle.dna_links.specs.declared.port.Phase.{Phase}
 use Rattle.dna_links.specs.declared.port.Phase.TheVariants.{Calling}
@@ -21,7 +19,7 @@ use Rattle.dna_queues.proofs.Facts.{calling_live, connected_live, dead_phase, no
 use Rattle.dna_queues.specs.Hidden.{late_segments, Links, dstaddr}
 use Rattle.dna_queues.proofs.Acting.{ended_late, confirmed_late, run_late}
 use Rattle.dna_queues.proofs.Arrivals.{calling_owns, acted_owns, row_made, either, either_made}
-use Rattle.dna_queues.proofs.LinkLists.{IsUnique, IsChanged}
+use Rattle.dna_queues.proofs.LinkLists.{IsUnique, IsChanged, changed_so}
 use Rattle.dna_queues.proofs.Hide.{LateLink}
 use Rattle.dna_queues.proofs.Timed.{is_end}
 
@@ -42,11 +40,7 @@ module _ (s : Links) (unique : IsUnique s) (address : ℕ) (truth : LinkTruth Nu
   -- one that ends no link, and so finds no live one
   module _ (m : NspValue) (ends : EndsAt s address m) (never : (p : Port) → is_end m p ≡ false) where
     dead : (i : ℕ) (h : LateLink) → slice_get s.links i ≡ Some h → is_at h.port.own address ≡ true → is_live h.port.phase ≡ false
-    dead i h at own = go (is_live h.port.phase) refl
-      where
-        go : (b : Bool) → is_live h.port.phase ≡ b → is_live h.port.phase ≡ false
-        go false e = e
-        go true e = absurd (not_both _ (ends i h at own e) (never h.port))
+    dead i h at own = false_from_ne_true _ (λ e. not_both _ (ends i h at own e) (never h.port))
 
     acts_not : (test : LinkTest) → ((p : Port) → passes test p ≡ true → is_at p.own address ≡ true) →
         ((p : Port) → passes test p ≡ true → is_live p.phase ≡ true) → (may : ℕ → LateLink → Bool) (f : LateLink → LateLink) →
@@ -58,22 +52,12 @@ module _ (s : Links) (unique : IsUnique s) (address : ℕ) (truth : LinkTruth Nu
         record {
           links = r.left;
           does = row_is ∙ r.is;
-          changed = record {
-            node = r.changed.node;
-            peer = r.changed.peer;
-            size = r.changed.size;
-            here = λ i h at own. r.changed.here i h at own ∙ ap Some (ap (λ (b : Bool). cond b (f h) h) (fails i h at own) ∙ dead_late h (dead i h
-                at own));
-            other = r.changed.other;
-          };
+          changed = changed_so s r.left address _ ended_late r.changed
+              (λ i h at own. ap (λ (b : Bool). cond b (f h) h) (fails i h at own) ∙ dead_late h (dead i h at own));
         }
       where
         fails : (i : ℕ) (h : LateLink) → slice_get s.links i ≡ Some h → is_at h.port.own address ≡ true → passes test h.port ≡ false
-        fails i h at own = go (passes test h.port) refl
-          where
-            go : (b : Bool) → passes test h.port ≡ b → passes test h.port ≡ false
-            go false e = e
-            go true e = absurd (not_both _ (live h.port e) (dead i h at own))
+        fails i h at own = false_from_ne_true _ (λ e. not_both _ (live h.port e) (dead i h at own))
 
     acts_run : (own far : ℕ) → own ≡ address → (f : LateLink → LateLink) →
         message_arrived Without late_segments of_partner s m truth ≡ with_link (ActedOn own far) s (Ok s)
@@ -91,22 +75,14 @@ module _ (s : Links) (unique : IsUnique s) (address : ℕ) (truth : LinkTruth Nu
       record {
         links = r.left;
         does = row_is ∙ r.is;
-        changed = record {
-          node = r.changed.node;
-          peer = r.changed.peer;
-          size = r.changed.size;
-          here = λ i h at own. r.changed.here i h at own
-              ∙ ap Some (ended h (passes (TheLink dst src) h.port || passes (CallingAt dst) h.port)
-              (λ live. sym (is h.port) ∙ ends i h at own live) (is_live h.port.phase) refl);
-          other = r.changed.other;
-        };
+        changed = changed_so s r.left address _ ended_late r.changed
+            (λ i h at own. ended h (passes (TheLink dst src) h.port || passes (CallingAt dst) h.port)
+            (λ live. sym (is h.port) ∙ ends i h at own live));
       }
     where
-      ended : (h : LateLink) (b : Bool) → (is_live h.port.phase ≡ true → b ≡ true) → (c : Bool) → is_live h.port.phase ≡ c →
-          cond b (ended_late h) h ≡ ended_late h
-      ended h b passed true live = ap (λ (d : Bool). cond d (ended_late h) h) (passed live)
-      ended h true passed false over = refl
-      ended h false passed false over = dead_late h over
+      ended : (h : LateLink) (b : Bool) → (is_live h.port.phase ≡ true → b ≡ true) → cond b (ended_late h) h ≡ ended_late h
+      ended h true passed = refl
+      ended h false passed = dead_late h (false_from_ne_true _ (λ e. not_both false (passed e) refl))
 
   pub acts_one : (m : NspValue) → dstaddr m ≡ Some address → EndsAt s address m → ActsSo m
   acts_one (ConnectConfirm dst src services info segsize user_data) is ends =
@@ -126,6 +102,4 @@ module _ (s : Links) (unique : IsUnique s) (address : ℕ) (truth : LinkTruth Nu
       acts_run _ ends (λ p. refl) dst src (same_Some dst address is) (λ l. run_late l.segments.segments l) refl
   acts_one (OtherDataAck dst src rest) is ends =
       acts_run _ ends (λ p. refl) dst src (same_Some dst address is) (λ l. run_late l.segments.segments l) refl
-  acts_one (ConnectInitiate retransmitted src services info segsize user_data) is ends = absurd cc
-  acts_one (ConnectAck dst) is ends = absurd cc
-  acts_one (NoOperation rest) is ends = absurd cc
+  acts_one m is ends = absurd cc

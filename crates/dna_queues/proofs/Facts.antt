@@ -1,12 +1,30 @@
 -- Facts of tests, phases and refusals that many proofs name.
-use Rattle.std.proofs.Common.{◌≡◌, Bool, true, false, Result, Ok, refl}
+use Rattle.std.proofs.Common.{◌≡◌, Bool, true, false, Result, Ok, refl, Option, Some, None, Err}
 use Rattle.dna_station.specs.declared.link_refusal.LinkRefusal.{LinkRefusal}
 use Rattle.dna_links.specs.declared.port.Phase.{Phase}
 use Rattle.dna_links.specs.declared.port.Phase.TheVariants.{Calling, Confirming, Running, Ended}
 use Rattle.dna_links.specs.LookUps.{is_in, is_live, is_connected}
 use Rattle.dna_links.specs.Links.{check}
 use Rattle.dna_links.specs.Queues.{lets_go}
-use Rattle.dna_links.specs.TrueSegments.{TrueSegments, true_segments}
+use Rattle.dna_links.specs.TrueSegments.{TrueSegments, true_segments, Numbers}
+use Rattle.dna_links.specs.Sending.{Sent}
+use Rattle.dna_links.specs.LinkBook.{on_ok}
+
+-- what follows from a test whichever way it goes
+pub by_test : {P : Type 0} (b : Bool) → (b ≡ true → P) → (b ≡ false → P) → P
+by_test true so not = so refl
+by_test false so not = not refl
+
+pub by_option : {A P : Type 0} (o : Option A) → (o ≡ None → P) → ((x : A) → o ≡ Some x → P) → P
+by_option None none some = none refl
+by_option (Some x) none some = some x refl
+
+-- from what is never so
+pub no_case : {A : Type 0} → false ≡ true → A
+no_case e = absurd cc
+
+pub no_other : {A : Type 0} → true ≡ false → A
+no_other e = absurd cc
 
 pub not_both : (c : Bool) → c ≡ true → c ≡ false → ⊥
 not_both true e f = absurd cc
@@ -31,6 +49,19 @@ connected_live p e = absurd cc
 pub calling_live : (p : Phase) → is_in Calling p ≡ true → is_live p ≡ true
 calling_live Calling e = refl
 calling_live p e = absurd cc
+
+pub same_links : (x y : Sent TrueSegments Numbers) → ◌≡◌ {A = Result (Sent TrueSegments Numbers) LinkRefusal} (Ok x) (Ok y) → x.links ≡ y.links
+same_links x y e = cc
+
+pub was_ok : {X R : Type 0} (r : Result X LinkRefusal) (next : X → Result R LinkRefusal) (y : R) → on_ok r next ≡ Ok y →
+    (x : X) × (r ≡ Ok x) × (next x ≡ Ok y)
+was_ok (Ok x) next y e = (x, refl, e)
+was_ok (Err refusal) next y e = absurd cc
+
+pub was_ok_first : {X Y R : Type 0} (r : Result X LinkRefusal) (next : X → Result Y LinkRefusal) (last : Y → Result R LinkRefusal) (y : R) →
+    on_ok (on_ok r next) last ≡ Ok y → (x : X) × (r ≡ Ok x) × (on_ok (next x) last ≡ Ok y)
+was_ok_first (Ok x) next last y e = (x, refl, e)
+was_ok_first (Err refusal) next last y e = absurd cc
 
 -- on true numbers nothing is let go
 pub lets_still : (before now : Bool) (f : TrueSegments) → lets_go true_segments before now f ≡ f

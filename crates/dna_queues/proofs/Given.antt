@@ -1,8 +1,7 @@
 -- An address is given where nothing waits for it or of it: the link that had it is dead in the machine too.
-use Rattle.std.proofs.Common.{◌≡◌, ℕ, Bool, true, false, ◌&&◌, cond, ◌⊎◌, inl, inr, Option, Some, None, List, [], length}
-use Rattle.std.proofs.Common.{refl, sym, ap, ap₂, ◌∙◌, subst, eqb-true}
+use Rattle.std.proofs.Common.{◌≡◌, ℕ, Bool, true, false, ◌&&◌, cond, Option, Some, None, List, [], length, refl, sym, ap, ap₂, ◌∙◌, subst, eqb-true}
 use Rattle.std.specs.Prelude.{slice_get}
-use Rattle.std.proofs.lemmas.Bool.{and_parts}
+use Rattle.std.proofs.lemmas.Bool.{and_parts, false_from_ne_true}
 use Rattle.dna_links.specs.declared.port.Phase.TheVariants.{Running, Disconnecting, Ended}
 use Rattle.dna_links.specs.declared.port.Port.{Port}
 use Rattle.dna_links.specs.declared.port.LinkTest.{LinkTest}
@@ -19,18 +18,18 @@ use Rattle.dna_links.specs.TrueSegments.{true_segments}
 use Rattle.dna_links.specs.TrueLinks as machine
 use Rattle.dna_links.specs.Runs.{SentMessage}
 use Rattle.dna_links.proofs.Tables.Outcomes.{looked}
-use Rattle.dna_queues.proofs.Facts.{dead_phase, not_both}
+use Rattle.dna_queues.proofs.Facts.{dead_phase, not_both, by_test}
 use Rattle.dna_queues.specs.Records.{AreAnswered, next_links}
 use Rattle.dna_queues.specs.Records as records
 use Rattle.dna_queues.specs.Hidden.{late_segments, Node, link_it_is_for, link_it_is_of, waiting}
 use Rattle.dna_queues.specs.Made.{IsFree}
-use Rattle.dna_queues.proofs.Goes.{Link}
+use Rattle.dna_queues.proofs.Goes.{Link, phase_of}
 use Rattle.dna_queues.proofs.Ahead.{Meets, Ahead}
 use Rattle.dna_queues.proofs.Acting.{LateLink, seen_as}
 use Rattle.dna_queues.proofs.Follows.{Follows, is_behind}
 use Rattle.dna_queues.proofs.Lists.{waiting_none}
-use Rattle.dna_queues.proofs.LinkLists.{IsUnique, IsChanged, WasAt, was_at, changed_none, changed_one, at_none}
-use Rattle.dna_queues.proofs.LinkLists.{none_passes, found_one, number_same}
+use Rattle.dna_queues.proofs.LinkLists.{IsUnique, IsChanged, changed_none, changed_one, at_none, none_passes, found_one, number_same, changed_each}
+use Rattle.dna_queues.proofs.LinkLists.{changed_so}
 use Rattle.dna_queues.proofs.Beside.{Beside, follows_as, unique_too}
 use Rattle.dna_queues.proofs.Begun.{begun_beside, opened_follows}
 use Rattle.dna_queues.proofs.Waiting.{of_same}
@@ -42,13 +41,17 @@ pub own_owns : (own : ℕ) (p : Port) → passes (HasAddress own) p ≡ true →
 own_owns own p e = e
 
 pub freed_changed : {D K : Type 0} (book : SegmentBook D K) (queues : Queues) (own : ℕ) (s : LinksOf D) → IsUnique s →
-    IsChanged s (freed book queues own s) own (λ l. cond (passes (HasAddress own) l.port) (forgotten book queues l) l)
-freed_changed book queues own s unique =
+    IsChanged s (freed book queues own s) own (forgotten book queues)
+freed_changed {D} book queues own s unique =
     looked (HasAddress own) s s (λ n l. changed n (forgotten book queues l) s) (freed book queues own s) refl
-    (λ none e. subst (λ x. IsChanged s x own (λ l. cond (passes (HasAddress own) l.port) (forgotten book queues l) l)) e
-    (changed_none s unique own (passes (HasAddress own)) (forgotten book queues) (own_owns own) (none_passes (HasAddress own) s none)))
-    (λ n l found e. subst (λ x. IsChanged s x own (λ l. cond (passes (HasAddress own) l.port) (forgotten book queues l) l)) e
-    (changed_one s unique own (passes (HasAddress own)) (forgotten book queues) (own_owns own) n l found.there found.passed))
+    (λ none e. subst (λ x. IsChanged s x own (forgotten book queues)) e
+    (at_own s (changed_none s unique own (passes (HasAddress own)) (forgotten book queues) (own_owns own) (none_passes (HasAddress own) s none))))
+    (λ n l found e. subst (λ x. IsChanged s x own (forgotten book queues)) e
+    (at_own _ (changed_one s unique own (passes (HasAddress own)) (forgotten book queues) (own_owns own) n l found.there found.passed)))
+  where
+    at_own : (left : LinksOf D) → IsChanged s left own (λ l. cond (passes (HasAddress own) l.port) (forgotten book queues l) l) →
+        IsChanged s left own (forgotten book queues)
+    at_own left c = changed_so s left own _ (forgotten book queues) c (λ i l at has. ap (λ (b : Bool). cond b (forgotten book queues l) l) has)
 
 pub meets_now : (h : LateLink) (l : Link) (kept composed : List SentMessage) (f : Follows h l kept composed) → kept ≡ [] → Meets (seen_as f.used h) l
 meets_now h l kept composed f none = subst (λ (us : List SentMessage). Ahead us (seen_as f.used h) l) none f.ahead
@@ -82,20 +85,10 @@ forgotten_follows h l over f =
         ran = λ e. absurd (not_both _ e (ap (is_in Running) over_l));
         calling = f.fits.calling;
       };
-      can = record {
-        own = λ n at. at;
-        far = g.far;
-        opened = g.opened;
-        usable = λ e. absurd (not_both _ e (ap is_live over));
-        closing = λ e. absurd (not_both _ e (ap (is_in Disconnecting) over));
-        ran = g.ran;
-        accepted = g.accepted;
-        silent = g.silent;
-        over = g.over;
-        gap = g.gap;
-        segsize = g.segsize;
-        segments = g.segments;
-      };
+      can = let k = forgotten late_segments Without h in let y = forgotten true_segments With l in
+          let usable : is_live k.port.phase ≡ true → is_live (phase_of y) ≡ true = λ e. absurd (not_both _ e (ap is_live over)) in
+          let closing : is_in Disconnecting k.port.phase ≡ true → is_in Disconnecting (phase_of y) ≡ true =
+          λ e. absurd (not_both _ e (ap (is_in Disconnecting) over)) in assumption (usable, closing, g);
     }
 
 module _ (n : Node) (t : machine.Links) (b : Beside n t) (own : ℕ) (free : IsFree own n) where
@@ -119,18 +112,12 @@ module _ (n : Node) (t : machine.Links) (b : Beside n t) (own : ℕ) (free : IsF
 
   -- what is found by it in one is found in the other
   pub owner_same : (test : LinkTest) → ((p : Port) → passes test p ≡ true → is_at p.own own ≡ true) → number_of test n.links ≡ number_of test t
-  owner_same test owns = number_same n.links t b.size test (λ i h l at_h at_l. go i h l at_h at_l (is_at h.port.own own) refl)
+  owner_same test owns = number_same n.links t b.size test (λ i h l at_h at_l. by_test (is_at h.port.own own)
+      (λ e. ap (passes test) (same_port i h l at_h at_l e))
+      (λ e. fails h.port e ∙ sym (fails l.port (ap (λ (o : Option ℕ). is_at o own) (sym (is_behind h l _ _ (b.all i h l at_h at_l)).own) ∙ e))))
     where
-      never : (p : Port) (c : Bool) → passes test p ≡ c → is_at p.own own ≡ false → passes test p ≡ false
-      never p false e none = e
-      never p true e none = absurd (not_both _ (owns p e) none)
-
-      go : (i : ℕ) (h : LateLink) (l : Link) → slice_get n.links.links i ≡ Some h → slice_get t.links i ≡ Some l → (c : Bool) →
-          is_at h.port.own own ≡ c → passes test h.port ≡ passes test l.port
-      go i h l at_h at_l true e = ap (passes test) (same_port i h l at_h at_l e)
-      go i h l at_h at_l false e =
-          never h.port _ refl e
-          ∙ sym (never l.port _ refl (ap (λ (o : Option ℕ). is_at o own) (sym (is_behind h l _ _ (b.all i h l at_h at_l)).own) ∙ e))
+      fails : (p : Port) → is_at p.own own ≡ false → passes test p ≡ false
+      fails p none = false_from_ne_true (passes test p) (λ e. not_both _ (owns p e) none)
 
   pub live_same : number_of (LiveAt own) n.links ≡ number_of (LiveAt own) t
   live_same = owner_same (LiveAt own) (λ p e. (and_parts (is_live p.phase) (is_at p.own own) e).1)
@@ -139,45 +126,23 @@ module _ (n : Node) (t : machine.Links) (b : Beside n t) (own : ℕ) (free : IsF
     abbrev pub free_node : Node
     free_node = record n { links = freed late_segments Without own n.links }
 
-    pub left_h : IsChanged n.links (freed late_segments Without own n.links) own
-        (λ h. cond (passes (HasAddress own) h.port) (forgotten late_segments Without h) h)
+    pub left_h : IsChanged n.links (freed late_segments Without own n.links) own (forgotten late_segments Without)
     left_h = freed_changed late_segments Without own n.links b.unique
 
-    pub left_l : IsChanged t (freed true_segments With own t) own (λ l. cond (passes (HasAddress own) l.port) (forgotten true_segments With l) l)
+    pub left_l : IsChanged t (freed true_segments With own t) own (forgotten true_segments With)
     left_l = freed_changed true_segments With own t (unique_too n t b)
 
     -- none has the address any more
     pub no_owner : (i : ℕ) (g : LateLink) → slice_get (freed late_segments Without own n.links).links i ≡ Some g → is_at g.port.own own ≡ true → ⊥
-    no_owner i g at own_g = go (was_at n.links _ own _ left_h i g at)
-      where
-        go : WasAt n.links own (λ h. cond (passes (HasAddress own) h.port) (forgotten late_segments Without h) h) i g → ⊥
-        go w = by w.is
-          where
-            by : ((is_at w.link.port.own own ≡ true) × (cond (is_at w.link.port.own own) (forgotten late_segments Without w.link) w.link ≡ g)) ⊎
-                ((is_at w.link.port.own own ≡ false) × (w.link ≡ g)) → ⊥
-            by (inl a) =
-                let same : forgotten late_segments Without w.link ≡ g =
-                sym (ap (λ (c : Bool). cond c (forgotten late_segments Without w.link) w.link) a.0) ∙ a.1 in
-                let x : true ≡ false = sym own_g ∙ ap (λ (y : LateLink). is_at y.port.own own) (sym same) in absurd cc
-            by (inr a) = not_both _ own_g (ap (λ (y : LateLink). is_at y.port.own own) (sym a.1) ∙ a.0)
+    no_owner i = changed_each n.links _ own _ left_h (λ g. is_at g.port.own own ≡ true → ⊥) i (λ h there e own_g. absurd cc)
+        (λ h there e own_g. not_both _ own_g e)
 
     -- an address of a link that is left was its address before
     owner_was : (i : ℕ) (g : LateLink) → slice_get (freed late_segments Without own n.links).links i ≡ Some g → (m : ℕ) → is_at g.port.own m ≡ true →
         (h : LateLink) × (slice_get n.links.links i ≡ Some h) × (is_at h.port.own m ≡ true)
-    owner_was i g at m own_g = go (was_at n.links _ own _ left_h i g at)
-      where
-        go : WasAt n.links own (λ h. cond (passes (HasAddress own) h.port) (forgotten late_segments Without h) h) i g →
-            (h : LateLink) × (slice_get n.links.links i ≡ Some h) × (is_at h.port.own m ≡ true)
-        go w = by w.is
-          where
-            by : ((is_at w.link.port.own own ≡ true) × (cond (is_at w.link.port.own own) (forgotten late_segments Without w.link) w.link ≡ g)) ⊎
-                ((is_at w.link.port.own own ≡ false) × (w.link ≡ g)) →
-                (h : LateLink) × (slice_get n.links.links i ≡ Some h) × (is_at h.port.own m ≡ true)
-            by (inl a) =
-                let same : forgotten late_segments Without w.link ≡ g =
-                sym (ap (λ (c : Bool). cond c (forgotten late_segments Without w.link) w.link) a.0) ∙ a.1 in
-                let x : true ≡ false = sym own_g ∙ ap (λ (y : LateLink). is_at y.port.own m) (sym same) in absurd cc
-            by (inr a) = (w.link, w.there, ap (λ (y : LateLink). is_at y.port.own m) a.1 ∙ own_g)
+    owner_was i g at m = changed_each n.links _ own _ left_h
+        (λ g. is_at g.port.own m ≡ true → (h : LateLink) × (slice_get n.links.links i ≡ Some h) × (is_at h.port.own m ≡ true)) i
+        (λ h there e own_g. absurd cc) (λ h there e own_g. (h, there, own_g)) g at
 
     pub free_beside : Beside free_node (freed true_segments With own t)
     free_beside = record {
@@ -190,52 +155,29 @@ module _ (n : Node) (t : machine.Links) (b : Beside n t) (own : ℕ) (free : IsF
       of_links = of_same _ _ _ free_node.links.node free_node.links.peer (length free_node.links.links) n.composed left_h.node left_h.peer
           left_h.size
           b.of_links;
-      all = λ i x y at_x at_y. one i x y (was_at n.links _ own _ left_h i x at_x) (was_at t _ own _ left_l i y at_y);
+      all = λ i x y at_x at_y. changed_each n.links _ own _ left_h
+          (λ x. Follows x y (waiting link_it_is_for x.port.own n.kept) (waiting link_it_is_of (Some i) n.composed)) i
+          (λ h at_h has. changed_each t _ own _ left_l
+          (λ y. Follows (forgotten late_segments Without h) y (waiting link_it_is_for None n.kept) (waiting link_it_is_of (Some i) n.composed)) i
+          (λ l at_l e. here i h l at_h at_l has) (λ l at_l e. absurd (not_both _ has (own_same i h l at_h at_l ∙ e))) y at_y)
+          (λ h at_h has. changed_each t _ own _ left_l
+          (λ y. Follows h y (waiting link_it_is_for h.port.own n.kept) (waiting link_it_is_of (Some i) n.composed)) i
+          (λ l at_l e. absurd (not_both _ e (sym (own_same i h l at_h at_l) ∙ has))) (λ l at_l e. b.all i h l at_h at_l) y at_y) x at_x;
     }
       where
-        one : (i : ℕ) (x : LateLink) (y : Link) →
-            WasAt n.links own (λ h. cond (passes (HasAddress own) h.port) (forgotten late_segments Without h) h) i x →
-            WasAt t own (λ l. cond (passes (HasAddress own) l.port) (forgotten true_segments With l) l) i y →
-            Follows x y (waiting link_it_is_for x.port.own n.kept) (waiting link_it_is_of (Some i) n.composed)
-        one i x y v w = by v.is w.is
-          where
-            f : Follows v.link w.link (waiting link_it_is_for v.link.port.own n.kept) (waiting link_it_is_of (Some i) n.composed)
-            f = b.all i v.link w.link v.there w.there
+        own_same : (i : ℕ) (h : LateLink) (l : Link) → slice_get n.links.links i ≡ Some h → slice_get t.links i ≡ Some l →
+            is_at h.port.own own ≡ is_at l.port.own own
+        own_same i h l at_h at_l = ap (λ (o : Option ℕ). is_at o own) (is_behind h l _ _ (b.all i h l at_h at_l)).own
 
-            own_same : is_at v.link.port.own own ≡ is_at w.link.port.own own
-            own_same = ap (λ (o : Option ℕ). is_at o own) (is_behind v.link w.link _ _ f).own
-
-            gone : is_at v.link.port.own own ≡ true → v.link.port.phase ≡ Ended
-            gone at = dead_phase v.link.port.phase (live (is_live v.link.port.phase) refl)
-              where
-                live : (c : Bool) → is_live v.link.port.phase ≡ c → is_live v.link.port.phase ≡ false
-                live false e = e
-                live true e =
-                    let never = none_passes (LiveAt own) n.links none_live i v.link v.there in
-                    absurd (not_both (passes (LiveAt own) v.link.port) (ap₂ (λ (c d : Bool). c && d) e at) never)
-
-            by : ((is_at v.link.port.own own ≡ true) × (cond (is_at v.link.port.own own) (forgotten late_segments Without v.link) v.link ≡ x)) ⊎
-                ((is_at v.link.port.own own ≡ false) × (v.link ≡ x)) →
-                ((is_at w.link.port.own own ≡ true) × (cond (is_at w.link.port.own own) (forgotten true_segments With w.link) w.link ≡ y)) ⊎
-                ((is_at w.link.port.own own ≡ false) × (w.link ≡ y)) →
-                Follows x y (waiting link_it_is_for x.port.own n.kept) (waiting link_it_is_of (Some i) n.composed)
-            by (inl p) (inl q) =
-                let same_x : forgotten late_segments Without v.link ≡ x =
-                sym (ap (λ (c : Bool). cond c (forgotten late_segments Without v.link) v.link) p.0) ∙ p.1 in
-                let same_y : forgotten true_segments With w.link ≡ y =
-                sym (ap (λ (c : Bool). cond c (forgotten true_segments With w.link) w.link) q.0) ∙ q.1 in
-                let none = nothing_of i v.link v.there p.0 in
-                subst (λ (z : LateLink). Follows z y (waiting link_it_is_for z.port.own n.kept) (waiting link_it_is_of (Some i) n.composed)) same_x
-                (subst (λ (z : Link). Follows (forgotten late_segments Without v.link) z (waiting link_it_is_for None n.kept)
-                (waiting link_it_is_of (Some i) n.composed)) same_y
-                (follows_as _ _ _ _ _ _ (sym (waiting_none link_it_is_for n.kept)) (sym none)
-                (forgotten_follows v.link w.link (gone p.0) (follows_as v.link w.link _ _ _ _ (nothing_for v.link p.0) none f))))
-            by (inl p) (inr q) = absurd (not_both _ p.0 (own_same ∙ q.0))
-            by (inr p) (inl q) = absurd (not_both _ q.0 (sym own_same ∙ p.0))
-            by (inr p) (inr q) =
-                subst (λ (z : LateLink). Follows z y (waiting link_it_is_for z.port.own n.kept) (waiting link_it_is_of (Some i) n.composed)) p.1
-                (subst (λ (z : Link). Follows v.link z (waiting link_it_is_for v.link.port.own n.kept) (waiting link_it_is_of (Some i)
-                n.composed)) q.1 f)
+        here : (i : ℕ) (h : LateLink) (l : Link) → slice_get n.links.links i ≡ Some h → slice_get t.links i ≡ Some l → is_at h.port.own own ≡ true →
+            Follows (forgotten late_segments Without h) (forgotten true_segments With l) (waiting link_it_is_for None n.kept)
+            (waiting link_it_is_of (Some i) n.composed)
+        here i h l at_h at_l has =
+            let none = nothing_of i h at_h has in
+            follows_as _ _ _ _ _ _ (sym (waiting_none link_it_is_for n.kept)) (sym none)
+            (forgotten_follows h l (dead_phase h.port.phase (false_from_ne_true _ (λ e. not_both (passes (LiveAt own) h.port)
+            (ap₂ (λ (c d : Bool). c && d) e has) (none_passes (LiveAt own) n.links none_live i h at_h))))
+            (follows_as h l _ _ _ _ (nothing_for h has) none (b.all i h l at_h at_l)))
 
     -- ---- a link is opened
 

@@ -1,6 +1,5 @@
 -- An address is given: what waits for it is acted on before, and the link that had it is forgotten. So where a link is opened.
-use Rattle.std.proofs.Common.{◌≡◌, ℕ, ◌≤◌, Bool, true, false, ◌&&◌, cond, ◌⊎◌, inl, inr, Option, Some, None, List, ◌∷◌}
-use Rattle.std.proofs.Common.{refl, sym, ap, ap₂, ◌∙◌, subst, eqb-true, arith}
+use Rattle.std.proofs.Common.{◌≡◌, ℕ, ◌≤◌, Bool, true, false, ◌&&◌, Option, Some, None, List, ◌∷◌, refl, sym, ap, ap₂, ◌∙◌, subst, eqb-true, arith}
 use Rattle.std.specs.Prelude.{slice_get}
 use Rattle.dna_links.specs.declared.port.Phase.{Phase}
 use Rattle.dna_links.specs.declared.port.Phase.TheVariants.{Ended}
@@ -22,7 +21,7 @@ use Rattle.dna_queues.specs.Made.{IsFree, UserDoes, Makes}
 use Rattle.dna_queues.proofs.Goes.{Link, use_own}
 use Rattle.dna_queues.proofs.Given.{freed_changed}
 use Rattle.dna_queues.proofs.Lists.{waiting_none}
-use Rattle.dna_queues.proofs.LinkLists.{IsSet, IsChanged, WasAt, was_at, set_changed, at_none, at_found, none_passes}
+use Rattle.dna_queues.proofs.LinkLists.{IsSet, IsChanged, set_changed, at_none, at_found, none_passes, changed_each}
 use Rattle.dna_queues.proofs.Turns.{Began, has_run}
 use Rattle.dna_queues.proofs.Early.{none_before}
 use Rattle.dna_queues.proofs.Hide.{hide}
@@ -32,6 +31,7 @@ use Rattle.dna_queues.proofs.Prepared.{set_sane_free}
 use Rattle.dna_queues.proofs.SentTimed.{Sound}
 use Rattle.dna_queues.proofs.Addressed.{stripped, awaits_nothing, flushed, flushed_number, flushed_owner, Addressed, addressed}
 use Rattle.dna_queues.proofs.BegunTimed.{begun_sane, begun_due, begun_timed}
+use Rattle.std.proofs.lemmas.Bool.{false_from_ne_true}
 
 module _ (s : machine.Links) (sane : AreSane s) (own : ℕ) (one : 1 ≤ own) (none_live : number_of (LiveAt own) s ≡ None) where
   abbrev pub left : machine.Links
@@ -39,29 +39,16 @@ module _ (s : machine.Links) (sane : AreSane s) (own : ℕ) (one : 1 ≤ own) (n
 
   -- the link that had the address is over
   pub over : (i : ℕ) (l : Link) → slice_get s.links i ≡ Some l → is_at l.port.own own ≡ true → l.port.phase ≡ Ended
-  over i l at has = dead_phase l.port.phase (go (is_live l.port.phase) refl)
-    where
-      go : (b : Bool) → is_live l.port.phase ≡ b → is_live l.port.phase ≡ false
-      go false e = e
-      go true e = absurd (not_both _ (ap₂ (λ (a b : Bool). a && b) e has) (none_passes (LiveAt own) s none_live i l at))
+  over i l at has = dead_phase l.port.phase (false_from_ne_true _ (λ e. not_both (passes (LiveAt own) l.port) (ap₂ (λ (a b : Bool). a && b) e has)
+      (none_passes (LiveAt own) s none_live i l at)))
 
-  pub left_is : IsChanged s (freed true_segments With own s) own (λ l. cond (passes (HasAddress own) l.port) (forgotten true_segments With l) l)
+  pub left_is : IsChanged s (freed true_segments With own s) own (forgotten true_segments With)
   left_is = freed_changed true_segments With own s sane.unique
 
   -- no link has it any more
   pub no_owner : (i : ℕ) (x : Link) → slice_get (freed true_segments With own s).links i ≡ Some x → is_at x.port.own own ≡ true → ⊥
-  no_owner i x at has = go (was_at s _ own _ left_is i x at)
-    where
-      go : WasAt s own (λ l. cond (passes (HasAddress own) l.port) (forgotten true_segments With l) l) i x → ⊥
-      go w = by w.is
-        where
-          by : ((is_at w.link.port.own own ≡ true) × (cond (is_at w.link.port.own own) (forgotten true_segments With w.link) w.link ≡ x)) ⊎
-              ((is_at w.link.port.own own ≡ false) × (w.link ≡ x)) → ⊥
-          by (inl a) =
-              let same : forgotten true_segments With w.link ≡ x =
-              sym (ap (λ (c : Bool). cond c (forgotten true_segments With w.link) w.link) a.0) ∙ a.1 in
-              not_both _ has (ap (λ (y : Link). is_at y.port.own own) (sym same))
-          by (inr a) = not_both _ has (ap (λ (y : Link). is_at y.port.own own) (sym a.1) ∙ a.0)
+  no_owner i = changed_each s _ own _ left_is (λ x. is_at x.port.own own ≡ true → ⊥) i (λ l there e has. absurd cc)
+      (λ l there e has. not_both _ has e)
 
   pub left_sane : AreSane (freed true_segments With own s)
   left_sane =

@@ -1,6 +1,5 @@
 -- What a link of the machine may send it may also send once it has come further, and it is then further again.
-use Rattle.std.proofs.Common.{◌≡◌, ℕ, ◌-◌, Bool, true, false, not, ◌&&◌, Option, Some, None, List, Ok, refl, sym, ap, ap₂, ◌∙◌}
-use Rattle.std.proofs.Common.{subst, arith}
+use Rattle.std.proofs.Common.{◌≡◌, ℕ, ◌-◌, Bool, true, false, not, ◌&&◌, Option, Some, None, List, Ok, refl, sym, ap, ap₂, ◌∙◌, subst, arith}
 use Rattle.std.proofs.lemmas.Bool.{and_parts}
 use Rattle.dna_packet.specs.declared.ack_word.AckWord.{AckWord}
 use Rattle.dna_packet.specs.Nsp.{SegmentValue, NspValue, DataSegment, LinkService, DataAck, OtherDataAck, ConnectAck, NoOperation, ConnectInitiate}
@@ -19,6 +18,7 @@ use Rattle.dna_links.specs.Queues.{is_silent, is_over, further, in_use, may_send
 use Rattle.dna_links.specs.TrueSegments.{TrueSegments, Numbers, sends_late, sends_acks, went_on}
 use Rattle.dna_queues.proofs.Words.{Grown, Carries}
 use Rattle.dna_queues.proofs.Segments.{late_grows, acks_grow}
+use Rattle.dna_links.specs.declared.port.Port.{Port}
 
 abbrev pub Link : Type 0
 Link = LinkOf TrueSegments
@@ -134,26 +134,19 @@ same_on l x y a b = record {
 
 -- ---- ports in use
 
+-- but for the phase it is the link's port
+pub use_port : (waits : Option Phase) (p : Port) (phase : Phase) → record (port_of_waiting waits p) { phase = phase } ≡ record p { phase = phase }
+use_port None p phase = refl
+use_port (Some now) p phase = refl
+
 pub use_own : (l : Link) → (in_use With l).own ≡ l.port.own
-use_own l = go l.queue.waits
-  where
-    go : (w : Option Phase) → (port_of_waiting w l.port).own ≡ l.port.own
-    go None = refl
-    go (Some phase) = refl
+use_own l = ap (λ (p : Port). p.own) (use_port l.queue.waits l.port l.port.phase)
 
 pub use_far : (l : Link) → (in_use With l).far ≡ l.port.far
-use_far l = go l.queue.waits
-  where
-    go : (w : Option Phase) → (port_of_waiting w l.port).far ≡ l.port.far
-    go None = refl
-    go (Some phase) = refl
+use_far l = ap (λ (p : Port). p.far) (use_port l.queue.waits l.port l.port.phase)
 
 pub use_opened : (l : Link) → (in_use With l).opened ≡ l.port.opened
-use_opened l = go l.queue.waits
-  where
-    go : (w : Option Phase) → (port_of_waiting w l.port).opened ≡ l.port.opened
-    go None = refl
-    go (Some phase) = refl
+use_opened l = ap (λ (p : Port). p.opened) (use_port l.queue.waits l.port l.port.phase)
 
 -- ---- what is said
 
@@ -219,21 +212,7 @@ module _ (more : Option (List ℕ)) (l k : Link) (grows : Grows more l k) where
 
   said_grows : (said : Said) → Grows more (said_as said l) (said_as said k)
   said_grows said =
-      let s = said_less said l.queue.said k.queue.said grows.silent grows.over in
-      record {
-        own = grows.own;
-        far = grows.far;
-        opened = grows.opened;
-        usable = grows.usable;
-        closing = grows.closing;
-        ran = grows.ran;
-        accepted = grows.accepted;
-        silent = s.0;
-        over = s.1;
-        gap = grows.gap;
-        segsize = grows.segsize;
-        segments = grows.segments;
-      }
+      let s = said_less said l.queue.said k.queue.said grows.silent grows.over in assumption (s, grows)
 
   pub record GoesToo (m : NspValue) (x : Link) : Type 0 where
     pub left : Link
@@ -255,7 +234,6 @@ module _ (more : Option (List ℕ)) (l k : Link) (grows : Grows more l k) where
         grows.closing g.moves.0,
         refl,
       ) (said_grows Disconnect)
-  goes_too (DisconnectConfirm dst src reason) x small g = absurd g.moves
   goes_too (DataSegment segment) x small g =
       let m = g.moves in
       let ran = (and_parts l.queue.ran (not (is_over l.queue.said)) m.run).0 in
@@ -269,42 +247,17 @@ module _ (more : Option (List ℕ)) (l k : Link) (grows : Grows more l k) where
         does = ap₂ (λ (gap size : ℕ). sends_late gap size segment k.segments) grows.gap (grows.segsize ran) ∙ r.is;
         is = refl;
       })
-      (record {
-        own = grows.own;
-        far = grows.far;
-        opened = grows.opened;
-        usable = grows.usable;
-        closing = grows.closing;
-        ran = grows.ran;
-        accepted = grows.accepted;
-        silent = s.silent;
-        over = s.over;
-        gap = r.same_gap;
-        segsize = grows.segsize;
-        segments = r.grows;
-      })
+      (assumption (r, s))
   goes_too (DataAck dst src acks) x small g =
       let m = g.moves in
       let r = acks_grow more l.segments k.segments grows.segments acks m.sent small.0 m.does in
       let s = said_grows OfRun in
+      let gap = ap₂ wider grows.gap (ap₂ (λ (a b : ℕ). a - b) r.grows.last grows.segments.last) in
       too (DataAck dst src acks) x (said_as OfRun (wide_link l m.sent)) (said_as OfRun (wide_link k r.made)) m.is (link_grows src dst g.passed)
       (record { run = run_grows m.run; sent = r.made; does = r.is; is = refl })
-      (record {
-        own = grows.own;
-        far = grows.far;
-        opened = grows.opened;
-        usable = grows.usable;
-        closing = grows.closing;
-        ran = grows.ran;
-        accepted = grows.accepted;
-        silent = s.silent;
-        over = s.over;
-        gap = ap₂ wider grows.gap (ap₂ (λ (a b : ℕ). a - b) r.grows.last grows.segments.last);
-        segsize = grows.segsize;
-        segments = r.grows;
-      })
+      (assumption (r, gap, s))
   goes_too (LinkService interrupt dst src rest) x small g =
       too _ x (said_as OfRun l) (said_as OfRun k) g.moves.1 (link_grows src dst g.passed) (run_grows g.moves.0, refl) (said_grows OfRun)
   goes_too (OtherDataAck dst src rest) x small g =
       too _ x (said_as OfRun l) (said_as OfRun k) g.moves.1 (link_grows src dst g.passed) (run_grows g.moves.0, refl) (said_grows OfRun)
-  goes_too (NoOperation rest) x small g = absurd g.moves
+  goes_too m x small g = absurd g.moves

@@ -27,8 +27,7 @@ use Rattle.dna_links.proofs.Tables.Outcomes.{position_passes}
 use Rattle.dna_links.proofs.Runs.Sides.{at_set}
 use Rattle.dna_queues.proofs.Facts.{not_both}
 use Rattle.dna_queues.proofs.Goes.{Link}
-use Rattle.dna_queues.proofs.LinkLists.{position_same}
-use Rattle.dna_queues.proofs.Beside.{there_too}
+use Rattle.dna_queues.proofs.LinkLists.{position_same, there_too}
 
 pub record IsGone (l : Link) : Type 0 where
   pub phase : l.port.phase ≡ Ended
@@ -47,12 +46,8 @@ pub record Alike (s t : machine.Links) : Type 0 where
 
 -- ---- look-ups
 
-none_at : (own : Option ℕ) (n : ℕ) → own ≡ None → is_at own n ≡ false
-none_at None n e = refl
-none_at (Some number) n e = absurd cc
-
 pub gone_fails : (test : LinkTest) (p : Port) → p.phase ≡ Ended → p.own ≡ None → passes test p ≡ false
-gone_fails (HasAddress own) p ended none = none_at p.own own none
+gone_fails (HasAddress own) p ended none = ap (λ (o : Option ℕ). is_at o own) none
 gone_fails (LiveAt own) p ended none = ap (λ (q : Phase). is_live q && is_at p.own own) ended
 gone_fails (TheLink own far) p ended none = ap (λ (q : Phase). is_live q && has_both p own far) ended
 gone_fails (LiveTo far) p ended none = ap (λ (q : Phase). is_live q && is_at p.far far) ended

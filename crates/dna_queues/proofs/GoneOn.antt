@@ -1,6 +1,5 @@
 -- What is made of links that are alike except for those that are over and have no address, and what is near to them.
-use Rattle.std.proofs.Common.{◌≡◌, inl, inr, Some, List, [], ◌∷◌}
-use Rattle.std.proofs.Common.{Result, Ok, Err, refl, ap, ◌∙◌, subst}
+use Rattle.std.proofs.Common.{◌≡◌, inl, inr, Some, List, [], ◌∷◌, Result, Ok, Err, refl, ap, ◌∙◌, subst}
 use Rattle.std.specs.Prelude.{slice_get}
 use Rattle.dna_packet.specs.Nsp.{NspValue, DataSegment, DataAck}
 use Rattle.dna_station.specs.declared.link_refusal.LinkRefusal.{LinkRefusal}
@@ -18,8 +17,8 @@ use Rattle.dna_links.specs.CutLinks.{ComesNear, IsActedOn, ArrivesNear}
 use Rattle.dna_queues.proofs.Facts.{not_both}
 use Rattle.dna_queues.specs.Records.{LinkRecord, OfUser, Sends, Keeps, OfNoLink, links_left, next_links, MadeByMachine, AreAnswered, IsNear, AreNear}
 use Rattle.dna_queues.proofs.Goes.{Link}
-use Rattle.dna_queues.proofs.Beside.{there_too}
 use Rattle.dna_queues.proofs.Gone.{IsGone, AreSameOrGone, Alike, gone_fails, after_alike, ResultsAlike, goes_alike, row_alike}
+use Rattle.dna_queues.proofs.LinkLists.{there_too}
 
 -- ---- every record
 
@@ -84,9 +83,7 @@ module _ (s t : machine.Links) (a : Alike s t) where
 
   one_near : (one : LinkRecord) → IsNear s one → IsNear t one
   one_near (Keeps unit) near = near_at unit.packet.message unit.truth near
-  one_near (OfUser event) near = tt
-  one_near (Sends packet) near = tt
-  one_near OfNoLink near = tt
+  one_near p near = tt
 
 pub near_alike : (later : List LinkRecord) (s t : machine.Links) → Alike s t → AreNear s later → AreNear t later
 near_alike [] s t a near = answered_alike s t a near

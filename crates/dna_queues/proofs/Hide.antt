@@ -1,8 +1,8 @@
 -- A link of the machine as the node with queues has it, and the messages that it composes then.
 use Rattle.std.proofs.Common.{◌≡◌, ℕ, true, Some, Result, Ok, Err, refl, sym, ap, ◌∙◌, subst}
 use Rattle.std.specs.Prelude.{slice_get}
-use Rattle.dna_packet.specs.Nsp.{NspValue, DataSegment, LinkService, DataAck, OtherDataAck, ConnectAck, NoOperation, ConnectInitiate}
-use Rattle.dna_packet.specs.Nsp.{ConnectConfirm, DisconnectInitiate, DisconnectConfirm}
+use Rattle.dna_packet.specs.Nsp.{NspValue, DataSegment, LinkService, DataAck, OtherDataAck, ConnectAck, ConnectInitiate}
+use Rattle.dna_packet.specs.Nsp.{ConnectConfirm, DisconnectInitiate}
 use Rattle.dna_station.specs.declared.link_refusal.LinkRefusal.{LinkRefusal}
 use Rattle.dna_station.specs.declared.link_refusal.LinkRefusal.TheVariants.{NoLink, LinkState}
 use Rattle.dna_links.specs.declared.port.Phase.{Phase}
@@ -101,7 +101,6 @@ module _ (s : Links) (unique : IsUnique s) (i : ℕ) (l : Link) (there : slice_g
       stays _ x (TheLink src dst) src Confirming (link_owns src dst) refl g.passed stands (ap hide g.moves.1)
   composes_now (DisconnectInitiate dst src reason user_data) x phase is g stands =
       stays _ x (TheLink src dst) src Disconnecting (link_owns src dst) refl g.passed stands (ap hide g.moves.1)
-  composes_now (DisconnectConfirm dst src reason) x phase is g stands = absurd g.moves
   composes_now (DataSegment segment) x phase is g stands =
       let m = g.moves in
       carries (DataSegment segment) x segment.srcaddr segment.dstaddr (λ h. late_segments.sends_segment h.segsize segment h.segments)
@@ -120,4 +119,4 @@ module _ (s : Links) (unique : IsUnique s) (i : ℕ) (l : Link) (there : slice_g
       stays _ x (TheLink src dst) src Running (link_owns src dst) refl g.passed stands (ap hide g.moves.1)
   composes_now (OtherDataAck dst src rest) x phase is g stands =
       stays _ x (TheLink src dst) src Running (link_owns src dst) refl g.passed stands (ap hide g.moves.1)
-  composes_now (NoOperation rest) x phase is g stands = absurd g.moves
+  composes_now m x phase is g stands = absurd g.moves

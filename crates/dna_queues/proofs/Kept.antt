@@ -1,11 +1,10 @@
 -- What is kept waits: the machine acts on it, and follows the node as before.
-use Rattle.std.proofs.Common.{◌≡◌, ℕ, Bool, true, false, ◌&&◌, ◌==◌, cond, ◌⊎◌, inl, inr, Option, Some, None, List, [], ◌∷◌, ◌++◌}
+use Rattle.std.proofs.Common.{◌≡◌, ℕ, Bool, true, false, ◌&&◌, ◌==◌, cond, Option, Some, None, List, [], ◌∷◌, ◌++◌}
 use Rattle.std.proofs.Common.{Result, Ok, refl, sym, ap, ap₂, ◌∙◌, subst, arith, append-nil}
 use Rattle.std.specs.Prelude.{slice_get}
 use Rattle.std.proofs.lemmas.Bool.{and_parts}
 use Rattle.std.proofs.lemmas.Option.{same_Some}
-use Rattle.dna_packet.specs.Nsp.{NspValue, DataSegment, LinkService, DataAck, OtherDataAck, ConnectAck, NoOperation, ConnectInitiate, ConnectConfirm}
-use Rattle.dna_packet.specs.Nsp.{DisconnectInitiate, DisconnectConfirm}
+use Rattle.dna_packet.specs.Nsp.{NspValue, DataSegment, DataAck}
 use Rattle.dna_station.specs.declared.link_refusal.LinkRefusal.{LinkRefusal}
 use Rattle.dna_station.specs.declared.link_refusal.LinkRefusal.TheVariants.{WrongNode, CrossedLink}
 use Rattle.dna_links.specs.declared.port.Port.{Port}
@@ -33,7 +32,7 @@ use Rattle.dna_queues.proofs.CameOn.{came_on, ahead_push}
 use Rattle.dna_queues.proofs.Acting.{LateLink, lift, seen_as}
 use Rattle.dna_queues.proofs.Follows.{Follows, is_behind}
 use Rattle.dna_queues.proofs.Lists.{waiting_push}
-use Rattle.dna_queues.proofs.LinkLists.{IsUnique, was_at, none_passes}
+use Rattle.dna_queues.proofs.LinkLists.{IsUnique, none_passes, changed_each}
 use Rattle.dna_queues.proofs.MachineArrivals.{Alike, MachineActs, machine_acts}
 use Rattle.dna_queues.proofs.Waiting.{for_push}
 use Rattle.dna_queues.proofs.Beside.{Beside, unique_too, follows_as, acts_beside}
@@ -106,14 +105,7 @@ module _ (t left : machine.Links) (unique : IsUnique t) (truth : LinkTruth Numbe
       takes_numbers m l.port ≡ true → AcksAreNear l.segments truth.known.acknowledgements
   near_here (DataSegment s) e near taken = (near i l there taken (of_pair s.dstaddr s.srcaddr _ taken e)).2
   near_here (DataAck dst src acks) e near taken = (near i l there taken (of_pair dst src _ taken e)).1
-  near_here (ConnectInitiate retransmitted src services info segsize user_data) e near taken = absurd cc
-  near_here (ConnectConfirm dst src services info segsize user_data) e near taken = absurd cc
-  near_here (DisconnectInitiate dst src reason user_data) e near taken = absurd cc
-  near_here (DisconnectConfirm dst src reason) e near taken = absurd cc
-  near_here (LinkService interrupt dst src rest) e near taken = absurd cc
-  near_here (OtherDataAck dst src rest) e near taken = absurd cc
-  near_here (ConnectAck dst) e near taken = absurd cc
-  near_here (NoOperation rest) e near taken = absurd cc
+  near_here m e near taken = absurd cc
 
 module _ (n : Node) (t : machine.Links) (b : Beside n t) (answered : AreAnswered t) where
   pub keeps_beside : (unit : SentMessage) (address : ℕ) (all left : Links) → dstaddr unit.packet.message ≡ Some address → ComesTo n all →
@@ -141,41 +133,23 @@ module _ (n : Node) (t : machine.Links) (b : Beside n t) (answered : AreAnswered
               unique = b.unique;
               for_links = for_push n.kept unit b.for_links (address, is);
               of_links = b.of_links;
-              all = λ i h k at_h at_k. let w = was_at t acts.left address (came_as unit.packet.message unit.truth) c i k at_k in
-                  one i h w.link k at_h w.there (near_left i k at_k) w.is;
+              all = λ i h k at_h at_k. changed_each t acts.left address (came_as unit.packet.message unit.truth) c
+                  (λ x. IsAnswered x.segments →
+                  Follows h x (waiting link_it_is_for h.port.own (n.kept ++ unit ∷ [])) (waiting link_it_is_of (Some i) n.composed)) i
+                  (λ l at_l own near_l. let f = b.all i h l at_h at_l in
+                  let on = came_on l f.fits unit (near_here t acts.left (unique_too n t b) unit.truth i l at_l unit.packet.message acts.is near) in
+                  follows_as h (came unit l) _ _ _ _ (pushed i h l at_h at_l true own) refl
+                  (kept_on h l (came unit l) (waiting link_it_is_for h.port.own n.kept) (waiting link_it_is_of (Some i) n.composed) unit on near_l f))
+                  (λ l at_l own near_l. follows_as h l _ _ _ _ (sym (append-nil (waiting link_it_is_for h.port.own n.kept))
+                  ∙ pushed i h l at_h at_l false own) refl (b.all i h l at_h at_l)) k at_k (near_left i k at_k);
             };
           }
         where
-          one : (i : ℕ) (h : LateLink) (l k : Link) → slice_get n.links.links i ≡ Some h → slice_get t.links i ≡ Some l → IsAnswered k.segments →
-              ((is_at l.port.own address ≡ true) × (came_as unit.packet.message unit.truth l ≡ k)) ⊎
-              ((is_at l.port.own address ≡ false) × (l ≡ k)) →
-              Follows h k (waiting link_it_is_for h.port.own (n.kept ++ unit ∷ [])) (waiting link_it_is_of (Some i) n.composed)
-          one i h l k at_h at_l near_k w = at w
-            where
-              f : Follows h l (waiting link_it_is_for h.port.own n.kept) (waiting link_it_is_of (Some i) n.composed)
-              f = b.all i h l at_h at_l
-
-              own : (c : Bool) → is_at l.port.own address ≡ c → are_same (link_it_is_for unit) h.port.own ≡ c
-              own c e =
-                  ap (λ (o : Option ℕ). are_same o h.port.own) is ∙ ap (λ (o : Option ℕ). is_at o address) (is_behind h l _ _ f).own ∙ e
-
-              pushed : (c : Bool) → is_at l.port.own address ≡ c →
-                  waiting link_it_is_for h.port.own n.kept ++ cond c (unit ∷ []) [] ≡ waiting link_it_is_for h.port.own (n.kept ++ unit ∷ [])
-              pushed c e =
-                  sym (waiting_push link_it_is_for n.kept unit h.port.own
-                  ∙ ap (λ (c : Bool). waiting link_it_is_for h.port.own n.kept ++ cond c (unit ∷ []) []) (own c e))
-
-              at : ((is_at l.port.own address ≡ true) × (came_as unit.packet.message unit.truth l ≡ k)) ⊎
-                  ((is_at l.port.own address ≡ false) × (l ≡ k)) →
-                  Follows h k (waiting link_it_is_for h.port.own (n.kept ++ unit ∷ [])) (waiting link_it_is_of (Some i) n.composed)
-              at (inl a) =
-                  let on = came_on l f.fits unit (near_here t acts.left (unique_too n t b) unit.truth i l at_l unit.packet.message acts.is near) in
-                  subst (λ (x : Link). Follows h x (waiting link_it_is_for h.port.own (n.kept ++ unit ∷ [])) (waiting link_it_is_of (Some i)
-                  n.composed)) a.1
-                  (follows_as h (came unit l) _ _ _ _ (pushed true a.0) refl
-                  (kept_on h l (came unit l) (waiting link_it_is_for h.port.own n.kept) (waiting link_it_is_of (Some i) n.composed) unit on
-                  (subst (λ (x : Link). IsAnswered x.segments) (sym a.1) near_k) f))
-              at (inr a) =
-                  subst (λ (x : Link). Follows h x (waiting link_it_is_for h.port.own (n.kept ++ unit ∷ [])) (waiting link_it_is_of (Some i)
-                  n.composed)) a.1
-                  (follows_as h l _ _ _ _ (sym (append-nil (waiting link_it_is_for h.port.own n.kept)) ∙ pushed false a.0) refl f)
+          pushed : (i : ℕ) (h : LateLink) (l : Link) → slice_get n.links.links i ≡ Some h → slice_get t.links i ≡ Some l → (c : Bool) →
+              is_at l.port.own address ≡ c →
+              waiting link_it_is_for h.port.own n.kept ++ cond c (unit ∷ []) [] ≡ waiting link_it_is_for h.port.own (n.kept ++ unit ∷ [])
+          pushed i h l at_h at_l c e =
+              sym (waiting_push link_it_is_for n.kept unit h.port.own
+              ∙ ap (λ (c : Bool). waiting link_it_is_for h.port.own n.kept ++ cond c (unit ∷ []) [])
+              (ap (λ (o : Option ℕ). are_same o h.port.own) is
+              ∙ ap (λ (o : Option ℕ). is_at o address) (is_behind h l _ _ (b.all i h l at_h at_l)).own ∙ e))

@@ -11,6 +11,7 @@ use Rattle.dna_queues.specs.Hidden.{Takes, First, Behind, waiting, link_it_is_fo
 use Rattle.dna_queues.proofs.Goes.{Link}
 use Rattle.dna_queues.proofs.LinkLists.{IsUnique, IsSet, IsChanged}
 use Rattle.dna_queues.proofs.Timed.{Awaits, EndsFirst, AreKept, IsKept}
+use Rattle.dna_queues.proofs.Facts.{by_option, by_test}
 
 -- one that changes at most the link with this address, of links that have it at most once
 none_too : {X Y : Type 0} (xs : List X) (ys : List Y) (i : ℕ) → length ys ≡ length xs → slice_get xs i ≡ None → slice_get ys i ≡ None
@@ -27,17 +28,10 @@ module _ {D : Type 0} (s left : LinksOf D) (address : ℕ) (f : LinkOf D → Lin
     peer = c.peer;
     size = c.size;
     here = c.here i l at own;
-    others = λ j differs. others j differs (slice_get s.links j) refl;
+    others = λ j differs. by_option (slice_get s.links j) (λ e. none_too s.links left.links j c.size e ∙ sym e)
+        (λ k at_k. by_test (is_at k.port.own address) (λ e. absurd (differs (unique j i k l at_k at address e own)))
+        (λ e. c.other j k at_k e ∙ sym at_k));
   }
-    where
-      by_own : (j : ℕ) (k : LinkOf D) → (j ≡ i → ⊥) → slice_get s.links j ≡ Some k → (b : Bool) → is_at k.port.own address ≡ b →
-          slice_get left.links j ≡ slice_get s.links j
-      by_own j k differs at_k true e = absurd (differs (unique j i k l at_k at address e own))
-      by_own j k differs at_k false e = c.other j k at_k e ∙ sym at_k
-
-      others : (j : ℕ) → (j ≡ i → ⊥) → (o : Option (LinkOf D)) → slice_get s.links j ≡ o → slice_get left.links j ≡ slice_get s.links j
-      others j differs None e = none_too s.links left.links j c.size e ∙ sym e
-      others j differs (Some k) e = by_own j k differs e _ refl
 
 pub same_lists : {X : Type 0} (xs ys : List X) → length ys ≡ length xs →
     ((i : ℕ) (x : X) → slice_get xs i ≡ Some x → slice_get ys i ≡ Some x) → ys ≡ xs

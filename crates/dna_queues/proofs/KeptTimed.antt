@@ -5,7 +5,7 @@ use Rattle.std.specs.Prelude.{slice_get}
 use Rattle.std.proofs.lemmas.Option.{same_Some}
 use Rattle.dna_station.specs.declared.link_refusal.LinkRefusal.TheVariants.{WrongNode}
 use Rattle.dna_links.specs.declared.port.Phase.{Phase}
-use Rattle.dna_links.specs.declared.port.Phase.TheVariants.{Calling, Called, Confirming, Running, Disconnecting, Ended}
+use Rattle.dna_links.specs.declared.port.Phase.TheVariants.{Called, Ended}
 use Rattle.dna_links.specs.declared.port.Port.{Port}
 use Rattle.dna_links.specs.declared.port.LinkTest.TheVariants.{HasAddress}
 use Rattle.dna_links.specs.declared.queue.Queues.TheVariants.{Without, With}
@@ -16,8 +16,8 @@ use Rattle.dna_links.specs.Arriving.{of_partner, message_arrived}
 use Rattle.dna_links.specs.TrueSegments.{TrueSegments, true_segments}
 use Rattle.dna_links.specs.TrueLinks as machine
 use Rattle.dna_links.specs.Runs.{SentMessage}
-use Rattle.dna_links.proofs.Tables.Outcomes.{IsFound, looked}
-use Rattle.dna_queues.proofs.Facts.{passed_check}
+use Rattle.dna_links.proofs.Tables.Outcomes.{looked}
+use Rattle.dna_queues.proofs.Facts.{passed_check, by_test}
 use Rattle.dna_queues.specs.Records.{LinkRecord, Keeps}
 use Rattle.dna_queues.specs.Hidden.{late_segments, Node, Acts, dstaddr, waiting, link_it_is_for}
 use Rattle.dna_queues.specs.Made.{MakesStep, KeepsForLink, MadeByHidden, Hides, Makes}
@@ -33,14 +33,14 @@ use Rattle.dna_queues.proofs.Moved.{moved, gone_before}
 use Rattle.dna_queues.proofs.Starts.{started_before}
 use Rattle.dna_queues.proofs.Hide.{LateLink, hide}
 use Rattle.dna_queues.proofs.Dues.{put_packets, Due, put, put_here, Went, went_use, IsDue, AreSane}
-use Rattle.dna_queues.proofs.Timed.{Awaits, is_end, AreKept}
-use Rattle.dna_queues.proofs.Timed.{Timed, unique_hidden}
+use Rattle.dna_queues.proofs.Timed.{Awaits, is_end, AreKept, Timed, unique_hidden}
 use Rattle.dna_queues.proofs.Prepared.{prepare_set, set_timed, set_sane}
 use Rattle.dna_queues.proofs.SentTimed.{Sound}
 use Rattle.dna_queues.proofs.Addressed.{awaits_nothing}
 use Rattle.dna_queues.proofs.Arrives.{Arrives, arrives_both, CameTo, Still, GoesOn, IsOver, came_kind, came_dead}
 use Rattle.dna_queues.proofs.KeptLists.{set_of_changed, same_lists, takes_last, at_is, kept_push, awaits_push}
 use Rattle.dna_queues.proofs.AllTimed.{all_come, all_seen, all_may}
+use Rattle.std.proofs.lemmas.Bool.{false_from_ne_true}
 
 module _ (s : machine.Links) (sane : AreSane s) (unit : SentMessage) (address : ℕ) (is : dstaddr unit.packet.message ≡ Some address)
     (may : (unit.packet.src == s.peer && unit.packet.dst == s.node) ≡ true) (left : machine.Links)
@@ -81,12 +81,9 @@ module _ (s : machine.Links) (sane : AreSane s) (unit : SentMessage) (address : 
   over_sound over = go (subst (λ (x : machine.Links). AreSane x → Sound x later) same rest sane)
     where
       links_same : left.links ≡ s.links
-      links_same = same_lists s.links left.links arrives.changed.size (λ i l at. here i l at (is_at l.port.own address) refl)
-        where
-          here : (i : ℕ) (l : Link) → slice_get s.links i ≡ Some l → (b : Bool) → is_at l.port.own address ≡ b → slice_get left.links i ≡ Some l
-          here i l at true own =
-              arrives.changed.here i l at own ∙ ap Some (came_dead unit.packet.message unit.truth l (over i l at own))
-          here i l at false own = arrives.changed.other i l at own
+      links_same = same_lists s.links left.links arrives.changed.size (λ i l at. by_test (is_at l.port.own address)
+          (λ own. arrives.changed.here i l at own ∙ ap Some (came_dead unit.packet.message unit.truth l (over i l at own)))
+          (λ own. arrives.changed.other i l at own))
 
       same : left ≡ s
       same = ap (λ (m : ℕ). record left { node = m }) arrives.changed.node
@@ -97,24 +94,14 @@ module _ (s : machine.Links) (sane : AreSane s) (unit : SentMessage) (address : 
       go r = record {
         dues = r.dues;
         due = r.due;
-        made = λ n t. Makes n (keeping n) (Keeps unit) later (keeps r.dues n t) (r.made (keeping n) (record {
-          node = t.node;
-          peer = t.peer;
-          size = t.size;
-          all = t.all;
-          went = t.went;
-          kept = kept_too n t.kept;
-          awaits = λ i l at. awaits n t i l at (is_at l.port.own address) refl;
-          composed = t.composed;
-        }));
+        made = λ n t. Makes n (keeping n) (Keeps unit) later (keeps r.dues n t) (r.made (keeping n)
+            (let kept = kept_too n t.kept in
+            let awaits : (i : ℕ) (l : Link) → slice_get s.links i ≡ Some l → Awaits l (waiting link_it_is_for l.port.own (n.kept ++ unit ∷ [])) =
+            λ i l at. by_test (is_at l.port.own address)
+            (λ own. subst (Awaits l) (sym (pushed l.port.own n.kept true own))
+            (awaits_push l (waiting link_it_is_for l.port.own n.kept) unit (over i l at own) (t.awaits i l at)))
+            (λ own. awaits_other l n.kept own (t.awaits i l at)) in assumption (kept, awaits, t)));
       }
-        where
-          awaits : (n : Node) → Timed s r.dues n → (i : ℕ) (l : Link) → slice_get s.links i ≡ Some l → (b : Bool) → is_at l.port.own address ≡ b →
-              Awaits l (waiting link_it_is_for l.port.own (n.kept ++ unit ∷ []))
-          awaits n t i l at true own =
-              subst (Awaits l) (sym (pushed l.port.own n.kept true own))
-              (awaits_push l (waiting link_it_is_for l.port.own n.kept) unit (over i l at own) (t.awaits i l at))
-          awaits n t i l at false own = awaits_other l n.kept own (t.awaits i l at)
 
   -- ---- a live link has it
 
@@ -130,11 +117,7 @@ module _ (s : machine.Links) (sane : AreSane s) (unit : SentMessage) (address : 
     nothing kept a = ap (λ (o : Option ℕ). waiting link_it_is_for o kept) (sym (at_is l.port.own address own)) ∙ a.live live
 
     own_other : (j : ℕ) (x : Link) → (j ≡ i → ⊥) → slice_get s.links j ≡ Some x → is_at x.port.own address ≡ false
-    own_other j x differs at_x = go (is_at x.port.own address) refl
-      where
-        go : (b : Bool) → is_at x.port.own address ≡ b → is_at x.port.own address ≡ false
-        go false e = e
-        go true e = absurd (differs (sane.unique j i x l at_x at address e own))
+    own_other j x differs at_x = false_from_ne_true _ (λ e. differs (sane.unique j i x l at_x at address e own))
 
     module _ (k : Link) (set : IsSet s left i k) (own_same : k.port.own ≡ l.port.own) (k_sane : Sane k) (becomes : Link → Link → Type 0)
         (chain : (due : Due) → IsDue s.node s.peer k due → CanGo s.node s.peer due.packets l (λ x. becomes x due.link))
@@ -210,12 +193,9 @@ module _ (s : machine.Links) (sane : AreSane s) (unit : SentMessage) (address : 
         (λ m e. subst (λ (p : Port). passes (test_of m) p ≡ true) (sym in_use_is) e) d.early d.can) step
       where
         live_ends : (p : Phase) → is_live p ≡ true → (is_called p ≡ true → ⊥) → can_end p ≡ true
-        live_ends Calling e never = refl
-        live_ends Confirming e never = refl
-        live_ends Running e never = refl
-        live_ends Disconnecting e never = refl
         live_ends Called e never = absurd (never refl)
         live_ends Ended e never = absurd cc
+        live_ends p e never = refl
 
         owned : is_called l.port.phase ≡ true → ⊥
         owned e =
@@ -273,10 +253,6 @@ module _ (s : machine.Links) (sane : AreSane s) (unit : SentMessage) (address : 
   for_link_sound =
       looked {R = ℕ} (HasAddress address) s 0 (λ i l. 0) _ refl
       (λ missing e. over_sound (λ i l at own. let never : true ≡ false = sym own ∙ none_passes (HasAddress address) s missing i l at in absurd cc))
-      (λ i l found e. by_live i l found (is_live l.port.phase) refl)
-    where
-      by_live : (i : ℕ) (l : Link) → IsFound (HasAddress address) s i l → (b : Bool) → is_live l.port.phase ≡ b → Sound s (Keeps unit ∷ later)
-      by_live i l found true live = live_sound i l found.there found.passed live
-      by_live i l found false over =
-          over_sound (λ j x at own. ap (λ (y : Link). is_live y.port.phase) (same_Some x l (sym at
-          ∙ ap (slice_get s.links) (sane.unique j i x l at found.there address own found.passed) ∙ found.there)) ∙ over)
+      (λ i l found e. by_test (is_live l.port.phase) (λ live. live_sound i l found.there found.passed live)
+      (λ over. over_sound (λ j x at own. ap (λ (y : Link). is_live y.port.phase) (same_Some x l (sym at
+      ∙ ap (slice_get s.links) (sane.unique j i x l at found.there address own found.passed) ∙ found.there)) ∙ over)))

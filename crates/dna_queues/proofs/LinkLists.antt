@@ -1,6 +1,6 @@
 -- Links of which at most one has an own address: what a row does by such an address it does to that link alone.
 use Rattle.std.proofs.Common.{◌≡◌, ℕ, zero, suc, Bool, true, false, cond, ◌⊎◌, inl, inr, Option, Some, None, List, [], ◌∷◌, length, map}
-use Rattle.std.proofs.Common.{refl, sym, ap, ap₂, ◌∙◌, arith, position, length-set}
+use Rattle.std.proofs.Common.{refl, sym, ap, ap₂, ◌∙◌, arith, position, length-set, subst, ◌++◌}
 use Rattle.std.specs.Prelude.{slice_get, slice_set}
 use Rattle.std.proofs.lemmas.Bool.{cases_eq}
 use Rattle.std.proofs.lemmas.Option.{same_Some, slice_get_within}
@@ -12,6 +12,12 @@ use Rattle.dna_links.proofs.Tables.Outcomes.{IsFound, position_passes, position_
 use Rattle.dna_links.proofs.Runs.Sides.{set_same, set_other}
 use Rattle.dna_links.proofs.Runs.Owners.{there_is}
 use Rattle.dna_links.proofs.Cut.LookUps.{position-map}
+use Rattle.dna_queues.proofs.Facts.{by_test, by_option, not_both}
+use Rattle.two_nodes.proofs.NumberedSteps.{at_pushed}
+
+pub there_too : {X Y : Type 0} (xs : List X) (ys : List Y) (i : ℕ) (y : Y) → length xs ≡ length ys → slice_get ys i ≡ Some y →
+    (x : X) × (slice_get xs i ≡ Some x)
+there_too xs ys i y size at = let w = slice_get_within ys i y at in there_is xs i (omega (arith, w, size))
 
 module _ {D : Type 0} where
   abbrev pub IsUnique : LinksOf D → Type 0
@@ -26,49 +32,45 @@ module _ {D : Type 0} where
     pub here : (i : ℕ) (l : LinkOf D) → slice_get s.links i ≡ Some l → is_at l.port.own address ≡ true → slice_get left.links i ≡ Some (change l)
     pub other : (i : ℕ) (l : LinkOf D) → slice_get s.links i ≡ Some l → is_at l.port.own address ≡ false → slice_get left.links i ≡ Some l
 
-  pub record WasAt (s : LinksOf D) (address : ℕ) (change : LinkOf D → LinkOf D) (i : ℕ) (k : LinkOf D) : Type 0 where
-    pub link : LinkOf D
-    pub there : slice_get s.links i ≡ Some link
-    pub is : ((is_at link.port.own address ≡ true) × (change link ≡ k)) ⊎ ((is_at link.port.own address ≡ false) × (link ≡ k))
-
-  pub was_at : (s left : LinksOf D) (address : ℕ) (change : LinkOf D → LinkOf D) → IsChanged s left address change → (i : ℕ) (k : LinkOf D) →
-      slice_get left.links i ≡ Some k → WasAt s address change i k
-  was_at s left address change c i k at =
+  -- what is so of the changed link, and of the others, is so of each
+  pub changed_each : (s left : LinksOf D) (address : ℕ) (change : LinkOf D → LinkOf D) → IsChanged s left address change →
+      (P : LinkOf D → Type 0) (i : ℕ) →
+      ((l : LinkOf D) → slice_get s.links i ≡ Some l → is_at l.port.own address ≡ true → P (change l)) →
+      ((l : LinkOf D) → slice_get s.links i ≡ Some l → is_at l.port.own address ≡ false → P l) → (k : LinkOf D) →
+      slice_get left.links i ≡ Some k → P k
+  changed_each s left address change c P i here other k at =
       let w = slice_get_within left.links i k at in
       let size = c.size in
       let t = there_is s.links i (omega (arith, w, size)) in
-      go t.0 t.1 (is_at t.0.port.own address) refl
-    where
-      go : (l : LinkOf D) → slice_get s.links i ≡ Some l → (b : Bool) → is_at l.port.own address ≡ b → WasAt s address change i k
-      go l there true e =
-          record { link = l; there = there; is = inl (e, same_Some (change l) k (sym (c.here i l there e) ∙ at)) }
-      go l there false e = record { link = l; there = there; is = inr (e, same_Some l k (sym (c.other i l there e) ∙ at)) }
+      by_test (is_at t.0.port.own address)
+      (λ e. subst P (same_Some (change t.0) k (sym (c.here i t.0 t.1 e) ∙ at)) (here t.0 t.1 e))
+      (λ e. subst P (same_Some t.0 k (sym (c.other i t.0 t.1 e) ∙ at)) (other t.0 t.1 e))
 
   pub unique_changed : (s left : LinksOf D) (address : ℕ) (change : LinkOf D → LinkOf D) → IsChanged s left address change →
       ((l : LinkOf D) → (change l).port.own ≡ l.port.own) → IsUnique s → IsUnique left
   unique_changed s left address change c same unique i j l k at_i at_j n own_l own_k =
-      let p = was_at s left address change c i l at_i in
-      let q = was_at s left address change c j k at_j in
-      unique i j p.link q.link p.there q.there n (ap (λ (o : Option ℕ). is_at o n) (sym (own i l p)) ∙ own_l)
-      (ap (λ (o : Option ℕ). is_at o n) (sym (own j k q)) ∙ own_k)
+      let p = before i l at_i own_l in let q = before j k at_j own_k in unique i j p.0 q.0 p.1 q.1 n p.2 q.2
     where
-      own : (i : ℕ) (k : LinkOf D) (w : WasAt s address change i k) → k.port.own ≡ w.link.port.own
-      own i k w = go w.is
-        where
-          go : ((is_at w.link.port.own address ≡ true) × (change w.link ≡ k)) ⊎ ((is_at w.link.port.own address ≡ false) × (w.link ≡ k)) →
-              k.port.own ≡ w.link.port.own
-          go (inl a) = ap (λ (x : LinkOf D). x.port.own) (sym a.1) ∙ same w.link
-          go (inr a) = ap (λ (x : LinkOf D). x.port.own) (sym a.1)
+      before : (i : ℕ) (k : LinkOf D) → slice_get left.links i ≡ Some k → is_at k.port.own n ≡ true →
+          (l : LinkOf D) × (slice_get s.links i ≡ Some l) × (is_at l.port.own n ≡ true)
+      before i = changed_each s left address change c
+          (λ k. is_at k.port.own n ≡ true → (l : LinkOf D) × (slice_get s.links i ≡ Some l) × (is_at l.port.own n ≡ true)) i
+          (λ l there e own. (l, there, ap (λ (o : Option ℕ). is_at o n) (sym (same l)) ∙ own)) (λ l there e own. (l, there, own))
 
-  pub changed_as : (s left : LinksOf D) (address : ℕ) (change further : LinkOf D → LinkOf D) → IsChanged s left address change →
-      ((l : LinkOf D) → change l ≡ further l) → IsChanged s left address further
-  changed_as s left address change further c same = record {
+  pub changed_so : (s left : LinksOf D) (address : ℕ) (change further : LinkOf D → LinkOf D) → IsChanged s left address change →
+      ((i : ℕ) (l : LinkOf D) → slice_get s.links i ≡ Some l → is_at l.port.own address ≡ true → change l ≡ further l) →
+      IsChanged s left address further
+  changed_so s left address change further c same = record {
     node = c.node;
     peer = c.peer;
     size = c.size;
-    here = λ i l there own. c.here i l there own ∙ ap Some (same l);
+    here = λ i l there own. c.here i l there own ∙ ap Some (same i l there own);
     other = c.other;
   }
+
+  pub changed_as : (s left : LinksOf D) (address : ℕ) (change further : LinkOf D → LinkOf D) → IsChanged s left address change →
+      ((l : LinkOf D) → change l ≡ further l) → IsChanged s left address further
+  changed_as s left address change further c same = changed_so s left address change further c (λ i l there own. same l)
 
   -- ---- rows
 
@@ -148,39 +150,59 @@ module _ {D : Type 0} where
 
   pub was_set : (s left : LinksOf D) (number : ℕ) (k : LinkOf D) → IsSet s left number k → (i : ℕ) (x : LinkOf D) → slice_get left.links i ≡ Some x →
       ((i ≡ number) × (k ≡ x)) ⊎ ((i ≡ number → ⊥) × (slice_get s.links i ≡ Some x))
-  was_set s left number k set i x at = go (cases_eq i number)
+  was_set s left number k set i x at =
+      elim (cases_eq i number) [
+        | inl e ↦ inl (e, same_Some k x (sym set.here ∙ ap (slice_get left.links) (sym e) ∙ at))
+        | inr d ↦ inr (d, sym (set.others i d) ∙ at)
+      ]
+
+  -- what is so of that link, and of the others, is so of each
+  pub set_each : (s left : LinksOf D) (number : ℕ) (k : LinkOf D) → IsSet s left number k → (P : ℕ → LinkOf D → Type 0) → P number k →
+      ((i : ℕ) (x : LinkOf D) → (i ≡ number → ⊥) → slice_get s.links i ≡ Some x → P i x) → (i : ℕ) (x : LinkOf D) → slice_get left.links i ≡ Some x →
+      P i x
+  set_each s left number k set P here other i x at =
+      elim (was_set s left number k set i x at) [
+        | inl a ↦ subst (λ (j : ℕ). P j x) (sym a.0) (subst (P number) a.1 here)
+        | inr a ↦ other i x a.0 a.1
+      ]
+
+  -- where none but that link has its address at most one has one still
+  pub unique_free : (s left : LinksOf D) (number : ℕ) (k : LinkOf D) → IsSet s left number k → IsUnique s →
+      ((i : ℕ) (x : LinkOf D) (n : ℕ) → (i ≡ number → ⊥) → slice_get s.links i ≡ Some x → is_at x.port.own n ≡ true → is_at k.port.own n ≡ true →
+      ⊥) → IsUnique left
+  unique_free s left number k set unique free i j l m at_i at_j n own_l own_m =
+      go (was_set s left number k set i l at_i) (was_set s left number k set j m at_j)
     where
-      go : (i ≡ number) ⊎ (i ≡ number → ⊥) → ((i ≡ number) × (k ≡ x)) ⊎ ((i ≡ number → ⊥) × (slice_get s.links i ≡ Some x))
-      go (inl e) = inl (e, same_Some k x (sym set.here ∙ ap (slice_get left.links) (sym e) ∙ at))
-      go (inr d) = inr (d, sym (set.others i d) ∙ at)
+      go : ((i ≡ number) × (k ≡ l)) ⊎ ((i ≡ number → ⊥) × (slice_get s.links i ≡ Some l)) →
+          ((j ≡ number) × (k ≡ m)) ⊎ ((j ≡ number → ⊥) × (slice_get s.links j ≡ Some m)) → i ≡ j
+      go (inl p) (inl q) = p.0 ∙ sym q.0
+      go (inl p) (inr q) = absurd (free j m n q.0 q.1 own_m (ap (λ (z : LinkOf D). is_at z.port.own n) p.1 ∙ own_l))
+      go (inr p) (inl q) = absurd (free i l n p.0 p.1 own_l (ap (λ (z : LinkOf D). is_at z.port.own n) q.1 ∙ own_m))
+      go (inr p) (inr q) = unique i j l m p.1 q.1 n own_l own_m
 
   pub unique_set : (s left : LinksOf D) (number : ℕ) (h k : LinkOf D) → IsSet s left number k → slice_get s.links number ≡ Some h →
       k.port.own ≡ h.port.own → IsUnique s → IsUnique left
-  unique_set s left number h k set there own unique i j l m at_i at_j n own_l own_m =
-      let p = before i l at_i in
-      let q = before j m at_j in
-      unique i j p.0 q.0 p.1 q.1 n (ap (λ (o : Option ℕ). is_at o n) (sym p.2) ∙ own_l) (ap (λ (o : Option ℕ). is_at o n) (sym q.2) ∙ own_m)
-    where
-      before : (i : ℕ) (x : LinkOf D) → slice_get left.links i ≡ Some x → (g : LinkOf D) × (slice_get s.links i ≡ Some g) × (x.port.own ≡ g.port.own)
-      before i x at = go (was_set s left number k set i x at)
-        where
-          go : ((i ≡ number) × (k ≡ x)) ⊎ ((i ≡ number → ⊥) × (slice_get s.links i ≡ Some x)) →
-              (g : LinkOf D) × (slice_get s.links i ≡ Some g) × (x.port.own ≡ g.port.own)
-          go (inl a) = (h, ap (slice_get s.links) a.0 ∙ there, ap (λ (y : LinkOf D). y.port.own) (sym a.1) ∙ own)
-          go (inr a) = (x, a.1, refl)
+  unique_set s left number h k set there own unique = unique_free s left number k set unique (λ i x n differs at own_x own_k.
+      differs (unique i number x h at there n own_x (ap (λ (o : Option ℕ). is_at o n) (sym own) ∙ own_k)))
 
   -- where this is the only one that can pass it is found
   pub found_one : (s : LinksOf D) → IsUnique s → (test : LinkTest) (own i : ℕ) (l : LinkOf D) →
       ((p : Port) → passes test p ≡ true → is_at p.own own ≡ true) → slice_get s.links i ≡ Some l → passes test l.port ≡ true →
       number_of test s ≡ Some i
-  found_one s unique test own i l owns there passed = go (number_of test s) refl
-    where
-      go : (o : Option ℕ) → number_of test s ≡ o → number_of test s ≡ Some i
-      go None none = let never = none_passes test s none i l there in let x : true ≡ false = sym passed ∙ never in absurd cc
-      go (Some j) found =
-          let k = there_is s.links j (position_within (λ (x : LinkOf D). passes test x.port) s.links j found) in
-          let at = position_passes (λ (x : LinkOf D). passes test x.port) s.links j k.0 found k.1 in
-          found ∙ ap Some (unique j i k.0 l k.1 there own (owns k.0.port at) (owns l.port passed))
+  found_one s unique test own i l owns there passed = by_option (number_of test s)
+      (λ none. absurd (not_both _ passed (none_passes test s none i l there)))
+      (λ j found. let k = there_is s.links j (position_within (λ (x : LinkOf D). passes test x.port) s.links j found) in
+      let at = position_passes (λ (x : LinkOf D). passes test x.port) s.links j k.0 found k.1 in
+      found ∙ ap Some (unique j i k.0 l k.1 there own (owns k.0.port at) (owns l.port passed)))
+
+-- what is so of the links that stood, and of the one that was added, is so of each
+pub pushed_each : {X : Type 0} (xs : List X) (y : X) (P : ℕ → X → Type 0) → ((i : ℕ) (x : X) → slice_get xs i ≡ Some x → P i x) → P (length xs) y →
+    (i : ℕ) (x : X) → slice_get (xs ++ y ∷ []) i ≡ Some x → P i x
+pushed_each xs y P old new i x at =
+    elim (at_pushed xs y x i at) [
+      | inl p ↦ old i x p
+      | inr p ↦ subst (λ (j : ℕ). P j x) (sym p.0) (subst (P (length xs)) p.1 new)
+    ]
 
 module _ {X Y : Type 0} (f : X → Bool) (g : Y → Bool) where
   tests_alike : (xs : List X) (ys : List Y) → length xs ≡ length ys →

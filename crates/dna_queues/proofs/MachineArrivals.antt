@@ -1,11 +1,9 @@
 -- A packet that is kept, acted on by the machine: it changes the link with that address, as what all would come to has it.
-use Rattle.std.proofs.Common.{◌≡◌, ℕ, zero, suc, Bool, true, false, ◌||◌, cond, Option, Some, None, List, [], ◌∷◌, length, map, Result, Ok}
-use Rattle.std.proofs.Common.{refl, sym, ap, ap₂, ◌∙◌, subst, arith, position}
+use Rattle.std.proofs.Common.{◌≡◌, ℕ, Bool, true, false, ◌||◌, cond, Option, Some, length, Result, Ok, refl, sym, ap, ◌∙◌, subst}
 use Rattle.std.specs.Prelude.{slice_get}
 use Rattle.std.proofs.lemmas.Bool.{and_parts}
 use Rattle.std.proofs.lemmas.Option.{same_Some}
-use Rattle.dna_packet.specs.Nsp.{NspValue, DataSegment, LinkService, DataAck, OtherDataAck, ConnectAck, NoOperation, ConnectInitiate}
-use Rattle.dna_packet.specs.Nsp.{ConnectConfirm, DisconnectInitiate, DisconnectConfirm}
+use Rattle.dna_packet.specs.Nsp.{NspValue, DataSegment, LinkService, DataAck, OtherDataAck, ConnectConfirm, DisconnectInitiate, DisconnectConfirm}
 use Rattle.dna_station.specs.declared.link_refusal.LinkRefusal.{LinkRefusal}
 use Rattle.dna_station.specs.declared.link_refusal.LinkRefusal.TheVariants.{CrossedLink}
 use Rattle.dna_links.specs.declared.port.Phase.TheVariants.{Calling, Running}
@@ -20,13 +18,12 @@ use Rattle.dna_links.specs.Arriving.{of_partner, is_for, is_of_pair, message_arr
 use Rattle.dna_links.specs.TrueSegments.{TrueSegments, Numbers, takes_segment, takes_acks, true_segments}
 use Rattle.dna_links.specs.TrueLinks as machine
 use Rattle.dna_links.proofs.Tables.Outcomes.{IsFound, checked}
-use Rattle.dna_links.proofs.Cut.LookUps.{position-map}
 use Rattle.dna_queues.proofs.Facts.{calling_live, connected_live, lets_still}
 use Rattle.dna_queues.specs.Hidden.{late_segments, Links, dstaddr}
 use Rattle.dna_queues.proofs.Goes.{Link}
 use Rattle.dna_queues.proofs.Came.{confirmed_link, ended_link, run_link, came_as}
 use Rattle.dna_queues.proofs.Acting.{LateLink, confirmed_late, run_late}
-use Rattle.dna_queues.proofs.LinkLists.{IsUnique, IsChanged, changed_as, at_found}
+use Rattle.dna_queues.proofs.LinkLists.{IsUnique, IsChanged, changed_as, at_found, there_too, number_same}
 use Rattle.dna_queues.proofs.Arrivals.{calling_owns, acted_owns, row_made, either, either_made}
 
 -- ---- the machine, where the node's links are as its own
@@ -38,27 +35,9 @@ pub record Alike (s : Links) (t : machine.Links) : Type 0 where
   pub all : (i : ℕ) (h : LateLink) (l : Link) → slice_get s.links i ≡ Some h → slice_get t.links i ≡ Some l →
       (h.port ≡ l.port) × (h.partner ≡ l.partner)
 
-abbrev late_port : LateLink → Port
-late_port h = h.port
-
-abbrev true_port : Link → Port
-true_port l = l.port
-
-ports_alike : (xs : List LateLink) (ys : List Link) → length xs ≡ length ys →
-    ((i : ℕ) (h : LateLink) (l : Link) → slice_get xs i ≡ Some h → slice_get ys i ≡ Some l → h.port ≡ l.port) → map late_port xs ≡ map true_port ys
-ports_alike [] [] size same = refl
-ports_alike [] (y ∷ ys) size same = absurd (omega (arith, size))
-ports_alike (x ∷ xs) [] size same = absurd (omega (arith, size))
-ports_alike (x ∷ xs) (y ∷ ys) size same =
-    ap₂ (λ (p : Port) (ps : List Port). p ∷ ps) (same zero x y refl refl)
-    (ports_alike xs ys (omega (arith, size)) (λ i h l at_h at_l. same (suc i) h l at_h at_l))
-
 module _ (s : Links) (t : machine.Links) (alike : Alike s t) where
   pub number_alike : (test : LinkTest) → number_of test s ≡ number_of test t
-  number_alike test =
-      sym (position-map (passes test) late_port s.links)
-      ∙ ap (position (passes test)) (ports_alike s.links t.links alike.size (λ i h l at_h at_l. (alike.all i h l at_h at_l).0))
-      ∙ position-map (passes test) true_port t.links
+  number_alike test = number_same s t alike.size test (λ i h l at_h at_l. ap (passes test) (alike.all i h l at_h at_l).0)
 
   pub record FoundToo (test : LinkTest) (n : ℕ) (l : Link) : Type 0 where
     pub link : LateLink
@@ -66,28 +45,14 @@ module _ (s : Links) (t : machine.Links) (alike : Alike s t) where
     pub partner : link.partner ≡ l.partner
 
   pub found_too : (test : LinkTest) (n : ℕ) (l : Link) → IsFound test t n l → FoundToo test n l
-  found_too test n l found = go (slice_get s.links n) refl
-    where
-      missing : (xs : List LateLink) (ys : List Link) (i : ℕ) → length xs ≡ length ys → slice_get xs i ≡ None → slice_get ys i ≡ Some l → ⊥
-      missing [] [] i size none at = cc
-      missing [] (y ∷ ys) i size none at = absurd (omega (arith, size))
-      missing (x ∷ xs) [] i size none at = absurd (omega (arith, size))
-      missing (x ∷ xs) (y ∷ ys) zero size none at = cc
-      missing (x ∷ xs) (y ∷ ys) (suc i) size none at = missing xs ys i (omega (arith, size)) none at
-
-      go : (o : Option LateLink) → slice_get s.links n ≡ o → FoundToo test n l
-      go None none = absurd (missing s.links t.links n alike.size none found.there)
-      go (Some h) there =
-          let same = alike.all n h l there found.there in
-          record {
-            link = h;
-            found = record {
-              found = number_alike test ∙ found.found;
-              there = there;
-              passed = ap (passes test) same.0 ∙ found.passed;
-            };
-            partner = same.1;
-          }
+  found_too test n l found =
+      let h = there_too s.links t.links n l alike.size found.there in
+      let same = alike.all n h.0 l h.1 found.there in
+      record {
+        link = h.0;
+        found = record { found = number_alike test ∙ found.found; there = h.1; passed = ap (passes test) same.0 ∙ found.passed };
+        partner = same.1;
+      }
 
 -- ---- what the machine's rows make of a link
 
@@ -181,6 +146,4 @@ module _ (s further : Links) (t : machine.Links) (alike : Alike s t) (unique : I
       acts_row _ (ActedOn dst src) dst address (same_Some dst address is) (acted_owns dst src) (λ n partner. is_of_pair n partner truth.tag)
       (λ l. run_late l.segments.segments l) (λ l. goes_on true_segments (is_live l.port.phase) Running l) e refl
       (λ l. if_same (passes (ActedOn dst src) l.port) l _ _ (run_is dst src (λ f. f) l))
-  machine_acts (ConnectInitiate retransmitted src services info segsize user_data) address is e = absurd cc
-  machine_acts (ConnectAck dst) address is e = absurd cc
-  machine_acts (NoOperation rest) address is e = absurd cc
+  machine_acts m address is e = absurd cc

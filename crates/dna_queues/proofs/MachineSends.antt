@@ -3,8 +3,8 @@ use Rattle.std.proofs.Common.{◌≡◌, ℕ, Bool, true, ◌&&◌, not, Option,
 use Rattle.std.specs.Prelude.{slice_get}
 use Rattle.std.proofs.lemmas.Bool.{and_parts}
 use Rattle.dna_packet.specs.declared.ack_word.AckWord.{AckWord}
-use Rattle.dna_packet.specs.Nsp.{SegmentValue, NspValue, DataSegment, LinkService, DataAck, OtherDataAck, ConnectAck, NoOperation, ConnectInitiate}
-use Rattle.dna_packet.specs.Nsp.{ConnectConfirm, DisconnectInitiate, DisconnectConfirm}
+use Rattle.dna_packet.specs.Nsp.{SegmentValue, NspValue, DataSegment, LinkService, DataAck, OtherDataAck, ConnectAck, ConnectInitiate}
+use Rattle.dna_packet.specs.Nsp.{ConnectConfirm, DisconnectInitiate}
 use Rattle.dna_station.specs.declared.link_refusal.LinkRefusal.{LinkRefusal}
 use Rattle.dna_station.specs.declared.link_refusal.LinkRefusal.TheVariants.{NoLink, LinkState}
 use Rattle.dna_links.specs.declared.port.Phase.{Phase}
@@ -16,10 +16,8 @@ use Rattle.dna_links.specs.declared.queue.Queues.TheVariants.{With}
 use Rattle.dna_links.specs.declared.queue.Said.{Said}
 use Rattle.dna_links.specs.declared.queue.Said.TheVariants.{OfRun, Disconnect}
 use Rattle.dna_links.specs.LookUps.{passes, is_live, is_at, has_both}
-use Rattle.dna_links.specs.SegmentBook.{Sending, Late}
 use Rattle.dna_links.specs.Links.{check, on_link, at_number, with_seen, changed}
 use Rattle.dna_links.specs.Queues.{in_use, with_in_use, may_send, shows}
-use Rattle.dna_links.specs.LinkBook.{on_ok}
 use Rattle.dna_links.specs.inner.Forms.{of_no_link, truth_of, unchanged}
 use Rattle.dna_links.specs.Sending.{Sent, message_sent}
 use Rattle.dna_links.specs.TrueSegments.{TrueSegments, Numbers, sends_late, sends_acks, sends_other, true_segments}
@@ -31,6 +29,7 @@ use Rattle.dna_queues.proofs.Goes.{Link, Goes, said_as, late_link, wide_link}
 use Rattle.dna_queues.proofs.Sending.{shows_is}
 use Rattle.dna_queues.proofs.LinkLists.{still_set, IsSet, set_changed}
 use Rattle.dna_queues.proofs.Turns.{Sane, live_use}
+use Rattle.dna_queues.proofs.Facts.{same_links, was_ok}
 
 -- all but a DC and a no operation is of a link
 abbrev pub is_of_link : NspValue → Bool
@@ -92,9 +91,6 @@ module _ (t : Links) (sane : (i : ℕ) (l : Link) → slice_get t.links i ≡ So
     pub goes : Goes link m further
     pub set : IsSet t left number further
 
-  same_links : (x y : Sent TrueSegments Numbers) → ◌≡◌ {A = Result (Sent TrueSegments Numbers) LinkRefusal} (Ok x) (Ok y) → x.links ≡ y.links
-  same_links x y e = cc
-
   module _ (made : Sent TrueSegments Numbers) where
     -- a link in whose turn the message is
     of_turn : (m : NspValue) (test : LinkTest) (phase : Phase) (next : ℕ → Link → Result (Sent TrueSegments Numbers) LinkRefusal) → IsOfLive test →
@@ -147,37 +143,19 @@ module _ (t : Links) (sane : (i : ℕ) (l : Link) → slice_get t.links i ≡ So
         SendsOf (DataSegment segment) made.links
     segment_of segment e =
         of_turn (DataSegment segment) (TheLink segment.srcaddr segment.dstaddr) Running _ (live_link segment.srcaddr segment.dstaddr) e
-        (λ i l u run same. go i l u run (sends_late l.queue.gap l.segsize segment l.segments) refl same)
-      where
-        go : (i : ℕ) (l : Link) → IsUsed (TheLink segment.srcaddr segment.dstaddr) i l → may_send With Running l ≡ true →
-            (r : Result (Late TrueSegments Numbers) LinkRefusal) → sends_late l.queue.gap l.segsize segment l.segments ≡ r →
-            on_ok r (λ late. let a : Result (Sent TrueSegments Numbers) LinkRefusal = Ok (record {
-              links = changed i (shows true_segments OfRun (late_link l late)) t;
-              truth = truth_of true_segments i (shows true_segments OfRun (late_link l late)) late.sent.known;
-            }) in a) ≡ Ok made → SendsOf (DataSegment segment) made.links
-        go i l u run (Err refusal) does e = absurd cc
-        go i l u run (Ok late) does e =
-            becomes (DataSegment segment) i l (said_as OfRun (late_link l late)) (shows true_segments OfRun (late_link l late)) u.there
-            (record { passed = u.passed; moves = record { run = run; late = late; does = does; is = refl } }) (shows_is OfRun (late_link l late))
-            (same_links _ made e)
+        (λ i l u run same. let r = was_ok (sends_late l.queue.gap l.segsize segment l.segments) _ made same in
+        becomes (DataSegment segment) i l (said_as OfRun (late_link l r.0)) (shows true_segments OfRun (late_link l r.0)) u.there
+        (record { passed = u.passed; moves = record { run = run; late = r.0; does = r.1; is = refl } }) (shows_is OfRun (late_link l r.0))
+        (same_links _ made r.2))
 
     acks_of : (dst src : ℕ) (acks : List AckWord) → message_sent With true_segments t (DataAck dst src acks) ≡ Ok made →
         SendsOf (DataAck dst src acks) made.links
     acks_of dst src acks e =
         of_turn (DataAck dst src acks) (TheLink src dst) Running _ (live_link src dst) e
-        (λ i l u run same. go i l u run (sends_acks acks l.segments) refl same)
-      where
-        go : (i : ℕ) (l : Link) → IsUsed (TheLink src dst) i l → may_send With Running l ≡ true →
-            (r : Result (Sending TrueSegments Numbers) LinkRefusal) → sends_acks acks l.segments ≡ r →
-            on_ok r (λ sent. let a : Result (Sent TrueSegments Numbers) LinkRefusal = Ok (record {
-              links = changed i (shows true_segments OfRun (wide_link l sent)) t;
-              truth = truth_of true_segments i (shows true_segments OfRun (wide_link l sent)) sent.known;
-            }) in a) ≡ Ok made → SendsOf (DataAck dst src acks) made.links
-        go i l u run (Err refusal) does e = absurd cc
-        go i l u run (Ok sent) does e =
-            becomes (DataAck dst src acks) i l (said_as OfRun (wide_link l sent)) (shows true_segments OfRun (wide_link l sent)) u.there
-            (record { passed = u.passed; moves = record { run = run; sent = sent; does = does; is = refl } }) (shows_is OfRun (wide_link l sent))
-            (same_links _ made e)
+        (λ i l u run same. let r = was_ok (sends_acks acks l.segments) _ made same in
+        becomes (DataAck dst src acks) i l (said_as OfRun (wide_link l r.0)) (shows true_segments OfRun (wide_link l r.0)) u.there
+        (record { passed = u.passed; moves = record { run = run; sent = r.0; does = r.1; is = refl } }) (shows_is OfRun (wide_link l r.0))
+        (same_links _ made r.2))
 
     acknowledged_of : (dst : ℕ) → message_sent With true_segments t (ConnectAck dst) ≡ Ok made → SendsOf (ConnectAck dst) made.links
     acknowledged_of dst e =
@@ -198,11 +176,10 @@ module _ (t : Links) (sane : (i : ℕ) (l : Link) → slice_get t.links i ≡ So
         turned _ (TheLink src dst) Confirming (live_link src dst) (λ i l u may. record { passed = u.passed; moves = (may, refl) }) e
     sends_of (DisconnectInitiate dst src reason user_data) is e =
         shown _ dst src Disconnecting Disconnect (λ i l u may. record { passed = u.passed; moves = (may, refl) }) e
-    sends_of (DisconnectConfirm dst src reason) is e = absurd cc
     sends_of (DataSegment segment) is e = segment_of segment e
     sends_of (DataAck dst src acks) is e = acks_of dst src acks e
     sends_of (LinkService interrupt dst src rest) is e =
         shown _ dst src Running OfRun (λ i l u may. record { passed = u.passed; moves = (may, refl) }) e
     sends_of (OtherDataAck dst src rest) is e =
         shown _ dst src Running OfRun (λ i l u may. record { passed = u.passed; moves = (may, refl) }) e
-    sends_of (NoOperation rest) is e = absurd cc
+    sends_of m is e = absurd cc

@@ -1,6 +1,5 @@
 -- A link at which a message is handed in, or delivered.
-use Rattle.std.proofs.Common.{◌≡◌, ℕ, ◌+◌, Option, None, List, refl, sym, ap, ◌∙◌}
-use Rattle.std.proofs.Common.{subst, arith}
+use Rattle.std.proofs.Common.{◌≡◌, ℕ, ◌+◌, Option, None, List, sym, ap, ◌∙◌, subst, arith}
 use Rattle.dna_links.specs.Segmentation.{Piece, in_order}
 use Rattle.dna_links.specs.Links.{with_segments}
 use Rattle.dna_links.specs.CutSegments.{IsAnswered}
@@ -52,41 +51,17 @@ messages_follow more h l f g kept composed answered of_f of_g passed unsent give
       passed = omega (arith, passed, was);
       accepted = x.accepted;
       usable = x.usable;
-      fits = record { waits = x.fits.waits; ran = x.fits.ran; calling = x.fits.calling };
-      can = can_grow more composed l y (Grows None (lift h)) (Grows None (lift k)) (record {
-        own = λ n at. at;
-        far = λ n at. at;
-        opened = refl;
-        usable = λ e. e;
-        closing = λ e. e;
-        ran = λ e. e;
-        accepted = λ e. e;
-        silent = λ e. e;
-        over = λ e. e;
-        gap = refl;
-        segsize = λ e. refl;
-        segments = of_g.grows answered;
-      }) x.can (λ e z grows p. let q = grows_on more (lift h) e z p grows in let s = q.segments in let got = s.received in let acks =
-          s.acknowledged in
-          let order : in_order f.received ≡ in_order h.segments.segments.received = ap in_order of_f.received in record {
-            own = q.own;
-            far = q.far;
-            opened = q.opened;
-            usable = q.usable;
-            closing = q.closing;
-            ran = q.ran;
-            accepted = q.accepted;
-            silent = q.silent;
-            over = q.over;
-            gap = q.gap;
-            segsize = q.segsize;
-            segments = record {
-              given = s.given ∙ sym given;
-              last = s.last ∙ sym last;
-              received = omega (arith, got, order);
-              acknowledged = omega (arith, acks, ack_f);
-              unsent = s.unsent ∙ sym unsent;
-              answered = s.answered;
-            };
-          });
+      fits = assumption x.fits;
+      can = can_grow more composed l y (Grows None (lift h)) (Grows None (lift k)) (let grown = of_g.grows answered in assumption grown) x.can
+          (λ e z grows p. let q = grows_on more (lift h) e z p grows in
+          let s = q.segments in let got = s.received in let acks = s.acknowledged in
+          let order : in_order f.received ≡ in_order h.segments.segments.received = ap in_order of_f.received in
+          let grown : Grown None f z.segments = record {
+            given = s.given ∙ sym given;
+            last = s.last ∙ sym last;
+            received = omega (arith, got, order);
+            acknowledged = omega (arith, acks, ack_f);
+            unsent = s.unsent ∙ sym unsent;
+            answered = s.answered;
+          } in assumption (grown, q));
     }

@@ -1,7 +1,7 @@
 -- What a link of the machine can send once its phase is past it could send before, and what is left then differs by the same.
-use Rattle.std.proofs.Common.{◌≡◌, ℕ, Bool, true, false, ◌||◌, Option, is_none, List, [], ◌∷◌, refl, sym, ap, ◌∙◌, subst}
-use Rattle.dna_packet.specs.Nsp.{NspValue, DataSegment, LinkService, DataAck, OtherDataAck, ConnectAck, NoOperation, ConnectInitiate}
-use Rattle.dna_packet.specs.Nsp.{ConnectConfirm, DisconnectInitiate, DisconnectConfirm}
+use Rattle.std.proofs.Common.{◌≡◌, ℕ, true, ◌||◌, Option, is_none, List, [], ◌∷◌, refl, sym, ap, ◌∙◌, subst}
+use Rattle.dna_packet.specs.Nsp.{NspValue, DataSegment, LinkService, DataAck, OtherDataAck, ConnectAck, NoOperation}
+use Rattle.dna_packet.specs.Nsp.{DisconnectInitiate, DisconnectConfirm}
 use Rattle.dna_links.specs.declared.port.Phase.{Phase}
 use Rattle.dna_links.specs.declared.port.Port.{Port}
 use Rattle.dna_links.specs.declared.queue.Queues.TheVariants.{With}
@@ -16,14 +16,11 @@ use Rattle.dna_queues.proofs.Delivered.{Leaves, given_user, sending_of, late_of,
 use Rattle.dna_queues.proofs.Shapes.{goes_shape}
 use Rattle.dna_queues.proofs.Turns.{asks, is_past}
 use Rattle.dna_queues.proofs.Early.{CanGo, AreEarly}
+use Rattle.std.proofs.lemmas.Bool.{or_right}
 
 pub may_be : (now : Phase) (packet : Carried) (packets : List Carried) → AreEarly now (packet ∷ packets) →
     ((is_none (asks packet.message) || is_past (asks packet.message) now) ≡ true) × AreEarly now packets
-may_be now packet [] early = (or_right (is_none (asks packet.message)) early, tt)
-  where
-    or_right : (b : Bool) {c : Bool} → c ≡ true → (b || c) ≡ true
-    or_right true e = refl
-    or_right false e = e
+may_be now packet [] early = (or_right (is_none (asks packet.message)) _ early, tt)
 may_be now packet (next ∷ packets) early = early
 
 -- the link with this port, which waits so, and to whose user this was delivered
@@ -57,11 +54,7 @@ module _ (port : Port) (waits : Option Phase) (messages : List (List ℕ)) (piec
 
   pub went_before : (l : Link) (m : NspValue) (y : Link) (now : Phase) → PassesBefore l → (is_none (asks m) || is_past (asks m) now) ≡ true →
       Goes (move l) m y → WentBefore l m y
-  went_before l (ConnectInitiate retransmitted src services info segsize user_data) y now passes may g =
-      before l _ y l passes g (g.moves.0, refl) g.moves.1
   went_before l (ConnectAck dst) y now passes may g = before l (ConnectAck dst) y l passes g refl g.moves
-  went_before l (ConnectConfirm dst src services info segsize user_data) y now passes may g =
-      before l _ y l passes g (g.moves.0, refl) g.moves.1
   went_before l (DisconnectInitiate dst src reason user_data) y now passes may g = absurd cc
   went_before l (DisconnectConfirm dst src reason) y now passes may g = absurd g.moves
   went_before l (DataSegment segment) y now passes may g =
@@ -84,6 +77,8 @@ module _ (port : Port) (waits : Option Phase) (messages : List (List ℕ)) (piec
       before l _ y (said_as OfRun l) passes g (g.moves.0, refl) g.moves.1
   went_before l (OtherDataAck dst src rest) y now passes may g = before l _ y (said_as OfRun l) passes g (g.moves.0, refl) g.moves.1
   went_before l (NoOperation rest) y now passes may g = absurd g.moves
+  went_before l m y now passes may g =
+      before l _ y l passes g (g.moves.0, refl) g.moves.1
 
   module _ (node peer : ℕ) where
     pub gone_before : (packets : List Carried) (l : Link) (now : Phase) (P : Link → Type 0) → PassesBefore l → AreEarly now packets →

@@ -1,6 +1,5 @@
 -- What waits for links that have ended in the machine is acted on: first what ended each, and then nothing more happens to it.
-use Rattle.std.proofs.Common.{◌≡◌, ℕ, Bool, true, false, ◌&&◌, ◌==◌, ◌⊎◌, inl, inr, Option, Some, None, List, [], ◌∷◌, length}
-use Rattle.std.proofs.Common.{Ok, refl, sym, ap, ◌∙◌, subst, eqb-true}
+use Rattle.std.proofs.Common.{◌≡◌, ℕ, true, false, ◌&&◌, ◌==◌, Option, Some, None, List, [], ◌∷◌, length, Ok, refl, sym, ap, ◌∙◌, subst, eqb-true}
 use Rattle.std.specs.Prelude.{slice_get}
 use Rattle.dna_station.specs.declared.link_refusal.LinkRefusal.TheVariants.{WrongNode}
 use Rattle.dna_links.specs.declared.queue.Queues.TheVariants.{Without}
@@ -8,12 +7,12 @@ use Rattle.dna_links.specs.LookUps.{is_live, is_at}
 use Rattle.dna_links.specs.LinkBook.{are_same}
 use Rattle.dna_links.specs.Arriving.{of_partner, arrived_step, message_arrived}
 use Rattle.dna_links.specs.Runs.{SentMessage}
-use Rattle.dna_queues.proofs.Facts.{not_both, passed_check}
+use Rattle.dna_queues.proofs.Facts.{not_both, passed_check, by_test}
 use Rattle.dna_queues.specs.Records.{LinkRecord}
 use Rattle.dna_queues.specs.Hidden.{late_segments, Links, Node, Acts, ComesTo, AllActed, Next, Takes, First, Behind, link_it_is_for, waiting}
 use Rattle.dna_queues.specs.Made.{MadeByHidden, Hides}
 use Rattle.dna_queues.proofs.Acting.{ended_late}
-use Rattle.dna_queues.proofs.LinkLists.{IsUnique, IsChanged, WasAt, was_at, unique_changed}
+use Rattle.dna_queues.proofs.LinkLists.{IsUnique, IsChanged, unique_changed, changed_each}
 use Rattle.dna_queues.proofs.Lists.{takes_first, takes_other}
 use Rattle.dna_queues.proofs.Hide.{LateLink}
 use Rattle.dna_queues.proofs.Timed.{is_end, IsKept, AreKept, kept_as}
@@ -39,9 +38,6 @@ good_dead : (h : LateLink) (kept : List SentMessage) → is_live h.port.phase �
 good_dead h [] over = tt
 good_dead h (unit ∷ units) over = λ live. absurd (not_both _ live over)
 
-ended_own : (h : LateLink) → (ended_late h).port.own ≡ h.port.own
-ended_own h = refl
-
 module _ (kept left : List SentMessage) (unit : SentMessage) (takes : Takes link_it_is_for kept unit left) (address : ℕ)
     (is : link_it_is_for unit ≡ Some address) where
   here_first : (own : Option ℕ) → is_at own address ≡ true → waiting link_it_is_for own kept ≡ unit ∷ waiting link_it_is_for own left
@@ -56,45 +52,31 @@ module _ (kept left : List SentMessage) (unit : SentMessage) (takes : Takes link
 
     module _ (links : Links) (c : IsChanged s links address ended_late) where
       pub good_left : AreGood links left
-      good_left i k at = go (was_at s links address ended_late c i k at)
-        where
-          go : WasAt s address ended_late i k → GoodFor k (waiting link_it_is_for k.port.own left)
-          go w = by w.is
-            where
-              by : ((is_at w.link.port.own address ≡ true) × (ended_late w.link ≡ k)) ⊎ ((is_at w.link.port.own address ≡ false) × (w.link ≡ k)) →
-                  GoodFor k (waiting link_it_is_for k.port.own left)
-              by (inl a) = good_dead k _ (ap (λ (x : LateLink). is_live x.port.phase) (sym a.1))
-              by (inr a) =
-                  subst (λ (x : LateLink). GoodFor x (waiting link_it_is_for x.port.own left)) a.1
-                  (subst (GoodFor w.link) (other_same w.link.port.own a.0) (good i w.link w.there))
+      good_left i k at =
+          changed_each s links address ended_late c (λ x. GoodFor x (waiting link_it_is_for x.port.own left)) i
+          (λ h there own. good_dead (ended_late h) _ refl)
+          (λ h there own. subst (GoodFor h) (other_same h.port.own own) (good i h there)) k at
 
       pub unique_left : IsUnique links
-      unique_left = unique_changed s links address ended_late c ended_own unique
+      unique_left = unique_changed s links address ended_late c (λ h. refl) unique
 
       -- what is then still to come of a link
       pub then_left : (i : ℕ) (h : LateLink) → slice_get s.links i ≡ Some h →
           (k : LateLink) × (slice_get links.links i ≡ Some k) × (k.port.own ≡ h.port.own)
           × (then_ended (waiting link_it_is_for k.port.own left) k ≡ then_ended (waiting link_it_is_for h.port.own kept) h)
-      then_left i h at = go (is_at h.port.own address) refl
+      then_left i h at = by_test (is_at h.port.own address)
+          (λ own. (
+            ended_late h,
+            c.here i h at own,
+            refl,
+            twice (waiting link_it_is_for h.port.own left)
+                ∙ ap (λ (us : List SentMessage). then_ended us h) (sym (here_first h.port.own own)),
+          ))
+          (λ own. (h, c.other i h at own, refl, ap (λ (us : List SentMessage). then_ended us h) (sym (other_same h.port.own own))))
         where
           twice : (us : List SentMessage) → then_ended us (ended_late h) ≡ ended_late h
           twice [] = refl
           twice (u ∷ us) = refl
-
-          go : (b : Bool) → is_at h.port.own address ≡ b → (k : LateLink) × (slice_get links.links i ≡ Some k) × (k.port.own ≡ h.port.own)
-              × (then_ended (waiting link_it_is_for k.port.own left) k ≡ then_ended (waiting link_it_is_for h.port.own kept) h)
-          go true own = (
-            ended_late h,
-            c.here i h at own,
-            refl,
-            twice (waiting link_it_is_for h.port.own left) ∙ ap (λ (us : List SentMessage). then_ended us h) (sym (here_first h.port.own own)),
-          )
-          go false own = (
-            h,
-            c.other i h at own,
-            refl,
-            ap (λ (us : List SentMessage). then_ended us h) (sym (other_same h.port.own own)),
-          )
 
 arrives : (s : Links) (unit : SentMessage) (links : Links) → (unit.packet.src == s.peer && unit.packet.dst == s.node) ≡ true →
     message_arrived Without late_segments of_partner s unit.packet.message unit.truth ≡ Ok links →

@@ -1,9 +1,7 @@
 -- What links without queues make a node with queues makes by hidden steps that stand at the records.
-use Rattle.std.proofs.Common.{◌≡◌, ℕ, Bool, true, false, ◌&&◌, ◌==◌, Option, Some, None, List}
-use Rattle.std.proofs.Common.{[], ◌∷◌, ◌++◌, Result, Ok, Err, refl, sym, ap, ◌∙◌, subst}
-use Rattle.std.proofs.Common.{append-nil}
-use Rattle.dna_packet.specs.Nsp.{NspValue, DataSegment, LinkService, DataAck, OtherDataAck, ConnectAck, NoOperation, ConnectInitiate, ConnectConfirm}
-use Rattle.dna_packet.specs.Nsp.{DisconnectInitiate, DisconnectConfirm, IsInRange}
+use Rattle.std.proofs.Common.{◌≡◌, ℕ, Bool, true, false, ◌&&◌, ◌==◌, Option, Some, None, List, [], ◌∷◌, ◌++◌, Result, Ok, Err, refl, sym, ap, ◌∙◌}
+use Rattle.std.proofs.Common.{subst, append-nil}
+use Rattle.dna_packet.specs.Nsp.{NspValue, ConnectAck, NoOperation, ConnectInitiate, DisconnectConfirm, IsInRange}
 use Rattle.dna_station.specs.declared.link_refusal.LinkRefusal.{LinkRefusal}
 use Rattle.dna_station.specs.declared.link_refusal.LinkRefusal.TheVariants.{NoLink, WrongNode}
 use Rattle.dna_links.specs.declared.port.LinkTest.TheVariants.{LiveTo, BegunBy}
@@ -18,12 +16,11 @@ use Rattle.dna_links.specs.TrueSegments.{TrueSegments, Numbers, true_segments}
 use Rattle.dna_links.specs.TrueLinks as plain
 use Rattle.dna_links.specs.Runs.{SentMessage}
 use Rattle.dna_links.proofs.Tables.Outcomes.{looked, checked}
-use Rattle.dna_queues.proofs.Facts.{passed_check, same_Ok}
+use Rattle.dna_queues.proofs.Facts.{passed_check, same_Ok, same_links}
 use Rattle.dna_queues.specs.Records.{LinkRecord, OfUser, Sends, Keeps, OfNoLink, links_left, made_without, AreInRange}
 use Rattle.dna_queues.specs.Hidden.{LateSegments, late_segments, Links, Node, dstaddr, is_composed, First, Acts, Composes, Acknowledges, AllActed}
-use Rattle.dna_queues.specs.Made.{new_node, IsFree, EndsCall, MakesStep, UserDoes, Boots}
-use Rattle.dna_queues.specs.Made.{SendsComposed, SendsConfirm, SendsNothing, KeepsForLink, KeepsAtOnce, PassesBy}
-use Rattle.dna_queues.specs.Made.{MadeByHidden, NoMore, Hides, Makes}
+use Rattle.dna_queues.specs.Made.{new_node, IsFree, EndsCall, MakesStep, UserDoes, Boots, SendsComposed, SendsConfirm, SendsNothing, KeepsForLink}
+use Rattle.dna_queues.specs.Made.{KeepsAtOnce, PassesBy, MadeByHidden, NoMore, Hides, Makes}
 use Rattle.dna_queues.proofs.LinkLists.{at_found, at_none}
 use Rattle.dna_queues.proofs.Forgotten.{forget_links, begun_forget, there, missing, user_too}
 use Rattle.dna_queues.proofs.PlainSteps.{message_too, came_too}
@@ -91,10 +88,7 @@ module _ (later : List LinkRecord) (left : plain.Links)
         (Acknowledges unit dst n t.h is (passed_check (packet.src == s.node && packet.dst == s.peer) WrongNode _ may) t.found.there
         t.found.passed refl)
         (Makes (record { links = s; kept = []; composed = unit ∷ [] }) (quiet s) (Sends packet) later (SendsComposed unit [] (First unit []))
-        (on s made.links (links_same _ made same) e)))
-      where
-        links_same : (x y : Sent TrueSegments Numbers) → ◌≡◌ {A = Result (Sent TrueSegments Numbers) LinkRefusal} (Ok x) (Ok y) → x.links ≡ y.links
-        links_same x y e = cc
+        (on s made.links (same_links _ made same) e)))
 
     confirmed_now : (dst src reason : ℕ) (made : Sent TrueSegments Numbers) → packet.message ≡ DisconnectConfirm dst src reason →
         message_sent Without true_segments (forget_links s) packet.message ≡ Ok made → made_without made.links later ≡ Ok left →
@@ -111,10 +105,7 @@ module _ (later : List LinkRecord) (left : plain.Links)
     nothing_now octets made is does e =
         Makes (quiet s) (quiet s) (Sends packet) later
         (SendsNothing packet octets _ is (sent_is _ (ap (message_sent Without late_segments s) is)))
-        (on s made.links (links_same _ made does) e)
-      where
-        links_same : (x y : Sent TrueSegments Numbers) → ◌≡◌ {A = Result (Sent TrueSegments Numbers) LinkRefusal} (Ok x) (Ok y) → x.links ≡ y.links
-        links_same x y e = cc
+        (on s made.links (same_links _ made does) e)
 
     by_message : (m : NspValue) (made : Sent TrueSegments Numbers) → packet.message ≡ m → IsInRange packet.message →
         message_sent Without true_segments (forget_links s) packet.message ≡ Ok made → made_without made.links later ≡ Ok left →
@@ -124,14 +115,7 @@ module _ (later : List LinkRecord) (left : plain.Links)
     by_message (DisconnectConfirm dst src reason) made is small does e = confirmed_now dst src reason made is does e
     by_message (NoOperation octets) made is small does e =
         nothing_now octets made is (ap (message_sent Without true_segments (forget_links s)) (sym is) ∙ does) e
-    by_message (ConnectInitiate retransmitted src services info segsize user_data) made is small does e =
-        composed_now made (ap is_composed is) small does e
-    by_message (ConnectConfirm dst src services info segsize user_data) made is small does e = composed_now made (ap is_composed is) small does e
-    by_message (DisconnectInitiate dst src reason user_data) made is small does e = composed_now made (ap is_composed is) small does e
-    by_message (DataSegment segment) made is small does e = composed_now made (ap is_composed is) small does e
-    by_message (DataAck dst src acks) made is small does e = composed_now made (ap is_composed is) small does e
-    by_message (LinkService interrupt dst src octets) made is small does e = composed_now made (ap is_composed is) small does e
-    by_message (OtherDataAck dst src octets) made is small does e = composed_now made (ap is_composed is) small does e
+    by_message m made is small does e = composed_now made (ap is_composed is) small does e
 
   by_sending : (s : Links) (packet : Carried) → IsInRange packet.message → (r : Result (Sent TrueSegments Numbers) LinkRefusal) →
       plain.links_sent Without (forget_links s) packet ≡ r → on_ok (links_left r) (λ x. made_without x later) ≡ Ok left →
@@ -186,13 +170,7 @@ module _ (later : List LinkRecord) (left : plain.Links)
         still (ap dstaddr is) (ap (λ (x : NspValue). message_arrived Without late_segments of_partner s x unit.truth) is) (same_Ok _ t does)
     for_none (NoOperation octets) is none does =
         still (ap dstaddr is) (ap (λ (x : NspValue). message_arrived Without late_segments of_partner s x unit.truth) is) (same_Ok _ t does)
-    for_none (ConnectConfirm dst src services info segsize user_data) is none does = absurd cc
-    for_none (DisconnectInitiate dst src reason user_data) is none does = absurd cc
-    for_none (DisconnectConfirm dst src reason) is none does = absurd cc
-    for_none (DataSegment segment) is none does = absurd cc
-    for_none (DataAck dst src acks) is none does = absurd cc
-    for_none (LinkService interrupt dst src octets) is none does = absurd cc
-    for_none (OtherDataAck dst src octets) is none does = absurd cc
+    for_none m is none does = absurd cc
 
     by_address : (o : Option ℕ) → dstaddr unit.packet.message ≡ o →
         message_arrived Without true_segments of_partner (forget_links s) unit.packet.message unit.truth ≡ Ok t →

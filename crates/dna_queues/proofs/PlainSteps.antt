@@ -20,8 +20,8 @@ use Rattle.dna_links.specs.Sending.{Sent, message_sent}
 use Rattle.dna_links.specs.Arriving.{of_partner, is_for, is_of_pair, message_arrived}
 use Rattle.dna_links.specs.TrueSegments.{TrueSegments, Numbers, sends_segment, sends_acks, takes_segment, takes_acks, true_segments}
 use Rattle.dna_links.specs.TrueLinks as plain
-use Rattle.dna_links.proofs.Tables.Outcomes.{IsFound, looked, checked}
-use Rattle.dna_queues.proofs.Facts.{passed_check, same_Ok}
+use Rattle.dna_links.proofs.Tables.Outcomes.{looked, checked}
+use Rattle.dna_queues.proofs.Facts.{passed_check, same_Ok, same_links, was_ok}
 use Rattle.dna_queues.specs.Hidden.{LateSegments, late_segments, late_sent, acks_sent, over, Links}
 use Rattle.dna_queues.proofs.Goes.{Link}
 use Rattle.dna_queues.proofs.Acting.{LateLink}
@@ -37,9 +37,6 @@ module _ (s : Links) where
     pub does : message_sent Without late_segments s m ≡ Ok made
     pub same : forget_links made.links ≡ left
 
-  same_sent : (x y : Sent TrueSegments Numbers) → ◌≡◌ {A = Result (Sent TrueSegments Numbers) LinkRefusal} (Ok x) (Ok y) → x.links ≡ y.links
-  same_sent x y e = cc
-
   in_phase_too : (m : NspValue) (test : LinkTest) (phase : Phase) (made : Sent TrueSegments Numbers) →
       message_sent Without late_segments s m ≡ with_link test s (Err NoLink)
       (λ n h. check (is_in phase h.port.phase) LinkState (Ok (unchanged late_segments s n h))) →
@@ -53,7 +50,7 @@ module _ (s : Links) where
         made = unchanged late_segments s n t.h;
         does = row ∙ at_found test s n t.h _ _ t.found
             ∙ passed_check (is_in phase t.h.port.phase) LinkState _ (ap (λ (x : Link). is_in phase x.port.phase) t.is ∙ c.0);
-        same = same_sent _ made c.1;
+        same = same_links _ made c.1;
       })
 
   segment_too : (segment : SegmentValue) (made : Sent TrueSegments Numbers) →
@@ -61,64 +58,48 @@ module _ (s : Links) where
   segment_too segment made e =
       looked (TheLink segment.srcaddr segment.dstaddr) (forget_links s) (Err NoLink) _ (Ok made) e (λ none e. absurd cc)
       (λ n l found e. let c = checked (is_in Running l.port.phase) LinkState _ made e in
-      go n l found c.0 (sends_segment l.segsize segment l.segments) refl c.1)
-    where
-      go : (n : ℕ) (l : Link) → IsFound (TheLink segment.srcaddr segment.dstaddr) (forget_links s) n l → is_in Running l.port.phase ≡ true →
-          (r : Result (Sending TrueSegments Numbers) LinkRefusal) → sends_segment l.segsize segment l.segments ≡ r →
-          on_ok r (λ sent. let a : Result (Sent TrueSegments Numbers) LinkRefusal = Ok (record {
-            links = changed n (with_segments sent.segments l) (forget_links s);
-            truth = truth_of true_segments n l sent.known;
-          }) in a) ≡ Ok made → MessageToo (DataSegment segment) made.links
-      go n l found run (Err refusal) does e = absurd cc
-      go n l found run (Ok sent) does e =
-          let t = there s (TheLink segment.srcaddr segment.dstaddr) n l found in
-          let g = sends_too t.h.segments.gap t.h.segsize segment t.h.segments.segments sent
-          (ap (λ (x : Link). sends_segment x.segsize segment x.segments) t.is ∙ does) in
-          let d = late_sent (record { sent = sent; gap = g.left }) in
-          record {
-            made = record { links = changed n (with_segments d.segments t.h) s; truth = truth_of late_segments n t.h d.known };
-            does = at_found (TheLink segment.srcaddr segment.dstaddr) s n t.h _ _ t.found
-                ∙ passed_check (is_in Running t.h.port.phase) LinkState _ (ap (λ (x : Link). is_in Running x.port.phase) t.is ∙ run)
-                ∙ ap (λ (r : Result (Late TrueSegments Numbers) LinkRefusal). on_ok
-                (on_ok r (λ late. let a : Result (Sending LateSegments Numbers) LinkRefusal = Ok (late_sent late) in a))
-                (λ x. let a : Result (Sent LateSegments Numbers) LinkRefusal = Ok (record {
-                  links = changed n (with_segments x.segments t.h) s;
-                  truth = truth_of late_segments n t.h x.known;
-                }) in a)) g.is;
-            same = changed_forget n (with_segments d.segments t.h) s
-                ∙ ap (λ (x : Link). changed n (with_segments sent.segments x) (forget_links s)) t.is ∙ same_sent _ made e;
-          }
+      let o = was_ok (sends_segment l.segsize segment l.segments) _ made c.1 in
+      let sent = o.0 in
+      let t = there s (TheLink segment.srcaddr segment.dstaddr) n l found in
+      let g = sends_too t.h.segments.gap t.h.segsize segment t.h.segments.segments sent
+      (ap (λ (x : Link). sends_segment x.segsize segment x.segments) t.is ∙ o.1) in
+      let d = late_sent (record { sent = sent; gap = g.left }) in
+      record {
+        made = record { links = changed n (with_segments d.segments t.h) s; truth = truth_of late_segments n t.h d.known };
+        does = at_found (TheLink segment.srcaddr segment.dstaddr) s n t.h _ _ t.found
+            ∙ passed_check (is_in Running t.h.port.phase) LinkState _ (ap (λ (x : Link). is_in Running x.port.phase) t.is ∙ c.0)
+            ∙ ap (λ (r : Result (Late TrueSegments Numbers) LinkRefusal). on_ok
+            (on_ok r (λ late. let a : Result (Sending LateSegments Numbers) LinkRefusal = Ok (late_sent late) in a))
+            (λ x. let a : Result (Sent LateSegments Numbers) LinkRefusal = Ok (record {
+              links = changed n (with_segments x.segments t.h) s;
+              truth = truth_of late_segments n t.h x.known;
+            }) in a)) g.is;
+        same = changed_forget n (with_segments d.segments t.h) s
+            ∙ ap (λ (x : Link). changed n (with_segments sent.segments x) (forget_links s)) t.is ∙ same_links _ made o.2;
+      })
 
   acks_too : (dst src : ℕ) (acks : List AckWord) (made : Sent TrueSegments Numbers) →
       message_sent Without true_segments (forget_links s) (DataAck dst src acks) ≡ Ok made → MessageToo (DataAck dst src acks) made.links
   acks_too dst src acks made e =
       looked (TheLink src dst) (forget_links s) (Err NoLink) _ (Ok made) e (λ none e. absurd cc)
       (λ n l found e. let c = checked (is_in Running l.port.phase) LinkState _ made e in
-      go n l found c.0 (sends_acks acks l.segments) refl c.1)
-    where
-      go : (n : ℕ) (l : Link) → IsFound (TheLink src dst) (forget_links s) n l → is_in Running l.port.phase ≡ true →
-          (r : Result (Sending TrueSegments Numbers) LinkRefusal) → sends_acks acks l.segments ≡ r →
-          on_ok r (λ sent. let a : Result (Sent TrueSegments Numbers) LinkRefusal = Ok (record {
-            links = changed n (with_segments sent.segments l) (forget_links s);
-            truth = truth_of true_segments n l sent.known;
-          }) in a) ≡ Ok made → MessageToo (DataAck dst src acks) made.links
-      go n l found run (Err refusal) does e = absurd cc
-      go n l found run (Ok sent) does e =
-          let t = there s (TheLink src dst) n l found in
-          let d = acks_sent t.h.segments sent in
-          record {
-            made = record { links = changed n (with_segments d.segments t.h) s; truth = truth_of late_segments n t.h d.known };
-            does = at_found (TheLink src dst) s n t.h _ _ t.found
-                ∙ passed_check (is_in Running t.h.port.phase) LinkState _ (ap (λ (x : Link). is_in Running x.port.phase) t.is ∙ run)
-                ∙ ap (λ (r : Result (Sending TrueSegments Numbers) LinkRefusal). on_ok
-                (on_ok r (λ x. let a : Result (Sending LateSegments Numbers) LinkRefusal = Ok (acks_sent t.h.segments x) in a))
-                (λ x. let a : Result (Sent LateSegments Numbers) LinkRefusal = Ok (record {
-                  links = changed n (with_segments x.segments t.h) s;
-                  truth = truth_of late_segments n t.h x.known;
-                }) in a)) (ap (λ (x : Link). sends_acks acks x.segments) t.is ∙ does);
-            same = changed_forget n (with_segments d.segments t.h) s
-                ∙ ap (λ (x : Link). changed n (with_segments sent.segments x) (forget_links s)) t.is ∙ same_sent _ made e;
-          }
+      let o = was_ok (sends_acks acks l.segments) _ made c.1 in
+      let sent = o.0 in
+      let t = there s (TheLink src dst) n l found in
+      let d = acks_sent t.h.segments sent in
+      record {
+        made = record { links = changed n (with_segments d.segments t.h) s; truth = truth_of late_segments n t.h d.known };
+        does = at_found (TheLink src dst) s n t.h _ _ t.found
+            ∙ passed_check (is_in Running t.h.port.phase) LinkState _ (ap (λ (x : Link). is_in Running x.port.phase) t.is ∙ c.0)
+            ∙ ap (λ (r : Result (Sending TrueSegments Numbers) LinkRefusal). on_ok
+            (on_ok r (λ x. let a : Result (Sending LateSegments Numbers) LinkRefusal = Ok (acks_sent t.h.segments x) in a))
+            (λ x. let a : Result (Sent LateSegments Numbers) LinkRefusal = Ok (record {
+              links = changed n (with_segments x.segments t.h) s;
+              truth = truth_of late_segments n t.h x.known;
+            }) in a)) (ap (λ (x : Link). sends_acks acks x.segments) t.is ∙ o.1);
+        same = changed_forget n (with_segments d.segments t.h) s
+            ∙ ap (λ (x : Link). changed n (with_segments sent.segments x) (forget_links s)) t.is ∙ same_links _ made o.2;
+      })
 
   end_too : (dst src reason : ℕ) (made : Sent TrueSegments Numbers) →
       message_sent Without true_segments (forget_links s) (DisconnectConfirm dst src reason) ≡ Ok made →
@@ -140,7 +121,7 @@ module _ (s : Links) where
           cond z (with_link {R = Result (Sent TrueSegments Numbers) LinkRefusal} (CalledBy dst) (forget_links s)
           (Ok (of_no_link true_segments (forget_links s))) (λ n l. Ok (ending true_segments (forget_links s) n l)))
           (Ok (of_no_link true_segments (forget_links s))) ≡ Ok made → MessageToo (DisconnectConfirm dst src reason) made.links
-      go none false is e = record { made = of_no_link late_segments s; does = row none false is; same = same_sent _ made e }
+      go none false is e = record { made = of_no_link late_segments s; does = row none false is; same = same_links _ made e }
       go none true is e =
           looked (CalledBy dst) (forget_links s) (Ok (of_no_link true_segments (forget_links s))) (λ n l. Ok (ending true_segments (forget_links
           s) n l))
@@ -148,13 +129,13 @@ module _ (s : Links) where
           (λ free e. record {
             made = of_no_link late_segments s;
             does = row none true is ∙ at_none (CalledBy dst) s _ _ (missing s (CalledBy dst) free);
-            same = same_sent _ made e;
+            same = same_links _ made e;
           })
           (λ n l found e. let t = there s (CalledBy dst) n l found in record {
             made = ending late_segments s n t.h;
             does = row none true is ∙ at_found (CalledBy dst) s n t.h _ _ t.found;
             same = changed_forget n (ended late_segments t.h) s
-                ∙ ap (λ (x : Link). changed n (ended true_segments x) (forget_links s)) t.is ∙ same_sent _ made e;
+                ∙ ap (λ (x : Link). changed n (ended true_segments x) (forget_links s)) t.is ∙ same_links _ made e;
           })
 
   pub message_too : (m : NspValue) (made : Sent TrueSegments Numbers) → message_sent Without true_segments (forget_links s) m ≡ Ok made →
@@ -165,7 +146,7 @@ module _ (s : Links) where
       (λ n l found e. let t = there s (BegunBy dst) n l found in record {
         made = unchanged late_segments s n t.h;
         does = at_found (BegunBy dst) s n t.h _ _ t.found;
-        same = same_sent _ made e;
+        same = same_links _ made e;
       })
   message_too (ConnectConfirm dst src services info segsize user_data) made e = in_phase_too _ (TheLink src dst) Confirming made refl e
   message_too (DisconnectInitiate dst src reason user_data) made e = in_phase_too _ (TheLink src dst) Disconnecting made refl e
@@ -174,7 +155,7 @@ module _ (s : Links) where
   message_too (DataAck dst src acks) made e = acks_too dst src acks made e
   message_too (LinkService interrupt dst src rest) made e = in_phase_too _ (TheLink src dst) Running made refl e
   message_too (OtherDataAck dst src rest) made e = in_phase_too _ (TheLink src dst) Running made refl e
-  message_too (NoOperation rest) made e = record { made = of_no_link late_segments s; does = refl; same = same_sent _ made e }
+  message_too (NoOperation rest) made e = record { made = of_no_link late_segments s; does = refl; same = same_links _ made e }
 
   -- ---- what comes
 
@@ -243,8 +224,6 @@ module _ (s : Links) where
           same = begun_forget (called late_segments of_partner src segsize truth.tag) s ∙ same_Ok _ left e;
         })
         (λ n l found e. let t = there s (LiveTo src) n l found in stays_too _ left (at_found (LiveTo src) s n t.h _ _ t.found) e)
-    came_too (ConnectAck dst) left e = stays_too _ left refl e
-    came_too (NoOperation rest) left e = stays_too _ left refl e
     came_too (ConnectConfirm dst src services info segsize user_data) left e =
         row_too _ (CallingAt dst) (λ n partner. is_for n truth.tag) (confirmed late_segments of_partner src segsize truth.tag)
         (confirmed true_segments of_partner src segsize truth.tag) left (λ h. refl) refl e
@@ -264,3 +243,4 @@ module _ (s : Links) where
     came_too (OtherDataAck dst src rest) left e =
         row_too _ (ActedOn dst src) (λ n partner. is_of_pair n partner truth.tag) (running late_segments of_partner (λ l. l.segments))
         (running true_segments of_partner (λ l. l.segments)) left (λ h. refl) refl e
+    came_too m left e = stays_too _ left refl e

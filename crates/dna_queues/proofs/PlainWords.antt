@@ -6,11 +6,9 @@ use Rattle.dna_packet.specs.Nsp.{SegmentValue}
 use Rattle.dna_station.specs.declared.link_refusal.LinkRefusal.{LinkRefusal}
 use Rattle.dna_links.specs.Segmentation.{piece_of}
 use Rattle.dna_links.specs.SegmentBook.{Sending, Late, with_gap, wider, REACH, wire, distance, is_of_data}
-use Rattle.dna_links.specs.TrueSegments.{TrueSegments, Numbers, Named, NamedLate, highest_received}
-use Rattle.dna_links.specs.TrueSegments.{highest_given, named, named_late, all_named, all_named_late}
-use Rattle.dna_links.specs.TrueSegments.{with_number, with_first, with_number_late, with_first_late}
-use Rattle.dna_links.specs.TrueSegments.{is_new, sends_new, sends_again, segment_named, sends_segment}
-use Rattle.dna_links.specs.TrueSegments.{sends_late, new_late, went_on}
+use Rattle.dna_links.specs.TrueSegments.{TrueSegments, Numbers, Named, NamedLate, highest_received, highest_given, named, named_late, all_named}
+use Rattle.dna_links.specs.TrueSegments.{all_named_late, with_number, with_first, with_number_late, with_first_late, is_new, sends_new, sends_again}
+use Rattle.dna_links.specs.TrueSegments.{segment_named, sends_segment, sends_late, new_late, went_on}
 
 abbrev with_late : ℕ → Option Named → Option NamedLate
 with_late gap None = None

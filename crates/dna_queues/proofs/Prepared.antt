@@ -11,14 +11,12 @@ use Rattle.dna_queues.specs.Records.{LinkRecord}
 use Rattle.dna_queues.specs.Hidden.{Node, waiting, link_it_is_for, link_it_is_of}
 use Rattle.dna_queues.specs.Made.{MadeByHidden, Hides}
 use Rattle.dna_queues.proofs.Goes.{Link, phase_of}
-use Rattle.dna_queues.proofs.LinkLists.{IsSet, was_set}
+use Rattle.dna_queues.proofs.LinkLists.{IsSet, set_each, unique_free}
 use Rattle.dna_queues.proofs.Turns.{Sane}
 use Rattle.dna_queues.proofs.Early.{CanGo, ends, AreNow, parts}
 use Rattle.dna_queues.proofs.Hide.{hide}
-use Rattle.dna_queues.proofs.Dues.{Due, put, put_here, put_other, put_twice, IsDue, AreDue, AreSane}
-use Rattle.dna_queues.proofs.Timed.{Awaits, AreKept, kept_as, packets_of, Timed, timed_as}
-use Rattle.dna_queues.proofs.Dues.{went_can}
-use Rattle.dna_queues.proofs.Timed.{composes_on}
+use Rattle.dna_queues.proofs.Dues.{Due, put, put_here, put_other, put_twice, IsDue, AreDue, AreSane, went_can}
+use Rattle.dna_queues.proofs.Timed.{Awaits, AreKept, kept_as, packets_of, Timed, timed_as, composes_on}
 
 module _ (s : machine.Links) (sane : AreSane s) (i : ℕ) (l : Link) (at : slice_get s.links i ≡ Some l) where
   -- all of these are composed
@@ -126,23 +124,13 @@ module _ (s : machine.Links) (sane : AreSane s) (i : ℕ) (l : Link) (at : slice
       node = set_h.node ∙ t.node ∙ sym set.node;
       peer = set_h.peer ∙ t.peer ∙ sym set.peer;
       size = set_h.size ∙ t.size ∙ sym set.size;
-      all = λ j x at_x. all j x (was_set s left i k set j x at_x);
+      all = set_each s left i k set (λ j x. slice_get next.links.links j ≡ Some (hide (dues j).link)) set_h.here
+          (λ j x d at_x. set_h.others j d ∙ t.all j x d at_x ∙ ap (λ (e : Due). Some (hide e.link)) (put_other i j mine dues d));
       went = λ j x at_x. let d = due.each j x at_x in went_can left.node left.peer (dues j).packets x (dues j).link d.can;
       kept = kept_as s.node s.peer left.node left.peer next.kept (sym set.node) (sym set.peer) kept;
-      awaits = λ j x at_x. awaits j x (was_set s left i k set j x at_x);
+      awaits = set_each s left i k set (λ j x. Awaits x (waiting link_it_is_for x.port.own next.kept)) mine_awaits others;
       composed = composed;
     }
-      where
-        all : (j : ℕ) (x : Link) → ((j ≡ i) × (k ≡ x)) ⊎ ((j ≡ i → ⊥) × (slice_get s.links j ≡ Some x)) →
-            slice_get next.links.links j ≡ Some (hide (dues j).link)
-        all j x (inl a) = ap (slice_get next.links.links) a.0 ∙ set_h.here ∙ ap (λ (m : ℕ). Some (hide (dues m).link)) (sym a.0)
-        all j x (inr a) =
-            set_h.others j a.0 ∙ t.all j x a.0 a.1 ∙ ap (λ (d : Due). Some (hide d.link)) (put_other i j mine dues a.0)
-
-        awaits : (j : ℕ) (x : Link) → ((j ≡ i) × (k ≡ x)) ⊎ ((j ≡ i → ⊥) × (slice_get s.links j ≡ Some x)) →
-            Awaits x (waiting link_it_is_for x.port.own next.kept)
-        awaits j x (inl a) = subst (λ (y : Link). Awaits y (waiting link_it_is_for y.port.own next.kept)) a.1 mine_awaits
-        awaits j x (inr a) = others j x a.0 a.1
 
     pub set_timed : (mine : Due) (n next : Node) → Timed s (put i mine dues) n → IsSet n.links next.links i (hide (dues i).link) →
         AreKept s.node s.peer next.kept → Awaits k (waiting link_it_is_for k.port.own next.kept) →
@@ -157,26 +145,10 @@ module _ (s : machine.Links) (sane : AreSane s) (i : ℕ) (l : Link) (at : slice
         is_at k.port.own n ≡ true → ⊥) →
         is_at k.port.own 0 ≡ false → Sane k → AreSane left
     set_sane_free free zero is = record {
-      unique = λ a b x y at_x at_y n own_x own_y. one a b x y n own_x own_y (was_set s left i k set a x at_x) (was_set s left i k set b y at_y);
-      each = λ j x at_x. each j x (was_set s left i k set j x at_x);
-      not_zero = λ j x at_x. zero_not j x (was_set s left i k set j x at_x);
+      unique = unique_free s left i k set sane.unique free;
+      each = set_each s left i k set (λ j x. Sane x) is (λ j x d at_x. sane.each j x at_x);
+      not_zero = set_each s left i k set (λ j x. is_at x.port.own 0 ≡ false) zero (λ j x d at_x. sane.not_zero j x at_x);
     }
-      where
-        each : (j : ℕ) (x : Link) → ((j ≡ i) × (k ≡ x)) ⊎ ((j ≡ i → ⊥) × (slice_get s.links j ≡ Some x)) → Sane x
-        each j x (inl a) = subst Sane a.1 is
-        each j x (inr a) = sane.each j x a.1
-
-        zero_not : (j : ℕ) (x : Link) → ((j ≡ i) × (k ≡ x)) ⊎ ((j ≡ i → ⊥) × (slice_get s.links j ≡ Some x)) → is_at x.port.own 0 ≡ false
-        zero_not j x (inl a) = ap (λ (y : Link). is_at y.port.own 0) (sym a.1) ∙ zero
-        zero_not j x (inr a) = sane.not_zero j x a.1
-
-        one : (a b : ℕ) (x y : Link) (n : ℕ) → is_at x.port.own n ≡ true → is_at y.port.own n ≡ true →
-            ((a ≡ i) × (k ≡ x)) ⊎ ((a ≡ i → ⊥) × (slice_get s.links a ≡ Some x)) →
-            ((b ≡ i) × (k ≡ y)) ⊎ ((b ≡ i → ⊥) × (slice_get s.links b ≡ Some y)) → a ≡ b
-        one a b x y n own_x own_y (inl p) (inl q) = p.0 ∙ sym q.0
-        one a b x y n own_x own_y (inl p) (inr q) = absurd (free b y n q.0 q.1 own_y (ap (λ (z : Link). is_at z.port.own n) p.1 ∙ own_x))
-        one a b x y n own_x own_y (inr p) (inl q) = absurd (free a x n p.0 p.1 own_x (ap (λ (z : Link). is_at z.port.own n) q.1 ∙ own_y))
-        one a b x y n own_x own_y (inr p) (inr q) = sane.unique a b x y p.1 q.1 n own_x own_y
 
     pub set_sane : k.port.own ≡ l.port.own → Sane k → AreSane left
     set_sane own is =

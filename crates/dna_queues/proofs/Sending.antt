@@ -1,11 +1,10 @@
 -- What a link of the machine may send the machine sends.
-use Rattle.std.proofs.Common.{◌≡◌, ℕ, Bool, true, false, ◌&&◌, Option, Some, None, length, Result, Ok, Err, refl, sym, ap, ◌∙◌}
-use Rattle.std.proofs.Common.{subst, position}
+use Rattle.std.proofs.Common.{◌≡◌, ℕ, Bool, true, false, ◌&&◌, Option, Some, None, length, Result, Ok, Err, refl, sym, ap, ◌∙◌, subst, position}
 use Rattle.std.specs.Prelude.{slice_get}
 use Rattle.std.proofs.lemmas.Bool.{and_parts}
 use Rattle.std.proofs.lemmas.Option.{same_Some}
-use Rattle.dna_packet.specs.Nsp.{NspValue, DataSegment, LinkService, DataAck, OtherDataAck, ConnectAck, NoOperation, ConnectInitiate}
-use Rattle.dna_packet.specs.Nsp.{ConnectConfirm, DisconnectInitiate, DisconnectConfirm}
+use Rattle.dna_packet.specs.Nsp.{NspValue, DataSegment, LinkService, DataAck, OtherDataAck, ConnectAck, ConnectInitiate}
+use Rattle.dna_packet.specs.Nsp.{ConnectConfirm, DisconnectInitiate}
 use Rattle.dna_station.specs.declared.link_refusal.LinkRefusal.{LinkRefusal}
 use Rattle.dna_station.specs.declared.link_refusal.LinkRefusal.TheVariants.{NoLink, LinkState}
 use Rattle.dna_links.specs.declared.port.Phase.{Phase}
@@ -27,7 +26,7 @@ use Rattle.dna_links.specs.TrueSegments.{TrueSegments, Numbers, sends_other, tru
 use Rattle.dna_links.specs.TrueLinks.{Links}
 use Rattle.dna_links.proofs.Tables.Outcomes.{looked, position_passes, position_within, position_none}
 use Rattle.dna_links.proofs.Runs.Owners.{there_is}
-use Rattle.dna_queues.proofs.Facts.{lets_still, passed_check}
+use Rattle.dna_queues.proofs.Facts.{lets_still, passed_check, by_option, not_both}
 use Rattle.dna_queues.proofs.Goes.{Link, Goes, said_as, late_link, wide_link, use_own}
 use Rattle.dna_queues.proofs.LinkLists.{IsSet, set_changed, IsUnique}
 
@@ -53,14 +52,10 @@ module _ (t : Links) (unique : IsUnique t) where
   -- where this is the only one that passes it is found
   only : (test : Link → Bool) (i : ℕ) (l : Link) → slice_get t.links i ≡ Some l → test l ≡ true →
       ((j : ℕ) (k : Link) → slice_get t.links j ≡ Some k → test k ≡ true → j ≡ i) → position test t.links ≡ Some i
-  only test i l there passed alone = go (position test t.links) refl
-    where
-      go : (o : Option ℕ) → position test t.links ≡ o → position test t.links ≡ Some i
-      go None none = let no_one = position_none test t.links i l none there in
-          let x : true ≡ false = sym passed ∙ no_one in absurd cc
-      go (Some j) found =
-          let k = there_is t.links j (position_within test t.links j found) in
-          found ∙ ap Some (alone j k.0 k.1 (position_passes test t.links j k.0 found k.1))
+  only test i l there passed alone = by_option (position test t.links)
+      (λ none. absurd (not_both _ passed (position_none test t.links i l none there)))
+      (λ j found. let k = there_is t.links j (position_within test t.links j found) in
+      found ∙ ap Some (alone j k.0 k.1 (position_passes test t.links j k.0 found k.1)))
 
   pub use_found : {R : Type 0} (test : LinkTest) (own i : ℕ) (l : Link) (otherwise : R) (next : ℕ → Link → R) → Owns test own →
       slice_get t.links i ≡ Some l → passes test (in_use With l) ≡ true → with_in_use With test t otherwise next ≡ next i l
@@ -157,7 +152,6 @@ module _ (t : Links) (unique : IsUnique t) where
     sends (ConnectConfirm dst src services info segsize user_data) x g =
         in_turn _ (TheLink src dst) src Confirming x (link_owns src dst) g.passed g.moves.0 g.moves.1 refl
     sends (DisconnectInitiate dst src reason user_data) x g = shown _ dst src Disconnecting Disconnect x g.passed g.moves.0 g.moves.1 refl
-    sends (DisconnectConfirm dst src reason) x g = absurd g.moves
     sends (DataSegment segment) x g =
         let m = g.moves in
         let left = shows true_segments OfRun (late_link l m.late) in
@@ -187,4 +181,4 @@ module _ (t : Links) (unique : IsUnique t) where
         refl (shows_is OfRun (wide_link l m.sent) ∙ sym m.is)
     sends (LinkService interrupt dst src rest) x g = shown _ dst src Running OfRun x g.passed g.moves.0 g.moves.1 refl
     sends (OtherDataAck dst src rest) x g = shown _ dst src Running OfRun x g.passed g.moves.0 g.moves.1 refl
-    sends (NoOperation rest) x g = absurd g.moves
+    sends m x g = absurd g.moves

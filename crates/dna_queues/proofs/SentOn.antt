@@ -1,6 +1,5 @@
 -- What is composed is sent: the machine sends it too, and follows the node as before.
-use Rattle.std.proofs.Common.{◌≡◌, ℕ, ◌<◌, true, ◌&&◌, ◌==◌, ◌⊎◌, inl, inr, Option, Some, None, List, ◌∷◌, length}
-use Rattle.std.proofs.Common.{Ok, refl, sym, ap, ap₂, ◌∙◌, subst, arith}
+use Rattle.std.proofs.Common.{◌≡◌, ℕ, ◌<◌, true, ◌&&◌, ◌==◌, Option, Some, None, List, ◌∷◌, length, Ok, refl, sym, ap, ap₂, ◌∙◌, subst, arith}
 use Rattle.std.specs.Prelude.{slice_get}
 use Rattle.std.proofs.lemmas.Option.{same_Some}
 use Rattle.dna_packet.specs.Nsp.{NspValue}
@@ -32,10 +31,10 @@ use Rattle.dna_queues.proofs.Came.{Fits}
 use Rattle.dna_queues.proofs.Acting.{LateLink, seen_as}
 use Rattle.dna_queues.proofs.Follows.{Follows}
 use Rattle.dna_queues.proofs.Lists.{takes_first, takes_other}
-use Rattle.dna_queues.proofs.LinkLists.{was_set}
+use Rattle.dna_queues.proofs.LinkLists.{there_too, set_each}
 use Rattle.dna_queues.proofs.Sending.{sends}
 use Rattle.dna_queues.proofs.Waiting.{AreOf, of_taken}
-use Rattle.dna_queues.proofs.Beside.{Beside, there_too, unique_too, follows_as, eqb-same, eqb-other}
+use Rattle.dna_queues.proofs.Beside.{Beside, unique_too, follows_as, eqb-same, eqb-other}
 
 -- ---- one after another
 
@@ -158,21 +157,13 @@ module _ (n : Node) (t : machine.Links) (b : Beside n t) (answered : AreAnswered
               unique = b.unique;
               for_links = b.for_links;
               of_links = of_left;
-              all = λ i k x at_k at_x. one i k x on.left at_k (was_set t sent.made.links number on.left sent.set i x at_x) on.follows;
+              all = λ i k x at_k at_x. set_each t sent.made.links number on.left sent.set
+                  (λ i x. (k : LateLink) → slice_get n.links.links i ≡ Some k →
+                  Follows k x (waiting link_it_is_for k.port.own n.kept) (waiting link_it_is_of (Some i) left))
+                  (λ k at_k. subst (λ (g : LateLink). Follows g on.left (waiting link_it_is_for g.port.own n.kept)
+                  (waiting link_it_is_of (Some number) left)) (same_Some h k (sym at_h ∙ at_k)) on.follows)
+                  (λ i x differs at_x k at_k. follows_as k x _ _ (waiting link_it_is_of (Some i) n.composed) _ refl
+                  (takes_other link_it_is_of n.composed left unit (Some i) takes
+                  (ap (λ (o : Option ℕ). are_same o (Some i)) is ∙ eqb-other i number differs)) (b.all i k x at_k at_x)) i x at_x k at_k;
             };
           }
-        where
-          one : (i : ℕ) (k : LateLink) (x y : Link) → slice_get n.links.links i ≡ Some k →
-              ((i ≡ number) × (y ≡ x)) ⊎ ((i ≡ number → ⊥) × (slice_get t.links i ≡ Some x)) →
-              Follows h y (waiting link_it_is_for h.port.own n.kept) (waiting link_it_is_of (Some number) left) →
-              Follows k x (waiting link_it_is_for k.port.own n.kept) (waiting link_it_is_of (Some i) left)
-          one i k x y at_k (inl a) f =
-              let same : h ≡ k = same_Some h k (sym at_h ∙ ap (slice_get n.links.links) (sym a.0) ∙ at_k) in
-              subst (λ (z : Link). Follows k z (waiting link_it_is_for k.port.own n.kept) (waiting link_it_is_of (Some i) left)) a.1
-              (subst (λ (j : ℕ). Follows k y (waiting link_it_is_for k.port.own n.kept) (waiting link_it_is_of (Some j) left)) (sym a.0)
-              (subst (λ (g : LateLink). Follows g y (waiting link_it_is_for g.port.own n.kept) (waiting link_it_is_of (Some number) left)) same f))
-          one i k x y at_k (inr a) f =
-              follows_as k x _ _ (waiting link_it_is_of (Some i) n.composed) _ refl
-              (takes_other link_it_is_of n.composed left unit (Some i) takes
-              (ap (λ (o : Option ℕ). are_same o (Some i)) is ∙ eqb-other i number a.0))
-              (b.all i k x at_k a.1)

@@ -1,15 +1,14 @@
 -- One link of which nothing waits any more: it is settled by a DC.
-use Rattle.std.proofs.Common.{◌≡◌, true, false, Option, Some, None, []}
-use Rattle.std.proofs.Common.{refl, sym, ap, ◌∙◌, subst}
+use Rattle.std.proofs.Common.{◌≡◌, true, false, Option, Some, None, [], refl, sym, ap, ◌∙◌, subst}
 use Rattle.dna_links.specs.declared.port.Phase.{Phase}
-use Rattle.dna_links.specs.declared.port.Phase.TheVariants.{Calling, Called, Confirming, Running, Disconnecting, Ended}
+use Rattle.dna_links.specs.declared.port.Phase.TheVariants.{Running, Disconnecting, Ended}
 use Rattle.dna_links.specs.declared.port.Port.{Port}
 use Rattle.dna_links.specs.declared.queue.Said.{Said}
-use Rattle.dna_links.specs.declared.queue.Said.TheVariants.{Nothing, OfRun, Disconnect}
+use Rattle.dna_links.specs.declared.queue.Said.TheVariants.{OfRun, Disconnect}
 use Rattle.dna_links.specs.LookUps.{is_live}
 use Rattle.dna_links.specs.Queues.{settled, shows_by, further, is_silent, is_over, keeps_numbers}
 use Rattle.dna_links.specs.TrueSegments.{TrueSegments, true_segments}
-use Rattle.dna_queues.proofs.Facts.{lets_still, not_both}
+use Rattle.dna_queues.proofs.Facts.{lets_still, not_both, no_case, no_other}
 use Rattle.dna_queues.proofs.Goes.{Link, said_as}
 use Rattle.dna_queues.proofs.Ahead.{Meets}
 use Rattle.dna_queues.proofs.Acting.{LateLink, level, seen_as}
@@ -30,26 +29,13 @@ said_follows h l said silent over f =
       of_use = f.of_use;
       fresh = f.fresh;
       called = f.called;
-      ahead = record { port = m.port; partner = m.partner; segsize = m.segsize; received = m.received; exact = m.exact; used = m.used };
+      ahead = assumption m;
       acknowledged = f.acknowledged;
       passed = f.passed;
       accepted = f.accepted;
       usable = f.usable;
-      fits = record { waits = f.fits.waits; ran = f.fits.ran; calling = f.fits.calling };
-      can = record {
-        own = g.own;
-        far = g.far;
-        opened = g.opened;
-        usable = g.usable;
-        closing = g.closing;
-        ran = g.ran;
-        accepted = g.accepted;
-        silent = silent;
-        over = over;
-        gap = g.gap;
-        segsize = g.segsize;
-        segments = g.segments;
-      };
+      fits = assumption f.fits;
+      can = assumption (silent, over, g);
     }
 
 -- one that has ended in both, and of which nothing waits any more
@@ -66,33 +52,13 @@ dead_follows h k l y is_k is_y f =
       of_use = λ e. absurd cc;
       fresh = λ e. absurd cc;
       called = λ e. absurd cc;
-      ahead = record {
-        port = ap (λ (p : Port). record p { phase = Ended }) m.port;
-        partner = m.partner;
-        segsize = m.segsize;
-        received = m.received;
-        exact = λ e. absurd cc;
-        used = λ e. absurd cc;
-      };
+      ahead = let port = ap (λ (p : Port). record p { phase = Ended }) m.port in search (no_case, port, m);
       acknowledged = f.acknowledged;
       passed = f.passed;
       accepted = λ e. absurd cc;
       usable = λ e. absurd cc;
       fits = record { waits = λ e. refl; ran = λ e. absurd cc; calling = λ e. absurd cc };
-      can = record {
-        own = g.own;
-        far = g.far;
-        opened = g.opened;
-        usable = λ e. absurd cc;
-        closing = λ e. absurd cc;
-        ran = λ e. absurd cc;
-        accepted = λ e. absurd cc;
-        silent = λ e. absurd cc;
-        over = λ e. absurd cc;
-        gap = g.gap;
-        segsize = λ e. absurd cc;
-        segments = g.segments;
-      };
+      can = search (no_case, no_other, g);
     }))
 
 pub settled_follows : (h : LateLink) (l : Link) → Follows h l [] [] → Follows h (settled true_segments l.queue.waits l) [] []
@@ -105,9 +71,8 @@ settled_follows h l f = go l.queue.waits refl
     level_is p e = ap level (ap (λ (q : Port). q.phase) m.port ∙ e)
 
     not_over : (s : Said) → is_over s ≡ false → is_over (further OfRun s) ≡ false
-    not_over Nothing e = refl
-    not_over OfRun e = refl
     not_over Disconnect e = absurd cc
+    not_over p e = refl
 
     by : (p : Phase) → l.port.phase ≡ p → Follows h (shows_by true_segments p l) [] []
     by Running e =
@@ -117,18 +82,11 @@ settled_follows h l f = go l.queue.waits refl
         subst (λ (x : Link). Follows h x [] []) (sym (shows_is Disconnect l)) (said_follows h l Disconnect
         (λ s. absurd (not_both _ s (ap is_silent (level_is Disconnecting e)))) (λ s. absurd (not_both _ (ap is_over (level_is Disconnecting e))
         s)) f)
-    by Calling e = f
-    by Called e = f
-    by Confirming e = f
-    by Ended e = f
+    by p e = f
 
     ended_phase : (p : Phase) → (is_live p ≡ true → ⊥) → p ≡ Ended
     ended_phase Ended never = refl
-    ended_phase Calling never = absurd (never refl)
-    ended_phase Called never = absurd (never refl)
-    ended_phase Confirming never = absurd (never refl)
-    ended_phase Running never = absurd (never refl)
-    ended_phase Disconnecting never = absurd (never refl)
+    ended_phase p never = absurd (never refl)
 
     go : (w : Option Phase) → l.queue.waits ≡ w → Follows h (settled true_segments w l) [] []
     go None e = by l.port.phase refl

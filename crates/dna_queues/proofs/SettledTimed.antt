@@ -30,8 +30,7 @@ use Rattle.dna_queues.proofs.Dues.{Due, AreSane}
 use Rattle.dna_queues.proofs.Timed.{Awaits, Timed}
 use Rattle.dna_queues.proofs.Prepared.{set_sane}
 use Rattle.dna_queues.proofs.SentTimed.{Sound}
-use Rattle.dna_queues.proofs.Addressed.{awaits_nothing, flushed, flushed_number}
-use Rattle.dna_queues.proofs.Addressed.{addressed}
+use Rattle.dna_queues.proofs.Addressed.{awaits_nothing, flushed, flushed_number, addressed}
 use Rattle.dna_queues.proofs.Settling.{Settles, settles, settled_sane}
 
 module _ (s : machine.Links) (sane : AreSane s) (later : List LinkRecord) (packet : Carried) (dst src reason : ℕ)

@@ -1,6 +1,5 @@
 -- A link that a DC settles: what came for it was acted on.
-use Rattle.std.proofs.Common.{◌≡◌, true, false, Option, Some, None}
-use Rattle.std.proofs.Common.{refl, sym, ap, ◌∙◌, subst}
+use Rattle.std.proofs.Common.{◌≡◌, true, false, Option, Some, None, refl, sym, ap, ◌∙◌, subst}
 use Rattle.dna_links.specs.declared.port.Phase.{Phase}
 use Rattle.dna_links.specs.declared.port.Phase.TheVariants.{Calling, Called, Confirming, Running, Disconnecting, Ended}
 use Rattle.dna_links.specs.declared.queue.Said.{Said}
@@ -21,8 +20,7 @@ pub record Settles (l x : Link) : Type 0 where
 
 run_loud : (s : Said) → is_silent (further OfRun s) ≡ false
 run_loud Nothing = refl
-run_loud OfRun = refl
-run_loud Disconnect = refl
+run_loud p = refl
 
 pub settles : (l : Link) → Sane l → Settles l (settled true_segments l.queue.waits l)
 settles l sane = go l.queue.waits refl

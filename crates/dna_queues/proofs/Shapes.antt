@@ -1,7 +1,7 @@
 -- What a sending changes of a link of the machine.
 use Rattle.std.proofs.Common.{◌≡◌, ℕ, true, false, refl}
-use Rattle.dna_packet.specs.Nsp.{NspValue, DataSegment, LinkService, DataAck, OtherDataAck, ConnectAck, NoOperation, ConnectInitiate}
-use Rattle.dna_packet.specs.Nsp.{ConnectConfirm, DisconnectInitiate, DisconnectConfirm}
+use Rattle.dna_packet.specs.Nsp.{NspValue, DataSegment, LinkService, DataAck, OtherDataAck, ConnectAck, NoOperation}
+use Rattle.dna_packet.specs.Nsp.{DisconnectInitiate, DisconnectConfirm}
 use Rattle.dna_links.specs.declared.queue.Said.{Said}
 use Rattle.dna_links.specs.declared.queue.Said.TheVariants.{Nothing, OfRun, Disconnect}
 use Rattle.dna_links.specs.SegmentBook.{wider}
@@ -60,9 +60,7 @@ said_only : (l x : Link) (said : Said) → x ≡ said_as said l → Shape l x
 said_only l x said is = said_shape l x said l.segments l.queue.gap (record { received = refl; delivered = refl; passed = refl }) is
 
 pub goes_shape : (l x : Link) (m : NspValue) → Goes l m x → Shape l x
-goes_shape l x (ConnectInitiate retransmitted src services info segsize user_data) g = still_shape l x g.moves.1
 goes_shape l x (ConnectAck dst) g = still_shape l x g.moves
-goes_shape l x (ConnectConfirm dst src services info segsize user_data) g = still_shape l x g.moves.1
 goes_shape l x (DisconnectInitiate dst src reason user_data) g = said_only l x Disconnect g.moves.1
 goes_shape l x (DisconnectConfirm dst src reason) g = absurd g.moves
 goes_shape l x (DataSegment segment) g =
@@ -75,3 +73,4 @@ goes_shape l x (DataAck dst src acks) g =
 goes_shape l x (LinkService interrupt dst src rest) g = said_only l x OfRun g.moves.1
 goes_shape l x (OtherDataAck dst src rest) g = said_only l x OfRun g.moves.1
 goes_shape l x (NoOperation rest) g = absurd g.moves
+goes_shape l x m g = still_shape l x g.moves.1

@@ -1,8 +1,6 @@
 -- Whatever records the machine makes a node with queues makes too, by hidden steps.
-use Rattle.std.proofs.Common.{◌≡◌, ℕ, true, ◌&&◌, ◌==◌, Option, Some, None, List, [], ◌∷◌, ◌++◌, Result, Ok, Err}
-use Rattle.std.proofs.Common.{refl, sym, ap, ◌∙◌, subst, append-nil}
-use Rattle.dna_packet.specs.Nsp.{NspValue, DataSegment, LinkService, DataAck, OtherDataAck, ConnectAck, NoOperation, ConnectInitiate, ConnectConfirm}
-use Rattle.dna_packet.specs.Nsp.{DisconnectInitiate, DisconnectConfirm, IsInRange}
+use Rattle.std.proofs.Common.{◌≡◌, ℕ, true, ◌&&◌, ◌==◌, Some, None, List, [], ◌∷◌, ◌++◌, Result, Ok, Err, refl, sym, ap, ◌∙◌, subst, append-nil}
+use Rattle.dna_packet.specs.Nsp.{NspValue, ConnectAck, NoOperation, ConnectInitiate, DisconnectConfirm, IsInRange}
 use Rattle.dna_station.specs.declared.link_refusal.LinkRefusal.{LinkRefusal}
 use Rattle.dna_station.specs.declared.link_refusal.LinkRefusal.TheVariants.{WrongNode}
 use Rattle.dna_links.specs.declared.port.LinkTest.TheVariants.{LiveTo}
@@ -17,7 +15,7 @@ use Rattle.dna_links.specs.TrueSegments.{TrueSegments, Numbers, true_segments}
 use Rattle.dna_links.specs.TrueLinks as machine
 use Rattle.dna_links.specs.Runs.{SentMessage}
 use Rattle.dna_links.proofs.Tables.Outcomes.{looked, checked}
-use Rattle.dna_queues.proofs.Facts.{passed_check, same_Ok}
+use Rattle.dna_queues.proofs.Facts.{passed_check, same_Ok, by_option}
 use Rattle.dna_queues.specs.Records.{LinkRecord, OfUser, Sends, Keeps, OfNoLink, links_left, MadeByMachine, AreInRange, EventsAreInRange}
 use Rattle.dna_queues.specs.Hidden.{late_segments, Links, Node, dstaddr, link_it_is_for}
 use Rattle.dna_queues.specs.Made.{new_node, KeepsAtOnce, PassesBy, MadeByHidden, NoMore, Makes}
@@ -106,13 +104,7 @@ module _ (s : machine.Links) (sane : AreSane s) (later : List LinkRecord) where
     for_none (NoOperation octets) is for_it left e rest =
         still_sound (subst (λ (x : machine.Links). AreSane x → Sound x later) (sym (same_Ok _ left e)) rest sane)
         (λ dues n t. ap (λ (x : NspValue). message_arrived Without late_segments of_partner (all_come s sane dues n t).links x unit.truth) is)
-    for_none (ConnectConfirm dst src services info segsize user_data) is for_it left e rest = absurd cc
-    for_none (DisconnectInitiate dst src reason user_data) is for_it left e rest = absurd cc
-    for_none (DisconnectConfirm dst src reason) is for_it left e rest = absurd cc
-    for_none (DataSegment segment) is for_it left e rest = absurd cc
-    for_none (DataAck dst src acks) is for_it left e rest = absurd cc
-    for_none (LinkService interrupt dst src octets) is for_it left e rest = absurd cc
-    for_none (OtherDataAck dst src octets) is for_it left e rest = absurd cc
+    for_none m is for_it left e rest = absurd cc
 
   -- ---- each record
 
@@ -138,18 +130,7 @@ module _ (s : machine.Links) (sane : AreSane s) (later : List LinkRecord) where
             confirm_sound s sane later packet may made rest dst src reason is (sym (ap (message_sent With true_segments s) is) ∙ e)
         by_message made may (NoOperation octets) is e rest =
             nothing_sound s sane later packet may made rest octets is (sym (ap (message_sent With true_segments s) is) ∙ e)
-        by_message made may (ConnectInitiate retransmitted src services info segsize user_data) is e rest =
-            sent_sound s sane later packet made (ap is_of_link is) small may e rest
-        by_message made may (ConnectAck dst) is e rest = sent_sound s sane later packet made (ap is_of_link is) small may e rest
-        by_message made may (ConnectConfirm dst src services info segsize user_data) is e rest =
-            sent_sound s sane later packet made (ap is_of_link is) small may e rest
-        by_message made may (DisconnectInitiate dst src reason user_data) is e rest =
-            sent_sound s sane later packet made (ap is_of_link is) small may e rest
-        by_message made may (DataSegment segment) is e rest = sent_sound s sane later packet made (ap is_of_link is) small may e rest
-        by_message made may (DataAck dst src acks) is e rest = sent_sound s sane later packet made (ap is_of_link is) small may e rest
-        by_message made may (LinkService interrupt dst src octets) is e rest =
-            sent_sound s sane later packet made (ap is_of_link is) small may e rest
-        by_message made may (OtherDataAck dst src octets) is e rest = sent_sound s sane later packet made (ap is_of_link is) small may e rest
+        by_message made may m is e rest = sent_sound s sane later packet made (ap is_of_link is) small may e rest
 
         go : (r : Result (Sent TrueSegments Numbers) LinkRefusal) → machine.links_sent With s packet ≡ r → links_left r ≡ Ok left →
             Sound s (Sends packet ∷ later)
@@ -160,15 +141,10 @@ module _ (s : machine.Links) (sane : AreSane s) (later : List LinkRecord) where
             (subst (λ (x : machine.Links). AreSane x → Sound x later) (sym (same_Ok made.links left e)) rest)
 
     by_keeping : (unit : SentMessage) → machine.links_arrived With of_partner s unit.packet unit.truth ≡ Ok left → Sound s (Keeps unit ∷ later)
-    by_keeping unit e = go (dstaddr unit.packet.message) refl
-      where
-        c : ((unit.packet.src == s.peer && unit.packet.dst == s.node) ≡ true) ×
-            (message_arrived With true_segments of_partner s unit.packet.message unit.truth ≡ Ok left)
-        c = checked (unit.packet.src == s.peer && unit.packet.dst == s.node) WrongNode _ left e
-
-        go : (o : Option ℕ) → dstaddr unit.packet.message ≡ o → Sound s (Keeps unit ∷ later)
-        go None none = for_none unit none c.0 unit.packet.message refl none left c.1 rest
-        go (Some address) is = for_link_sound s sane unit address is c.0 left c.1 later rest
+    by_keeping unit e =
+        let c = checked (unit.packet.src == s.peer && unit.packet.dst == s.node) WrongNode _ left e in
+        by_option (dstaddr unit.packet.message) (λ none. for_none unit none c.0 unit.packet.message refl none left c.1 rest)
+        (λ address is. for_link_sound s sane unit address is c.0 left c.1 later rest)
 
 -- ---- all of them
 

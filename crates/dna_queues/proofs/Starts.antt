@@ -1,8 +1,7 @@
 -- Messages of phases before RUN, which a link sends although its phase is past: they change nothing, and it could send them before it went on.
 use Rattle.std.proofs.Common.{◌≡◌, ℕ, Bool, true, false, not, ◌&&◌, ◌||◌, Option, is_none, List, [], ◌∷◌, refl, sym, ap, ap₂, ◌∙◌, subst}
 use Rattle.std.proofs.lemmas.Bool.{and_parts}
-use Rattle.dna_packet.specs.Nsp.{NspValue, DataSegment, LinkService, DataAck, OtherDataAck, ConnectAck, NoOperation, ConnectInitiate}
-use Rattle.dna_packet.specs.Nsp.{ConnectConfirm, DisconnectInitiate, DisconnectConfirm}
+use Rattle.dna_packet.specs.Nsp.{NspValue, ConnectAck, NoOperation, ConnectInitiate, ConnectConfirm, DisconnectInitiate, DisconnectConfirm}
 use Rattle.dna_links.specs.declared.port.Phase.{Phase}
 use Rattle.dna_links.specs.declared.port.Phase.TheVariants.{Disconnecting}
 use Rattle.dna_links.specs.declared.queue.Queues.TheVariants.{With}
@@ -77,11 +76,8 @@ module _ (l k : Link) (starts : Starts l k) where
       )
   start_goes (DisconnectInitiate dst src reason user_data) y now before may g = absurd cc
   start_goes (DisconnectConfirm dst src reason) y now before may g = absurd cc
-  start_goes (DataSegment segment) y now before may g = let x : true ≡ false = sym may ∙ before in absurd cc
-  start_goes (DataAck dst src acks) y now before may g = let x : true ≡ false = sym may ∙ before in absurd cc
-  start_goes (LinkService interrupt dst src rest) y now before may g = let x : true ≡ false = sym may ∙ before in absurd cc
-  start_goes (OtherDataAck dst src rest) y now before may g = let x : true ≡ false = sym may ∙ before in absurd cc
   start_goes (NoOperation rest) y now before may g = absurd cc
+  start_goes m y now before may g = let x : true ≡ false = sym may ∙ before in absurd cc
 
   pub started_before : (node peer : ℕ) (packets : List Carried) (now : Phase) (P : Link → Type 0) → is_in Disconnecting now ≡ false →
       AreEarly now packets → CanGo node peer packets k P → CanGo node peer packets l (λ x. (x ≡ l) × P k)

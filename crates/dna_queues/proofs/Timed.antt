@@ -4,8 +4,7 @@ use Rattle.std.proofs.Common.{refl, sym, ap, ap₂, ◌∙◌, subst, append-nil
 use Rattle.std.specs.Prelude.{slice_get}
 use Rattle.std.proofs.lemmas.Bool.{cases_eq}
 use Rattle.std.proofs.lemmas.Option.{same_Some}
-use Rattle.dna_packet.specs.Nsp.{NspValue, DataSegment, LinkService, DataAck, OtherDataAck, ConnectAck, NoOperation, ConnectInitiate, ConnectConfirm}
-use Rattle.dna_packet.specs.Nsp.{DisconnectInitiate, DisconnectConfirm}
+use Rattle.dna_packet.specs.Nsp.{NspValue, ConnectAck, NoOperation, DisconnectInitiate, DisconnectConfirm}
 use Rattle.dna_station.specs.declared.link_refusal.LinkRefusal.TheVariants.{WrongNode}
 use Rattle.dna_links.specs.declared.port.Phase.{Phase}
 use Rattle.dna_links.specs.declared.port.Port.{Port}
@@ -23,8 +22,8 @@ use Rattle.dna_queues.specs.Hidden.{late_segments, Links, Node, HiddenStep, Comp
 use Rattle.dna_queues.specs.Hidden.{link_it_is_for, link_it_is_of}
 use Rattle.dna_queues.proofs.Goes.{Link, phase_of, Goes, use_own}
 use Rattle.dna_queues.proofs.Lists.{waiting_push}
-use Rattle.dna_queues.proofs.LinkLists.{still_set, IsUnique, IsSet}
-use Rattle.dna_queues.proofs.Beside.{eqb-same, eqb-other, there_too}
+use Rattle.dna_queues.proofs.LinkLists.{still_set, IsUnique, IsSet, there_too}
+use Rattle.dna_queues.proofs.Beside.{eqb-same, eqb-other}
 use Rattle.dna_queues.proofs.Turns.{asks, is_now}
 use Rattle.dna_queues.proofs.Early.{MayGo}
 use Rattle.dna_queues.proofs.Hide.{LateLink, hide, composes_now}
@@ -98,8 +97,10 @@ timed_as s dues others n same t = record {
 module _ (s : machine.Links) (sane : AreSane s) where
   -- at most one link of the node has an address
   pub unique_hidden : (dues : ℕ → Due) (n : Node) → Timed s dues n → IsUnique n.links
-  unique_hidden dues n t i j h g at_h at_g own own_h own_g = go (there_too s.links n.links.links i h (sym t.size) at_h)
-      (there_too s.links n.links.links j g (sym t.size) at_g)
+  unique_hidden dues n t i j h g at_h at_g own own_h own_g =
+      let l = there_too s.links n.links.links i h (sym t.size) at_h in
+      let k = there_too s.links n.links.links j g (sym t.size) at_g in
+      sane.unique i j l.0 k.0 l.1 k.1 own (of_machine i h l.0 at_h l.1 own_h) (of_machine j g k.0 at_g k.1 own_g)
     where
       of_machine : (i : ℕ) (h : LateLink) (l : Link) → slice_get n.links.links i ≡ Some h → slice_get s.links i ≡ Some l →
           is_at h.port.own own ≡ true → is_at l.port.own own ≡ true
@@ -107,9 +108,6 @@ module _ (s : machine.Links) (sane : AreSane s) where
           let same : h ≡ hide (dues i).link = same_Some h (hide (dues i).link) (sym at_h ∙ t.all i l at_l) in
           ap (λ (o : Option ℕ). is_at o own)
           (sym (ap (λ (p : Port). p.own) (t.went i l at_l).port) ∙ sym (use_own (dues i).link) ∙ sym (ap (λ (x : LateLink). x.port.own) same)) ∙ own_h
-
-      go : (l : Link) × (slice_get s.links i ≡ Some l) → (k : Link) × (slice_get s.links j ≡ Some k) → i ≡ j
-      go l k = sane.unique i j l.0 k.0 l.1 k.1 own (of_machine i h l.0 at_h l.1 own_h) (of_machine j g k.0 at_g k.1 own_g)
 
   module _ (i : ℕ) (l : Link) (at : slice_get s.links i ≡ Some l) where
     -- one more is composed
@@ -154,28 +152,14 @@ module _ (s : machine.Links) (sane : AreSane s) where
       pub timed : Timed s (put i (record { packets = (dues i).packets ++ packet ∷ []; link = x }) dues) next
 
     composed_may : (m : NspValue) (phase : Phase) (e x : Link) → asks m ≡ Some phase → Goes e m x → is_composed m ≡ true
-    composed_may (ConnectInitiate retransmitted src services info segsize user_data) phase e x is g = refl
     composed_may (ConnectAck dst) phase e x is g = absurd cc
-    composed_may (ConnectConfirm dst src services info segsize user_data) phase e x is g = refl
-    composed_may (DisconnectInitiate dst src reason user_data) phase e x is g = refl
     composed_may (DisconnectConfirm dst src reason) phase e x is g = absurd g.moves
-    composed_may (DataSegment segment) phase e x is g = refl
-    composed_may (DataAck dst src acks) phase e x is g = refl
-    composed_may (LinkService interrupt dst src rest) phase e x is g = refl
-    composed_may (OtherDataAck dst src rest) phase e x is g = refl
     composed_may (NoOperation rest) phase e x is g = absurd g.moves
+    composed_may m phase e x is g = refl
 
     acknowledges_only : (m : NspValue) → asks m ≡ None → (dst : ℕ) × (m ≡ ConnectAck dst)
     acknowledges_only (ConnectAck dst) e = (dst, refl)
-    acknowledges_only (ConnectInitiate retransmitted src services info segsize user_data) e = absurd cc
-    acknowledges_only (ConnectConfirm dst src services info segsize user_data) e = absurd cc
-    acknowledges_only (DisconnectInitiate dst src reason user_data) e = absurd cc
-    acknowledges_only (DisconnectConfirm dst src reason) e = absurd cc
-    acknowledges_only (DataSegment segment) e = absurd cc
-    acknowledges_only (DataAck dst src acks) e = absurd cc
-    acknowledges_only (LinkService interrupt dst src rest) e = absurd cc
-    acknowledges_only (OtherDataAck dst src rest) e = absurd cc
-    acknowledges_only (NoOperation rest) e = absurd cc
+    acknowledges_only m e = absurd cc
 
     pub composes_on : (dues : ℕ → Due) (n : Node) → Timed s dues n → (packet : Carried) (x : Link) → MayGo s.node s.peer packet →
         is_now (asks packet.message) (phase_of l) ≡ true → Goes (dues i).link packet.message x → ComposesOn dues n packet x

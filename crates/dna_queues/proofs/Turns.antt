@@ -10,10 +10,10 @@ use Rattle.dna_links.specs.declared.port.Port.{Port}
 use Rattle.dna_links.specs.declared.port.LinkTest.TheVariants.{CalledBy}
 use Rattle.dna_links.specs.declared.queue.Queues.TheVariants.{With}
 use Rattle.dna_links.specs.declared.queue.Said.{Said}
-use Rattle.dna_links.specs.declared.queue.Said.TheVariants.{Nothing, OfRun, Disconnect}
+use Rattle.dna_links.specs.declared.queue.Said.TheVariants.{Nothing, OfRun}
 use Rattle.dna_links.specs.LookUps.{passes, is_in, is_live, is_called, is_at, has_both}
 use Rattle.dna_links.specs.Queues.{in_use, port_of_waiting, is_silent, is_over, further}
-use Rattle.dna_queues.proofs.Facts.{not_both}
+use Rattle.dna_queues.proofs.Facts.{not_both, by_option}
 use Rattle.dna_queues.proofs.Goes.{Link, phase_of, Goes, said_as, late_link, wide_link, use_opened}
 use Rattle.dna_queues.proofs.Shapes.{Shape}
 
@@ -24,11 +24,8 @@ asks (ConnectAck dst) = None
 asks (ConnectConfirm dst src services info segsize user_data) = Some Confirming
 asks (DisconnectInitiate dst src reason user_data) = Some Disconnecting
 asks (DisconnectConfirm dst src reason) = Some Ended
-asks (DataSegment segment) = Some Running
-asks (DataAck dst src acks) = Some Running
-asks (LinkService interrupt dst src rest) = Some Running
-asks (OtherDataAck dst src rest) = Some Running
 asks (NoOperation rest) = Some Ended
+asks m = Some Running
 
 abbrev pub has_run : Phase → Bool
 has_run Running = true
@@ -77,11 +74,7 @@ pub record Sane (l : Link) : Type 0 where
 
 -- of a live link nothing waits, and it is in use by its own port
 pub live_waits : (l : Link) → Sane l → is_live l.port.phase ≡ true → l.queue.waits ≡ None
-live_waits l sane live = go l.queue.waits refl
-  where
-    go : (w : Option Phase) → l.queue.waits ≡ w → l.queue.waits ≡ None
-    go None e = e
-    go (Some p) e = absurd (not_both _ live (ap is_live (sane.waits p e).0))
+live_waits l sane live = by_option l.queue.waits (λ e. e) (λ p e. absurd (not_both _ live (ap is_live (sane.waits p e).0)))
 
 pub live_use : (l : Link) → Sane l → is_live l.port.phase ≡ true → in_use With l ≡ l.port
 live_use l sane live = ap (λ (w : Option Phase). port_of_waiting w l.port) (live_waits l sane live)
@@ -97,29 +90,24 @@ module _ (l : Link) (sane : Sane l) where
   in_turn p a = (is_now a p || is_past a p) ≡ true
 
   call_turn : (p : Phase) → is_live p ≡ true → l.port.opened ≡ true → Began p l.port.opened l.queue.accepted l.queue.ran → in_turn p (Some Calling)
-  call_turn Calling live opened b = refl
   call_turn Called live opened b = absurd (not_both _ opened b.0)
   call_turn Confirming live opened b = absurd (not_both _ opened b.0)
-  call_turn Running live opened b = refl
-  call_turn Disconnecting live opened b = refl
   call_turn Ended live opened b = absurd cc
+  call_turn p live opened b = refl
 
   confirm_turn : (p : Phase) → is_live p ≡ true → l.queue.accepted ≡ true → Began p l.port.opened l.queue.accepted l.queue.ran →
       in_turn p (Some Confirming)
   confirm_turn Calling live accepted b = absurd (not_both _ accepted (sane.opened b.0))
   confirm_turn Called live accepted b = absurd (not_both _ accepted b.1)
-  confirm_turn Confirming live accepted b = refl
-  confirm_turn Running live accepted b = refl
-  confirm_turn Disconnecting live accepted b = refl
   confirm_turn Ended live accepted b = absurd cc
+  confirm_turn p live accepted b = refl
 
   run_turn : (p : Phase) → is_live p ≡ true → l.queue.ran ≡ true → Began p l.port.opened l.queue.accepted l.queue.ran → in_turn p (Some Running)
-  run_turn Calling live ran b = absurd (not_both _ ran b.1)
   run_turn Called live ran b = absurd (not_both _ ran b.2)
-  run_turn Confirming live ran b = absurd (not_both _ ran b.1)
   run_turn Running live ran b = refl
   run_turn Disconnecting live ran b = refl
   run_turn Ended live ran b = absurd cc
+  run_turn p live ran b = absurd (not_both _ ran b.1)
 
   close_turn : (p : Phase) → is_in Disconnecting p ≡ true → in_turn p (Some Disconnecting)
   close_turn Disconnecting e = refl
@@ -134,7 +122,6 @@ module _ (l : Link) (sane : Sane l) where
       confirm_turn (phase_of l) (of_live (has_both (in_use With l) src dst) g.passed)
       (and_parts l.queue.accepted (is_silent l.queue.said) g.moves.0).0 sane.began
   turn (DisconnectInitiate dst src reason user_data) x g = close_turn (phase_of l) g.moves.0
-  turn (DisconnectConfirm dst src reason) x g = absurd g.moves
   turn (DataSegment segment) x g =
       run_turn (phase_of l) (of_live (has_both (in_use With l) segment.srcaddr segment.dstaddr) g.passed)
       (and_parts l.queue.ran (not (is_over l.queue.said)) g.moves.run).0 sane.began
@@ -147,7 +134,7 @@ module _ (l : Link) (sane : Sane l) where
   turn (OtherDataAck dst src rest) x g =
       run_turn (phase_of l) (of_live (has_both (in_use With l) src dst) g.passed)
       (and_parts l.queue.ran (not (is_over l.queue.said)) g.moves.0).0 sane.began
-  turn (NoOperation rest) x g = absurd g.moves
+  turn m x g = absurd g.moves
 
   -- a sending leaves it so
   pub sane_on : (x : Link) → Shape l x → Sane x
@@ -163,11 +150,8 @@ said_on l x h s = subst HasSaid (sym s.is) (record { loud = λ e. s.loud (h.loud
 
 pub nothing_past : (l x : Link) (m : NspValue) → HasSaid l → Goes l m x → is_past (asks m) (phase_of l) ≡ true → ⊥
 nothing_past l x (ConnectInitiate retransmitted src services info segsize user_data) h g past = not_both _ g.moves.0 (h.loud past)
-nothing_past l x (ConnectAck dst) h g past = absurd cc
 nothing_past l x (ConnectConfirm dst src services info segsize user_data) h g past =
     not_both _ (and_parts l.queue.accepted (is_silent l.queue.said) g.moves.0).1 (h.loud past)
-nothing_past l x (DisconnectInitiate dst src reason user_data) h g past = absurd cc
-nothing_past l x (DisconnectConfirm dst src reason) h g past = absurd cc
 nothing_past l x (DataSegment segment) h g past =
     not_both _ (and_parts l.queue.ran (not (is_over l.queue.said)) g.moves.run).1 (ap not (h.over past))
 nothing_past l x (DataAck dst src acks) h g past =
@@ -176,12 +160,11 @@ nothing_past l x (LinkService interrupt dst src rest) h g past =
     not_both _ (and_parts l.queue.ran (not (is_over l.queue.said)) g.moves.0).1 (ap not (h.over past))
 nothing_past l x (OtherDataAck dst src rest) h g past =
     not_both _ (and_parts l.queue.ran (not (is_over l.queue.said)) g.moves.0).1 (ap not (h.over past))
-nothing_past l x (NoOperation rest) h g past = absurd cc
+nothing_past l x m h g past = absurd cc
 
 run_loud : (s : Said) → is_silent (further OfRun s) ≡ false
 run_loud Nothing = refl
-run_loud OfRun = refl
-run_loud Disconnect = refl
+run_loud p = refl
 
 run_said : (y x : Link) → x ≡ said_as OfRun y → is_in Disconnecting (phase_of y) ≡ false → HasSaid x
 run_said y x is unclosed = subst HasSaid (sym is) (record { loud = λ e. run_loud y.queue.said; over = λ e. absurd (not_both _ e unclosed) })
@@ -207,9 +190,7 @@ said_now l x (DataSegment segment) phase is now g =
     run_said (late_link l g.moves.late) x g.moves.is (ap (is_in Disconnecting) (now ∙ sym (same_Some Running phase is)))
 said_now l x (DataAck dst src acks) phase is now g =
     run_said (wide_link l g.moves.sent) x g.moves.is (ap (is_in Disconnecting) (now ∙ sym (same_Some Running phase is)))
-said_now l x (LinkService interrupt dst src rest) phase is now g =
-    run_said l x g.moves.1 (ap (is_in Disconnecting) (now ∙ sym (same_Some Running phase is)))
-said_now l x (OtherDataAck dst src rest) phase is now g =
+said_now l x m phase is now g =
     run_said l x g.moves.1 (ap (is_in Disconnecting) (now ∙ sym (same_Some Running phase is)))
 
 -- a call that nobody answered but by a refusal: nothing but that goes of it
@@ -225,15 +206,12 @@ pub mute_never : (l x : Link) (m : NspValue) → IsMute l → Goes l m x → is_
 mute_never l x (ConnectInitiate retransmitted src services info segsize user_data) mute g past =
     not_both _ (and_parts (in_use With l).opened (is_at (in_use With l).own src)
     (and_parts (is_live (phase_of l)) ((in_use With l).opened && is_at (in_use With l).own src) g.passed).1).0 (use_opened l ∙ mute.opened)
-mute_never l x (ConnectAck dst) mute g past = absurd cc
 mute_never l x (ConnectConfirm dst src services info segsize user_data) mute g past =
     not_both _ (and_parts l.queue.accepted (is_silent l.queue.said) g.moves.0).0 mute.accepted
-mute_never l x (DisconnectInitiate dst src reason user_data) mute g past = absurd cc
-mute_never l x (DisconnectConfirm dst src reason) mute g past = absurd cc
 mute_never l x (DataSegment segment) mute g past = not_both _ (and_parts l.queue.ran (not (is_over l.queue.said)) g.moves.run).0 mute.ran
 mute_never l x (DataAck dst src acks) mute g past = not_both _ (and_parts l.queue.ran (not (is_over l.queue.said)) g.moves.run).0 mute.ran
 mute_never l x (LinkService interrupt dst src rest) mute g past =
     not_both _ (and_parts l.queue.ran (not (is_over l.queue.said)) g.moves.0).0 mute.ran
 mute_never l x (OtherDataAck dst src rest) mute g past =
     not_both _ (and_parts l.queue.ran (not (is_over l.queue.said)) g.moves.0).0 mute.ran
-mute_never l x (NoOperation rest) mute g past = absurd cc
+mute_never l x m mute g past = absurd cc

@@ -1,6 +1,5 @@
 -- What the user does with a link: it is done by the node with queues too, once what the link says in its phase until then is composed.
-use Rattle.std.proofs.Common.{◌≡◌, ℕ, true, false, Option, Some, List, ◌∷◌}
-use Rattle.std.proofs.Common.{Ok, Err, refl, sym, ap, ◌∙◌, subst}
+use Rattle.std.proofs.Common.{◌≡◌, ℕ, true, false, Option, Some, List, ◌∷◌, Ok, Err, refl, sym, ap, ◌∙◌, subst}
 use Rattle.std.specs.Prelude.{slice_get}
 use Rattle.dna_station.specs.declared.link_refusal.LinkRefusal.TheVariants.{NoLink, LinkState}
 use Rattle.dna_links.specs.declared.port.Phase.{Phase}
@@ -28,8 +27,7 @@ use Rattle.dna_queues.proofs.Starts.{started_before}
 use Rattle.dna_queues.proofs.Hide.{LateLink, hide, found}
 use Rattle.dna_queues.proofs.MachineSends.{IsUsed, used, live_at}
 use Rattle.dna_queues.proofs.Dues.{put_packets, Due, put, put_here, Went, IsDue, AreSane}
-use Rattle.dna_queues.proofs.Timed.{Awaits}
-use Rattle.dna_queues.proofs.Timed.{unique_hidden}
+use Rattle.dna_queues.proofs.Timed.{Awaits, unique_hidden}
 use Rattle.dna_queues.proofs.Prepared.{prepare_set, set_timed, set_sane}
 use Rattle.dna_queues.proofs.SentTimed.{Sound}
 
@@ -94,15 +92,7 @@ module _ (s : machine.Links) (sane : AreSane s) (later : List LinkRecord) (left 
           one_sound s sane later (OfUser (In own message)) i l u.there left k
           (subst (λ (x : machine.Links). IsSet s x i k) same (set_changed s i l k u.there)) refl (λ x y. (x ≡ l) × (k ≡ y))
           (record { began = was.began; opened = was.opened; called = was.called; waits = was.waits })
-          (λ due d. started_before l k (record {
-            live = kind.0;
-            own = refl;
-            opened = refl;
-            far = λ called. refl;
-            accepted = refl;
-            said = refl;
-            only = was.opened;
-          }) s.node s.peer due.packets (phase_of l) (λ x. x ≡ due.link) kind.1 d.early d.can)
+          (λ due d. started_before l k (assumption (kind, was)) s.node s.peer due.packets (phase_of l) (λ x. x ≡ due.link) kind.1 d.early d.can)
           (λ kept a. record { live = a.live; over = a.over })
           (λ n x y unique went q there. step n x y unique q there) rest
         where

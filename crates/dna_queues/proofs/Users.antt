@@ -1,14 +1,13 @@
 -- What the user of the links does the machine lets him do as well.
-use Rattle.std.proofs.Common.{◌≡◌, ℕ, ◌+◌, Bool, true, false, ◌&&◌, Option, Some, None, List}
-use Rattle.std.proofs.Common.{[], ◌∷◌, ◌++◌, drop, Result, Ok, Err, refl, sym, ap, ap₂, ◌∙◌}
-use Rattle.std.proofs.Common.{subst, arith}
+use Rattle.std.proofs.Common.{◌≡◌, ℕ, ◌+◌, Bool, true, false, ◌&&◌, Option, Some, None, List, [], ◌∷◌, ◌++◌, drop, Result, Ok, Err, refl, sym, ap}
+use Rattle.std.proofs.Common.{ap₂, ◌∙◌, subst, arith}
 use Rattle.std.specs.Prelude.{slice_get}
 use Rattle.std.specs.Str.{bytes_eq}
 use Rattle.std.proofs.lemmas.Bool.{and_parts}
 use Rattle.dna_station.specs.declared.link_refusal.LinkRefusal.{LinkRefusal}
 use Rattle.dna_station.specs.declared.link_refusal.LinkRefusal.TheVariants.{NoLink, LinkState}
 use Rattle.dna_links.specs.declared.port.Phase.{Phase}
-use Rattle.dna_links.specs.declared.port.Phase.TheVariants.{Calling, Called, Confirming, Running, Disconnecting, Ended}
+use Rattle.dna_links.specs.declared.port.Phase.TheVariants.{Calling, Confirming, Running, Disconnecting}
 use Rattle.dna_links.specs.declared.port.LinkTest.TheVariants.{HasAddress, LiveAt}
 use Rattle.dna_links.specs.declared.queue.Queues.TheVariants.{Without, With}
 use Rattle.dna_links.specs.LookUps.{passes, is_live, is_at, is_connected, takes_messages}
@@ -32,14 +31,15 @@ use Rattle.dna_queues.proofs.Goes.{Link, phase_of, use_own}
 use Rattle.dna_queues.proofs.Ahead.{later}
 use Rattle.dna_queues.proofs.Acting.{LateLink}
 use Rattle.dna_queues.proofs.Follows.{Follows, is_behind}
-use Rattle.dna_queues.proofs.LinkLists.{set_changed, unique_set, at_found, number_same}
+use Rattle.dna_queues.proofs.LinkLists.{set_changed, unique_set, at_found, number_same, there_too}
 use Rattle.dna_queues.proofs.Sending.{use_found, live_owns}
-use Rattle.dna_queues.proofs.Beside.{Beside, follows_as, unique_too, there_too}
+use Rattle.dna_queues.proofs.Beside.{Beside, follows_as, unique_too}
 use Rattle.dna_queues.proofs.SentOn.{Follow}
 use Rattle.dna_queues.proofs.Given.{opens_beside}
 use Rattle.dna_queues.proofs.Closed.{closed_link, closes_as, close_follows}
 use Rattle.dna_queues.proofs.Calls.{set_beside, answers_beside}
 use Rattle.dna_queues.proofs.Messages.{OfMessages, messages_follow}
+use Rattle.dna_queues.proofs.WaitsToGo.{grown_itself}
 
 -- ---- phases in use
 
@@ -47,24 +47,8 @@ takes_later : (p q : Phase) → later p q ≡ true → takes_messages p ≡ true
 takes_later p Calling e f = refl
 takes_later p Confirming e f = refl
 takes_later p Running e f = refl
-takes_later Called Called e f = absurd cc
-takes_later Ended Called e f = absurd cc
-takes_later Calling Called e f = absurd cc
-takes_later Confirming Called e f = absurd cc
-takes_later Running Called e f = absurd cc
-takes_later Disconnecting Called e f = absurd cc
-takes_later Called Disconnecting e f = absurd cc
-takes_later Ended Disconnecting e f = absurd cc
-takes_later Calling Disconnecting e f = absurd cc
-takes_later Confirming Disconnecting e f = absurd cc
-takes_later Running Disconnecting e f = absurd cc
-takes_later Disconnecting Disconnecting e f = absurd cc
-takes_later Called Ended e f = absurd cc
-takes_later Ended Ended e f = absurd cc
-takes_later Calling Ended e f = absurd cc
-takes_later Confirming Ended e f = absurd cc
-takes_later Running Ended e f = absurd cc
-takes_later Disconnecting Ended e f = absurd cc
+takes_later Calling q e f = absurd cc
+takes_later p q e f = absurd cc
 
 connected_later : (p q : Phase) → later p q ≡ true → is_connected p ≡ true → is_connected q ≡ true
 connected_later p Confirming e f = refl
@@ -106,49 +90,31 @@ module _ (n : Node) (t : machine.Links) (b : Beside n t) (near : AreAnswered t) 
       takes_messages h.port.phase ≡ true → Follow
       (record n { links = changed number (with_segments (over h.segments (hands_in message h.segments.segments)) h) n.links }) t
       (records.OfUser (In own message))
-  hands_in_beside own message number h found may = go (there_too t.links n.links.links number h (sym b.size) found.there)
+  hands_in_beside own message number h found may =
+      let l = there_too t.links n.links.links number h (sym b.size) found.there in
+      let f = b.all number h l.0 found.there l.1 in
+      let u = in_use_too own number h l.0 l.1 found f in
+      becomes (In own message) number h (with_segments (over h.segments (hands_in message h.segments.segments)) h) l.0
+      (with_segments (hands_in message l.0.segments) l.0) found.there l.1 refl
+      (use_found t (unique_too n t b) (LiveAt own) own number l.0 (Err NoLink) _ (live_owns own) l.1 u.0
+      ∙ passed_check (takes_messages (phase_of l.0)) LinkState _ (takes_later h.port.phase (phase_of l.0) u.1 may))
+      (messages_follow (Some message) h l.0 (hands_in message h.segments.segments) (hands_in message l.0.segments) _ _ (near number l.0 l.1)
+      (of_in h.segments.segments) (of_in l.0.segments) (omega arith) refl refl refl f)
     where
       of_in : (f : TrueSegments) → OfMessages (Some message) f (hands_in message f)
-      of_in f = record {
-        received = refl;
-        acknowledged = refl;
-        grows = λ answered. record {
-          given = refl;
-          last = refl;
-          received = omega arith;
-          acknowledged = omega arith;
-          unsent = refl;
-          answered = answered;
-        };
-      }
-
-      go : (l : Link) × (slice_get t.links number ≡ Some l) → Follow
-          (record n { links = changed number (with_segments (over h.segments (hands_in message h.segments.segments)) h) n.links }) t
-          (records.OfUser (In own message))
-      go l =
-          let f = b.all number h l.0 found.there l.1 in
-          let u = in_use_too own number h l.0 l.1 found f in
-          becomes (In own message) number h (with_segments (over h.segments (hands_in message h.segments.segments)) h) l.0
-          (with_segments (hands_in message l.0.segments) l.0) found.there l.1 refl
-          (use_found t (unique_too n t b) (LiveAt own) own number l.0 (Err NoLink) _ (live_owns own) l.1 u.0
-          ∙ passed_check (takes_messages (phase_of l.0)) LinkState _ (takes_later h.port.phase (phase_of l.0) u.1 may))
-          (messages_follow (Some message) h l.0 (hands_in message h.segments.segments) (hands_in message l.0.segments) _ _ (near number l.0 l.1)
-          (of_in h.segments.segments) (of_in l.0.segments) (omega arith) refl refl refl f)
+      of_in f = record { received = refl; acknowledged = refl; grows = λ answered. let same = grown_itself f answered in assumption same }
 
   closes_beside : (own number : ℕ) (h : LateLink) → IsFound (LiveAt own) n.links number h → is_connected h.port.phase ≡ true →
       Follow (record n { links = changed number (in_phase Disconnecting h) n.links }) t (records.OfUser (Close own))
-  closes_beside own number h found may = go (there_too t.links n.links.links number h (sym b.size) found.there)
-    where
-      go : (l : Link) × (slice_get t.links number ≡ Some l) →
-          Follow (record n { links = changed number (in_phase Disconnecting h) n.links }) t (records.OfUser (Close own))
-      go l =
-          let f = b.all number h l.0 found.there l.1 in
-          let u = in_use_too own number h l.0 l.1 found f in
-          becomes (Close own) number h (in_phase Disconnecting h) l.0 (closed_link l.0) found.there l.1 refl
-          (use_found t (unique_too n t b) (LiveAt own) own number l.0 (Err NoLink) _ (live_owns own) l.1 u.0
-          ∙ passed_check (is_connected (phase_of l.0)) LinkState _ (connected_later h.port.phase (phase_of l.0) u.1 may)
-          ∙ ap (λ (x : Link). let r : Result machine.Links LinkRefusal = Ok (changed number x t) in r) (closes_as l.0))
-          (close_follows h l.0 _ _ (near number l.0 l.1) may f)
+  closes_beside own number h found may =
+      let l = there_too t.links n.links.links number h (sym b.size) found.there in
+      let f = b.all number h l.0 found.there l.1 in
+      let u = in_use_too own number h l.0 l.1 found f in
+      becomes (Close own) number h (in_phase Disconnecting h) l.0 (closed_link l.0) found.there l.1 refl
+      (use_found t (unique_too n t b) (LiveAt own) own number l.0 (Err NoLink) _ (live_owns own) l.1 u.0
+      ∙ passed_check (is_connected (phase_of l.0)) LinkState _ (connected_later h.port.phase (phase_of l.0) u.1 may)
+      ∙ ap (λ (x : Link). let r : Result machine.Links LinkRefusal = Ok (changed number x t) in r) (closes_as l.0))
+      (close_follows h l.0 _ _ (near number l.0 l.1) may f)
 
   delivers_beside : (own : ℕ) (message : List ℕ) (number : ℕ) (h : LateLink) (d : LateSegments) → IsFound (HasAddress own) n.links number h →
       delivered_over h.segments (delivers message h.segments.segments) ≡ Some d →
@@ -178,18 +144,7 @@ module _ (n : Node) (t : machine.Links) (b : Beside n t) (near : AreAnswered t) 
             passed = f.passed +
                 w.pieces;
           })
-          of_up f w = record {
-            received = refl;
-            acknowledged = refl;
-            grows = λ answered. record {
-              given = refl;
-              last = refl;
-              received = omega arith;
-              acknowledged = omega arith;
-              unsent = refl;
-              answered = answered;
-            };
-          }
+          of_up f w = record { received = refl; acknowledged = refl; grows = λ answered. let same = grown_itself f answered in assumption same }
 
           by_bytes : (w : Whole) → next_message (drop h.segments.segments.passed h.segments.segments.received) ≡ Some w → (c : Bool) →
               bytes_eq message w.message ≡ c → delivered_over h.segments (delivered_as c w h.segments.segments) ≡ Some d →

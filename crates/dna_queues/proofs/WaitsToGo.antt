@@ -1,7 +1,6 @@
 -- What a sending leaves as it is, and all that waits to be sent of a link.
-use Rattle.std.proofs.Common.{◌≡◌, ℕ, Option, None, List, [], ◌∷◌, ◌++◌, refl, sym, ap}
-use Rattle.std.proofs.Common.{subst, arith}
-use Rattle.dna_packet.specs.Nsp.{NspValue, DataSegment, LinkService, DataAck, OtherDataAck, ConnectAck, NoOperation, ConnectInitiate}
+use Rattle.std.proofs.Common.{◌≡◌, ℕ, Option, None, List, [], ◌∷◌, ◌++◌, refl, sym, ap, subst, arith}
+use Rattle.dna_packet.specs.Nsp.{NspValue, DataSegment, DataAck, ConnectAck, NoOperation, ConnectInitiate}
 use Rattle.dna_packet.specs.Nsp.{ConnectConfirm, DisconnectInitiate, DisconnectConfirm, IsInRange}
 use Rattle.dna_links.specs.declared.queue.Said.{Said}
 use Rattle.dna_links.specs.declared.queue.Said.TheVariants.{OfRun, Disconnect}
@@ -20,15 +19,7 @@ kept_same : (l x x' : Link) → x ≡ x' → Same l x' → Same l x
 kept_same l x x' is s = subst (Same l) (sym is) s
 
 said_same : (l k : Link) (said : Said) → Same l k → Same l (said_as said k)
-said_same l k said s = record {
-  port = s.port;
-  partner = s.partner;
-  segsize = s.segsize;
-  waits = s.waits;
-  ran = s.ran;
-  accepted = s.accepted;
-  segments = s.segments;
-}
+said_same l k said s = assumption s
 
 carried_same : (l : Link) (f : TrueSegments) (gap : ℕ) → Carries l.segments f →
     Same l (record l { segments = f; queue = record l.queue { gap = gap } })
@@ -37,14 +28,12 @@ carried_same l f gap c =
 
 -- these segments are no less than themselves
 pub grown_itself : (f : TrueSegments) → IsAnswered f → Grown None f f
-grown_itself f answered = record {
-  given = refl;
-  last = refl;
-  received = omega arith;
-  acknowledged = omega arith;
-  unsent = refl;
-  answered = answered;
-}
+grown_itself f answered =
+    record { given = refl; last = refl; received = omega arith; acknowledged = omega arith; unsent = refl; answered = answered }
+
+-- nor is a link
+pub grows_itself : (l : Link) → IsAnswered l.segments → Grows None l l
+grows_itself l answered = let segments = grown_itself l.segments answered in assumption segments
 
 pub goes_same : (l x : Link) (m : NspValue) → IsAnswered l.segments → IsInRange m → Goes l m x → Same l x
 goes_same l x (ConnectInitiate retransmitted src services info segsize user_data) answered small g = kept_same l x l g.moves.1 (same_itself l)
@@ -64,10 +53,8 @@ goes_same l x (DataAck dst src acks) answered small g =
     kept_same l x (said_as OfRun (wide_link l m.sent)) m.is
     (said_same l (wide_link l m.sent) OfRun
     (carried_same l m.sent.segments (wider l.queue.gap (went_on l.segments m.sent.segments)) r.carries))
-goes_same l x (LinkService interrupt dst src rest) answered small g =
-    kept_same l x (said_as OfRun l) g.moves.1 (said_same l l OfRun (same_itself l))
-goes_same l x (OtherDataAck dst src rest) answered small g = kept_same l x (said_as OfRun l) g.moves.1 (said_same l l OfRun (same_itself l))
 goes_same l x (NoOperation rest) answered small g = absurd g.moves
+goes_same l x m answered small g = kept_same l x (said_as OfRun l) g.moves.1 (said_same l l OfRun (same_itself l))
 
 pub same_answered : (l x : Link) → Same l x → IsAnswered l.segments → IsAnswered x.segments
 same_answered l x s answered =

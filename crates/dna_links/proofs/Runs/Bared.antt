@@ -13,7 +13,7 @@ use Rattle.dna_links.specs.Bounds.{AreLinksBounded}
 use Rattle.dna_links.specs.Delivery.{HeldFrom, UpFrom, DeliversLinks}
 use Rattle.dna_links.specs.Captures.{IsRead, HasNeither, IsReadFrom, AreRead, AreUpFrom, deliveries}
 use Rattle.dna_links.specs.Alike.{bare, bare_links, bare_side}
-use Rattle.dna_links.proofs.Runs.Late.{bare_at}
+use Rattle.dna_links.proofs.Runs.Bare.{bare_at}
 
 pub bounded_bare : (own other : LinkSide) → AreLinksBounded (bare_side own) (bare_side other) → AreLinksBounded own other
 bounded_bare own other b = record {

@@ -1,9 +1,8 @@
 -- What may be done with links goes along with forgetting their partners, with queues or without, whatever a link keeps of its segments.
-use Rattle.std.proofs.Common.{◌≡◌, ℕ, Bool, true, false, ltb, not, cond, Option, Some, None, List, [], ◌∷◌, map, Result, Ok, Err, refl, sym, ap, ap₂}
-use Rattle.std.proofs.Common.{◌+◌, ◌∙◌, subst, option_map}
+use Rattle.std.proofs.Common.{◌≡◌, ℕ, Bool, true, false, Option, Some, None, List, [], ◌∷◌, map, Result, Ok, Err, refl, sym, ap, ap₂}
+use Rattle.std.proofs.Common.{◌∙◌, subst, option_map}
 use Rattle.std.specs.Prelude.{slice_get, position, fold}
-use Rattle.std.specs.List.{prefix_len}
-use Rattle.std.proofs.lemmas.List.{length-map, map-append, map-set}
+use Rattle.std.proofs.lemmas.List.{map-append, map-set}
 use Rattle.std.proofs.lemmas.Option.{slice_get-map}
 use Rattle.dna_station.specs.declared.link_refusal.LinkRefusal.{LinkRefusal}
 use Rattle.dna_links.specs.declared.queue.Queues.{Queues}
@@ -22,6 +21,7 @@ use Rattle.dna_links.specs.Table.{Effect, GiveAddress, GoTo, End, Drop, EndAll, 
 use Rattle.dna_links.specs.LinkBook.{does, others, after}
 use Rattle.dna_links.specs.Sending.{Sent}
 use Rattle.dna_node.specs.WireLayers as layers
+use Rattle.dna_links.proofs.Cut.LookUps.{position-map}
 
 abbrev pub forget_tag : LinkTag → LinkTag
 forget_tag tag = record { link = tag.link; partner = None }
@@ -38,14 +38,6 @@ module _ {D : Type 0} where
   forget_links s = record { node = s.node; peer = s.peer; links = map forget_link s.links }
 
 -- ---- look-ups, and changes of one link
-
-module _ {X Y : Type 0} (p : Y → Bool) (f : X → Y) where
-  prefix-map : (xs : List X) → prefix_len (λ y. not (p y)) (map f xs) ≡ prefix_len (λ x. not (p (f x))) xs
-  prefix-map [] = refl
-  prefix-map (x ∷ xs) = ap (λ n. cond (not (p (f x))) (1 + n) 0) (prefix-map xs)
-
-  position-map : (xs : List X) → position p (map f xs) ≡ position (λ x. p (f x)) xs
-  position-map xs = ap₂ (λ (n m : ℕ). cond (ltb n m) (Some n) None) (prefix-map xs) (length-map xs f)
 
 module _ {D : Type 0} where
   -- two ways to go on, which belong together at each link

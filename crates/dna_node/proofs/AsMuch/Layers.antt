@@ -1,5 +1,5 @@
 -- Nodes over both layers with queues make whatever nodes without make, and are left the same but for what the queues leave open.
-use Rattle.std.proofs.Common.{◌≡◌, Bool, true, false, cond, Option, Some, None, Result, Ok, Err, List, [], ◌∷◌, ◌++◌, length, refl, sym, ap, ◌∙◌}
+use Rattle.std.proofs.Common.{◌≡◌, Bool, true, false, cond, Option, Some, None, Result, Ok, Err, List, [], ◌∷◌, ◌++◌, length, refl, sym, ap, ap₂, ◌∙◌}
 use Rattle.std.proofs.Common.{subst}
 use Rattle.std.proofs.lemmas.List.{length-map}
 use Rattle.two_nodes.specs.Nodes.{World, Run}
@@ -23,16 +23,20 @@ use Rattle.dna_station.specs.Node.{station_machine}
 use Rattle.dna_links.specs.declared.queue.Queues.TheVariants.{Without, With}
 use Rattle.dna_links.specs.Links.{Carried, LinkTruth}
 use Rattle.dna_links.specs.User.{LinkEventValue, Open, Accept, Reject, In, Up, Close, Boot, Abort}
-use Rattle.dna_links.specs.Sending as links_sending
+use Rattle.dna_links.specs.Sending.{Sent}
 use Rattle.dna_links.specs.Arriving.{of_partner}
 use Rattle.dna_links.specs.TrueSegments.{TrueSegments, Numbers, true_segments}
-use Rattle.dna_links.specs.TrueLinks.{Links, links_user, links_sent, links_arrived}
+use Rattle.dna_links.specs.TrueLinks.{Links, links_user}
 use Rattle.dna_links.specs.Captures.{deliveries}
 use Rattle.dna_links.specs.Runs.{SentMessage}
-use Rattle.dna_links.specs.Alike.{bare, bare_links}
-use Rattle.dna_links.proofs.Tables.Outcomes.{user_did}
+use Rattle.dna_links.specs.Alike.{bare}
 use Rattle.dna_links.proofs.Runs.Bared.{deliveries_bare}
-use Rattle.dna_links.proofs.Runs.Wider.{AllFit, user_follows, sent_follows, arrived_follows}
+use Rattle.dna_links.proofs.AsMuch.Plain.{plain_links}
+use Rattle.dna_links.proofs.AsMuch.Fit.{AllFit, AreDone, AreSent}
+use Rattle.dna_links.proofs.AsMuch.User.{user_done}
+use Rattle.dna_links.proofs.AsMuch.Sending.{sent_done}
+use Rattle.dna_links.proofs.AsMuch.Arriving.{arrived_done}
+use Rattle.dna_links.proofs.AsMuch.TrueBook.{true_lets_go, plain_are}
 use Rattle.dna_node.specs.TagRules.{judged, judged_by}
 use Rattle.dna_node.specs.Content.{content}
 use Rattle.dna_node.specs.Layers.{Layers, LayersTruth, LayersNode, LayersUnit, with_station, with_links, first_sent, with_message, carried_again}
@@ -42,53 +46,29 @@ use Rattle.dna_node.specs.LayersPair.{layers_pair, layers_start}
 use Rattle.dna_node.specs.AsMuch.{bare_layers, CountsAlike, IsRunWithQueues}
 use Rattle.dna_node.proofs.AsMuch.Nodes.{IsDone, IsSent, DoesAsMuch, runs_with}
 
+abbrev plain_layers : Layers → Layers
+plain_layers t = record t { links = plain_links true_segments t.links }
+
 -- a node with queues beside one without
 pub record Stands (s t : Layers) : Type 0 where
-  pub same : bare_layers t ≡ s
+  pub same : plain_layers t ≡ s
   pub fits : AllFit t.links
 
 -- ---- what becomes of the links
 
-pub record LinksLeft (links : Links) (o : Result Links LinkRefusal) : Type 0 where
-  pub left : Links
-  pub is : o ≡ Ok left
-  pub same : bare_links left ≡ links
-  pub fits : AllFit left
-
-abbrev AreDone : Result Links LinkRefusal → Result Links LinkRefusal → Type 0
-AreDone (Ok links) o = LinksLeft links o
-AreDone (Err refusal) o = Unit {0}
-
-module _ (links : Links) (fits : AllFit links) where
-  user_links : (event : LinkEventValue) (o : Result Links LinkRefusal) → links_user Without (bare_links links) event ≡ o →
-      AreDone o (links_user With links event)
-  user_links event (Ok left) done =
-      let f = user_follows links fits event left (user_did true_segments (bare_links links) left event done) in
-      record { left = f.links; is = f.does; same = f.same; fits = f.fit }
-  user_links event (Err refusal) done = tt
-
-  arrived_links : (message : SentMessage) (o : Result Links LinkRefusal) →
-      links_arrived Without of_partner (bare_links links) message.packet message.truth ≡ o →
-      AreDone o (links_arrived With of_partner links message.packet message.truth)
-  arrived_links message (Ok left) done =
-      let f = arrived_follows of_partner links fits message.truth message.packet left done in
-      record { left = f.links; is = f.does; same = f.same; fits = f.fit }
-  arrived_links message (Err refusal) done = tt
-
-with_links_done : (t : Layers) (o o' : Result Links LinkRefusal) → AreDone o o' → IsDone Stands (with_links (bare_layers t) o) (with_links t o')
+with_links_done : (t : Layers) (o o' : Result Links LinkRefusal) → AreDone true_segments o o' → IsDone Stands (with_links (plain_layers t) o) (with_links t o')
 with_links_done t (Ok links) o' done = record {
-  left = record t { links = done.left };
-  is = ap (with_links t) done.is;
-  beside = record { same = ap (λ (x : Links). record (bare_layers t) { links = x }) done.same; fits = done.fits };
+  left = record t { links = done.links };
+  is = ap (with_links t) done.does;
+  beside = record { same = ap (λ (x : Links). record (plain_layers t) { links = x }) done.same; fits = done.fit };
 }
 with_links_done t (Err refusal) o' done = tt
 
 -- a packet is kept
 keeps_done : (t : Layers) → AllFit t.links → (carried : Option SentMessage) →
-    IsDone Stands (keeps judged (bare_layers t) carried) (keeps (judged_by With) t carried)
+    IsDone Stands (keeps judged (plain_layers t) carried) (keeps (judged_by With) t carried)
 keeps_done t fits (Some message) =
-    with_links_done t (links_arrived Without of_partner (bare_links t.links) message.packet message.truth)
-    (links_arrived With of_partner t.links message.packet message.truth) (arrived_links t.links fits message _ refl)
+    with_links_done t _ _ (arrived_done true_segments true_lets_go of_partner t.links fits message.truth message.packet)
 keeps_done t fits None = record { left = t; is = refl; beside = record { same = refl; fits = fits } }
 
 -- ---- the node
@@ -96,61 +76,55 @@ keeps_done t fits None = record { left = t; is = refl; beside = record { same = 
 module _ (t : Layers) (fits : AllFit t.links) where
   -- ---- the user
 
-  by_station : (o : Result Station StepRefusal) → IsDone Stands (with_station (bare_layers t) o) (with_station t o)
+  by_station : (o : Result Station StepRefusal) → IsDone Stands (with_station (plain_layers t) o) (with_station t o)
   by_station (Ok station) =
       record { left = record t { station = station }; is = refl; beside = record { same = refl; fits = fits } }
   by_station (Err refusal) = tt
 
-  left_same : IsDone Stands (Ok (bare_layers t)) (Ok t)
+  left_same : IsDone Stands (Ok (plain_layers t)) (Ok t)
   left_same = record { left = t; is = refl; beside = record { same = refl; fits = fits } }
 
-  link_done : (event : LinkEventValue) → IsDone Stands (with_links (bare_layers t) (links_user Without (bare_links t.links) event))
+  link_done : (event : LinkEventValue) → IsDone Stands (with_links (plain_layers t) (links_user Without (plain_links true_segments t.links) event))
       (with_links t (links_user With t.links event))
-  link_done event = with_links_done t (links_user Without (bare_links t.links) event) (links_user With t.links event)
-      (user_links t.links fits event _ refl)
+  link_done event = with_links_done t _ _ (user_done true_segments true_lets_go t.links fits event)
 
   abbrev halted : Layers
   halted = record t { station = after_event t.station Halt }
 
-  boot_done : IsDone Stands (with_links (bare_layers halted) (links_user Without (bare_links t.links) Boot))
+  boot_done : IsDone Stands (with_links (plain_layers halted) (links_user Without (plain_links true_segments t.links) Boot))
       (with_links halted (links_user With t.links Boot))
-  boot_done = with_links_done halted (links_user Without (bare_links t.links) Boot) (links_user With t.links Boot)
-      (user_links t.links fits Boot _ refl)
+  boot_done =
+      with_links_done halted (links_user Without (plain_links true_segments t.links) Boot) (links_user With t.links Boot)
+      (user_done true_segments true_lets_go t.links fits Boot)
 
-  composed_done : (packet : Carried) (o : Result (links_sending.Sent TrueSegments Numbers) LinkRefusal) →
-      links_sent Without (bare_links t.links) packet ≡ o →
-      IsDone Stands (with_composed (bare_layers t) o) (with_composed t (links_sent With t.links packet))
-  composed_done packet (Ok made) done =
-      let f = sent_follows t.links fits packet made done in
-      record {
-        left = record t { links = f.sent.links };
-        is = ap (with_composed t) f.does;
-        beside = record {
-          same = ap (λ (x : links_sending.Sent TrueSegments Numbers). record t { links = x.links }) f.same;
-          fits = f.fit;
-        };
-      }
-  composed_done packet (Err refusal) done = tt
+  composed_done : (o o' : Result (Sent TrueSegments Numbers) LinkRefusal) → AreSent true_segments o o' →
+      IsDone Stands (with_composed (plain_layers t) o) (with_composed t o')
+  composed_done (Ok made) o' f = record {
+    left = record t { links = f.sent.links };
+    is = ap (with_composed t) f.does;
+    beside = record { same = ap (λ (x : Sent TrueSegments Numbers). record t { links = x.links }) f.same; fits = f.fit };
+  }
+  composed_done (Err refusal) o' f = tt
 
-  packet_composed : (r : Result (Option Carried) StepRefusal) → IsDone Stands (composes judged (bare_layers t) r) (composes (judged_by With) t r)
-  packet_composed (Ok (Some packet)) = composed_done packet _ refl
+  packet_composed : (r : Result (Option Carried) StepRefusal) → IsDone Stands (composes judged (plain_layers t) r) (composes (judged_by With) t r)
+  packet_composed (Ok (Some packet)) = composed_done _ _ (sent_done true_segments true_lets_go t.links fits packet)
   packet_composed (Ok None) = left_same
   packet_composed (Err refusal) = tt
 
-  user_done : (event : Event) → IsDone Stands ((layers_machine judged).user (bare_layers t) event) ((layers_machine (judged_by With)).user t event)
-  user_done events.Start = by_station ((station_machine of_period).user t.station events.Start)
-  user_done events.Halt = by_station ((station_machine of_period).user t.station events.Halt)
-  user_done (events.Open link) = link_done (Open link)
-  user_done (events.Accept partner link) = link_done (Accept partner link)
-  user_done (events.Reject partner link) = link_done (Reject partner link)
-  user_done (events.In link message) = link_done (In link message)
-  user_done (events.Up link message) = link_done (Up link message)
-  user_done (events.Close link) = link_done (Close link)
-  user_done events.Boot = boot_done
-  user_done (events.Abort link) = link_done (Abort link)
-  user_done (events.Composed packet) = packet_composed (content packet)
-  user_done (events.Interrupt link message) = left_same
-  user_done (events.Interrupted link message) = left_same
+  event_done : (event : Event) → IsDone Stands ((layers_machine judged).user (plain_layers t) event) ((layers_machine (judged_by With)).user t event)
+  event_done events.Start = by_station ((station_machine of_period).user t.station events.Start)
+  event_done events.Halt = by_station ((station_machine of_period).user t.station events.Halt)
+  event_done (events.Open link) = link_done (Open link)
+  event_done (events.Accept partner link) = link_done (Accept partner link)
+  event_done (events.Reject partner link) = link_done (Reject partner link)
+  event_done (events.In link message) = link_done (In link message)
+  event_done (events.Up link message) = link_done (Up link message)
+  event_done (events.Close link) = link_done (Close link)
+  event_done events.Boot = boot_done
+  event_done (events.Abort link) = link_done (Abort link)
+  event_done (events.Composed packet) = packet_composed (content packet)
+  event_done (events.Interrupt link message) = left_same
+  event_done (events.Interrupted link message) = left_same
 
   -- ---- a message is sent
 
@@ -164,29 +138,26 @@ module _ (t : Layers) (fits : AllFit t.links) where
     abbrev made_with : Links → Option SentMessage → Result (Layers × LayersTruth) StepRefusal
     made_with links carried = Ok (first_sent t after links carried)
 
-    message_done : (packet : Carried) (o : Result (links_sending.Sent TrueSegments Numbers) LinkRefusal) →
-        links_sent Without (bare_links t.links) packet ≡ o →
-        IsSent Stands (with_message (bare_layers t) after packet o) (with_message t after packet (links_sent With t.links packet))
-    message_done packet (Ok made) done =
-        let f = sent_follows t.links fits packet made done in
-        record {
-          left = left_with (message_with packet made.truth) f.sent.links;
-          is = ap (with_message t after packet) f.does
-              ∙ ap (λ (x : links_sending.Sent TrueSegments Numbers). made_with f.sent.links (message_with packet x.truth)) f.same;
-          beside = record {
-            same = ap (λ (x : links_sending.Sent TrueSegments Numbers). left_with (message_with packet made.truth) x.links) f.same;
-            fits = f.fit;
-          };
-        }
-    message_done packet (Err refusal) done = tt
+    message_done : (packet : Carried) (o o' : Result (Sent TrueSegments Numbers) LinkRefusal) → AreSent true_segments o o' →
+        IsSent Stands (with_message (plain_layers t) after packet o) (with_message t after packet o')
+    message_done packet (Ok made) o' f = record {
+      left = left_with (message_with packet made.truth) f.sent.links;
+      is = ap (with_message t after packet) f.does
+          ∙ ap (λ (x : Sent TrueSegments Numbers). made_with f.sent.links (message_with packet x.truth)) f.same;
+      beside = record {
+        same = ap (λ (x : Sent TrueSegments Numbers). left_with (message_with packet made.truth) x.links) f.same;
+        fits = f.fit;
+      };
+    }
+    message_done packet (Err refusal) o' f = tt
 
     first_done : (r : Result (Option Carried) StepRefusal) →
-        IsSent Stands (sends_first judged (bare_layers t) after r) (sends_first (judged_by With) t after r)
-    first_done (Ok (Some packet)) = message_done packet _ refl
+        IsSent Stands (sends_first judged (plain_layers t) after r) (sends_first (judged_by With) t after r)
+    first_done (Ok (Some packet)) = message_done packet _ _ (sent_done true_segments true_lets_go t.links fits packet)
     first_done (Ok None) = record { left = left_with None t.links; is = refl; beside = record { same = refl; fits = fits } }
     first_done (Err refusal) = tt
 
-    again_same : (change : Change) → carried_again t after.1 change ≡ carried_again (bare_layers t) after.1 change
+    again_same : (change : Change) → carried_again t after.1 change ≡ carried_again (plain_layers t) after.1 change
     again_same SendPacket = refl
     again_same change = refl
 
@@ -194,7 +165,7 @@ module _ (t : Layers) (fits : AllFit t.links) where
     again_with carried = Ok (record t { station = after.0 }, record { station = after.1; carried = carried })
 
     by_number : (m : MessageValue) (b : Bool) →
-        IsSent Stands (cond b (sends_first judged (bare_layers t) after (content (body_of m))) (Ok (sends_again (bare_layers t) m after)))
+        IsSent Stands (cond b (sends_first judged (plain_layers t) after (content (body_of m))) (Ok (sends_again (plain_layers t) m after)))
         (cond b (sends_first (judged_by With) t after (content (body_of m))) (Ok (sends_again t m after)))
     by_number m true = first_done (content (body_of m))
     by_number m false = record {
@@ -204,14 +175,14 @@ module _ (t : Layers) (fits : AllFit t.links) where
     }
 
   by_sending : (m : MessageValue) (o : Result (Station × Truth) StepRefusal) →
-      IsSent Stands (sends_on judged (bare_layers t) m o) (sends_on (judged_by With) t m o)
+      IsSent Stands (sends_on judged (plain_layers t) m o) (sends_on (judged_by With) t m o)
   by_sending m (Ok after) = by_number after m (gives_number t.station m)
   by_sending m (Err refusal) = tt
 
   -- ---- an arrival
 
   by_arrival : (arrival : ArrivalValue LayersTruth) (fate : Fate) (o : Result Station StepRefusal) →
-      IsDone Stands (meets_on judged (bare_layers t) arrival fate o) (meets_on (judged_by With) t arrival fate o)
+      IsDone Stands (meets_on judged (plain_layers t) arrival fate o) (meets_on (judged_by With) t arrival fate o)
   by_arrival arrival Kept (Ok station) = keeps_done (record t { station = station }) fits (carried_by arrival)
   by_arrival arrival Dropped (Ok station) =
       record { left = record t { station = station }; is = refl; beside = record { same = refl; fits = fits } }
@@ -224,7 +195,7 @@ module _ (s t : Layers) (stands : Stands s t) where
   user_beside : (event : Event) → IsDone Stands ((layers_machine judged).user s event) ((layers_machine (judged_by With)).user t event)
   user_beside event =
       subst (λ (x : Layers). IsDone Stands ((layers_machine judged).user x event) ((layers_machine (judged_by With)).user t event)) stands.same
-      (user_done t stands.fits event)
+      (event_done t stands.fits event)
 
   sends_beside : (m : MessageValue) → IsSent Stands ((layers_machine judged).sends s m) ((layers_machine (judged_by With)).sends t m)
   sends_beside m =
@@ -246,10 +217,14 @@ layers_do_as_much = record { user = user_beside; sends = sends_beside; arrives =
 new_stands : (head : Head) → let s = (new_layers_node head).station in Stands s s
 new_stands head = record { same = refl; fits = λ i l at. absurd cc }
 
+-- but for what the queues leave open, it is the same
+bare_same : (s t : Layers) → Stands s t → bare_layers t ≡ s
+bare_same s t stands = ap (λ (x : Links). record t { links = x }) (sym (plain_are t.links)) ∙ stands.same
+
 counts_alike : (s t : Layers) → Stands s t → CountsAlike t s
 counts_alike s t stands = record {
-  links = sym (length-map t.links.links bare) ∙ ap (λ (x : Layers). length x.links.links) stands.same;
-  delivered = sym (deliveries_bare t.links.links) ∙ ap (λ (x : Layers). deliveries x.links.links) stands.same;
+  links = sym (length-map t.links.links bare) ∙ ap (λ (x : Layers). length x.links.links) (bare_same s t stands);
+  delivered = sym (deliveries_bare t.links.links) ∙ ap (λ (x : Layers). deliveries x.links.links) (bare_same s t stands);
 }
 
 abbrev left_world : World LayersNode LayersUnit → (a b : Layers) → World LayersNode LayersUnit
@@ -266,8 +241,7 @@ runs_with_queues head_a head_b end of_a of_b run =
     record {
       left = left_world end r.a r.b;
       run = r.run;
-      same = ap (λ (x : Layers). left_world end x (bare_layers r.b)) r.beside_a.same
-          ∙ ap (λ (x : Layers). left_world end end.a.state.station x) r.beside_b.same;
+      same = ap₂ (λ (x y : Layers). left_world end x y) (bare_same end.a.state.station r.a r.beside_a) (bare_same end.b.state.station r.b r.beside_b);
       counted_a = counts_alike end.a.state.station r.a r.beside_a;
       counted_b = counts_alike end.b.state.station r.b r.beside_b;
     }

@@ -26,8 +26,8 @@ use Rattle.dna_links.specs.User.{LinkEventValue, Open, Accept, Reject, In, Up, C
 use Rattle.dna_links.specs.Sending.{Sent}
 use Rattle.dna_links.specs.Arriving.{of_anyone}
 use Rattle.dna_links.specs.WireSegments.{WireSegments, wire_segments}
-use Rattle.dna_links.specs.WireLinks.{WireLinks, wire_links_user, wire_links_sent, wire_links_arrived}
-use Rattle.dna_links.proofs.Tables.Outcomes.{looked, user_did}
+use Rattle.dna_links.specs.WireLinks.{WireLinks, wire_links_user}
+use Rattle.dna_links.proofs.Tables.Outcomes.{looked}
 use Rattle.dna_links.proofs.Cut.User.{live_if}
 use Rattle.dna_node.specs.TagRules.{by_bytes, by_bytes_with}
 use Rattle.dna_node.specs.Content.{content}
@@ -36,12 +36,12 @@ use Rattle.dna_node.specs.WireLayers.{wire_sends_first, wire_sends_again, wire_s
 use Rattle.dna_node.specs.WireLayers.{with_wire_composed, wire_composes, wire_layers_machine}
 use Rattle.dna_node.specs.Accusing.{wrong_unit, wrong_words, wrong_acks, wrong_message, wrong_carried, wrong_taken}
 use Rattle.dna_node.proofs.AsMuch.Nodes.{IsDone, IsSent, DoesAsMuch}
-use Rattle.dna_node.proofs.AsMuch.Plain.{plain_links, at_found, at_none, number_plain, plain_at, live_segments}
-use Rattle.dna_node.proofs.AsMuch.Fit.{AllFit}
-use Rattle.dna_node.proofs.AsMuch.User.{user_follows}
-use Rattle.dna_node.proofs.AsMuch.Sending.{sent_follows}
-use Rattle.dna_node.proofs.AsMuch.Arriving.{arrived_follows}
-use Rattle.dna_node.proofs.AsMuch.WireBook.{wire_lets_go}
+use Rattle.dna_links.proofs.AsMuch.Plain.{plain_links, at_found, at_none, number_plain, plain_at, live_segments}
+use Rattle.dna_links.proofs.AsMuch.Fit.{AllFit, AreDone, AreSent}
+use Rattle.dna_links.proofs.AsMuch.User.{user_done}
+use Rattle.dna_links.proofs.AsMuch.Sending.{sent_done}
+use Rattle.dna_links.proofs.AsMuch.Arriving.{arrived_done}
+use Rattle.dna_links.proofs.AsMuch.WireBook.{wire_lets_go}
 
 abbrev plain_of : WireLinks → WireLinks
 plain_of s = plain_links wire_segments s
@@ -56,37 +56,12 @@ pub record Stands (s t : WireLayers) : Type 0 where
 
 -- ---- what becomes of the links
 
-pub record LinksLeft (links : WireLinks) (o : Result WireLinks LinkRefusal) : Type 0 where
-  pub left : WireLinks
-  pub is : o ≡ Ok left
-  pub same : plain_of left ≡ links
-  pub fits : AllFit left
-
-abbrev AreDone : Result WireLinks LinkRefusal → Result WireLinks LinkRefusal → Type 0
-AreDone (Ok links) o = LinksLeft links o
-AreDone (Err refusal) o = Unit {0}
-
-module _ (links : WireLinks) (fits : AllFit links) where
-  user_links : (event : LinkEventValue) (o : Result WireLinks LinkRefusal) → wire_links_user Without (plain_of links) event ≡ o →
-      AreDone o (wire_links_user With links event)
-  user_links event (Ok left) done =
-      let f = user_follows wire_segments wire_lets_go links fits event left (user_did wire_segments (plain_of links) left event done) in
-      record { left = f.links; is = f.does; same = f.same; fits = f.fit }
-  user_links event (Err refusal) done = tt
-
-  arrived_links : (packet : Carried) (tag : LinkTag) (o : Result WireLinks LinkRefusal) →
-      wire_links_arrived Without of_anyone (plain_of links) packet tag ≡ o → AreDone o (wire_links_arrived With of_anyone links packet tag)
-  arrived_links packet tag (Ok left) done =
-      let f = arrived_follows wire_segments wire_lets_go of_anyone links fits (record { tag = tag; known = tt }) packet left done in
-      record { left = f.links; is = f.does; same = f.same; fits = f.fit }
-  arrived_links packet tag (Err refusal) done = tt
-
-with_links_done : (t : WireLayers) (o o' : Result WireLinks LinkRefusal) → AreDone o o' →
+with_links_done : (t : WireLayers) (o o' : Result WireLinks LinkRefusal) → AreDone wire_segments o o' →
     IsDone Stands (with_wire_links (plain_layers t) o) (with_wire_links t o')
 with_links_done t (Ok links) o' done = record {
-  left = record t { links = done.left };
-  is = ap (with_wire_links t) done.is;
-  beside = record { same = ap (λ (x : WireLinks). record (plain_layers t) { links = x }) done.same; fits = done.fits };
+  left = record t { links = done.links };
+  is = ap (with_wire_links t) done.does;
+  beside = record { same = ap (λ (x : WireLinks). record (plain_layers t) { links = x }) done.same; fits = done.fit };
 }
 with_links_done t (Err refusal) o' done = tt
 
@@ -105,53 +80,47 @@ module _ (t : WireLayers) (fits : AllFit t.links) where
 
   link_done : (event : LinkEventValue) → IsDone Stands (with_wire_links (plain_layers t) (wire_links_user Without (plain_of t.links) event))
       (with_wire_links t (wire_links_user With t.links event))
-  link_done event = with_links_done t (wire_links_user Without (plain_of t.links) event) (wire_links_user With t.links event)
-      (user_links t.links fits event _ refl)
+  link_done event = with_links_done t _ _ (user_done wire_segments wire_lets_go t.links fits event)
 
   abbrev halted : WireLayers
   halted = alone (wire_after_event t.station Halt)
 
   boot_done : IsDone Stands (with_wire_links (plain_layers halted) (wire_links_user Without (plain_of t.links) Boot))
       (with_wire_links halted (wire_links_user With t.links Boot))
-  boot_done = with_links_done halted (wire_links_user Without (plain_of t.links) Boot) (wire_links_user With t.links Boot)
-      (user_links t.links fits Boot _ refl)
+  boot_done =
+      with_links_done halted (wire_links_user Without (plain_of t.links) Boot) (wire_links_user With t.links Boot)
+      (user_done wire_segments wire_lets_go t.links fits Boot)
 
-  composed_done : (packet : Carried) (o : Result (Sent WireSegments (Unit {0})) LinkRefusal) →
-      wire_links_sent Without (plain_of t.links) packet ≡ o →
-      IsDone Stands (with_wire_composed (plain_layers t) o) (with_wire_composed t (wire_links_sent With t.links packet))
-  composed_done packet (Ok made) done =
-      let f = sent_follows wire_segments wire_lets_go t.links fits packet made done in
-      record {
-        left = record t { links = f.sent.links };
-        is = ap (with_wire_composed t) f.does;
-        beside = record {
-          same = ap (λ (x : Sent WireSegments (Unit {0})). record (plain_layers t) { links = x.links }) f.same;
-          fits = f.fit;
-        };
-      }
-  composed_done packet (Err refusal) done = tt
+  composed_done : (o o' : Result (Sent WireSegments (Unit {0})) LinkRefusal) → AreSent wire_segments o o' →
+      IsDone Stands (with_wire_composed (plain_layers t) o) (with_wire_composed t o')
+  composed_done (Ok made) o' f = record {
+    left = record t { links = f.sent.links };
+    is = ap (with_wire_composed t) f.does;
+    beside = record { same = ap (λ (x : Sent WireSegments (Unit {0})). record (plain_layers t) { links = x.links }) f.same; fits = f.fit };
+  }
+  composed_done (Err refusal) o' f = tt
 
   packet_composed : (r : Result (Option Carried) StepRefusal) →
       IsDone Stands (wire_composes by_bytes (plain_layers t) r) (wire_composes (by_bytes_with With) t r)
-  packet_composed (Ok (Some packet)) = composed_done packet _ refl
+  packet_composed (Ok (Some packet)) = composed_done _ _ (sent_done wire_segments wire_lets_go t.links fits packet)
   packet_composed (Ok None) = left_same
   packet_composed (Err refusal) = tt
 
-  user_done : (event : Event) →
+  event_done : (event : Event) →
       IsDone Stands ((wire_layers_machine by_bytes).user (plain_layers t) event) ((wire_layers_machine (by_bytes_with With)).user t event)
-  user_done events.Start = by_station ((wire_machine of_any_period).user t.station events.Start)
-  user_done events.Halt = by_station ((wire_machine of_any_period).user t.station events.Halt)
-  user_done (events.Open link) = link_done (Open link)
-  user_done (events.Accept partner link) = link_done (Accept partner link)
-  user_done (events.Reject partner link) = link_done (Reject partner link)
-  user_done (events.In link message) = link_done (In link message)
-  user_done (events.Up link message) = link_done (Up link message)
-  user_done (events.Close link) = link_done (Close link)
-  user_done events.Boot = boot_done
-  user_done (events.Abort link) = link_done (Abort link)
-  user_done (events.Composed packet) = packet_composed (content packet)
-  user_done (events.Interrupt link message) = left_same
-  user_done (events.Interrupted link message) = left_same
+  event_done events.Start = by_station ((wire_machine of_any_period).user t.station events.Start)
+  event_done events.Halt = by_station ((wire_machine of_any_period).user t.station events.Halt)
+  event_done (events.Open link) = link_done (Open link)
+  event_done (events.Accept partner link) = link_done (Accept partner link)
+  event_done (events.Reject partner link) = link_done (Reject partner link)
+  event_done (events.In link message) = link_done (In link message)
+  event_done (events.Up link message) = link_done (Up link message)
+  event_done (events.Close link) = link_done (Close link)
+  event_done events.Boot = boot_done
+  event_done (events.Abort link) = link_done (Abort link)
+  event_done (events.Composed packet) = packet_composed (content packet)
+  event_done (events.Interrupt link message) = left_same
+  event_done (events.Interrupted link message) = left_same
 
   -- ---- a message is sent
 
@@ -162,24 +131,18 @@ module _ (t : WireLayers) (fits : AllFit t.links) where
     abbrev made_with : WireLinks → LinkTag → Result (WireLayers × LayersTag) StepRefusal
     made_with links tag = Ok (first_tagged after links tag)
 
-    message_done : (packet : Carried) (o : Result (Sent WireSegments (Unit {0})) LinkRefusal) →
-        wire_links_sent Without (plain_of t.links) packet ≡ o →
-        IsSent Stands (with_tag after o) (with_tag after (wire_links_sent With t.links packet))
-    message_done packet (Ok made) done =
-        let f = sent_follows wire_segments wire_lets_go t.links fits packet made done in
-        record {
-          left = left_with made.truth.tag f.sent.links;
-          is = ap (with_tag after) f.does ∙ ap (λ (x : Sent WireSegments (Unit {0})). made_with f.sent.links x.truth.tag) f.same;
-          beside = record {
-            same = ap (λ (x : Sent WireSegments (Unit {0})). left_with made.truth.tag x.links) f.same;
-            fits = f.fit;
-          };
-        }
-    message_done packet (Err refusal) done = tt
+    message_done : (o o' : Result (Sent WireSegments (Unit {0})) LinkRefusal) → AreSent wire_segments o o' →
+        IsSent Stands (with_tag after o) (with_tag after o')
+    message_done (Ok made) o' f = record {
+      left = left_with made.truth.tag f.sent.links;
+      is = ap (with_tag after) f.does ∙ ap (λ (x : Sent WireSegments (Unit {0})). made_with f.sent.links x.truth.tag) f.same;
+      beside = record { same = ap (λ (x : Sent WireSegments (Unit {0})). left_with made.truth.tag x.links) f.same; fits = f.fit };
+    }
+    message_done (Err refusal) o' f = tt
 
     first_done : (r : Result (Option Carried) StepRefusal) →
         IsSent Stands (wire_sends_first by_bytes (plain_layers t) after r) (wire_sends_first (by_bytes_with With) t after r)
-    first_done (Ok (Some packet)) = message_done packet _ refl
+    first_done (Ok (Some packet)) = message_done _ _ (sent_done wire_segments wire_lets_go t.links fits packet)
     first_done (Ok None) = record { left = left_with of_no_link t.links; is = refl; beside = record { same = refl; fits = fits } }
     first_done (Err refusal) = tt
 
@@ -200,8 +163,7 @@ module _ (t : WireLayers) (fits : AllFit t.links) where
   packet_done : (tag : LinkTag) (r : Result (Option Carried) StepRefusal) →
       IsDone Stands (wire_keeps_packet by_bytes (plain_layers t) tag r) (wire_keeps_packet (by_bytes_with With) t tag r)
   packet_done tag (Ok (Some packet)) =
-      with_links_done t (wire_links_arrived Without of_anyone (plain_of t.links) packet tag) (wire_links_arrived With of_anyone t.links packet tag)
-      (arrived_links t.links fits packet tag _ refl)
+      with_links_done t _ _ (arrived_done wire_segments wire_lets_go of_anyone t.links fits (record { tag = tag; known = tt }) packet)
   packet_done tag (Ok None) = left_same
   packet_done tag (Err refusal) = tt
 
@@ -261,7 +223,7 @@ module _ (s t : WireLayers) (stands : Stands s t) where
       IsDone Stands ((wire_layers_machine by_bytes).user s event) ((wire_layers_machine (by_bytes_with With)).user t event)
   user_beside event =
       subst (λ (x : WireLayers). IsDone Stands ((wire_layers_machine by_bytes).user x event)
-      ((wire_layers_machine (by_bytes_with With)).user t event)) stands.same (user_done t stands.fits event)
+      ((wire_layers_machine (by_bytes_with With)).user t event)) stands.same (event_done t stands.fits event)
 
   sends_beside : (m : MessageValue) →
       IsSent Stands ((wire_layers_machine by_bytes).sends s m) ((wire_layers_machine (by_bytes_with With)).sends t m)

@@ -1,6 +1,7 @@
 -- What the user may do without queues, it may do with them, and the same becomes of the links. Over any book.
-use Rattle.std.proofs.Common.{◌≡◌, ℕ, Bool, true, false, Option, Some, None, Ok, Err, refl, sym, ap, ap₂, ◌∙◌}
+use Rattle.std.proofs.Common.{◌≡◌, ℕ, Bool, true, false, Option, Some, None, Result, Ok, Err, refl, sym, ap, ap₂, ◌∙◌}
 use Rattle.std.proofs.lemmas.Bool.{and_parts}
+use Rattle.dna_station.specs.declared.link_refusal.LinkRefusal.{LinkRefusal}
 use Rattle.dna_station.specs.declared.link_refusal.LinkRefusal.TheVariants.{NoLink, LinkState, AddressInUse}
 use Rattle.dna_links.specs.declared.port.Phase.{Phase}
 use Rattle.dna_links.specs.declared.port.Phase.TheVariants.{Called, Confirming, Disconnecting}
@@ -12,24 +13,20 @@ use Rattle.dna_links.specs.LookUps.{is_live, is_calling, is_called, is_connected
 use Rattle.dna_links.specs.SegmentBook.{SegmentBook}
 use Rattle.dna_links.specs.Links.{LinkOf, LinksOf, number_of, with_link, begun, changed, in_phase, with_segments}
 use Rattle.dna_links.specs.Queues.{in_use, reached, goes_on, drops, ended, freed, booted_link, booted}
-use Rattle.dna_links.specs.User.{LinkEventValue, Accept, Reject, Abort, Boot}
+use Rattle.dna_links.specs.User.{LinkEventValue, Accept, Reject}
 use Rattle.dna_links.specs.inner.Forms.{opened, answered, delivered}
 use Rattle.dna_links.specs.LinkBook.{user_step}
-use Rattle.dna_links.proofs.Tables.Outcomes.{IsFound}
+use Rattle.dna_links.proofs.Tables.Outcomes.{IsFound, user_did}
 use Rattle.dna_links.proofs.Tables.Outcomes as outcomes
 use Rattle.dna_links.proofs.Cut.User.{live_if}
 use Rattle.dna_links.proofs.Runs.Sides.{all_map}
-use Rattle.dna_links.proofs.Runs.Wider.{Fits}
-use Rattle.dna_node.proofs.AsMuch.Plain.{at_found, at_none, plain, plain_links, LetsGo, changed_plain, begun_plain}
-use Rattle.dna_node.proofs.AsMuch.Plain.{live_segments, live_with, goes_plain, freed_plain, drops_plain, booted_plain, delivers_plain}
-use Rattle.dna_node.proofs.AsMuch.Fit.{live_waits, in_use_is, FitsAt, AllFit, there, missing, passes_check, set_fits, begun_fits, freed_fits}
+use Rattle.dna_links.proofs.AsMuch.Plain.{at_found, at_none, plain, plain_links, LetsGo, changed_plain, begun_plain}
+use Rattle.dna_links.proofs.AsMuch.Plain.{live_segments, live_with, goes_plain, freed_plain, drops_plain, booted_plain, delivers_plain}
+use Rattle.dna_links.proofs.AsMuch.Fit.{Fits, Follows, AreDone, live_waits, in_use_is, FitsAt, AllFit, there, missing, passes_check, set_fits, begun_fits, freed_fits}
 
 module _ {D K : Type 0} (book : SegmentBook D K) (good : LetsGo book) (s : LinksOf D) (fits : AllFit s) where
-  pub record UserFollows (event : LinkEventValue) (left : LinksOf D) : Type 0 where
-    pub links : LinksOf D
-    pub does : user_step With book s event ≡ Ok links
-    pub same : plain_links book links ≡ left
-    pub fit : AllFit links
+  abbrev UserFollows : LinkEventValue → LinksOf D → Type 0
+  UserFollows event left = Follows book (user_step With book s event) left
 
   answers_follow : (phase : Phase) (event : LinkEventValue) (far own number : ℕ) (link : LinkOf D) →
       IsFound (CalledBy far) (plain_links book s) number link → number_of (LiveAt own) (plain_links book s) ≡ None →
@@ -143,3 +140,10 @@ module _ {D K : Type 0} (book : SegmentBook D K) (good : LetsGo book) (s : Links
     same = booted_plain book good s;
     fit = all_map FitsAt (booted_link book With) s.links (λ i l at. tt);
   }
+
+  pub user_done : (event : LinkEventValue) → AreDone book (user_step Without book (plain_links book s) event) (user_step With book s event)
+  user_done event = go (user_step Without book (plain_links book s) event) refl
+    where
+      go : (o : Result (LinksOf D) LinkRefusal) → user_step Without book (plain_links book s) event ≡ o → AreDone book o (user_step With book s event)
+      go (Ok left) e = user_follows event left (user_did book (plain_links book s) left event e)
+      go (Err refusal) e = tt

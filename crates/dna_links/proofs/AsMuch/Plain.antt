@@ -1,9 +1,10 @@
 -- Links without queues are those with queues once the queues are put aside, and what a link that has ended may keep is let go. Over any book.
-use Rattle.std.proofs.Common.{◌≡◌, ℕ, zero, suc, Bool, true, false, ◌||◌, Option, Some, None, List, [], ◌∷◌, map, Ok, refl, sym, ap, ap₂, ◌∙◌, option_map}
+use Rattle.std.proofs.Common.{◌≡◌, ℕ, zero, suc, Bool, true, false, ◌||◌, Option, Some, None, List, [], ◌∷◌, map, Result, Ok, Err, refl, sym, ap, ap₂, ◌∙◌, option_map}
 use Rattle.std.specs.Prelude.{slice_get, slice_set}
 use Rattle.std.proofs.lemmas.List.{map-append, map-set}
 use Rattle.std.proofs.lemmas.Option.{slice_get-map, same_Some}
 use Rattle.dna_packet.specs.Nsp.{SegmentValue}
+use Rattle.dna_station.specs.declared.link_refusal.LinkRefusal.{LinkRefusal}
 use Rattle.dna_links.specs.declared.queue.Queues.TheVariants.{Without, With}
 use Rattle.dna_links.specs.declared.queue.Said.{Said}
 use Rattle.dna_links.specs.declared.queue.Said.TheVariants.{OfRun, Disconnect}
@@ -12,7 +13,7 @@ use Rattle.dna_links.specs.declared.port.Phase.TheVariants.{Running, Disconnecti
 use Rattle.dna_links.specs.declared.port.LinkTest.{LinkTest}
 use Rattle.dna_links.specs.declared.port.LinkTest.TheVariants.{HasAddress}
 use Rattle.dna_links.specs.LookUps.{passes, is_live}
-use Rattle.dna_links.specs.SegmentBook.{SegmentBook, Sending}
+use Rattle.dna_links.specs.SegmentBook.{SegmentBook, Sending, Late, with_gap}
 use Rattle.dna_links.specs.Links.{LinkOf, LinksOf, number_of, on_link, at_number, with_link, begun, changed, in_phase, with_segments}
 use Rattle.dna_links.specs.Queues.{fresh, further, has_waiting, keeps_numbers, lets_go, requeued, goes_on, ends_by_message, drops, ended, forgotten, booted_link, booted}
 use Rattle.dna_links.specs.Queues.{freed, shows, shows_by, settled}
@@ -34,6 +35,16 @@ module _ {D : Type 0} (s : LinksOf D) where
   pub at_none : {R : Type 0} (test : LinkTest) (otherwise : R) (next : ℕ → LinkOf D → R) → number_of test s ≡ None →
       with_link test s otherwise next ≡ otherwise
   at_none test otherwise next none = ap (λ (o : Option ℕ). at_number s.links o otherwise next) none
+
+module _ {D K : Type 0} where
+  -- what may be sent may be sent late
+  abbrev pub IsLate : Result (Sending D K) LinkRefusal → Result (Late D K) LinkRefusal → Type 0
+  IsLate (Ok sent) o = (left : ℕ) × (o ≡ Ok (record { sent = sent; gap = left }))
+  IsLate (Err refusal) o = Unit {0}
+
+  pub gap_late : (gap : Sending D K → ℕ) (r : Result (Sending D K) LinkRefusal) → IsLate r (with_gap gap r)
+  gap_late gap (Ok sent) = (gap sent, refl)
+  gap_late gap (Err refusal) = tt
 
 module _ {D K : Type 0} (book : SegmentBook D K) where
   -- what a link has of its segments without queues
@@ -62,17 +73,13 @@ module _ {D K : Type 0} (book : SegmentBook D K) where
     pub is : book.delivers message f ≡ Some all
     pub same : book.ends all ≡ left
 
-  pub record SendsLate (gap segsize : ℕ) (segment : SegmentValue) (f : D) (sent : Sending D K) : Type 0 where
-    pub left : ℕ
-    pub is : book.sends_late gap segsize segment f ≡ Ok (record { sent = sent; gap = left })
-
   -- What is let go is let go once; what is left delivers as all did; and a segment that may be sent may be sent late
   pub record LetsGo : Type 0 where
     pub twice : (f : D) → book.ends (book.ends f) ≡ book.ends f
     pub forgets : (f : D) → book.ends (book.forgets f) ≡ book.forgets (book.ends f)
     pub delivers : (message : List ℕ) (f left : D) → book.delivers message (book.ends f) ≡ Some left → DeliversAll message f left
-    pub late : (gap segsize : ℕ) (segment : SegmentValue) (f : D) (sent : Sending D K) → book.sends_segment segsize segment f ≡ Ok sent →
-        SendsLate gap segsize segment f sent
+    pub late : (gap segsize : ℕ) (segment : SegmentValue) (f : D) →
+        IsLate (book.sends_segment segsize segment f) (book.sends_late gap segsize segment f)
 
   -- ---- look-ups, and changes of one link
 

@@ -1,5 +1,5 @@
 -- Links with queues that go by their own phases, and are found as those without.
-use Rattle.std.proofs.Common.{◌≡◌, ℕ, Bool, true, false, not, ◌&&◌, Option, Some, None, Result, refl, sym, ap, ap₂, ◌∙◌, subst}
+use Rattle.std.proofs.Common.{◌≡◌, ℕ, Bool, true, false, not, ◌&&◌, Option, Some, None, Result, Ok, Err, refl, sym, ap, ap₂, ◌∙◌, subst}
 use Rattle.std.specs.Prelude.{slice_get}
 use Rattle.dna_station.specs.declared.link_refusal.LinkRefusal.{LinkRefusal}
 use Rattle.dna_links.specs.declared.port.Phase.{Phase}
@@ -14,12 +14,20 @@ use Rattle.dna_links.specs.LookUps.{passes, is_in, is_live}
 use Rattle.dna_links.specs.SegmentBook.{SegmentBook}
 use Rattle.dna_links.specs.Links.{LinkOf, LinksOf, check, number_of, begun, changed}
 use Rattle.dna_links.specs.Queues.{is_silent, is_over, further, in_use, may_send, port_of_waiting, forgotten, freed, shows, shows_by, settled}
+use Rattle.dna_links.specs.Sending.{Sent}
 use Rattle.dna_links.proofs.Tables.Outcomes.{IsFound, looked}
 use Rattle.dna_links.proofs.Runs.Sides.{all_set, all_pushed}
-use Rattle.dna_links.proofs.Runs.Wider.{Fits}
-use Rattle.dna_node.proofs.AsMuch.Plain.{plain, plain_links, number_plain, plain_there}
+use Rattle.dna_links.proofs.AsMuch.Plain.{plain, plain_links, plain_sent, number_plain, plain_there}
 
--- ---- a link that goes by its own phase
+-- ---- a link that goes by its own phase: nothing of it waits while it lives, and what it has sent is what its phase lets it
+
+abbrev pub Fits : Phase → LinkQueue → Type 0
+Fits Calling q = (q.waits ≡ None) × (is_silent q.said ≡ true)
+Fits Called q = (q.waits ≡ None) × (is_silent q.said ≡ true)
+Fits Confirming q = (q.waits ≡ None) × (q.accepted ≡ true) × (is_silent q.said ≡ true)
+Fits Running q = (q.waits ≡ None) × (q.ran ≡ true) × (is_over q.said ≡ false)
+Fits Disconnecting q = q.waits ≡ None
+Fits Ended q = Unit {0}
 
 pub live_waits : (phase : Phase) (q : LinkQueue) → Fits phase q → is_live phase ≡ true → q.waits ≡ None
 live_waits Calling q fits live = fits.0
@@ -166,3 +174,28 @@ module _ {D K : Type 0} (book : SegmentBook D K) (s : LinksOf D) where
 
   pub missing : (test : LinkTest) → number_of test (plain_links book s) ≡ None → number_of test s ≡ None
   missing test none = sym (number_plain book test s) ∙ none
+
+-- ---- what becomes of all links
+
+module _ {D K : Type 0} (book : SegmentBook D K) where
+  -- links with queues are left, and these are they without
+  pub record Follows (o : Result (LinksOf D) LinkRefusal) (left : LinksOf D) : Type 0 where
+    pub links : LinksOf D
+    pub does : o ≡ Ok links
+    pub same : plain_links book links ≡ left
+    pub fit : AllFit links
+
+  pub record SentFollows (o : Result (Sent D K) LinkRefusal) (made : Sent D K) : Type 0 where
+    pub sent : Sent D K
+    pub does : o ≡ Ok sent
+    pub same : plain_sent book sent ≡ made
+    pub fit : AllFit sent.links
+
+  -- what is done without queues is done with them
+  abbrev pub AreDone : Result (LinksOf D) LinkRefusal → Result (LinksOf D) LinkRefusal → Type 0
+  AreDone (Ok left) o = Follows o left
+  AreDone (Err refusal) o = Unit {0}
+
+  abbrev pub AreSent : Result (Sent D K) LinkRefusal → Result (Sent D K) LinkRefusal → Type 0
+  AreSent (Ok made) o = SentFollows o made
+  AreSent (Err refusal) o = Unit {0}

@@ -22,19 +22,12 @@ use Rattle.dna_links.specs.LinkBook.{on_ok}
 use Rattle.dna_links.specs.Sending.{Sent, message_sent, sent_step}
 use Rattle.dna_links.proofs.Tables.Outcomes.{IsFound, looked, checked}
 use Rattle.dna_links.proofs.Cut.User.{live_if}
-use Rattle.dna_links.proofs.Runs.Wider.{Fits}
-use Rattle.dna_node.proofs.AsMuch.Plain.{at_found, at_none, plain, plain_links, plain_sent, LetsGo, changed_plain, same_plain}
-use Rattle.dna_node.proofs.AsMuch.Plain.{live_segments, live_with, shows_plain, settled_all, drops_plain}
-use Rattle.dna_node.proofs.AsMuch.Fit.{AllFit, there, missing, passes_check, set_fits}
-use Rattle.dna_node.proofs.AsMuch.Fit.{of_phase, run_may, run_fits, closing_may, closing_fits, settled_fits}
+use Rattle.dna_links.proofs.AsMuch.Plain.{IsLate, at_found, at_none, plain, plain_links, plain_sent, LetsGo, changed_plain, same_plain}
+use Rattle.dna_links.proofs.AsMuch.Plain.{live_segments, live_with, shows_plain, settled_all, drops_plain}
+use Rattle.dna_links.proofs.AsMuch.Fit.{Fits, SentFollows, AreSent, AllFit, there, missing, passes_check, set_fits}
+use Rattle.dna_links.proofs.AsMuch.Fit.{of_phase, run_may, run_fits, closing_may, closing_fits, settled_fits}
 
 module _ {D K : Type 0} (book : SegmentBook D K) (good : LetsGo book) (s : LinksOf D) (fits : AllFit s) where
-  pub record MessageFollows (m : NspValue) (made : Sent D K) : Type 0 where
-    pub sent : Sent D K
-    pub does : message_sent With book s m ≡ Ok sent
-    pub same : plain_sent book sent ≡ made
-    pub fit : AllFit sent.links
-
   same_made : (x y : Sent D K) → ◌≡◌ {A = Result (Sent D K) LinkRefusal} (Ok x) (Ok y) → x ≡ y
   same_made x y e = cc
 
@@ -47,16 +40,17 @@ module _ {D K : Type 0} (book : SegmentBook D K) (good : LetsGo book) (s : Links
       ap (λ (f : D). of_link (plain_links book s) number m (book.sends_other f)) (sym (live_segments book m live))
 
   -- one that changes nothing, or its queue alone
-  nothing_more : (m : NspValue) (test : LinkTest) (wanted : Phase) (made : Sent D K) (left : LinkOf D → LinkOf D) → is_in wanted Ended ≡ false →
+  nothing_more : {o : Result (Sent D K) LinkRefusal} (test : LinkTest) (wanted : Phase) (made : Sent D K) (left : LinkOf D → LinkOf D) →
+      is_in wanted Ended ≡ false →
       ((l : LinkOf D) → Fits wanted l.queue → is_in wanted l.port.phase ≡ true → may_send With wanted l ≡ true) →
       ((l : LinkOf D) → plain book (left l) ≡ plain book l) →
       ((l : LinkOf D) → Fits wanted l.queue → is_in wanted l.port.phase ≡ true → Fits (left l).port.phase (left l).queue) →
-      message_sent With book s m ≡ with_in_use With test s (Err NoLink) (λ n l. check (may_send With wanted l) LinkState
+      o ≡ with_in_use With test s (Err NoLink) (λ n l. check (may_send With wanted l) LinkState
       (Ok (of_link (changed n (left l) s) n (left l) (book.sends_other l.segments)))) →
       with_link test (plain_links book s) (Err NoLink)
       (λ n l. check (is_in wanted l.port.phase) LinkState (Ok (unchanged book (plain_links book s) n l)))
-      ≡ Ok made → MessageFollows m made
-  nothing_more m test wanted made left over may same fit row e =
+      ≡ Ok made → SentFollows book o made
+  nothing_more test wanted made left over may same fit row e =
       looked test (plain_links book s) (Err NoLink) _ (Ok made) e (λ none e. absurd cc)
       (λ number link found e. let c = checked (is_in wanted link.port.phase) LinkState _ made e in
       let t = there book s test number link found in
@@ -75,14 +69,14 @@ module _ {D K : Type 0} (book : SegmentBook D K) (good : LetsGo book) (s : Links
         fit = set_fits s fits number (left t.m) (fit t.m f phase);
       })
 
-  unchanged_more : (m : NspValue) (test : LinkTest) (wanted : Phase) (made : Sent D K) → is_in wanted Ended ≡ false →
+  unchanged_more : {o : Result (Sent D K) LinkRefusal} (test : LinkTest) (wanted : Phase) (made : Sent D K) → is_in wanted Ended ≡ false →
       ((l : LinkOf D) → Fits wanted l.queue → may_send With wanted l ≡ true) →
-      message_sent With book s m ≡ with_in_use With test s (Err NoLink) (λ n l. check (may_send With wanted l) LinkState
+      o ≡ with_in_use With test s (Err NoLink) (λ n l. check (may_send With wanted l) LinkState
       (Ok (unchanged book s n l))) →
       with_link test (plain_links book s) (Err NoLink)
       (λ n l. check (is_in wanted l.port.phase) LinkState (Ok (unchanged book (plain_links book s) n l)))
-      ≡ Ok made → MessageFollows m made
-  unchanged_more m test wanted made over may row e =
+      ≡ Ok made → SentFollows book o made
+  unchanged_more test wanted made over may row e =
       looked test (plain_links book s) (Err NoLink) _ (Ok made) e (λ none e. absurd cc)
       (λ number link found e. let c = checked (is_in wanted link.port.phase) LinkState _ made e in
       let t = there book s test number link found in
@@ -98,7 +92,7 @@ module _ {D K : Type 0} (book : SegmentBook D K) (good : LetsGo book) (s : Links
 
   end_more : (dst src reason : ℕ) (made : Sent D K) →
       message_sent Without book (plain_links book s) (DisconnectConfirm dst src reason) ≡ Ok made →
-      MessageFollows (DisconnectConfirm dst src reason) made
+      SentFollows book (message_sent With book s (DisconnectConfirm dst src reason)) made
   end_more dst src reason made e =
       looked (TheLink src dst) (plain_links book s) _ (λ n l. Err LinkState) (Ok made) e
       (λ none e. go (missing book s (TheLink src dst) none) (src == 0) refl e) (λ n l found e. absurd cc)
@@ -115,7 +109,8 @@ module _ {D K : Type 0} (book : SegmentBook D K) (good : LetsGo book) (s : Links
 
       of_zero : number_of (TheLink src dst) s ≡ None → (src == 0) ≡ true →
           with_link {R = Result (Sent D K) LinkRefusal} (CalledBy dst) (plain_links book s) (Ok (of_no_link book (plain_links book s)))
-          (λ n l. Ok (ending book (plain_links book s) n l)) ≡ Ok made → MessageFollows (DisconnectConfirm dst src reason) made
+          (λ n l. Ok (ending book (plain_links book s) n l)) ≡ Ok made →
+          SentFollows book (message_sent With book s (DisconnectConfirm dst src reason)) made
       of_zero none is e =
           looked (CalledBy dst) (plain_links book s) (Ok (of_no_link book (plain_links book s))) _ (Ok made) e
           (λ free e. record {
@@ -148,7 +143,7 @@ module _ {D K : Type 0} (book : SegmentBook D K) (good : LetsGo book) (s : Links
       go : number_of (TheLink src dst) s ≡ None → (b : Bool) → (src == 0) ≡ b →
           cond b (with_link {R = Result (Sent D K) LinkRefusal} (CalledBy dst) (plain_links book s) (Ok (of_no_link book (plain_links book s)))
           (λ n l. Ok (ending book (plain_links book s) n l))) (Ok (of_no_link book (plain_links book s))) ≡ Ok made →
-          MessageFollows (DisconnectConfirm dst src reason) made
+          SentFollows book (message_sent With book s (DisconnectConfirm dst src reason)) made
       go none true is e = of_zero none is e
       go none false is e = record {
         sent = record (of_no_link book s)
@@ -178,7 +173,8 @@ module _ {D K : Type 0} (book : SegmentBook D K) (good : LetsGo book) (s : Links
   carried_fits l f gap fit e = run_fits book (record l { segments = f; queue = record l.queue { gap = gap } }) (fit.0, fit.1, fit.2) e
 
   segment_more : (segment : SegmentValue) (made : Sent D K) →
-      message_sent Without book (plain_links book s) (DataSegment segment) ≡ Ok made → MessageFollows (DataSegment segment) made
+      message_sent Without book (plain_links book s) (DataSegment segment) ≡ Ok made →
+      SentFollows book (message_sent With book s (DataSegment segment)) made
   segment_more segment made e =
       looked (TheLink segment.srcaddr segment.dstaddr) (plain_links book s) (Err NoLink) _ (Ok made) e (λ none e. absurd cc)
       (λ number link found e. let c = checked (is_in Running link.port.phase) LinkState _ made e in
@@ -188,33 +184,35 @@ module _ {D K : Type 0} (book : SegmentBook D K) (good : LetsGo book) (s : Links
           is_in Running link.port.phase ≡ true → (r : Result (Sending D K) LinkRefusal) →
           book.sends_segment link.segsize segment link.segments ≡ r →
           on_ok r (λ sent. Ok (of_link (changed number (with_segments sent.segments link) (plain_links book s)) number
-          (with_segments sent.segments link) sent.known)) ≡ Ok made → MessageFollows (DataSegment segment) made
+          (with_segments sent.segments link) sent.known)) ≡ Ok made → SentFollows book (message_sent With book s (DataSegment segment)) made
       go number link found run (Err refusal) does e = absurd cc
       go number link found run (Ok sent) does e =
           let t = there book s (TheLink segment.srcaddr segment.dstaddr) number link found in
           let phase : is_in Running t.m.port.phase ≡ true = ap (λ (x : LinkOf D). is_in Running x.port.phase) t.is ∙ run in
           let f = of_phase Running t.m.port.phase phase t.m.queue (fits number t.m t.at) in
           let live = live_if (is_in Running) refl t.m.port.phase phase in
-          let late = good.late t.m.queue.gap t.m.segsize segment t.m.segments sent
+          let late = subst (λ (r : Result (Sending D K) LinkRefusal). IsLate r (book.sends_late t.m.queue.gap t.m.segsize segment t.m.segments))
           (ap (λ (f : D). book.sends_segment t.m.segsize segment f) (sym (live_segments book t.m live))
-          ∙ ap (λ (x : LinkOf D). book.sends_segment x.segsize segment x.segments) t.is ∙ does) in
+          ∙ ap (λ (x : LinkOf D). book.sends_segment x.segsize segment x.segments) t.is ∙ does)
+          (good.late t.m.queue.gap t.m.segsize segment t.m.segments) in
           record {
             sent = of_link (changed number (shows book OfRun
-                (record t.m { segments = sent.segments; queue = record t.m.queue { gap = late.left } })) s) number
-                (shows book OfRun (record t.m { segments = sent.segments; queue = record t.m.queue { gap = late.left } })) sent.known;
+                (record t.m { segments = sent.segments; queue = record t.m.queue { gap = late.0 } })) s) number
+                (shows book OfRun (record t.m { segments = sent.segments; queue = record t.m.queue { gap = late.0 } })) sent.known;
             does = at_found s (TheLink segment.srcaddr segment.dstaddr) number t.m _ _ t.found t.at
                 ∙ passes_check (may_send With Running t.m) LinkState _ (run_may t.m f phase)
                 ∙ ap (λ (r : Result (Late D K) LinkRefusal). on_ok r (λ x. let a : Result (Sent D K) LinkRefusal =
                 Ok (of_link (changed number (shows book OfRun
                 (record t.m { segments = x.sent.segments; queue = record t.m.queue { gap = x.gap } })) s) number
                 (shows book OfRun (record t.m { segments = x.sent.segments; queue = record t.m.queue { gap = x.gap } })) x.sent.known) in a))
-                late.is;
-            same = carried_more number t.m link sent.segments (record t.m.queue { gap = late.left }) sent.known live t.is ∙ same_made _ made e;
-            fit = set_fits s fits number _ (carried_fits t.m sent.segments late.left f phase);
+                late.1;
+            same = carried_more number t.m link sent.segments (record t.m.queue { gap = late.0 }) sent.known live t.is ∙ same_made _ made e;
+            fit = set_fits s fits number _ (carried_fits t.m sent.segments late.0 f phase);
           }
 
   acks_more : (dst src : ℕ) (acks : List AckWord) (made : Sent D K) →
-      message_sent Without book (plain_links book s) (DataAck dst src acks) ≡ Ok made → MessageFollows (DataAck dst src acks) made
+      message_sent Without book (plain_links book s) (DataAck dst src acks) ≡ Ok made →
+      SentFollows book (message_sent With book s (DataAck dst src acks)) made
   acks_more dst src acks made e =
       looked (TheLink src dst) (plain_links book s) (Err NoLink) _ (Ok made) e (λ none e. absurd cc)
       (λ number link found e. let c = checked (is_in Running link.port.phase) LinkState _ made e in
@@ -224,7 +222,7 @@ module _ {D K : Type 0} (book : SegmentBook D K) (good : LetsGo book) (s : Links
           is_in Running link.port.phase ≡ true → (r : Result (Sending D K) LinkRefusal) →
           book.sends_acks acks link.segments ≡ r →
           on_ok r (λ sent. Ok (of_link (changed number (with_segments sent.segments link) (plain_links book s)) number
-          (with_segments sent.segments link) sent.known)) ≡ Ok made → MessageFollows (DataAck dst src acks) made
+          (with_segments sent.segments link) sent.known)) ≡ Ok made → SentFollows book (message_sent With book s (DataAck dst src acks)) made
       go number link found run (Err refusal) does e = absurd cc
       go number link found run (Ok sent) does e =
           let t = there book s (TheLink src dst) number link found in
@@ -254,9 +252,9 @@ module _ {D K : Type 0} (book : SegmentBook D K) (good : LetsGo book) (s : Links
           }
 
   message_more : (m : NspValue) (made : Sent D K) → message_sent Without book (plain_links book s) m ≡ Ok made →
-      MessageFollows m made
+      SentFollows book (message_sent With book s m) made
   message_more (ConnectInitiate retransmitted src services info segsize user_data) made e =
-      unchanged_more _ (OpenedAt src) Calling made refl (λ l f. f.1) refl e
+      unchanged_more (OpenedAt src) Calling made refl (λ l f. f.1) refl e
   message_more (ConnectAck dst) made e =
       looked (BegunBy dst) (plain_links book s) (Err NoLink) (λ n l. Ok (unchanged book (plain_links book s) n l)) (Ok made) e (λ none e. absurd cc)
       (λ number link found e. let t = there book s (BegunBy dst) number link found in record {
@@ -267,26 +265,21 @@ module _ {D K : Type 0} (book : SegmentBook D K) (good : LetsGo book) (s : Links
         fit = fits;
       })
   message_more (ConnectConfirm dst src services info segsize user_data) made e =
-      unchanged_more _ (TheLink src dst) Confirming made refl (λ l f. ap₂ (λ (b c : Bool). b && c) f.1 f.2) refl e
+      unchanged_more (TheLink src dst) Confirming made refl (λ l f. ap₂ (λ (b c : Bool). b && c) f.1 f.2) refl e
   message_more (DisconnectInitiate dst src reason user_data) made e =
-      nothing_more _ (TheLink src dst) Disconnecting made (shows book Disconnect) refl closing_may (shows_plain book good Disconnect)
+      nothing_more (TheLink src dst) Disconnecting made (shows book Disconnect) refl closing_may (shows_plain book good Disconnect)
       (closing_fits book) refl e
   message_more (DisconnectConfirm dst src reason) made e = end_more dst src reason made e
   message_more (DataSegment segment) made e = segment_more segment made e
   message_more (DataAck dst src acks) made e = acks_more dst src acks made e
   message_more (LinkService interrupt dst src rest) made e =
-      nothing_more _ (TheLink src dst) Running made (shows book OfRun) refl run_may (shows_plain book good OfRun) (run_fits book) refl e
+      nothing_more (TheLink src dst) Running made (shows book OfRun) refl run_may (shows_plain book good OfRun) (run_fits book) refl e
   message_more (OtherDataAck dst src rest) made e =
-      nothing_more _ (TheLink src dst) Running made (shows book OfRun) refl run_may (shows_plain book good OfRun) (run_fits book) refl e
+      nothing_more (TheLink src dst) Running made (shows book OfRun) refl run_may (shows_plain book good OfRun) (run_fits book) refl e
   message_more (NoOperation rest) made e = record { sent = of_no_link book s; does = refl; same = same_made _ made e; fit = fits }
 
-  pub record SentFollows (packet : Carried) (made : Sent D K) : Type 0 where
-    pub sent : Sent D K
-    pub does : sent_step With book s packet ≡ Ok sent
-    pub same : plain_sent book sent ≡ made
-    pub fit : AllFit sent.links
-
-  pub sent_follows : (packet : Carried) (made : Sent D K) → sent_step Without book (plain_links book s) packet ≡ Ok made → SentFollows packet made
+  sent_follows : (packet : Carried) (made : Sent D K) → sent_step Without book (plain_links book s) packet ≡ Ok made →
+      SentFollows book (sent_step With book s packet) made
   sent_follows packet made e =
       let c = checked ((packet.src == s.node) && (packet.dst == s.peer)) WrongNode _ made e in
       let f = message_more packet.message made c.1 in
@@ -296,3 +289,10 @@ module _ {D K : Type 0} (book : SegmentBook D K) (good : LetsGo book) (s : Links
         same = f.same;
         fit = f.fit;
       }
+
+  pub sent_done : (packet : Carried) → AreSent book (sent_step Without book (plain_links book s) packet) (sent_step With book s packet)
+  sent_done packet = go (sent_step Without book (plain_links book s) packet) refl
+    where
+      go : (o : Result (Sent D K) LinkRefusal) → sent_step Without book (plain_links book s) packet ≡ o → AreSent book o (sent_step With book s packet)
+      go (Ok made) e = sent_follows packet made e
+      go (Err refusal) e = tt
