@@ -21,7 +21,7 @@ pub struct Hint(pub Row, pub &'static str);
 #[derive(Clone, Copy, Debug, PartialEq, Eq)]
 pub struct Setup(pub &'static str, pub &'static str);
 
-// `tools/test_cover` plays each.
+// `tools/tests/test_cover` plays each.
 static HINTS: [Hint; 88] = [
     Hint(Row::Start, "a start"),
     Hint(Row::Halt(State::Halted), "a halt"),

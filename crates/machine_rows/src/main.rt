@@ -1,7 +1,7 @@
 //! Plays lines of calls, each of standard input, on machines that no other program has alone: `formats`, the readers and writers of units,
 //! packets and messages; `links`, the links of two nodes; `station`, one station; `low` and `high`, a window of numbers modulo 256 and 4,096.
 //! The first word names the machine and the second the window, `plain` or `ring`. An answer is printed for each line. Or the first word is
-//! `captures`: then standard input is a capture, which is written as it was read. `tools/test_machines` runs it.
+//! `captures`: then standard input is a capture, which is written as it was read. `tools/tests/test_machines` runs it.
 #![tactic(auto)]
 
 mod captures;

@@ -16,9 +16,6 @@ use Rattle.dna_node.specs.Accusing.{may_acknowledge_all, wrong_words, wrong_acks
 use Rattle.nsp_link.specs.declared.given.Given.{Given}
 use Rattle.nsp_link.specs.Given.{given_of, given_at, all_may_come}
 
-given_in : Bool → LinkVariables → Given
-given_in many k = record { acknowledged = k.acknowledged; outstanding = length k.outstanding; gave_many = many }
-
 module _ (many : Bool) where
   abbrev pub AgreesOn : List AckWord → LinkVariables → Type 0
   AgreesOn words k = all_may_come words (record { acknowledged = k.acknowledged; outstanding = length k.outstanding; gave_many = many })

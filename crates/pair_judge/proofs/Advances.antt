@@ -1,15 +1,13 @@
 -- What became of a record at one end of the judge is what becomes of it at the half of the run that the end stands for.
-use Rattle.std.proofs.Common.{◌≡◌, ℕ, ◌+◌, ◌≤◌, Bool, List, [], ◌∷◌, ◌++◌, drop, Some, None, Result, Ok, Err, refl, sym, ap, ◌∙◌, arith}
+use Rattle.std.proofs.Common.{◌≡◌, ℕ, ◌+◌, ◌≤◌, List, [], ◌∷◌, ◌++◌, drop, Some, None, Result, Ok, Err, refl, sym, ap, ◌∙◌, arith}
 use Rattle.std.proofs.Common.{length-append}
 use Rattle.std.specs.List.{slice_get}
 use Rattle.std.proofs.lemmas.List.{drop-append-le}
-use Rattle.two_nodes.specs.Nodes.{Outcome, Made, Waits, Refused, Answer, answered, concluded, stepped, stepped_sending, advance}
-use Rattle.two_nodes.specs.Nodes.Answer.{Goes, Sends, Refuses, Reads}
+use Rattle.two_nodes.specs.Nodes.{Waits, Refused, answered, concluded, stepped, stepped_sending, advance}
 use Rattle.two_nodes.specs.Nodes as any
 use Rattle.capture.specs.declared.fate.Fate.{Fate}
 use Rattle.capture.specs.declared.record.Record.{Record}
-use Rattle.capture.specs.declared.record.Record.TheVariants.{Sent, Received, Noise, User}
-use Rattle.capture.specs.declared.event.Event.{Event}
+use Rattle.capture.specs.declared.record.Record.TheVariants.{Sent, Received, User}
 use Rattle.ddcmp_msg.specs.Reading.{reading}
 use Rattle.dna_station.specs.declared.head.Head.{Head}
 use Rattle.dna_station.specs.declared.refusal.StepRefusal.{StepRefusal}
@@ -21,9 +19,10 @@ use Rattle.pair_judge.specs.declared.end.End.{End}
 use Rattle.pair_judge.specs.inner.Lines.{held, Shows}
 use Rattle.pair_judge.specs.inner.Receipts.{IsReceived, came, node_at, node_of, layers_move}
 use Rattle.pair_judge.specs.inner.Steps.{IsSent, IsNotSent}
+use Rattle.pair_judge.specs.inner.Entering.{IsEntered, IsNotEntered}
 use Rattle.pair_judge.specs.inner.Making.{IsMade, StandsFor, move}
 use Rattle.pair_judge.specs.Summary.{counted}
-use Rattle.pair_judge.specs.inner.Wire.{JudgeHalf, judge_hears, judge_receives, judge_sent_step, judge_step, JudgeTop}
+use Rattle.pair_judge.specs.inner.Wire.{JudgeHalf, judge_receives, judge_sent_step, judge_step, JudgeTop}
 
 -- the state of the half
 pub state_is : (own : End) (incoming : Line) (mine : JudgeHalf) → StandsFor own incoming mine → mine.state ≡ node_of own.head own.layers incoming
@@ -92,7 +91,7 @@ module _ (top : JudgeTop) where
         ∙ ap (answered mine theirs) (step_is (node_of old.head old.layers incoming))
         ∙ ap (λ (x : Result WireLayers StepRefusal). answered mine theirs (does {K = LayersTag} (node_of old.head old.layers incoming) x)) goes
 
-    went_made : (old new : End) (incoming : Line) (mine theirs : JudgeHalf) → StandsFor old incoming mine → Shows incoming theirs.sent →
+    pub went_made : (old new : End) (incoming : Line) (mine theirs : JudgeHalf) → StandsFor old incoming mine → Shows incoming theirs.sent →
         goes_by old.layers ≡ Ok new.layers → new.line ≡ old.line → new.head ≡ old.head → new.counts ≡ counted old.counts r →
         load new.layers.station ≤ load old.layers.station + 1 → IsMade top (move old new incoming incoming) r mine theirs
     went_made old new incoming mine theirs stands shows goes line head counts loaded = record {
@@ -106,29 +105,23 @@ module _ (top : JudgeTop) where
       load = loaded;
     }
 
-    went_refused : (old : End) (incoming : Line) (mine theirs : JudgeHalf) (refusal : StepRefusal) → StandsFor old incoming mine →
+    pub went_refused : (old : End) (incoming : Line) (mine theirs : JudgeHalf) (refusal : StepRefusal) → StandsFor old incoming mine →
         goes_by old.layers ≡ Err refusal → advance (judge_step top) mine theirs r ≡ Refused refusal
     went_refused old incoming mine theirs refusal stands refuses = went old incoming mine theirs (Err refusal) stands refuses
 
-  pub event_made : (old new : End) (incoming : Line) (event : Event) (mine theirs : JudgeHalf) → StandsFor old incoming mine →
-      Shows incoming theirs.sent → top.machine.user old.layers event ≡ Ok new.layers → new.line ≡ old.line → new.head ≡ old.head →
-      new.counts ≡ counted old.counts (User event) → load new.layers.station ≤ load old.layers.station + 1 →
-      IsMade top (move old new incoming incoming) (User event) mine theirs
-  event_made old new incoming event = went_made (User event) (λ (s : WireLayers). top.machine.user s event) (λ n. refl) old new incoming
+  pub entered_made : (old new : End) (incoming : Line) (r : Record) (mine theirs : JudgeHalf) →
+      IsEntered top old.layers new.layers old.counts new.counts r → StandsFor old incoming mine → Shows incoming theirs.sent → new.line ≡ old.line →
+      new.head ≡ old.head → IsMade top (move old new incoming incoming) r mine theirs
+  entered_made old new incoming (User event) mine theirs e stands shows line head =
+      went_made (User event) (λ (s : WireLayers). top.machine.user s event) (λ n. refl) old new incoming mine theirs stands shows e.made line head
+      e.counts e.load
+  entered_made old new incoming r mine theirs e stands shows line head = absurd e
 
-  pub event_refused : (old : End) (incoming : Line) (event : Event) (mine theirs : JudgeHalf) (refusal : StepRefusal) → StandsFor old incoming mine →
-      top.machine.user old.layers event ≡ Err refusal → advance (judge_step top) mine theirs (User event) ≡ Refused refusal
-  event_refused old incoming event = went_refused (User event) (λ (s : WireLayers). top.machine.user s event) (λ n. refl) old incoming
-
-  pub noise_made : (old new : End) (incoming : Line) (bytes : List ℕ) (mine theirs : JudgeHalf) → StandsFor old incoming mine →
-      Shows incoming theirs.sent → judge_hears top old.layers (reading bytes) ≡ Ok new.layers → new.line ≡ old.line → new.head ≡ old.head →
-      new.counts ≡ counted old.counts (Noise bytes) → load new.layers.station ≤ load old.layers.station + 1 →
-      IsMade top (move old new incoming incoming) (Noise bytes) mine theirs
-  noise_made old new incoming bytes = went_made (Noise bytes) (λ (s : WireLayers). judge_hears top s (reading bytes)) (λ n. refl) old new incoming
-
-  pub noise_refused : (old : End) (incoming : Line) (bytes : List ℕ) (mine theirs : JudgeHalf) (refusal : StepRefusal) → StandsFor old incoming mine →
-      judge_hears top old.layers (reading bytes) ≡ Err refusal → advance (judge_step top) mine theirs (Noise bytes) ≡ Refused refusal
-  noise_refused old incoming bytes = went_refused (Noise bytes) (λ (s : WireLayers). judge_hears top s (reading bytes)) (λ n. refl) old incoming
+  pub entered_refused : (old : End) (incoming : Line) (r : Record) (mine theirs : JudgeHalf) (refusal : StepRefusal) →
+      IsNotEntered top old.layers r refusal → StandsFor old incoming mine → advance (judge_step top) mine theirs r ≡ Refused refusal
+  entered_refused old incoming (User event) mine theirs refusal refuses stands =
+      went_refused (User event) (λ (s : WireLayers). top.machine.user s event) (λ n. refl) old incoming mine theirs refusal stands refuses
+  entered_refused old incoming r mine theirs refusal refuses stands = absurd refuses
 
   -- ---- a receipt
 

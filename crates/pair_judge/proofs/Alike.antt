@@ -13,8 +13,8 @@ use Rattle.pair_judge.specs.declared.summary.SideSummary.{SideSummary}
 use Rattle.pair_judge.specs.declared.summary.Summary.{Summary}
 use Rattle.pair_judge.specs.declared.verdict.Verdict.{Verdict}
 use Rattle.pair_judge.specs.declared.verdict.Verdict.TheVariants.{Accepted, Refused}
-use Rattle.pair_judge.specs.declared.fault.JudgeFault.TheVariants.{Capture, OutOfMemory}
-use Rattle.pair_judge.specs.declared.fault.TextFault.TheVariants.{Departs, Read}
+use Rattle.pair_judge.specs.declared.fault.JudgeFault.TheVariants.{Capture}
+use Rattle.pair_judge.specs.declared.fault.TextFault.TheVariants.{Departs}
 use Rattle.pair_judge.specs.Finding.{IsCounted}
 use Rattle.pair_judge.specs.Judged.{Answer, AreARun, IsAcceptance, IsAnswer, JudgesOrFails}
 use Rattle.pair_judge.specs.Refusal.{AreTexts, IsRefusal, WholeCapture}
@@ -27,38 +27,33 @@ abbrev pub OneList : Type 0
 OneList = (own peer own' peer' : ℕ) (rs ss : List Record) (bytes : List ℕ) → IsText own peer rs bytes → IsText own' peer' ss bytes → (own ≡ own') ×
     (peer ≡ peer') × (rs ≡ ss)
 
-module _ (nodes : NodeKind) where
-  at_captures : (own_a peer_a own_b peer_b : ℕ) (of_a of_b : List Record) (a b : WholeCapture) → (own_a ≡ a.head.own) × (peer_a ≡ a.head.peer) ×
-      (of_a ≡ a.records) → (own_b ≡ b.head.own) × (peer_b ≡ b.head.peer) × (of_b ≡ b.records)
-      → IsRunOf nodes (record { own = own_a; peer = peer_a }) (record { own = own_b; peer = peer_b }) of_a of_b →
-      IsRunOf nodes a.head b.head a.records b.records
-  at_captures own_a peer_a own_b peer_b of_a of_b a b same_a same_b run =
-      rw (sym same_a.0, sym same_a.1, sym same_a.2, sym same_b.0, sym same_b.1, sym same_b.2) run
+-- what holds of the captures that were read holds of these
+at_captures : (P : (head_a head_b : Head) → (of_a of_b : List Record) → Type 0) (own_a peer_a own_b peer_b : ℕ) (of_a of_b : List Record)
+    (a b : WholeCapture) → (own_a ≡ a.head.own) × (peer_a ≡ a.head.peer) × (of_a ≡ a.records) →
+    (own_b ≡ b.head.own) × (peer_b ≡ b.head.peer) × (of_b ≡ b.records) →
+    P (record { own = own_a; peer = peer_a }) (record { own = own_b; peer = peer_b }) of_a of_b → P a.head b.head a.records b.records
+at_captures P own_a peer_a own_b peer_b of_a of_b a b same_a same_b holds =
+    rw (sym same_a.0, sym same_a.1, sym same_a.2, sym same_b.0, sym same_b.1, sym same_b.2) holds
 
+module _ (nodes : NodeKind) where
   never_accepted : WholeLaws → OneList → (a b : WholeCapture) (bytes_a bytes_b other_a other_b : List ℕ) (side : Side) (place : ℕ) (reason : Reason)
       (summary : Summary) → AreTexts a b bytes_a bytes_b
       → AreTexts a b other_a other_b → IsRefusal nodes (Some bytes_a) (Some bytes_b) side place reason →
       IsAcceptance nodes other_a other_b (Ok (Accepted summary)) → ⊥
   never_accepted laws one a b bytes_a bytes_b other_a other_b side place reason summary here there refusal run =
       (refused_captures nodes laws a b bytes_a bytes_b side place reason here.of_a here.of_b refusal).no_run
-      (at_captures run.own_a run.peer_a run.own_b run.peer_b run.of_a run.of_b a b
+      (at_captures (λ head_a head_b of_a of_b. IsRunOf nodes head_a head_b of_a of_b) run.own_a run.peer_a run.own_b run.peer_b run.of_a run.of_b a b
       (one run.own_a run.peer_a a.head.own a.head.peer run.of_a a.records other_a run.is_text_a there.of_a)
       (one run.own_b run.peer_b b.head.own b.head.peer run.of_b b.records other_b run.is_text_b there.of_b)
       run.run)
 
   -- ---- two acceptances
 
-  counted_at : (own_a peer_a own_b peer_b : ℕ) (of_a of_b : List Record) (a b : WholeCapture) (summary : Summary) → (own_a ≡ a.head.own) ×
-      (peer_a ≡ a.head.peer) × (of_a ≡ a.records) → (own_b ≡ b.head.own) × (peer_b ≡ b.head.peer) × (of_b ≡ b.records)
-      → IsCounted nodes (record { own = own_a; peer = peer_a }) (record { own = own_b; peer = peer_b }) of_a of_b summary →
-      IsCounted nodes a.head b.head a.records b.records summary
-  counted_at own_a peer_a own_b peer_b of_a of_b a b summary same_a same_b counted =
-      rw (sym same_a.0, sym same_a.1, sym same_a.2, sym same_b.0, sym same_b.1, sym same_b.2) counted
-
   pub counted_of : OneList → (a b : WholeCapture) (bytes_a bytes_b : List ℕ) (summary : Summary) → AreTexts a b bytes_a bytes_b →
       AreARun nodes bytes_a bytes_b summary → IsCounted nodes a.head b.head a.records b.records summary
   counted_of one a b bytes_a bytes_b summary here run =
-      counted_at run.own_a run.peer_a run.own_b run.peer_b run.of_a run.of_b a b summary
+      at_captures (λ head_a head_b of_a of_b. IsCounted nodes head_a head_b of_a of_b summary) run.own_a run.peer_a run.own_b run.peer_b run.of_a
+      run.of_b a b
       (one run.own_a run.peer_a a.head.own a.head.peer run.of_a a.records bytes_a run.is_text_a here.of_a)
       (one run.own_b run.peer_b b.head.own b.head.peer run.of_b b.records bytes_b run.is_text_b here.of_b)
       (record { run = run.run; counts_a = run.counts_a; counts_b = run.counts_b })
@@ -99,8 +94,6 @@ module _ (nodes : NodeKind) where
 
   pub judges : WholeLaws → (a b : WholeCapture) (bytes_a bytes_b : List ℕ) (answer : Answer) → AreTexts a b bytes_a bytes_b →
       IsAnswer nodes (Some bytes_a) (Some bytes_b) answer → JudgesOrFails answer
-  judges laws a b bytes_a bytes_b (Ok verdict) here is = tt
   judges laws a b bytes_a bytes_b (Err (Capture side (Departs kind line))) here is =
       faults_nowhere nodes laws bytes_a bytes_b a.head b.head a.records b.records side kind line here.of_a here.of_b is.faulty
-  judges laws a b bytes_a bytes_b (Err (Capture side Read)) here is = tt
-  judges laws a b bytes_a bytes_b (Err OutOfMemory) here is = tt
+  judges laws a b bytes_a bytes_b answer here is = tt

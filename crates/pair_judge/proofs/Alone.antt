@@ -1,5 +1,5 @@
 -- What the wire nodes with nothing on top show of stations on true numbers: without the links, which nothing meets, they are the wire stations.
-use Rattle.std.proofs.Common.{◌≡◌, List, [], length, Result, Ok, Err, refl, sym, ap, ◌∙◌}
+use Rattle.std.proofs.Common.{◌≡◌, true, false, List, [], length, Result, Ok, Err, refl, sym, ap, ◌∙◌}
 use Rattle.std.proofs.lemmas.List.{length-map}
 use Rattle.two_nodes.specs.Nodes.{Outcome, Run, World, advance}
 use Rattle.two_nodes.specs.Nodes.Outcome.{Waits, Refused}
@@ -20,9 +20,9 @@ use Rattle.dna_station.specs.WireStation.{WireStation}
 use Rattle.dna_station.specs.WireNode.{WireNode, WireUnit, cut_unit, seen, wire_machine, wire_start}
 use Rattle.dna_station.proofs.Cut.Machines.{DoTheSame, cut_result, cut_sent, machine_cut, record_same}
 use Rattle.dna_node.specs.WireLayers.{LayersTag, WireLayers, WireLayersNode, WireLayersUnit, with_wire_station, wire_layers_start}
-use Rattle.pair_judge.specs.inner.Reached.{IsShown}
-use Rattle.pair_judge.specs.inner.Tops.{line_by, nothing_of_any_period, nothing_on_top, sent_alone}
-use Rattle.pair_judge.specs.inner.Wire.{JudgeHalf, JudgeWorld, judge_pair}
+use Rattle.pair_judge.specs.inner.Reached.{IsShown, ShowsRuns}
+use Rattle.pair_judge.specs.inner.Tops.{line_by, nothing_top, sent_alone}
+use Rattle.pair_judge.specs.inner.Wire.{JudgeHalf, JudgeWorld}
 use Rattle.pair_judge.proofs.Seen.{refused_there, waits_there}
 
 -- ---- one record
@@ -88,7 +88,7 @@ module _ (rule : PeriodRule) where
 
 -- by what the wire stations show
 pub shown_alone : (head_a head_b : Head) (w : JudgeWorld) (of_a of_b : List Record) → IsSeen head_a head_b (cut_world (wire of_period) w) of_a of_b →
-    IsShown nothing_on_top head_a head_b w of_a of_b
+    IsShown (nothing_top true) head_a head_b w of_a of_b
 shown_alone head_a head_b w of_a of_b s = record {
   world = s.world;
   run = s.run;
@@ -117,8 +117,7 @@ shown_alone head_a head_b w of_a of_b s = record {
 }
 
 -- where no period is asked, by themselves
-pub shown_of_any_period : (head_a head_b : Head) (w : JudgeWorld) (of_a of_b : List Record) →
-    Run (judge_pair nothing_of_any_period) (wire_layers_start head_a head_b) of_a of_b w → IsShown nothing_of_any_period head_a head_b w of_a of_b
+pub shown_of_any_period : ShowsRuns (nothing_top false)
 shown_of_any_period head_a head_b w of_a of_b run = record {
   world = cut_world (wire of_any_period) w;
   run = run_of_stations of_any_period head_a head_b w of_a of_b run;

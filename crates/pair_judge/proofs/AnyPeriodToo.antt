@@ -69,12 +69,9 @@ arrives_so w DataBad fate = done_so ((wire_machine of_period).arrives w DataBad 
 
 stations_do_as_much : DoesAsMuch (wire_machine {L = LinkTag} of_period) (wire_machine of_any_period) Same
 stations_do_as_much = record {
-  user = λ s t same event. subst (λ (x : WireStation LinkTag). IsDone Same ((wire_machine of_period).user s event)
-      ((wire_machine of_any_period).user x event)) same (done_so ((wire_machine of_period).user s event));
-  sends = λ s t same m. subst (λ (x : WireStation LinkTag). IsSent Same ((wire_machine of_period).sends s m)
-      ((wire_machine of_any_period).sends x m)) same (sent_so ((wire_machine of_period).sends s m));
-  arrives = λ s t same arrival fate. subst (λ (x : WireStation LinkTag). IsDone Same ((wire_machine of_period).arrives s arrival fate)
-      ((wire_machine of_any_period).arrives x arrival fate)) same (arrives_so s arrival fate);
+  user = λ s t same event. rw (← same) (done_so ((wire_machine of_period).user s event));
+  sends = λ s t same m. rw (← same) (sent_so ((wire_machine of_period).sends s m));
+  arrives = λ s t same arrival fate. rw (← same) (arrives_so s arrival fate);
 }
 
 -- ---- both layers
@@ -96,10 +93,9 @@ module _ (queues : Queues) where
 
   layers_do_as_much : DoesAsMuch asked unasked Same
   layers_do_as_much = record {
-    user = λ s t same event. subst (λ (x : WireLayers). IsDone Same (asked.user s event) (unasked.user x event)) same (done_so (asked.user s event));
-    sends = λ s t same m. subst (λ (x : WireLayers). IsSent Same (asked.sends s m) (unasked.sends x m)) same (sent_so (asked.sends s m));
-    arrives = λ s t same arrival fate. subst (λ (x : WireLayers). IsDone Same (asked.arrives s arrival fate) (unasked.arrives x arrival fate)) same
-        (meets_so s arrival fate ((wire_machine of_period).arrives s.station (to_wire_station arrival) fate)
+    user = λ s t same event. rw (← same) (done_so (asked.user s event));
+    sends = λ s t same m. rw (← same) (sent_so (asked.sends s m));
+    arrives = λ s t same arrival fate. rw (← same) (meets_so s arrival fate ((wire_machine of_period).arrives s.station (to_wire_station arrival) fate)
         ((wire_machine of_any_period).arrives s.station (to_wire_station arrival) fate) (arrives_so s.station (to_wire_station arrival) fate));
   }
 

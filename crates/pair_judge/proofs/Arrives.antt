@@ -1,6 +1,5 @@
 -- What both layers make of an arrival, by what the station made of it.
-use Rattle.std.proofs.Common.{◌≡◌, Bool, true, false, ◌&&◌, cond, Option, Some, None, List, ℕ, Result, Ok, Err, refl, sym, ap, ◌∙◌}
-use Rattle.std.specs.Prelude.{OnOk, IfErr}
+use Rattle.std.proofs.Common.{◌≡◌, Bool, true, false, ◌&&◌, cond, Option, Some, None, List, ℕ, Result, Ok, refl, ap, ◌∙◌}
 use Rattle.capture.specs.declared.fate.Fate.{Fate}
 use Rattle.capture.specs.declared.fate.Fate.TheVariants.{NotKept, Kept, Dropped}
 use Rattle.capture.specs.Fates.{is_kept, is_met}
@@ -15,12 +14,11 @@ use Rattle.dna_station.specs.Machine.{unless_refused}
 use Rattle.dna_node.specs.TagRules.{Rules}
 use Rattle.dna_station.specs.WireStation.{WireStation}
 use Rattle.dna_station.specs.WireBook.{wire_book, wire_arrival_refusal, wire_after_arrival, wire_taken}
-use Rattle.dna_node.specs.WireLayers.{WireLayers, tag_or_none, wire_keeps_packet, wire_keeps, wire_meets_on, to_wire_station, wire_layers_machine}
+use Rattle.dna_node.specs.WireLayers.{WireLayers, tag_or_none, wire_keeps_packet, wire_keeps, wire_meets_on, wire_layers_machine}
 use Rattle.pair_judge.specs.declared.step_fault.StepFault.{StepFault}
 use Rattle.pair_judge.specs.declared.step_fault.StepFault.TheVariants.{Refused, OutOfMemory}
-use Rattle.pair_judge.specs.inner.Memory.{IfNoMemory, MayKeep}
-use Rattle.pair_judge.specs.inner.Receipts.{is_damage}
 use Rattle.pair_judge.specs.inner.Steps.{IfRefused, with_link}
+use Rattle.pair_judge.proofs.FailedAsRefused.{without_link}
 
 -- a packet is taken only where it is kept
 taken_kept : (t k : Bool) (body packet : List ℕ) → cond (t && k) (Some body) None ≡ Some packet → (k ≡ true) × (body ≡ packet)
@@ -28,12 +26,6 @@ taken_kept true true body packet e = (refl, cc)
 taken_kept true false body packet e = absurd (cc)
 taken_kept false true body packet e = absurd (cc)
 taken_kept false false body packet e = absurd (cc)
-
--- what the station made of it, where it did not refuse
-met_by_station : (s : WireLayers) (arrival : ArrivalValue Tag) (link : Option LinkTag) → to_wire_station (with_link link arrival) ≡ arrival
-met_by_station s (Sound m tag) link = refl
-met_by_station s HeaderBad link = refl
-met_by_station s DataBad link = refl
 
 module _ (rules : Rules) (s : WireLayers) (link : Option LinkTag) (fate : Fate) where
   -- both layers go on from what the station made of it
@@ -43,7 +35,7 @@ module _ (rules : Rules) (s : WireLayers) (link : Option LinkTag) (fate : Fate) 
   on_station arrival free =
       ap (λ (a : ArrivalValue Tag). wire_meets_on rules s (with_link link arrival) fate
       (unless_refused (wire_arrival_refusal rules.periods s.station a (is_kept fate)) (wire_after_arrival s.station a (is_kept fate))))
-      (met_by_station s arrival link)
+      (without_link link arrival)
       ∙ ap (λ (o : Option StationRefusal). wire_meets_on rules s (with_link link arrival) fate
       (unless_refused o (wire_after_arrival s.station arrival (is_kept fate)))) free
 
@@ -55,13 +47,8 @@ module _ (rules : Rules) (s : WireLayers) (link : Option LinkTag) (fate : Fate) 
       (content packet) ≡ r → (wire_layers_machine rules).arrives s (with_link link arrival) fate ≡ r
   arrives_kept (Sound m of_station) packet after tag r met free taken after_is tag_is keeps =
       let both = taken_kept (takes_by wire_book s.station m of_station) (is_kept fate) (body_of m) packet taken in
-      let next = record s { station = wire_after_arrival s.station (Sound m of_station) (is_kept fate) } in
       on_station (Sound m of_station) free
-      ∙ ap (λ (k : Bool). cond k (wire_keeps_packet rules next (tag_or_none link) (content (body_of m))) (Ok next)) met
-      ∙ ap (λ (bytes : List ℕ). wire_keeps_packet rules next (tag_or_none link) (content bytes)) both.1
-      ∙ ap (λ (w : WireStation LinkTag). wire_keeps_packet rules (record s { station = w }) (tag_or_none link) (content packet)) (sym after_is)
-      ∙ ap (λ (t : LinkTag). wire_keeps_packet rules (record s { station = after }) t (content packet)) (sym tag_is)
-      ∙ keeps
+      ∙ rw (met, both.1, ← after_is, ← tag_is) keeps
   arrives_kept HeaderBad packet after tag r met free taken after_is tag_is keeps = absurd (cc)
   arrives_kept DataBad packet after tag r met free taken after_is tag_is keeps = absurd (cc)
 
@@ -90,30 +77,9 @@ arrives_untaken rules s link Kept (Sound m tag) free nothing =
 arrives_untaken rules s link Kept HeaderBad free nothing = on_station rules s link Kept HeaderBad free
 arrives_untaken rules s link Kept DataBad free nothing = on_station rules s link Kept DataBad free
 
--- what is taken shows no damage
-pub taken_may_keep : (s : WireLayers) (arrival : ArrivalValue Tag) (fate : Fate) (packet : List ℕ) → is_met fate ≡ true →
-    wire_taken s.station arrival (is_kept fate) ≡ Some packet → MayKeep fate (is_damage arrival)
-taken_may_keep s (Sound m tag) fate packet met taken = (met, refl)
-taken_may_keep s HeaderBad fate packet met taken = absurd (cc)
-taken_may_keep s DataBad fate packet met taken = absurd (cc)
-
 -- ---- by what was answered
-
-pub no_memory : {X P : Type 0} (r : Result X StepFault) → P → IfErr r (IfNoMemory P)
-no_memory (Ok x) holds = tt
-no_memory (Err (Refused refusal)) holds = tt
-no_memory (Err OutOfMemory) holds = holds
-
-pub on_ok : {X Z : Type 0} {P Q : Type 0} (r : Result X Z) → (P → Q) → OnOk r P → OnOk r Q
-on_ok (Ok x) follows holds = follows holds
-on_ok (Err fault) follows holds = tt
 
 pub if_refused : {P Q : StepRefusal → Type 0} (fault : StepFault) → ((refusal : StepRefusal) → P refusal → Q refusal) → IfRefused P fault →
     IfRefused Q fault
 if_refused (Refused refusal) follows holds = follows refusal holds
 if_refused OutOfMemory follows holds = tt
-
-pub on_refusal : {X : Type 0} {P Q : StepRefusal → Type 0} (r : Result X StepFault) → ((refusal : StepRefusal) → P refusal → Q refusal) →
-    IfErr r (IfRefused P) → IfErr r (IfRefused Q)
-on_refusal (Ok x) follows holds = tt
-on_refusal (Err fault) follows holds = if_refused fault follows holds

@@ -16,12 +16,12 @@ use Rattle.dna_node.specs.declared.finding.Finding.{Finding}
 use Rattle.dna_node.specs.declared.finding.Finding.TheVariants as findings
 use Rattle.dna_station.specs.declared.head.Head.{Head}
 use Rattle.dna_node.specs.Kind.{NodeKind, KindNode, KindUnit, kind_start, IsRunOf}
-use Rattle.dna_node.specs.Verdict.{IsVerdict, IsWrong, IsWrongOfB}
+use Rattle.dna_node.specs.Verdict.{IsVerdict, IsWrong}
 use Rattle.pair_judge.specs.declared.judging.Found.{Found}
 use Rattle.pair_judge.specs.declared.summary.Summary.{Summary}
 use Rattle.pair_judge.specs.declared.fault.JudgeFault.{JudgeFault}
-use Rattle.pair_judge.specs.declared.fault.JudgeFault.TheVariants.{Capture, OutOfMemory}
-use Rattle.pair_judge.specs.declared.fault.TextFault.TheVariants.{Departs, Read}
+use Rattle.pair_judge.specs.declared.fault.JudgeFault.TheVariants.{Capture}
+use Rattle.pair_judge.specs.declared.fault.TextFault.TheVariants.{Departs}
 use Rattle.pair_judge.specs.declared.reason.Reason.{Reason}
 use Rattle.pair_judge.specs.declared.reason.Reason.TheVariants as reasons
 use Rattle.pair_judge.specs.inner.Answer.{answer_of, verdict_of}
@@ -32,6 +32,7 @@ use Rattle.pair_judge.specs.Faulty.{IsFaultyText, IsJudgeFault}
 use Rattle.pair_judge.specs.Reason.{reason_of}
 use Rattle.pair_judge.specs.Refusal.{AreRefused, IsRefusal, OffendsFor, WholeCapture}
 use Rattle.pair_judge.specs.Judged.{AcceptsOrFails, AreARun, IfTold, IsAcceptance, IsAnswer, IsExact, IsFaultyWhere, IsRefusalWhere}
+use Rattle.pair_judge.proofs.OneFinding.{of_b_wrong}
 use Rattle.pair_judge.proofs.Found.{at_heads}
 
 -- the laws of whole texts
@@ -112,8 +113,7 @@ module _ (nodes : NodeKind) where
   exact_of_fault laws (Some bytes_a) None fault f = tt
   exact_of_fault laws (Some bytes_a) (Some bytes_b) (Capture side (Departs kind line)) f =
       λ head_a head_b of_a of_b is_a is_b run. faults_nowhere laws bytes_a bytes_b head_a head_b of_a of_b side kind line is_a is_b f
-  exact_of_fault laws (Some bytes_a) (Some bytes_b) (Capture side Read) f = λ head_a head_b of_a of_b is_a is_b run. tt
-  exact_of_fault laws (Some bytes_a) (Some bytes_b) OutOfMemory f = λ head_a head_b of_a of_b is_a is_b run. tt
+  exact_of_fault laws (Some bytes_a) (Some bytes_b) fault f = λ head_a head_b of_a of_b is_a is_b run. tt
 
   -- ---- accepted
 
@@ -171,16 +171,11 @@ module _ (nodes : NodeKind) where
   is_wrong_within start own other place NoSuchUnit w = slice_get_within own place w.missing.waiting w.missing.is_here
   is_wrong_within start own other place NoOrder w = slice_get_within own place w.1.missing_a.waiting w.1.missing_a.is_here
 
-  is_wrong_within_b : (start : World (KindNode nodes) (KindUnit nodes)) (own other : List Record) (place : ℕ) (cause : Cause) →
-      IsWrongOfB nodes start own other place cause → place < length own
-  is_wrong_within_b start own other place (Step refusal) w = is_wrong_within start own other place (Step refusal) w
-  is_wrong_within_b start own other place NoSuchUnit w = is_wrong_within start own other place NoSuchUnit w
-  is_wrong_within_b start own other place NoOrder w = absurd w
-
   named_within : (head_a head_b : Head) (of_a of_b : List Record) (side : Side) (place : ℕ) (cause : Cause) →
       IsVerdict nodes head_a head_b of_a of_b (findings.Refused side place cause) → place < length (of_side side of_a of_b)
   named_within head_a head_b of_a of_b A place cause v = is_wrong_within (kind_start nodes head_a head_b) of_a of_b place cause v.1
-  named_within head_a head_b of_a of_b B place cause v = is_wrong_within_b (kind_start nodes head_b head_a) of_b of_a place cause v.1
+  named_within head_a head_b of_a of_b B place cause v =
+      is_wrong_within (kind_start nodes head_b head_a) of_b of_a place cause (of_b_wrong nodes head_a head_b of_a of_b place cause v.1)
 
   ends_for : (side : Side) (place : ℕ) (cause : Cause) (behind_a behind_b : Behind) → EndsWhere (findings.Refused side place cause) behind_a
       behind_b →
@@ -236,8 +231,7 @@ module _ (nodes : NodeKind) where
 
       faulty_by : (fault : JudgeFault) → IsJudgeFault nodes text_a text_b fault → IsFaultyWhere nodes text_a text_b (Err fault)
       faulty_by (Capture side (Departs kind line)) f = f
-      faulty_by (Capture side Read) f = tt
-      faulty_by OutOfMemory f = tt
+      faulty_by fault f = tt
 
   -- ---- of two whole captures
 

@@ -1,5 +1,5 @@
 -- What a node makes of a receipt, by the bytes that came beside the unit.
-use Rattle.std.proofs.Common.{◌≡◌, ℕ, ◌+◌, ◌<◌, ◌≤◌, Bool, List, Option, Some, Ok, Err, sym, ap, ◌∙◌, cond}
+use Rattle.std.proofs.Common.{◌≡◌, ℕ, ◌+◌, ◌<◌, ◌≤◌, List, Option, Some, Result, Err, sym, ap, ◌∙◌, cond}
 use Rattle.std.proofs.lemmas.Bool.{lt-ltb, le-ltb}
 use Rattle.capture.specs.declared.fate.Fate.{Fate}
 use Rattle.dna_station.specs.declared.refusal.StepRefusal.{StepRefusal}
@@ -26,13 +26,7 @@ module _ (top : JudgeTop) where
       ap (λ b. cond b (Err HintOrder) (comes top.machine n (hint + 1) fate (coming unit bytes))) (le-ltb hint n.front at_least)
       ∙ ap (comes top.machine n (hint + 1) fate) (sym is)
 
-  -- both layers go by it
-  pub comes_met : (n : WireLayersNode) (hint : ℕ) (fate : Fate) (arrival : ArrivalValue LayersTag) (after : WireLayers) →
-      top.machine.arrives n.station arrival fate ≡ Ok after → comes top.machine n (hint + 1) fate (Some arrival) ≡ Ok
-      (record n { station = after; front = hint + 1 })
-  comes_met n hint fate arrival after goes = ap (met n (hint + 1)) goes
-
-  -- one of them refuses
-  pub comes_refused : (n : WireLayersNode) (hint : ℕ) (fate : Fate) (arrival : ArrivalValue LayersTag) (refusal : StepRefusal) →
-      top.machine.arrives n.station arrival fate ≡ Err refusal → comes top.machine n (hint + 1) fate (Some arrival) ≡ Err refusal
-  comes_refused n hint fate arrival refusal refuses = ap (met n (hint + 1)) refuses
+  -- as both layers go by it
+  pub comes_by : (n : WireLayersNode) (hint : ℕ) (fate : Fate) (arrival : ArrivalValue LayersTag) (o : Result WireLayers StepRefusal) →
+      top.machine.arrives n.station arrival fate ≡ o → comes top.machine n (hint + 1) fate (Some arrival) ≡ met n (hint + 1) o
+  comes_by n hint fate arrival o goes = ap (met n (hint + 1)) goes

@@ -1,5 +1,5 @@
 -- What is composed and never sent is to the links as a packet that is first sent.
-use Rattle.std.proofs.Common.{◌≡◌, Option, Some, None, Result, Ok, Err, refl, ap}
+use Rattle.std.proofs.Common.{◌≡◌, Option, Some, None, Result, Ok, Err, ap}
 use Rattle.dna_station.specs.declared.link_refusal.LinkRefusal.{LinkRefusal}
 use Rattle.dna_station.specs.declared.refusal.StepRefusal.{StepRefusal}
 use Rattle.dna_station.specs.declared.tag.Tag.{Tag}

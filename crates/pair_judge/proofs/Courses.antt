@@ -1,5 +1,5 @@
 -- How what was read of a text grows with a side's next record.
-use Rattle.std.proofs.Common.{◌≡◌, ℕ, ◌+◌, ◌<◌, List, [], ◌∷◌, ◌++◌, length, Option, Some, None, Ok, refl, sym, ap, ap₂, subst, ◌∙◌, arith}
+use Rattle.std.proofs.Common.{◌≡◌, ℕ, ◌+◌, ◌<◌, List, [], ◌∷◌, ◌++◌, length, Option, Some, None, Ok, refl, sym, ap, ap₂, ◌∙◌, arith}
 use Rattle.std.proofs.Common.{length-append, append-nil}
 use Rattle.std.specs.Io.KnownBytes.{Consumes, IsAtEnd}
 use Rattle.capture.specs.declared.limit.TheConstants.{MAX_RECORDS}
@@ -9,14 +9,14 @@ use Rattle.capture.specs.Entries.{record_with}
 use Rattle.capture.specs.declared.hint.HintForm.{HintForm}
 use Rattle.capture.specs.Text.{form_after, record_line}
 use Rattle.capture.specs.Range.{IsInForm, IsRecord}
-use Rattle.capture.specs.Reader.{CaptureState, NextGives}
+use Rattle.capture.specs.Reader.{CaptureState, NextGives, Opens}
+use Rattle.capture.specs.Lines.{to_come}
 use Rattle.capture.specs.SoFar.{ToCome, TheEnd, so_far, IsReadSoFar}
 use Rattle.dna_station.specs.declared.head.Head.{Head}
-use Rattle.pair_judge.specs.declared.course.Ahead.{Ahead}
 use Rattle.pair_judge.specs.declared.course.Ahead.TheVariants.{Unread, Waits, Ended}
 use Rattle.pair_judge.specs.declared.course.Course.{Course}
 use Rattle.pair_judge.specs.declared.end.End.{End}
-use Rattle.pair_judge.specs.inner.Course.{IsRead, along, behind, waiting}
+use Rattle.pair_judge.specs.inner.Course.{IsRead, along}
 
 -- ---- what was read, by what comes next
 
@@ -25,52 +25,23 @@ module _ (text : Option (List ℕ)) (course : Course) (come : Option (List ℕ))
   pub read_unread : course.ahead ≡ Unread → IsRead (along text course come made)
       → IsReadSoFar text (so_far course.capture.form course.capture.own course.capture.peer made (ToCome come)) ×
       (course.capture.records ≡ length made)
-  read_unread is h =
-      let so = subst (λ (a : Ahead). IsReadSoFar text
-      (so_far course.capture.form course.capture.own course.capture.peer (made ++ waiting course.capture.bytes a) (behind a come))) is
-      h.so_far in
-      let count = subst (λ (a : Ahead). course.capture.records ≡ length (made ++ waiting course.capture.bytes a)) is h.count in (
-        subst (λ (rs : List Record). IsReadSoFar text (so_far course.capture.form course.capture.own course.capture.peer rs (ToCome come)))
-            (append-nil made) so,
-        count ∙ ap length (append-nil made),
-      )
+  read_unread is h = ((rw (is, append-nil made) at h.so_far), (rw (is, append-nil made) at h.count))
 
   pub from_unread : course.ahead ≡ Unread → IsReadSoFar text (so_far course.capture.form course.capture.own course.capture.peer made (ToCome come)) →
       course.capture.records ≡ length made
       → course.end.head ≡ record { own = course.capture.own; peer = course.capture.peer } → IsRead (along text course come made)
-  from_unread is so count head = record {
-    so_far = subst (λ (a : Ahead). IsReadSoFar text
-        (so_far course.capture.form course.capture.own course.capture.peer (made ++ waiting course.capture.bytes a) (behind a come))) (sym is)
-        (subst (λ (rs : List Record). IsReadSoFar text (so_far course.capture.form course.capture.own course.capture.peer rs (ToCome come)))
-        (sym (append-nil made)) so);
-    count = subst (λ (a : Ahead). course.capture.records ≡ length (made ++ waiting course.capture.bytes a)) (sym is)
-        (count ∙ sym (ap length (append-nil made)));
-    head = head;
-  }
+  from_unread is so count head = record { so_far = rw (is, append-nil made) so; count = rw (is, append-nil made) count; head = head }
 
   pub from_waits : (entry : Entry) → course.ahead ≡ Waits entry →
       IsReadSoFar text (so_far course.capture.form course.capture.own course.capture.peer (made ++ record_with entry course.capture.bytes ∷ [])
       (ToCome come)) → course.capture.records ≡ length (made ++ record_with entry course.capture.bytes ∷ [])
       → course.end.head ≡ record { own = course.capture.own; peer = course.capture.peer } → IsRead (along text course come made)
-  from_waits entry is so count head = record {
-    so_far = subst (λ (a : Ahead). IsReadSoFar text
-        (so_far course.capture.form course.capture.own course.capture.peer (made ++ waiting course.capture.bytes a) (behind a come))) (sym is) so;
-    count = subst (λ (a : Ahead). course.capture.records ≡ length (made ++ waiting course.capture.bytes a)) (sym is) count;
-    head = head;
-  }
+  from_waits entry is so count head = record { so_far = rw is so; count = rw is count; head = head }
 
   pub from_ended : course.ahead ≡ Ended → IsReadSoFar text (so_far course.capture.form course.capture.own course.capture.peer made TheEnd) →
       course.capture.records ≡ length made
       → course.end.head ≡ record { own = course.capture.own; peer = course.capture.peer } → IsRead (along text course come made)
-  from_ended is so count head = record {
-    so_far = subst (λ (a : Ahead). IsReadSoFar text
-        (so_far course.capture.form course.capture.own course.capture.peer (made ++ waiting course.capture.bytes a) (behind a come))) (sym is)
-        (subst (λ (rs : List Record). IsReadSoFar text (so_far course.capture.form course.capture.own course.capture.peer rs TheEnd))
-        (sym (append-nil made)) so);
-    count = subst (λ (a : Ahead). course.capture.records ≡ length (made ++ waiting course.capture.bytes a)) (sym is)
-        (count ∙ sym (ap length (append-nil made)));
-    head = head;
-  }
+  from_ended is so count head = record { so_far = rw (is, append-nil made) so; count = rw (is, append-nil made) count; head = head }
 
 -- ---- the next record
 
@@ -84,6 +55,8 @@ put_back text course come made entry is h =
 
 -- what was read of a text that is read on
 pub record GrowingLaws : Type 0 where
+  pub opened : (text left : Option (List ℕ)) (state : CaptureState) → Opens text left (Ok state) →
+      IsReadSoFar text (so_far state.form state.own state.peer [] (ToCome (to_come state.unread left)))
   pub one_more : (text before after : Option (List ℕ)) (form : HintForm) (own peer : ℕ) (rs : List Record) (r : Record) →
       IsReadSoFar text (so_far form own peer rs (ToCome before)) → length rs < MAX_RECORDS → IsRecord r → Consumes before after (record_line form r) →
       IsInForm form r → IsReadSoFar text (so_far (form_after form r) own peer (rs ++ r ∷ []) (ToCome after))

@@ -2,7 +2,7 @@
 use Rattle.std.proofs.Common.{◌≡◌, ◌≢◌, ℕ, List, Option, Some, None, Ok, Err, inl, inr, sym, ap, ap₂, ◌∙◌}
 use Rattle.std.specs.Option.{IfSome}
 use Rattle.std.specs.Prelude.{IfErr}
-use Rattle.capture.specs.declared.fault.CaptureFault.TheVariants.{Departs, Read, OutOfMemory, Failed}
+use Rattle.capture.specs.declared.fault.CaptureFault.TheVariants.{Departs, Failed}
 use Rattle.capture.specs.declared.record.Record.{Record}
 use Rattle.capture.specs.Range.{IsText}
 use Rattle.dna_station.specs.declared.head.Head.{Head}
@@ -48,9 +48,8 @@ module _ (end : EndKind) (laws : WholeLaws) where
       λ head records node is_text passes. laws.head_stands bytes head.own head.peer records kind line is_text departs
   exact (Some bytes) (Err (Departs kind line)) (inr f) =
       λ head records node is_text passes. laws.departs_nowhere bytes head.own head.peer records f.read kind line is_text f.from f.departs
-  exact (Some bytes) (Err Read) h = λ head records node is_text passes. tt
-  exact (Some bytes) (Err OutOfMemory) h = λ head records node is_text passes. tt
   exact (Some bytes) (Err Failed) h = absurd h
+  exact (Some bytes) (Err fault) h = λ head records node is_text passes. tt
 
   pub judged_alone : (text : Option (List ℕ)) (answer : EndAnswer) → IsEndAnswer end text answer → IsJudgedAlone end text answer
   judged_alone text answer says = record { says = says; passed = whole text answer says; exact = exact text answer says }
@@ -58,7 +57,5 @@ module _ (end : EndKind) (laws : WholeLaws) where
 -- no answer is that of a reader that failed before
 pub not_failed : (end : EndKind) (text : Option (List ℕ)) (answer : EndAnswer) → IsEndAnswer end text answer → IfErr answer (λ fault. fault ≢ Failed)
 not_failed end text (Ok verdict) says = tt
-not_failed end text (Err (Departs kind line)) says = λ e. absurd (cc)
-not_failed end text (Err Read) says = λ e. absurd (cc)
-not_failed end text (Err OutOfMemory) says = λ e. absurd (cc)
 not_failed end text (Err Failed) says = absurd says
+not_failed end text (Err fault) says = λ e. absurd (cc)

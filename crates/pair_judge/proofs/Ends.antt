@@ -16,7 +16,6 @@ use Rattle.dna_station.specs.Station.{Station}
 use Rattle.dna_station.specs.WireStation.{HeldPacket}
 use Rattle.dna_links.specs.declared.queue.Queues.{Queues}
 use Rattle.dna_links.specs.declared.queue.Queues.TheVariants.{Without}
-use Rattle.dna_links.specs.CutLinks.{cut_links}
 use Rattle.dna_links.specs.Runs.{SentMessage}
 use Rattle.dna_links.specs.declared.tag.LinkTag.{LinkTag}
 use Rattle.dna_node.specs.declared.finding.Cause.{Cause}
@@ -26,13 +25,11 @@ use Rattle.dna_node.specs.declared.finding.Finding.TheVariants.{Accepted, Refuse
 use Rattle.dna_node.specs.CutLayers.{cut_layers, cut_layers_unit, tagged_packets, with_tags}
 use Rattle.dna_node.specs.Kind.{KindNode, KindUnit, both_layers, kind_pair, kind_start}
 use Rattle.dna_node.specs.Layers.{LayersUnit}
-use Rattle.dna_node.specs.Seen.{IsSeenLayers}
-use Rattle.dna_node.specs.WireLayers.{WireLayers, WireLayersUnit, wire_layers_start}
+use Rattle.dna_node.specs.WireLayers.{WireLayers, WireLayersUnit}
 use Rattle.ddcmp_station.specs.View.{true_view, view_of}
 use Rattle.pair_judge.specs.declared.course.Ahead.{Ahead}
 use Rattle.pair_judge.specs.declared.course.Ahead.TheVariants.{Unread, Waits, Ended}
 use Rattle.pair_judge.specs.declared.course.Course.{Course}
-use Rattle.pair_judge.specs.declared.end.End.{End}
 use Rattle.pair_judge.specs.declared.line.Line.{Line}
 use Rattle.pair_judge.specs.declared.stopped.Stopped.{Stopped}
 use Rattle.pair_judge.specs.declared.summary.Summary.{Summary}
@@ -44,21 +41,21 @@ use Rattle.pair_judge.specs.Finding.{of_side}
 use Rattle.pair_judge.specs.Heads.{head_of}
 use Rattle.pair_judge.specs.Reason.{reason_of}
 use Rattle.pair_judge.specs.inner.Answer.{answer_of, verdict_of}
-use Rattle.pair_judge.specs.inner.Ends.{sent_on, shown_end}
+use Rattle.pair_judge.specs.inner.Ends.{shown_end}
 use Rattle.pair_judge.specs.inner.Course.{IsWaiting, Track, along, read_of, waiting}
 use Rattle.pair_judge.specs.inner.Lines.{Shows, held}
 use Rattle.pair_judge.specs.inner.Making.{StandsFor as StandsForHalf}
-use Rattle.pair_judge.specs.inner.Reached.{IsShown, ShowsHalf, StopsAt, StopsFor}
+use Rattle.pair_judge.specs.inner.Reached.{IsShown, ShowsHalf, ShowsRuns, StopsAt, StopsFor}
 use Rattle.pair_judge.specs.inner.Reached as reached
 use Rattle.pair_judge.specs.Order.{MadeRecord, records_of}
 use Rattle.pair_judge.specs.Watched.{WasTold}
 use Rattle.pair_judge.specs.inner.Runs.{tag_of}
 use Rattle.pair_judge.specs.inner.Stopped.{IsStoppedIn, ends_of, found_of}
 use Rattle.pair_judge.specs.inner.Tops.{links_on_top, links_on_top_by}
-use Rattle.pair_judge.specs.inner.Wire.{JudgeHalf, JudgeTop, JudgeWorld, judge_pair}
+use Rattle.pair_judge.specs.inner.Wire.{JudgeHalf, JudgeTop, JudgeWorld}
 use Rattle.pair_judge.proofs.FailsThere.{cause_there, fails_same, order_named, step_named, unit_named, waits_by_hint}
 use Rattle.pair_judge.proofs.Runs.{length-units_from}
-use Rattle.pair_judge.proofs.Seen.{shown, shown_is_cut}
+use Rattle.pair_judge.proofs.Seen.{SeesRight, shown, shown_by, shown_is_cut}
 
 -- ---- lists
 
@@ -95,8 +92,7 @@ ahead_listed bytes Ended = refl
 
 -- the laws that the two ends rest on
 pub record EndLaws : Type 1 where
-  pub seen : (head_a head_b : Head) (w : JudgeWorld) (of_a of_b : List Record) →
-      Run (judge_pair links_on_top) (wire_layers_start head_a head_b) of_a of_b w → IsSeenLayers head_a head_b w of_a of_b
+  pub seen : SeesRight Without
   pub ordered_a : (head_a head_b : Head) (w : NodeWorld) (of_a of_b : List Record) →
       Run (kind_pair both_layers) (kind_start both_layers head_a head_b) of_a of_b w → IsOrdered w.a.state.station.station
   pub ordered_b : (head_a head_b : Head) (w : NodeWorld) (of_a of_b : List Record) →
@@ -105,39 +101,23 @@ pub record EndLaws : Type 1 where
 
 -- ---- an end shows the half that it stands for
 
-module _ (laws : EndLaws) (own : End) (incoming : Line) (w : JudgeHalf) (half : NodeHalf) (stands : StandsForHalf own incoming w)
-    (shows : ShowsHalf links_on_top w half) where
-  station_true : IsOrdered half.state.station.station → view_of own.layers.station ≡ true_view half.state.station.station
-  station_true ordered =
-      ap (λ (l : WireLayers). view_of l.station) (sym stands.layers ∙ shows.station)
-      ∙ laws.true_views (tagged_packets half.state.station) half.state.station.station (bodies half.state.station.station.packets _) ordered
-
-  layers_true : own.layers ≡ cut_layers half.state.station
-  layers_true = sym stands.layers ∙ shows.station
-
-  links_true : own.layers.links ≡ cut_links Without half.state.station.links
-  links_true = ap (λ (l : WireLayers). l.links) (sym stands.layers ∙ shows.station)
-
-  sent_true : sent_on own.line ≡ length half.sent
-  sent_true =
-      let items = length-units_from (tag_of own.line.tags) own.line.gone own.line.units.items in
-      let rest = ap length stands.sent.rest ∙ length-drop own.line.gone w.sent in
-      let within = stands.sent.within in
-      let same = shows.sent in
-      omega arith
-
-  front_true : incoming.gone ≡ half.state.front
-  front_true = sym stands.front ∙ shows.front
-
 node_shown : EndLaws → (own : Course) (incoming : Line) (w : JudgeHalf) (half : NodeHalf) → StandsForHalf own.end incoming w →
     ShowsHalf links_on_top w half → IsOrdered half.state.station.station → ShowsNode (shown_end own incoming.gone) half
-node_shown laws own incoming w half stands shows ordered = record {
-  layers = layers_true laws own.end incoming w half stands shows;
-  station = station_true laws own.end incoming w half stands shows ordered;
-  links = links_true laws own.end incoming w half stands shows;
-  sent = sent_true laws own.end incoming w half stands shows;
-  front = front_true laws own.end incoming w half stands shows;
-}
+node_shown laws own incoming w half stands shows ordered =
+    let line = own.end.line in
+    let layers : own.end.layers ≡ cut_layers half.state.station = sym stands.layers ∙ shows.station in
+    let items = length-units_from (tag_of line.tags) line.gone line.units.items in
+    let rest = ap length stands.sent.rest ∙ length-drop line.gone w.sent in
+    let within = stands.sent.within in
+    let same = shows.sent in
+    record {
+      layers = layers;
+      station = ap (λ (l : WireLayers). view_of l.station) layers
+          ∙ laws.true_views (tagged_packets half.state.station) half.state.station.station (bodies half.state.station.station.packets _) ordered;
+      links = ap (λ (l : WireLayers). l.links) layers;
+      sent = omega arith;
+      front = sym stands.front ∙ shows.front;
+    }
 
 -- the units that the line holds are those that the true node may still receive, as it sees them
 units_shown : (incoming : Line) (front : ℕ) (sent : List WireLayersUnit) (of_other : List LayersUnit) → Shows incoming sent →
@@ -149,8 +129,7 @@ units_shown incoming front sent of_other shows is_cut same =
 -- ---- what the observer was told, of either kind of node
 
 module _ (top : JudgeTop)
-    (shown : (head_a head_b : Head) (w : JudgeWorld) (of_a of_b : List Record) →
-    Run (judge_pair top) (wire_layers_start head_a head_b) of_a of_b w → IsShown top head_a head_b w of_a of_b)
+    (shown : ShowsRuns top)
     (text_a text_b : Option (List ℕ)) (tells : List MadeRecord → Type 0) (s : Stopped) (i : IsStoppedIn top text_a text_b tells s) where
   abbrev heard_a : Track
   heard_a = along text_a s.a i.come_a i.made_a
@@ -239,10 +218,6 @@ module _ (queues : Queues) (text_a text_b : Option (List ℕ)) (tells : List Mad
 
 module _ (laws : EndLaws) (text_a text_b : Option (List ℕ)) (tells : List MadeRecord → Type 0) (s : Stopped)
     (i : IsStoppedIn links_on_top text_a text_b tells s) where
-  shown_by : (head_a head_b : Head) (w : JudgeWorld) (of_a of_b : List Record) →
-      Run (judge_pair links_on_top) (wire_layers_start head_a head_b) of_a of_b w → IsShown links_on_top head_a head_b w of_a of_b
-  shown_by head_a head_b w of_a of_b run = shown Without head_a head_b w of_a of_b (laws.seen head_a head_b w of_a of_b run)
-
   abbrev track_a : Track
   track_a = along text_a s.a i.come_a i.made_a
 
@@ -294,7 +269,7 @@ module _ (laws : EndLaws) (text_a text_b : Option (List ℕ)) (tells : List Made
         begins_b = (waiting s.b.capture.bytes s.b.ahead, refl);
         place_is = place_at side place q.place_is;
         world = x.world;
-        run = run_there links_on_top shown_by text_a text_b tells s i i.made_a i.made_b x.world x.run;
+        run = run_there links_on_top (shown_by Without laws.seen) text_a text_b tells s i i.made_a i.made_b x.world x.run;
         next = q.next;
         is_next = next_at side place q.next q.ahead q.place_is;
         is_ahead = ahead_is side q.next q.ahead;

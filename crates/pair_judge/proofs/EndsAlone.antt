@@ -1,14 +1,12 @@
 -- One end where its judge stops shows the node that its records led to.
-use Rattle.std.proofs.Common.{ℕ, List, ◌++◌, Option, refl, sym, ap, subst, ◌∙◌}
+use Rattle.std.proofs.Common.{Bool, ℕ, List, ◌++◌, Option, refl, sym, ap, subst, ◌∙◌}
 use Rattle.capture.specs.declared.record.Record.{Record}
 use Rattle.ddcmp_station.specs.View.{view_of}
 use Rattle.dna_station.specs.declared.head.Head.{Head}
-use Rattle.dna_station.specs.Machine.{Machine}
 use Rattle.dna_links.specs.declared.queue.Queues.{Queues}
 use Rattle.dna_node.specs.Alone.{EndingAlone, ends_from, layers_end_by}
 use Rattle.dna_node.specs.Alone as alone
-use Rattle.dna_node.specs.Kind.{NodeKind}
-use Rattle.dna_node.specs.WireLayers.{WireLayers, LayersTag, new_wire_layers_node}
+use Rattle.dna_node.specs.WireLayers.{WireLayers, new_wire_layers_node}
 use Rattle.pair_judge.specs.declared.end_verdict.EndVerdict.{EndVerdict}
 use Rattle.pair_judge.specs.declared.end_verdict.EndVerdict.TheVariants.{Passed, Refused}
 use Rattle.pair_judge.specs.declared.stopped_end.StoppedEnd.{StoppedEnd}
@@ -20,18 +18,18 @@ use Rattle.pair_judge.specs.Heads.{head_of}
 use Rattle.pair_judge.specs.Order.{MadeRecord}
 use Rattle.pair_judge.specs.inner.EndStopped.{IsEndStopped, StopsThere, shown_lone}
 use Rattle.pair_judge.specs.inner.LoneEnd.{node_of_end}
-use Rattle.pair_judge.specs.inner.Tops.{links_for}
+use Rattle.pair_judge.specs.inner.Tops.{links_top}
 use Rattle.pair_judge.specs.inner.Wire.{EndsAlike, EndsSo, JudgeTop}
 use Rattle.pair_judge.proofs.Ends.{ahead_listed, is_ahead}
 
 -- ---- with its links on top, what is run is a node of its kind
 
-module _ (kind : NodeKind) (Shows : WireLayers → kind.Keeps → Type 0) (machine : Machine WireLayers LayersTag) (queues : Queues) where
-  ends_same : (e : EndingAlone WireLayers) → EndsSo (links_for kind Shows machine queues) e e
+module _ (of_period : Bool) (queues : Queues) where
+  ends_same : (e : EndingAlone WireLayers) → EndsSo (links_top of_period queues) e e
   ends_same (alone.Passed n) = (n, refl, record { layers = refl; front = refl; links = refl; refuses = λ r accused refusal is. is })
   ends_same (alone.Refused place accused refusal) = refl
 
-  pub layers_end_alike : (head : Head) (records : List Record) → EndsAlike (links_for kind Shows machine queues) head records
+  pub layers_end_alike : (head : Head) (records : List Record) → EndsAlike (links_top of_period queues) head records
   layers_end_alike head records = ends_same (ends_from (layers_end_by queues) (new_wire_layers_node head) 0 records)
 
 -- ---- with whatever stands on top

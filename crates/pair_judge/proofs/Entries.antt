@@ -1,5 +1,5 @@
 -- Which entries are what the other arms of a choice leave.
-use Rattle.std.proofs.Common.{◌≡◌, ℕ, Bool, false, refl}
+use Rattle.std.proofs.Common.{◌≡◌, ℕ, false, refl}
 use Rattle.capture.specs.declared.fate.Fate.{Fate}
 use Rattle.capture.specs.declared.entry.Entry.{Entry}
 use Rattle.capture.specs.declared.entry.Entry.TheVariants.{Sent, Received, Noise}

@@ -3,7 +3,7 @@ use Rattle.std.proofs.Common.{◌≡◌, ◌+◌, refl}
 use Rattle.capture.specs.declared.record.Record.TheVariants.{User}
 use Rattle.dna_station.specs.declared.state.StationEvent.{StationEvent}
 use Rattle.dna_station.specs.declared.state.StationEvent.TheVariants.{Start, Halt}
-use Rattle.dna_links.specs.User.{LinkEventValue, Open, Accept, Reject, In, Up, Close, Abort, Boot}
+use Rattle.dna_links.specs.User.{LinkEventValue, Up}
 use Rattle.pair_judge.specs.declared.summary.SideSummary.{SideSummary}
 use Rattle.pair_judge.specs.Counting.{delivers, more_if, starts}
 use Rattle.pair_judge.specs.Events.{event_of_links, event_of_station}
@@ -16,11 +16,5 @@ station_counted s Halt = refl
 
 pub links_counted : (s : SideSummary) (event : LinkEventValue) →
     record s { records = s.records + 1; up = more_if (delivers (event_of_links event)) s.up } ≡ counted s (User (event_of_links event))
-links_counted s (Open link) = refl
-links_counted s (Accept partner link) = refl
-links_counted s (Reject partner link) = refl
-links_counted s (In link message) = refl
 links_counted s (Up link message) = refl
-links_counted s (Close link) = refl
-links_counted s (Abort link) = refl
-links_counted s Boot = refl
+links_counted s event = refl

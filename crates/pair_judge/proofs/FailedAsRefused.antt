@@ -1,7 +1,7 @@
 -- The check that a message, an arrival or an event does not pass is the one for which both layers refuse it.
 use Rattle.std.proofs.Common.{◌≡◌, ℕ, Bool, true, false, cond, Option, Some, None, List, Result, Ok, Err, refl, sym, ap, ◌∙◌, option_map}
 use Rattle.capture.specs.declared.fate.Fate.{Fate}
-use Rattle.capture.specs.declared.fate.Fate.TheVariants.{NotKept, Kept, Dropped}
+use Rattle.capture.specs.declared.fate.Fate.TheVariants.{Kept}
 use Rattle.capture.specs.Fates.{is_kept, is_met}
 use Rattle.capture.specs.declared.event.Event.{Event}
 use Rattle.capture.specs.declared.event.Event.TheVariants as events
@@ -22,7 +22,7 @@ use Rattle.dna_station.specs.declared.refusal.StationRefusal.{StationRefusal}
 use Rattle.dna_station.specs.declared.refusal.StepRefusal.{StepRefusal}
 use Rattle.dna_station.specs.declared.refusal.StepRefusal.TheVariants.{BadPacket, BadNsp, Links as OfLinks}
 use Rattle.dna_station.specs.declared.state.State.{State}
-use Rattle.dna_station.specs.declared.state.State.TheVariants.{Halted, Istrt, Astrt, Running}
+use Rattle.dna_station.specs.declared.state.State.TheVariants.{Halted}
 use Rattle.dna_station.specs.declared.state.StationEvent.TheVariants.{Start, Halt}
 use Rattle.dna_station.specs.declared.tag.Tag.{Tag}
 use Rattle.dna_station.specs.Book.{ArrivalValue, Sound, HeaderBad, DataBad, body_of}
@@ -155,8 +155,7 @@ kept_same queues s after DataBad = refl
 met_same : (queues : Queues) (s : WireLayers) (arrival : ArrivalValue LayersTag) (fate : Fate) (after : WireStation LinkTag) →
     caused (cond (is_met fate) (failed_kept s arrival) None) ≡ cause_in (wire_meets_on (judged_by queues) s arrival fate (Ok after))
 met_same queues s arrival Kept after = kept_same queues s after arrival
-met_same queues s arrival Dropped after = refl
-met_same queues s arrival NotKept after = refl
+met_same queues s arrival fate after = refl
 
 arrival_by : (queues : Queues) (s : WireLayers) (arrival : ArrivalValue LayersTag) (fate : Fate) (after : WireStation LinkTag) (o : Option FailedArrival)
     (p : Option StationRefusal) → option_map of_station.refusal_of_arrival o ≡ p →
@@ -181,16 +180,12 @@ arrival_same queues s arrival fate =
 start_same : (s : WireLayers) (after : WireStation LinkTag) (state : State) →
     caused (failed_start state (user_refusal state Start)) ≡ cause_in (with_wire_station s (unless_refused (user_refusal state Start) after))
 start_same s after Halted = refl
-start_same s after Istrt = refl
-start_same s after Astrt = refl
-start_same s after Running = refl
+start_same s after state = refl
 
 halt_same : (s : WireLayers) (after : WireStation LinkTag) (state : State) →
     ◌≡◌ {A = Option Cause} None (cause_in (with_wire_station s (unless_refused (user_refusal state Halt) after)))
 halt_same s after Halted = refl
-halt_same s after Istrt = refl
-halt_same s after Astrt = refl
-halt_same s after Running = refl
+halt_same s after state = refl
 
 links_same : (queues : Queues) (s : WireLayers) (event : LinkEventValue) →
     caused (failed_at_links queues s (Some event)) ≡ cause_in (with_wire_links s (wire_links_user queues s.links event))
@@ -224,5 +219,4 @@ user_same queues s (events.Close link) = links_same queues s (Close link)
 user_same queues s events.Boot = boot_same queues s
 user_same queues s (events.Abort link) = links_same queues s (Abort link)
 user_same queues s (events.Composed packet) = composed_same queues s packet
-user_same queues s (events.Interrupt link message) = refl
-user_same queues s (events.Interrupted link message) = refl
+user_same queues s event = refl

@@ -11,7 +11,7 @@ use Rattle.capture.specs.declared.fate.Fate.TheVariants.{NotKept}
 use Rattle.capture.specs.declared.record.Record.{Record}
 use Rattle.capture.specs.declared.record.Record.TheVariants.{Sent, Received, Noise, User}
 use Rattle.ddcmp_msg.specs.Message.{MessageValue}
-use Rattle.ddcmp_msg.specs.Reading.{ReadingValue, reading, Sound, HeaderBad, DataBad, Malformed}
+use Rattle.ddcmp_msg.specs.Reading.{ReadingValue, reading, Sound}
 use Rattle.dna_station.specs.Book.{ArrivalValue}
 use Rattle.dna_station.specs.Line.{coming, damage}
 use Rattle.dna_station.specs.Machine.{comes, does, met, noise_comes, receives, sends, sent_step}
@@ -36,7 +36,8 @@ use Rattle.pair_judge.specs.inner.Making.{StandsFor}
 use Rattle.pair_judge.specs.inner.Tops.{layers_run_by, links_on_top_by}
 use Rattle.pair_judge.specs.inner.Wire.{JudgeHalf, judge_step}
 use Rattle.pair_judge.proofs.FailedAsRefused.{arrival_same, message_same, user_same}
-use Rattle.pair_judge.proofs.Sent.{held_at, item_within}
+use Rattle.dna_links.proofs.Runs.Owners.{there_is}
+use Rattle.pair_judge.proofs.Sent.{held_at}
 
 abbrev caused : Option FailedCheck → Option Cause
 caused check = option_map cause_of check
@@ -67,9 +68,7 @@ module _ (queues : Queues) (own other : JudgeHalf) where
   sent_same : (bytes : List ℕ) (read : ReadingValue) →
       caused (failed_sent queues own.state.station read) ≡ cause_there (answered own other (sent_step (layers_run_by queues) own.state bytes read))
   sent_same bytes (Sound m) = message_same queues own.state.station m ∙ sym (sends_same bytes m ((layers_run_by queues).sends own.state.station m))
-  sent_same bytes HeaderBad = refl
-  sent_same bytes DataBad = refl
-  sent_same bytes (Malformed departure) = refl
+  sent_same bytes bad = refl
 
   noise_same : (o : Option (ArrivalValue LayersTag)) → caused (failed_noise own.state.station o) ≡
       cause_there (answered own other (does {K = LayersTag} own.state (noise_comes (layers_run_by queues) own.state.station o)))
@@ -132,7 +131,7 @@ module _ (queues : Queues) (own : End) (incoming : Line) (mine theirs : JudgeHal
       (λ below none.
       let within = shows.within in
       let front = stands.front in
-      let item = item_within theirs.sent hint (omega arith) in
+      let item = there_is theirs.sent hint (omega arith) in
       absurd (cc))
 
   pub fails_same : (r : Record) → caused (failed_record queues own.layers incoming.gone (held incoming) r) ≡
@@ -156,9 +155,7 @@ sends_no_wait own other bytes m (Err refusal) waits = absurd (cc)
 sent_not_waits : (queues : Queues) (own other : JudgeHalf) (bytes : List ℕ) (read : ReadingValue) →
     answered own other (sent_step (layers_run_by queues) own.state bytes read) ≡ Waits → ⊥
 sent_not_waits queues own other bytes (Sound m) waits = sends_no_wait own other bytes m ((layers_run_by queues).sends own.state.station m) waits
-sent_not_waits queues own other bytes HeaderBad waits = absurd (cc)
-sent_not_waits queues own other bytes DataBad waits = absurd (cc)
-sent_not_waits queues own other bytes (Malformed departure) waits = absurd (cc)
+sent_not_waits queues own other bytes bad waits = absurd (cc)
 
 pub waits_by_hint : (queues : Queues) (own other : JudgeHalf) (r : Record) → advance (judge_step (links_on_top_by queues)) own other r ≡ Waits →
     (hint : ℕ) × (hint_of (Some r) ≡ Some hint)

@@ -3,7 +3,7 @@ use Rattle.std.proofs.Common.{◌≡◌, ℕ, List, ◌++◌, inr, refl, sym, ap
 use Rattle.wire_base.specs.declared.side.Side.TheVariants.{A, B}
 use Rattle.wire_base.specs.declared.side.Side.{Side}
 use Rattle.capture.specs.declared.fault.CaptureFault.{CaptureFault}
-use Rattle.capture.specs.declared.fault.CaptureFault.TheVariants.{Departs, Read, OutOfMemory, Failed}
+use Rattle.capture.specs.declared.fault.CaptureFault.TheVariants.{Departs}
 use Rattle.capture.specs.declared.record.Record.{Record}
 use Rattle.capture.specs.declared.fault.Departure.{Departure}
 use Rattle.capture.specs.SoFar.{DepartsBehind}
@@ -51,6 +51,4 @@ module _ (nodes : NodeKind) where
         fault)
     faulty A (Departs kind line) is = departed A kind line is.1 (all_made a.course.capture.bytes a.course.ahead a.made is.0)
     faulty B (Departs kind line) is = departed B kind line is.1 (all_made b.course.capture.bytes b.course.ahead b.made is.0)
-    faulty side Read is = tt
-    faulty side OutOfMemory is = tt
-    faulty side Failed is = tt
+    faulty side fault is = tt

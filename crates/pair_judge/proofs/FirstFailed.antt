@@ -40,22 +40,8 @@ failed_in queues ends side place reason None is first =
 
 alone_by : (queues : Queues) (s : WireLayers) (front : ℕ) (entry : Entry) (bytes : List ℕ) → is_receipt entry ≡ false →
     checks_alone queues s front (Some (record_with entry bytes)) ≡ failed_record queues s front [] (record_with entry bytes) ∷ []
-alone_by queues s front entries.Sent bytes other = refl
 alone_by queues s front (entries.Received fate hint) bytes other = absurd (cc)
-alone_by queues s front entries.Noise bytes other = refl
-alone_by queues s front entries.Start bytes other = refl
-alone_by queues s front entries.Halt bytes other = refl
-alone_by queues s front (entries.Open link) bytes other = refl
-alone_by queues s front (entries.Accept partner link) bytes other = refl
-alone_by queues s front (entries.Reject partner link) bytes other = refl
-alone_by queues s front (entries.In link) bytes other = refl
-alone_by queues s front (entries.Up link) bytes other = refl
-alone_by queues s front (entries.Close link) bytes other = refl
-alone_by queues s front entries.Boot bytes other = refl
-alone_by queues s front (entries.Abort link) bytes other = refl
-alone_by queues s front entries.Composed bytes other = refl
-alone_by queues s front (entries.Interrupt link) bytes other = refl
-alone_by queues s front (entries.Interrupted link) bytes other = refl
+alone_by queues s front entry bytes other = refl
 
 pub alone_first : (queues : Queues) (reason : Reason) (s : WireLayers) (front : ℕ) (entry : Entry) (bytes : List ℕ) (check found : Option FailedCheck) →
     is_receipt entry ≡ false → check ≡ failed_record queues s front [] (record_with entry bytes) → Follows reason check None found →

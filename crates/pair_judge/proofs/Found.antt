@@ -63,8 +63,7 @@ module _ (kind : NodeKind) where
   pub at_heads : (head_a head_b head_a' head_b' : Head) (xs ys : List Record) (finding : Finding) → head_a' ≡ head_a → head_b' ≡ head_b →
       IsFinding kind head_a head_b xs ys finding → IsFinding kind head_a' head_b' xs ys finding
   at_heads head_a head_b head_a' head_b' xs ys finding same_a same_b v =
-      subst (λ (h : Head). IsFinding kind h head_b' xs ys finding) (sym same_a) (subst (λ (h : Head). IsFinding kind head_a h xs ys finding) (sym
-      same_b) v)
+      rw (same_a, same_b) v
 
 module _ (top : JudgeTop) where
   -- ---- where the judge stops: a record was read and not made
@@ -92,9 +91,7 @@ module _ (top : JudgeTop) where
     finding_at : (all_a all_b xs ys : List Record) (finding : Finding) → all_a ≡ xs → all_b ≡ ys → IsFinding top.kind head_a head_b xs ys finding →
         IsFinding top.kind a.course.end.head b.course.end.head all_a all_b finding
     finding_at all_a all_b xs ys finding ea eb v =
-        at_heads top.kind head_a head_b a.course.end.head b.course.end.head all_a all_b finding same_a same_b
-        (subst (λ (of_a : List Record). IsFinding top.kind head_a head_b of_a all_b finding) (sym ea)
-        (subst (λ (of_b : List Record). IsFinding top.kind head_a head_b xs of_b finding) (sym eb) v))
+        at_heads top.kind head_a head_b a.course.end.head b.course.end.head all_a all_b finding same_a same_b (rw (ea, eb) v)
 
     -- a refusal, where the captures that go on behind what was read are these
     refused_so : (side : Side) (cause : Cause) → IsRead a → IsRead b →
@@ -129,29 +126,7 @@ module _ (top : JudgeTop) where
         let y = goes_any b b.made all_b goes_b in
         (a.made ++ r ∷ x.0, b.made ++ y.0, x.1, y.1, law x.0 y.0))
 
-    -- b's next record is refused, and a waits
-    pub b_fails_behind : (refusal : StepRefusal) (p r : Record) → IsRead a → IsRead b → IsWaiting b.course.capture.bytes b.course.ahead r →
-        StopsFor top a b (Refused B place (Step refusal)) → IsWaiting a.course.capture.bytes a.course.ahead p
-        → ((rest_a rest_b : List Record) → IsFinding top.kind head_a head_b (a.made ++ p ∷ rest_a) (b.made ++ r ∷ rest_b) (Refused B place (Step
-        refusal))) →
-        IsFound top a b (Refused B place (Step refusal))
-    b_fails_behind refusal p r read_a read_b ahead_b stops ahead_a law = refused_so B (Step refusal) read_a read_b tt stops
-        (λ all_a all_b goes_a goes_b.
-        let x = goes_waits a a.made all_a p ahead_a goes_a in
-        let y = goes_waits b b.made all_b r ahead_b goes_b in
-        (a.made ++ p ∷ x.0, b.made ++ r ∷ y.0, x.1, y.1, law x.0 y.0))
-
-    -- or a has ended
-    pub b_fails_last : (refusal : StepRefusal) (r : Record) → IsRead a → IsRead b → IsWaiting b.course.capture.bytes b.course.ahead r →
-        StopsFor top a b (Refused B place (Step refusal)) → a.course.ahead ≡ Ended
-        → ((rest_b : List Record) → IsFinding top.kind head_a head_b a.made (b.made ++ r ∷ rest_b) (Refused B place (Step refusal))) →
-        IsFound top a b (Refused B place (Step refusal))
-    b_fails_last refusal r read_a read_b ahead_b stops ended law = refused_so B (Step refusal) read_a read_b tt stops
-        (λ all_a all_b goes_a goes_b.
-        let y = goes_waits b b.made all_b r ahead_b goes_b in
-        (a.made, b.made ++ r ∷ y.0, goes_ended a a.made all_a ended goes_a, y.1, law y.0))
-
-    -- whichever it is, where a's course was this one before its line was released
+    -- b's next record is refused, and a waits or has ended, where a's course was this one before its line was released
     pub b_fails : (refusal : StepRefusal) (r : Record) (waits : Bool) (own : Course) (incoming : Line) → own.capture ≡ a.course.capture →
         own.ahead ≡ a.course.ahead → IsStopped top waits own incoming
         → IsRead a → IsRead b → IsWaiting b.course.capture.bytes b.course.ahead r →
@@ -161,10 +136,14 @@ module _ (top : JudgeTop) where
         → ((rest_b : List Record) → IsFinding top.kind head_a head_b a.made (b.made ++ r ∷ rest_b) (Refused B place (Step refusal)))
         → IsFound top a b (Refused B place (Step refusal))
     b_fails refusal r true own incoming capture ahead held read_a read_b ahead_b stops behind last =
-        b_fails_behind refusal held.next r read_a read_b ahead_b stops (rw (sym capture, sym ahead) held.ahead)
-        (λ rest_a rest_b. behind held.next rest_a rest_b held.waits)
+        refused_so B (Step refusal) read_a read_b tt stops (λ all_a all_b goes_a goes_b.
+        let x = goes_waits a a.made all_a held.next (rw (sym capture, sym ahead) held.ahead) goes_a in
+        let y = goes_waits b b.made all_b r ahead_b goes_b in
+        (a.made ++ held.next ∷ x.0, b.made ++ r ∷ y.0, x.1, y.1, behind held.next x.0 y.0 held.waits))
     b_fails refusal r false own incoming capture ahead ended read_a read_b ahead_b stops behind last =
-        b_fails_last refusal r read_a read_b ahead_b stops (sym ahead ∙ ended) last
+        refused_so B (Step refusal) read_a read_b tt stops (λ all_a all_b goes_a goes_b.
+        let y = goes_waits b b.made all_b r ahead_b goes_b in
+        (a.made, b.made ++ r ∷ y.0, goes_ended a a.made all_a (sym ahead ∙ ended) goes_a, y.1, last y.0))
 
     -- both wait
     pub both_wait : (r s : Record) → IsRead a → IsRead b → IsWaiting a.course.capture.bytes a.course.ahead r →

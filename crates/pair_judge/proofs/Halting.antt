@@ -1,5 +1,6 @@
 -- How far a side gets in any run of beginnings, where one of its records can't be made.
-use Rattle.std.proofs.Common.{◌≡◌, ◌<◌, ◌≤◌, ℕ, List, [], ◌∷◌, ◌++◌, Some, length, take, refl, ap, subst, inl, inr, arith, take-take}
+use Rattle.std.proofs.Common.{◌≡◌, ◌<◌, ◌≤◌, ℕ, List, [], ◌∷◌, ◌++◌, Some, length, take, drop, refl, sym, ap, subst, ◌∙◌, inl, inr, arith, take-take}
+use Rattle.std.proofs.lemmas.List.{take-append-drop}
 use Rattle.std.proofs.lemmas.Bool.{cases_lt}
 use Rattle.std.specs.Prelude.{slice_get, zero, suc}
 use Rattle.two_nodes.specs.Nodes.{Nodes, IsRun, start_world}
@@ -22,10 +23,8 @@ module _ {X : Type 0} where
 
   -- a longer beginning goes on
   more_taken : (zs : List X) (n i : ℕ) → n ≤ i → (rest : List X) × (take i zs ≡ take n zs ++ rest)
-  more_taken zs zero i l = (take i zs, refl)
-  more_taken zs (suc n) zero l = absurd (omega arith)
-  more_taken [] (suc n) (suc i) l = ([], refl)
-  more_taken (z ∷ zs) (suc n) (suc i) l = let m = more_taken zs n i (omega arith) in (m.0, ap (λ (r : List X). z ∷ r) m.1)
+  more_taken zs n i l =
+      (drop n (take i zs), sym (take-append-drop n (take i zs)) ∙ ap (λ (front : List X). front ++ drop n (take i zs)) (take-take n i zs l))
 
   -- by the element that stands there
   more_behind : (zs : List X) (n i : ℕ) (x : X) → n < i → slice_get zs n ≡ Some x → (rest : List X) × (take i zs ≡ take n zs ++ x ∷ rest)

@@ -14,7 +14,6 @@ pub mod LinkEvents
 pub mod Events
 pub mod Entries
 pub mod Advances
-pub mod Left
 pub mod Courses
 pub mod Orders
 pub mod Turns

@@ -16,16 +16,15 @@ use Rattle.dna_station.specs.declared.tag.Tag.{Tag}
 use Rattle.dna_links.specs.declared.tag.LinkTag.{LinkTag}
 use Rattle.dna_station.specs.Book.{Sound, HeaderBad, DataBad}
 use Rattle.dna_station.specs.Line.{damage}
-use Rattle.dna_station.specs.Machine.{Machine, noise_comes}
+use Rattle.dna_station.specs.Machine.{noise_comes}
 use Rattle.dna_station.specs.WireNode.{WireNode, new_wire_node}
 use Rattle.dna_station.specs.WireStation.{WireStation}
-use Rattle.dna_node.specs.Kind.{NodeKind}
-use Rattle.dna_node.specs.WireLayers.{WireLayers, LayersTag, WireLayersNode, with_wire_station}
+use Rattle.dna_node.specs.WireLayers.{WireLayers, WireLayersNode, with_wire_station}
 use Rattle.dna_node.specs.Alone.{Accused, StepAlone, Makes, Refuses, ThisEnd, does, sends, meets, unless_wrong, then_unless_wrong, if_met}
 use Rattle.dna_node.specs.Alone.{comes_alone, ends_from, goes_on, sent_alone, step_alone, station_end}
 use Rattle.pair_judge.specs.EndKind.{station_alone}
 use Rattle.pair_judge.specs.inner.Tops as tops
-use Rattle.pair_judge.specs.inner.Tops.{line_end, nothing_for}
+use Rattle.pair_judge.specs.inner.Tops.{line_end, nothing_top}
 use Rattle.pair_judge.specs.inner.Wire.{EndsAlike, EndsSo, RunsFor}
 
 abbrev StationNode : Type 0
@@ -68,9 +67,7 @@ then_unless_so wrong (Refuses accused reason) = refl
 module _ (m : StationNode) where
   sent_so : (r : ReadingValue) → sent_alone line_end (line_node m) r ≡ line_step (sent_alone station_end m r)
   sent_so (read.Sound message) = sends_so m (station_end.machine.sends m.station message)
-  sent_so read.HeaderBad = refl
-  sent_so read.DataBad = refl
-  sent_so (read.Malformed departure) = refl
+  sent_so bad = refl
 
   comes_so : (front : ℕ) (fate : Fate) (r : ReadingValue) →
       comes_alone line_end (line_node m) front fate r ≡ line_step (comes_alone station_end m front fate r)
@@ -93,10 +90,9 @@ module _ (m : StationNode) where
 
   noise_so : (r : ReadingValue) → does (line_node m) (noise_comes line_end.machine (station_alone.layers m) (damage r))
       ≡ line_step (does m (noise_comes station_end.machine m.station (damage r)))
-  noise_so (read.Sound message) = refl
   noise_so read.HeaderBad = does_so m (station_end.machine.arrives m.station HeaderBad NotKept)
   noise_so read.DataBad = does_so m (station_end.machine.arrives m.station DataBad NotKept)
-  noise_so (read.Malformed departure) = refl
+  noise_so other = refl
 
   step_so : (r : Record) → step_alone line_end (line_node m) r ≡ line_step (step_alone station_end m r)
   step_so (Sent bytes) = sent_so (reading bytes)
@@ -111,8 +107,8 @@ refused_so (Refuses of reason) accused refusal e = ap₂ (λ (a : Accused) (x : 
 
 -- ---- all records
 
-module _ (kind : NodeKind) (Shows : WireLayers → kind.Keeps → Type 0) (machine : Machine WireLayers LayersTag) where
-  runs_for : (m : StationNode) → RunsFor (nothing_for kind Shows machine) (line_node m) m
+module _ (of_period : Bool) where
+  runs_for : (m : StationNode) → RunsFor (nothing_top of_period) (line_node m) m
   runs_for m = record {
     layers = refl;
     front = refl;
@@ -122,20 +118,20 @@ module _ (kind : NodeKind) (Shows : WireLayers → kind.Keeps → Type 0) (machi
 
   module _ (place : ℕ) (rest : List Record) where
     abbrev EndSo : StepAlone WireLayers → StepAlone (WireStation LinkTag) → Type 0
-    EndSo s t = EndsSo (nothing_for kind Shows machine) (goes_on s place (λ (next : WireLayersNode). ends_from line_end next (place + 1) rest))
+    EndSo s t = EndsSo (nothing_top of_period) (goes_on s place (λ (next : WireLayersNode). ends_from line_end next (place + 1) rest))
         (goes_on t place (λ (next : StationNode). ends_from station_end next (place + 1) rest))
 
-    by_step : ((next : StationNode) → EndsSo (nothing_for kind Shows machine) (ends_from line_end (line_node next) (place + 1) rest)
+    by_step : ((next : StationNode) → EndsSo (nothing_top of_period) (ends_from line_end (line_node next) (place + 1) rest)
         (ends_from station_end next (place + 1) rest)) → (t : StepAlone (WireStation LinkTag)) → EndSo (line_step t) t
     by_step later (Makes m) = later m
     by_step later (Refuses accused reason) = refl
 
   ends_so : (records : List Record) (m : StationNode) (place : ℕ) →
-      EndsSo (nothing_for kind Shows machine) (ends_from line_end (line_node m) place records) (ends_from station_end m place records)
+      EndsSo (nothing_top of_period) (ends_from line_end (line_node m) place records) (ends_from station_end m place records)
   ends_so [] m place = (m, refl, runs_for m)
   ends_so (r ∷ records) m place =
       subst (λ (s : StepAlone WireLayers). EndSo place records s (step_alone station_end m r)) (sym (step_so m r))
       (by_step place records (λ next. ends_so records next (place + 1)) (step_alone station_end m r))
 
-  pub line_ends_alike : (head : Head) (records : List Record) → EndsAlike (nothing_for kind Shows machine) head records
+  pub line_ends_alike : (head : Head) (records : List Record) → EndsAlike (nothing_top of_period) head records
   line_ends_alike head records = ends_so records (new_wire_node head) 0

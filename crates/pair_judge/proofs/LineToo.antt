@@ -12,8 +12,8 @@ use Rattle.dna_node.specs.Kind.{both_layers, stations_alone}
 use Rattle.pair_judge.specs.declared.reason.Reason.{Reason}
 use Rattle.pair_judge.specs.declared.summary.Summary.{Summary}
 use Rattle.pair_judge.specs.declared.verdict.Verdict.TheVariants.{Accepted, Refused}
-use Rattle.pair_judge.specs.declared.fault.JudgeFault.TheVariants.{Capture, OutOfMemory}
-use Rattle.pair_judge.specs.declared.fault.TextFault.TheVariants.{Departs, Read}
+use Rattle.pair_judge.specs.declared.fault.JudgeFault.TheVariants.{Capture}
+use Rattle.pair_judge.specs.declared.fault.TextFault.TheVariants.{Departs}
 use Rattle.pair_judge.specs.Judged.{AcceptsOrFails, Answer, IsAnswer, RefusesOrFails}
 use Rattle.pair_judge.specs.Refusal.{AreTexts, WholeCapture}
 use Rattle.pair_judge.proofs.Clauses.{WholeLaws}
@@ -38,8 +38,6 @@ pub refuses_too : RunAsStations → WholeLaws → (a b : WholeCapture) (bytes_a 
     IsAnswer both_layers (Some bytes_a) (Some bytes_b) nodes → RefusesOrFails nodes
 refuses_too law laws a b bytes_a bytes_b side place reason (Ok (Accepted summary)) here line is =
     accepts_too law bytes_a bytes_b summary (Ok (Refused side place reason)) is line
-refuses_too law laws a b bytes_a bytes_b side place reason (Ok (Refused of at why)) here line is = tt
 refuses_too law laws a b bytes_a bytes_b side place reason (Err (Capture of (Departs kind text_line))) here line is =
     judges both_layers laws a b bytes_a bytes_b (Err (Capture of (Departs kind text_line))) here is
-refuses_too law laws a b bytes_a bytes_b side place reason (Err (Capture of Read)) here line is = tt
-refuses_too law laws a b bytes_a bytes_b side place reason (Err OutOfMemory) here line is = tt
+refuses_too law laws a b bytes_a bytes_b side place reason nodes here line is = tt

@@ -4,7 +4,7 @@ use Rattle.std.specs.Prelude.{IsOk}
 use Rattle.dna_station.specs.declared.link_refusal.LinkRefusal.{LinkRefusal}
 use Rattle.dna_station.specs.declared.refusal.StepRefusal.{StepRefusal}
 use Rattle.dna_links.specs.declared.queue.Queues.{Queues}
-use Rattle.dna_links.specs.User.{LinkEventValue, Open, Accept, Reject, In, Up, Close, Abort, Boot}
+use Rattle.dna_links.specs.User.{LinkEventValue, Boot}
 use Rattle.dna_links.specs.WireLinks.{WireLinks, wire_links_user}
 use Rattle.dna_node.specs.WireLayers.{WireLayers, with_wire_links}
 use Rattle.pair_judge.specs.Events.{IsOfOneLink, event_of_links}
@@ -12,14 +12,8 @@ use Rattle.pair_judge.specs.inner.Tops.{layers_run_by}
 
 pub made_by_links : (queues : Queues) (s : WireLayers) (event : LinkEventValue) → IsOfOneLink event →
     (layers_run_by queues).user s (event_of_links event) ≡ with_wire_links s (wire_links_user queues s.links event)
-made_by_links queues s (Open link) one = refl
-made_by_links queues s (Accept partner link) one = refl
-made_by_links queues s (Reject partner link) one = refl
-made_by_links queues s (In link message) one = refl
-made_by_links queues s (Up link message) one = refl
-made_by_links queues s (Close link) one = refl
-made_by_links queues s (Abort link) one = refl
 made_by_links queues s Boot one = absurd one
+made_by_links queues s event one = refl
 
 -- what the links allow both layers do
 allowed_by : (s : WireLayers) (r : Result WireLinks LinkRefusal) → IsOk r → IsOk (with_wire_links s r)

@@ -4,17 +4,14 @@ use Rattle.std.proofs.Common.{◌∙◌}
 use Rattle.std.proofs.Common.{arith, length-append, append-nil, append_assoc}
 use Rattle.std.proofs.lemmas.List.Sums.{count_by-le-length}
 use Rattle.std.specs.Option.{IfSome}
-use Rattle.std.specs.Io.KnownBytes.{Consumes, IsAtEnd}
+use Rattle.std.specs.Io.KnownBytes.{IsAtEnd}
 use Rattle.capture.specs.declared.fault.CaptureFault.{CaptureFault}
-use Rattle.capture.specs.declared.fault.CaptureFault.TheVariants.{Departs, Read, OutOfMemory, Failed}
+use Rattle.capture.specs.declared.fault.CaptureFault.TheVariants.{Departs, Failed}
 use Rattle.capture.specs.declared.limit.TheConstants.{MAX_RECORDS}
 use Rattle.capture.specs.declared.phase.Phase.TheVariants.{Reading}
 use Rattle.capture.specs.declared.record.Record.{Record}
 use Rattle.capture.specs.declared.entry.Entry.{Entry}
-use Rattle.capture.specs.declared.hint.HintForm.{HintForm}
 use Rattle.capture.specs.Entries.{record_with}
-use Rattle.capture.specs.Text.{form_after, record_line}
-use Rattle.capture.specs.Range.{IsInForm, IsRecord}
 use Rattle.capture.specs.Departing.{HeadDeparts, RecordDeparts}
 use Rattle.capture.specs.Lines.{to_come}
 use Rattle.capture.specs.Reader.{CaptureState, FaultShows, Opens, NextGives}
@@ -39,22 +36,10 @@ use Rattle.pair_judge.specs.Summary.{HasRoomFor, counts_of, counted}
 use Rattle.pair_judge.specs.EndShown.{told_alone}
 use Rattle.pair_judge.specs.Order.{MadeRecord}
 use Rattle.pair_judge.specs.inner.EndStopped.{IsEndStopped}
-use Rattle.pair_judge.specs.inner.LoneEnd.{HasRoomAlone, IsMadeAlone, node_of_end, summary_of_end}
+use Rattle.pair_judge.specs.inner.LoneEnd.{HasRoomAlone, IsMadeAlone, head_in, node_of_end, summary_of_end}
 use Rattle.pair_judge.specs.inner.Wire.{EndsAlike, EndsSo, JudgeTop}
+use Rattle.pair_judge.proofs.Courses.{GrowingLaws}
 use Rattle.pair_judge.proofs.Turns.{counts_of-push}
-
--- the laws of a text that is read on
-pub record GrowingLaws : Type 0 where
-  pub opened : (text left : Option (List ℕ)) (state : CaptureState) → Opens text left (Ok state) →
-      IsReadSoFar text (so_far state.form state.own state.peer [] (ToCome (to_come state.unread left)))
-  pub one_more : (text before after : Option (List ℕ)) (form : HintForm) (own peer : ℕ) (rs : List Record) (r : Record) →
-      IsReadSoFar text (so_far form own peer rs (ToCome before)) → length rs < MAX_RECORDS → IsRecord r → Consumes before after (record_line form r) →
-      IsInForm form r → IsReadSoFar text (so_far (form_after form r) own peer (rs ++ r ∷ []) (ToCome after))
-  pub ended : (text before : Option (List ℕ)) (form : HintForm) (own peer : ℕ) (rs : List Record) →
-      IsReadSoFar text (so_far form own peer rs (ToCome before)) → IsAtEnd before → IsReadSoFar text (so_far form own peer rs TheEnd)
-
-abbrev pub head_in : CaptureState → Head
-head_in capture = record { own = capture.own; peer = capture.peer }
 
 room_for : (rs : List Record) → length rs < 2 ^ 63 → HasRoomFor (counts_of rs)
 room_for rs few = record {
@@ -239,12 +224,10 @@ module _ (top : JudgeTop) where
           node = passes_so.0;
           passes = passes_so.1;
         })
-    fault_at Read shows = tt
-    fault_at OutOfMemory shows = tt
     fault_at Failed shows = absurd shows
+    fault_at fault shows = tt
 
   pub head_fault : (text : Option (List ℕ)) (fault : CaptureFault) → FaultShows HeadDeparts 1 text fault → IsEndAnswer top.end text (Err fault)
   head_fault text (Departs kind line) shows = inl (record { departs = shows.1; line_is = shows.0 })
-  head_fault text Read shows = tt
-  head_fault text OutOfMemory shows = tt
   head_fault text Failed shows = absurd shows
+  head_fault text fault shows = tt

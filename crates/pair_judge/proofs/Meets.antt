@@ -1,5 +1,5 @@
 -- What both layers make of an arrival whose packet the links meet before the station does.
-use Rattle.std.proofs.Common.{◌≡◌, Bool, true, Option, Some, None, List, ℕ, Result, Ok, Err, refl, sym, ap, subst, ◌∙◌}
+use Rattle.std.proofs.Common.{◌≡◌, true, Option, Some, None, List, ℕ, Result, Ok, Err, refl, sym, ap, subst, ◌∙◌}
 use Rattle.std.specs.Result.{IsOk}
 use Rattle.capture.specs.declared.fate.Fate.{Fate}
 use Rattle.capture.specs.Fates.{is_kept, is_met}

@@ -10,8 +10,8 @@ use Rattle.dna_node.specs.Layers.{LayersNode, LayersUnit}
 use Rattle.dna_node.specs.LayersPair.{layers_pair, layers_start}
 use Rattle.pair_judge.specs.declared.summary.Summary.{Summary}
 use Rattle.pair_judge.specs.declared.verdict.Verdict.TheVariants.{Accepted, Refused}
-use Rattle.pair_judge.specs.declared.fault.JudgeFault.TheVariants.{Capture, OutOfMemory}
-use Rattle.pair_judge.specs.declared.fault.TextFault.TheVariants.{Departs, Read}
+use Rattle.pair_judge.specs.declared.fault.JudgeFault.TheVariants.{Capture}
+use Rattle.pair_judge.specs.declared.fault.TextFault.TheVariants.{Departs}
 use Rattle.pair_judge.specs.Finding.{IsCounted}
 use Rattle.pair_judge.specs.Judged.{AcceptsAsOrFails, AcceptsOrFails, Answer, IsAnswer}
 use Rattle.pair_judge.specs.Refusal.{AreTexts, WholeCapture}
@@ -36,8 +36,7 @@ module _ (more : NodeKind) (one : OneList) (a b : WholeCapture) (bytes_a bytes_b
       (counted_of more one a b bytes_a bytes_b other here is.accepted) counted
   by_answer (Ok (Refused side place reason)) is fits = fits
   by_answer (Err (Capture side (Departs kind line))) is fits = fits
-  by_answer (Err (Capture side Read)) is fits = tt
-  by_answer (Err OutOfMemory) is fits = tt
+  by_answer answer is fits = tt
 
 pub counted_too : (plain more : NodeKind) → CountsToo plain more → OneList → (bytes_a bytes_b : List ℕ) (summary : Summary) (answer : Answer) →
     IsAnswer plain (Some bytes_a) (Some bytes_b) (Ok (Accepted summary)) → IsAnswer more (Some bytes_a) (Some bytes_b) answer →

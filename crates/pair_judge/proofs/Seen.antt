@@ -1,5 +1,5 @@
 -- What becomes of a record on true numbers, from what is seen of it; and how many links are seen.
-use Rattle.std.proofs.Common.{◌≡◌, List, length, refl, sym, ap, ◌∙◌}
+use Rattle.std.proofs.Common.{◌≡◌, false, List, length, refl, sym, ap, ◌∙◌}
 use Rattle.std.proofs.lemmas.List.{length-map}
 use Rattle.two_nodes.specs.Nodes.{Outcome, Run, advance}
 use Rattle.two_nodes.specs.Nodes.Outcome.{Made, Waits, Refused}
@@ -12,10 +12,10 @@ use Rattle.dna_node.specs.CutLayers.{cut_layers_unit, layers_seen_by}
 use Rattle.dna_links.specs.CutLinks.{cut_link}
 use Rattle.dna_node.specs.LayersPair.{layers_pair_by}
 use Rattle.dna_node.specs.Seen.{IsSeenLayersBy}
-use Rattle.dna_node.specs.WireLayers.{wire_layers_start}
-use Rattle.pair_judge.specs.inner.Reached.{IsShown}
-use Rattle.pair_judge.specs.inner.Tops.{links_of_any_period, links_on_top_by}
-use Rattle.pair_judge.specs.inner.Wire.{JudgeWorld, judge_pair}
+use Rattle.dna_node.specs.WireLayers.{wire_layers_pair_by, wire_layers_start}
+use Rattle.pair_judge.specs.inner.Reached.{IsShown, ShowsRuns}
+use Rattle.pair_judge.specs.inner.Tops.{links_on_top_by, links_top}
+use Rattle.pair_judge.specs.inner.Wire.{JudgeWorld}
 
 module _ {S U T V : Type 0} (cut : Cut S U T V) where
   pub refused_there : (outcome : Outcome S U StepRefusal) (refusal : StepRefusal) →
@@ -53,6 +53,14 @@ shown queues head_a head_b w of_a of_b s = record {
   };
 }
 
+-- what the wire nodes of a kind see
+abbrev pub SeesRight : Queues → Type 0
+SeesRight queues = (head_a head_b : Head) (w : JudgeWorld) (of_a of_b : List Record) →
+    Run (wire_layers_pair_by queues) (wire_layers_start head_a head_b) of_a of_b w → IsSeenLayersBy queues head_a head_b w of_a of_b
+
+pub shown_by : (queues : Queues) → SeesRight queues → ShowsRuns (links_on_top_by queues)
+shown_by queues sees head_a head_b w of_a of_b run = shown queues head_a head_b w of_a of_b (sees head_a head_b w of_a of_b run)
+
 -- of that world the wire nodes' one is the cut
 pub shown_is_cut : (queues : Queues) (head_a head_b : Head) (w : JudgeWorld) (of_a of_b : List Record) (s : IsSeenLayersBy queues head_a head_b w of_a of_b) →
     w ≡ cut_world (layers_seen_by queues) (shown queues head_a head_b w of_a of_b s).world
@@ -60,9 +68,7 @@ unfolding shown
 shown_is_cut queues head_a head_b w of_a of_b s = s.is_cut
 
 -- where no period is asked, the run is shown by itself
-pub shown_as_run : (queues : Queues) (head_a head_b : Head) (w : JudgeWorld) (of_a of_b : List Record) →
-    Run (judge_pair (links_of_any_period queues)) (wire_layers_start head_a head_b) of_a of_b w →
-    IsShown (links_of_any_period queues) head_a head_b w of_a of_b
+pub shown_as_run : (queues : Queues) → ShowsRuns (links_top false queues)
 shown_as_run queues head_a head_b w of_a of_b run = record {
   world = w;
   run = run;

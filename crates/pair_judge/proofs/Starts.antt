@@ -94,12 +94,7 @@ module _ (top : JudgeTop) where
   counted_so : {head_a head_b head_a' head_b' : Head} {of_a of_b of_a' of_b' : List Record} {summary summary' : Summary} → head_a ≡ head_a' →
       head_b ≡ head_b' → of_a ≡ of_a' → of_b ≡ of_b' → summary ≡ summary' → IsCounted top.kind head_a head_b of_a of_b summary →
       IsCounted top.kind head_a' head_b' of_a' of_b' summary'
-  counted_so {head_a} {head_b} {head_a'} {head_b'} {of_a} {of_b} {of_a'} {of_b'} {summary} same_a same_b all_a all_b is counts =
-      subst (λ (s : Summary). IsCounted top.kind head_a' head_b' of_a' of_b' s) is
-      (subst (λ (ys : List Record). IsCounted top.kind head_a' head_b' of_a' ys summary) all_b
-      (subst (λ (xs : List Record). IsCounted top.kind head_a' head_b' xs of_b summary) all_a
-      (subst (λ (h : Head). IsCounted top.kind head_a' h of_a of_b summary) same_b
-      (subst (λ (h : Head). IsCounted top.kind h head_b of_a of_b summary) same_a counts))))
+  counted_so same_a same_b all_a all_b is counts = rw (← same_a, ← same_b, ← all_a, ← all_b, ← is) counts
 
   -- a finding of the turn is one of the two texts
   pub found_in : (a b : Track) (found : Found) → IsFound top a b found.finding → found.summary.a ≡ summary_at top.links a.course.end →

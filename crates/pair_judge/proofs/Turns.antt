@@ -7,7 +7,6 @@ use Rattle.capture.specs.declared.record.Record.{Record}
 use Rattle.capture.specs.Lines.{to_come}
 use Rattle.capture.specs.Reader.{CaptureState}
 use Rattle.dna_node.specs.declared.finding.Finding.{Finding}
-use Rattle.dna_station.specs.declared.head.Head.{Head}
 use Rattle.dna_station.specs.Machine.{is_sent}
 use Rattle.pair_judge.specs.declared.line.Line.{Line}
 use Rattle.pair_judge.specs.declared.end.End.{End}
@@ -81,16 +80,12 @@ module _ (top : JudgeTop) where
   pub started_so : (a b a' b' : End) {made_a made_b : List Record} {w : JudgeWorld} → a'.head ≡ a.head → b'.head ≡ b.head →
       Run (judge_pair top) (wire_layers_start a.head b.head) made_a made_b w → Run (judge_pair top) (wire_layers_start a'.head b'.head) made_a
       made_b w
-  started_so a b a' b' {made_a} {made_b} {w} same_a same_b run =
-      subst (λ (h : Head). Run (judge_pair top) (wire_layers_start h b'.head) made_a made_b w) (sym same_a)
-      (subst (λ (h : Head). Run (judge_pair top) (wire_layers_start a.head h) made_a made_b w) (sym same_b) run)
+  started_so a b a' b' same_a same_b run = rw (same_a, same_b) run
 
   -- and in the same order
   pub ordered_so : (a b a' b' : End) (order : List MadeRecord) → a'.head ≡ a.head → b'.head ≡ b.head →
       IsRunInOrder (judge_pair top) (wire_layers_start a.head b.head) order → IsRunInOrder (judge_pair top) (wire_layers_start a'.head b'.head) order
-  ordered_so a b a' b' order same_a same_b in_order =
-      subst (λ (h : Head). IsRunInOrder (judge_pair top) (wire_layers_start h b'.head) order) (sym same_a)
-      (subst (λ (h : Head). IsRunInOrder (judge_pair top) (wire_layers_start a.head h) order) (sym same_b) in_order)
+  ordered_so a b a' b' order same_a same_b in_order = rw (same_a, same_b) in_order
 
   -- of sides that are the same but for their lines and layers
   pub ordered : (a b : Track) (order : List MadeRecord) (old_a old_b : End) → HasReached top order old_a old_b a.made b.made →
@@ -111,11 +106,7 @@ module _ (top : JudgeTop) where
       IsRunInOrder (judge_pair top) (wire_layers_start a.head b.head) (order ++ made ∷ [])
   in_order_on a b order made of_a of_b w before is_a is_b run =
       let start = wire_layers_start a.head b.head in
-      goes_on_in_order (judge_pair top) start order made before (
-        w,
-        subst (λ (rs : List Record). Run (judge_pair top) start rs (records_of B (order ++ made ∷ [])) w) (sym is_a)
-            (subst (λ (rs : List Record). Run (judge_pair top) start of_a rs w) (sym is_b) run),
-      )
+      goes_on_in_order (judge_pair top) start order made before (w, rw (is_a, is_b) run)
 
   -- the other side stands for the same half
   pub stands_on : (own own' other other' : End) (after : Line) (r : Record) (mine theirs : JudgeHalf) → StandsFor other own.line theirs →

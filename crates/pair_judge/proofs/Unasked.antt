@@ -18,7 +18,7 @@ use Rattle.dna_station.specs.declared.refusal.StationRefusal.TheVariants.{Crosse
 use Rattle.dna_station.specs.declared.refusal.StepRefusal.{StepRefusal}
 use Rattle.dna_station.specs.declared.refusal.StepRefusal.TheVariants as steps
 use Rattle.dna_station.specs.declared.state.State.{State}
-use Rattle.dna_station.specs.declared.state.State.TheVariants.{Halted, Istrt, Astrt, Running}
+use Rattle.dna_station.specs.declared.state.State.TheVariants.{Halted}
 use Rattle.dna_station.specs.declared.state.StationEvent.TheVariants.{Start, Halt}
 use Rattle.dna_station.specs.declared.tag.Tag.{Tag}
 use Rattle.dna_station.specs.Book.{ArrivalValue, Book, Sound, HeaderBad, DataBad, failed, first_failed, keep_refusal, sending_refusal_by, takes_by}
@@ -111,24 +111,15 @@ unless_so (Some refusal) x h = at_station refusal h
 
 start_so : (state : State) → IfSome (user_refusal state Start) Other
 start_so Halted = tt
-start_so Istrt = λ e. absurd (cc)
-start_so Astrt = λ e. absurd (cc)
-start_so Running = λ e. absurd (cc)
+start_so state = λ e. absurd (cc)
 
 halt_so : (state : State) → IfSome (user_refusal state Halt) Other
 halt_so Halted = tt
-halt_so Istrt = tt
-halt_so Astrt = tt
-halt_so Running = tt
+halt_so state = tt
 
 check_so : (check : Check) → Other (refusal_of check)
 check_so table.RespIsLast = λ e. absurd (cc)
-check_so table.CauseIsOpen = λ e. absurd (cc)
-check_so table.SomeOutstanding = λ e. absurd (cc)
-check_so table.NumIsHighest = λ e. absurd (cc)
-check_so table.NumIsNext = λ e. absurd (cc)
-check_so table.RoomIfNew = λ e. absurd (cc)
-check_so table.AsFirstGiven = λ e. absurd (cc)
+check_so check = λ e. absurd (cc)
 
 first_by : (b : Bool) (rest : Option StationRefusal) (check : Check) → IfSome rest Other → IfSome (cond b rest (Some (refusal_of check))) Other
 first_by true rest check h = h
@@ -169,16 +160,7 @@ pub line_user : (w : WireStation LinkTag) (event : Event) → IfErr (line.user w
 line_user w events.Start = unless_so (user_refusal (book.state w) Start) (book.after_event w Start) (start_so (book.state w))
 line_user w events.Halt = unless_so (user_refusal (book.state w) Halt) (book.after_event w Halt) (halt_so (book.state w))
 line_user w events.Boot = unless_so (user_refusal (book.state w) Halt) (book.after_event w Halt) (halt_so (book.state w))
-line_user w (events.Open link) = tt
-line_user w (events.Accept partner link) = tt
-line_user w (events.Reject partner link) = tt
-line_user w (events.In link bytes) = tt
-line_user w (events.Up link bytes) = tt
-line_user w (events.Close link) = tt
-line_user w (events.Abort link) = tt
-line_user w (events.Composed bytes) = tt
-line_user w (events.Interrupt link bytes) = tt
-line_user w (events.Interrupted link bytes) = tt
+line_user w event = tt
 
 pub line_refuses_other : RefusesOther line
 line_refuses_other = record { user = line_user; sends = line_sends; arrives = line_arrives }

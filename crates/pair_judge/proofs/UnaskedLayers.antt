@@ -1,7 +1,7 @@
 -- The same of nodes over both layers, and of a verdict.
 use Rattle.std.proofs.Common.{◌≡◌, ℕ, Bool, true, false, cond, Option, Some, None, Result, Ok, Err, List, [], refl, sym, ap, ◌∙◌}
 use Rattle.std.proofs.Common.{append-nil}
-use Rattle.std.specs.Prelude.{◌≢◌, IfErr}
+use Rattle.std.specs.Prelude.{◌≢◌, IfErr, IfOk}
 use Rattle.wire_base.specs.declared.side.Side.{Side}
 use Rattle.wire_base.specs.declared.side.Side.TheVariants.{A, B}
 use Rattle.ddcmp_msg.specs.Message.{MessageValue}
@@ -13,7 +13,6 @@ use Rattle.capture.specs.declared.record.Record.{Record}
 use Rattle.capture.specs.SoFar.{Behind, GoesOnBy, TheEnd, ToCome}
 use Rattle.dna_station.specs.declared.head.Head.{Head}
 use Rattle.dna_station.specs.declared.refusal.StationRefusal.{StationRefusal}
-use Rattle.dna_station.specs.declared.refusal.StationRefusal.TheVariants as station
 use Rattle.dna_station.specs.declared.refusal.StationRefusal.TheVariants.{CrossedPeriod}
 use Rattle.dna_station.specs.declared.refusal.StepRefusal.{StepRefusal}
 use Rattle.dna_station.specs.declared.refusal.StepRefusal.TheVariants as steps
@@ -46,12 +45,11 @@ use Rattle.dna_node.specs.TagRules.{Rules}
 use Rattle.dna_node.specs.WireLayers as layers
 use Rattle.dna_node.specs.WireLayers.{WireLayers, LayersTag}
 use Rattle.pair_judge.specs.declared.reason.Reason.TheVariants as reasons
-use Rattle.pair_judge.specs.declared.verdict.Verdict.{Verdict}
 use Rattle.pair_judge.specs.declared.verdict.Verdict.TheVariants as verdicts
 use Rattle.pair_judge.specs.declared.verdict.Verdict.TheVariants.{Accepted}
 use Rattle.pair_judge.specs.AnyPeriod.{AsksNoPeriod, any_period_by}
 use Rattle.pair_judge.specs.Heads.{head_of}
-use Rattle.pair_judge.specs.Judged.{IsRefusalWhere}
+use Rattle.pair_judge.specs.Judged.{Answer, IsRefusalWhere}
 use Rattle.pair_judge.specs.Reason.{reason_of, reason_of_links, reason_of_station, reason_of_step}
 use Rattle.pair_judge.proofs.Unasked.{IsOther, RefusesOther, line, line_arrives, line_sends, line_user, refused_so}
 
@@ -151,36 +149,16 @@ layers_refuse_other queues = record {
 
 links_reason : (refusal : LinkRefusal) → reason_of_links refusal ≢ reasons.CrossedPeriod
 links_reason links.WrongNode = λ e. absurd (cc)
-links_reason links.NoLink = λ e. absurd (cc)
-links_reason links.LinkState = λ e. absurd (cc)
-links_reason links.WrongSegment = λ e. absurd (cc)
-links_reason links.WrongAck = λ e. absurd (cc)
-links_reason links.SegmentTooLong = λ e. absurd (cc)
-links_reason links.LinkWindowFull = λ e. absurd (cc)
-links_reason links.WrongDelivery = λ e. absurd (cc)
-links_reason links.CrossedLink = λ e. absurd (cc)
-links_reason links.AddressInUse = λ e. absurd (cc)
+links_reason refusal = λ e. absurd (cc)
 
 station_reason : (refusal : StationRefusal) → reason_of_station refusal ≡ reasons.CrossedPeriod → refusal ≡ CrossedPeriod
-station_reason station.WrongState e = absurd (cc)
-station_reason station.WrongNumber e = absurd (cc)
-station_reason station.WrongResponse e = absurd (cc)
-station_reason station.WindowFull e = absurd (cc)
-station_reason station.Changed e = absurd (cc)
-station_reason station.NoCause e = absurd (cc)
-station_reason station.WrongKeep e = absurd (cc)
-station_reason station.CrossedPeriod e = refl
-station_reason station.WrongUserEvent e = absurd (cc)
+station_reason CrossedPeriod e = refl
+station_reason refusal e = absurd (cc)
 
 step_reason : (refusal : StepRefusal) → reason_of_step refusal ≡ reasons.CrossedPeriod → refusal ≡ steps.Station CrossedPeriod
-step_reason steps.NotAMessage e = absurd (cc)
-step_reason steps.HintOrder e = absurd (cc)
-step_reason steps.Undetected e = absurd (cc)
 step_reason (steps.Station refusal) e = ap steps.Station (station_reason refusal e)
-step_reason steps.BadPacket e = absurd (cc)
-step_reason steps.BadNsp e = absurd (cc)
 step_reason (steps.Links refusal) e = absurd (links_reason refusal e)
-step_reason steps.NotNoise e = absurd (cc)
+step_reason refusal e = absurd (cc)
 
 -- what was read goes on as itself
 itself : (behind : Behind) (records : List Record) → GoesOnBy behind records records
@@ -197,9 +175,10 @@ module _ (kind : NodeKind) (refuses : RefusesOther kind.machine) where
   cause_so head_a head_b of_a of_b side place causes.NoSuchUnit v = λ e. absurd (cc)
   cause_so head_a head_b of_a of_b side place causes.NoOrder v = λ e. absurd (cc)
 
-  pub unasked : (text_a text_b : Option (List ℕ)) (verdict : Verdict) → IsRefusalWhere kind text_a text_b (Ok verdict) → AsksNoPeriod verdict
-  unasked text_a text_b (Accepted summary) i = tt
-  unasked text_a text_b (verdicts.Refused side place reason) i =
+  pub unasked : (text_a text_b : Option (List ℕ)) (answer : Answer) → IsRefusalWhere kind text_a text_b answer → IfOk answer AsksNoPeriod
+  unasked text_a text_b (Err fault) i = tt
+  unasked text_a text_b (Ok (Accepted summary)) i = tt
+  unasked text_a text_b (Ok (verdicts.Refused side place reason)) i =
       λ e. cause_so (head_of i.read_a) (head_of i.read_b) i.read_a.records i.read_b.records side place i.cause
       (i.finding i.read_a.records i.read_b.records (itself i.read_a.behind i.read_a.records) (itself i.read_b.behind i.read_b.records)).verdict
       (sym i.is_reason ∙ e)

@@ -10,6 +10,7 @@ pub mod Lines
 pub mod Receipts
 pub mod Steps
 pub mod Memory
+pub mod Entering
 pub mod Making
 pub mod Course
 pub mod Reached

@@ -16,10 +16,9 @@ ghost use Rattle.pair_judge.specs.inner.Answer.{verdict_of};
 ghost use Rattle.pair_judge.specs.inner.Opened.{OpensAt};
 ghost use Rattle.pair_judge.specs.inner.Stopped.{AreShownIn, IsStoppedIn, ends_of};
 
-mod any_period;
-mod queued;
+mod other_nodes;
 mod told;
-mod with_ends;
+mod watched;
 
 use crate::course::{Ahead, Course};
 use crate::end::End;
@@ -34,20 +33,21 @@ use crate::summary::{SideSummary, Summary};
 use crate::top::Top;
 use crate::turn::{side_fault, turn};
 use crate::verdict::Verdict;
-pub use any_period::{
-    judge_any_period, judge_any_period_told, judge_line_any_period, judge_line_any_period_told,
-    judge_queued_any_period, judge_queued_any_period_told,
-};
 use capture::{CaptureReader, MAX_RECORDS, text_read_on, whole_text};
 use dna_node::Finding;
 use dna_station::Head;
 use nsp_link::WITHOUT_QUEUES;
-pub use queued::{judge_queued, judge_queued_told};
+pub use other_nodes::{
+    judge_any_period, judge_line_any_period, judge_queued, judge_queued_any_period,
+};
 use std::alloc::Global;
 use std::io::Read;
-pub use told::{judge_line_told, judge_told};
+pub use told::{
+    judge_any_period_told, judge_line_any_period_told, judge_line_told,
+    judge_queued_any_period_told, judge_queued_told, judge_told,
+};
+pub use watched::{Watched, judge_watched};
 use wire_base::{Side, Tally};
-pub use with_ends::{Watched, judge_watched, judge_with_ends};
 
 // Each turn makes one record of a side or ends.
 const MOST_TURNS: u64 = 2 * MAX_RECORDS + 1;
@@ -97,10 +97,7 @@ pub fn judge<R: Read, S: Read>(
     ensures reads_a { CountsReads (is_failed_read_of Side.A result) (tally_faults a.old) (tally_faults a.new) }
     ensures reads_b { CountsReads (is_failed_read_of Side.B result) (tally_faults b.old) (tally_faults b.new) }
 {
-    match decide::<LinksOnTop<WITHOUT_QUEUES>, Nobody, R, S>(alloc, a, b, Nobody) {
-        Ok(watched) => Ok(watched.ends.verdict()),
-        Err(fault) => Err(fault),
-    }
+    find::<LinksOnTop<true, WITHOUT_QUEUES>, R, S>(alloc, a, b)
 }
 
 /// Decides the same of two stations alone: whether the two texts are captures that together are a run of two DDCMP stations over such a
@@ -126,8 +123,21 @@ pub fn judge_line<R: Read, S: Read>(
     ensures reads_a { CountsReads (is_failed_read_of Side.A result) (tally_faults a.old) (tally_faults a.new) }
     ensures reads_b { CountsReads (is_failed_read_of Side.B result) (tally_faults b.old) (tally_faults b.new) }
 {
-    match decide::<NothingOnTop, Nobody, R, S>(alloc, a, b, Nobody) {
-        Ok(of_line) => Ok(of_line.ends.verdict()),
+    find::<NothingOnTop<true>, R, S>(alloc, a, b)
+}
+
+// Decides of both texts with this on top, while nobody looks on. It reads and fails as `judge` does.
+fn find<T: Top, R: Read, S: Read>(
+    alloc: Global,
+    a: &mut Tally<R>,
+    b: &mut Tally<S>,
+) -> Result<Verdict, JudgeFault>
+    ensures answer { IsAnswer T.top.kind (R.remaining (tally_lent a.old)) (S.remaining (tally_lent b.old)) result }
+    ensures reads_a { CountsReads (is_failed_read_of Side.A result) (tally_faults a.old) (tally_faults a.new) }
+    ensures reads_b { CountsReads (is_failed_read_of Side.B result) (tally_faults b.old) (tally_faults b.new) }
+{
+    match decide::<T, Nobody, R, S>(alloc, a, b, Nobody) {
+        Ok(watched) => Ok(watched.ends.verdict()),
         Err(fault) => Err(fault),
     }
 }

@@ -1,35 +1,28 @@
 //! The judge of one end: one capture in one pass, without the other.
 
-ghost use Rattle.std.specs.Prelude.{◌≡◌, ◌≢◌, [], Err, IfOk, IfErr};
+ghost use Rattle.std.specs.Prelude.{◌≢◌, [], IfOk, IfErr};
 ghost use Rattle.wire_base.specs.Tally.{tally_faults, tally_lent};
 ghost use Rattle.capture.specs.declared.fault.CaptureFault.TheVariants as CaptureFault;
 ghost use Rattle.capture.specs.Faulty.{CountsReads, is_failed_read};
-ghost use Rattle.pair_judge.specs.EndJudged.{IsEndAnswer, IsJudgedAlone};
-ghost use Rattle.pair_judge.specs.EndKind.{layers_alone, station_alone};
+ghost use Rattle.dna_links.specs.declared.queue.Queues.TheVariants.{With};
+ghost use Rattle.pair_judge.specs.EndJudged.{IsJudgedAlone};
+ghost use Rattle.pair_judge.specs.EndKind.{layers_alone, layers_alone_by, station_alone};
 ghost use Rattle.pair_judge.specs.EndShown.{StandsAlone};
 ghost use Rattle.pair_judge.specs.Watched.{only};
-ghost use Rattle.pair_judge.specs.inner.EndStopped.{IsEndStopped};
 
-mod queued;
+mod stopping;
 
-use crate::course::Ahead;
 use crate::end_verdict::EndVerdict;
 use crate::layers::{LinksOnTop, NothingOnTop};
-use crate::lone_end::{LoneEnd, MadeAlone};
-use crate::made_entry::MadeEntry;
 use crate::observer::{Nobody, Observer};
-use crate::reason::Reason;
 use crate::side_end::SideEnd;
-use crate::stopped_end::StoppedEnd;
 use crate::top::Top;
-use capture::{CaptureFault, CaptureReader, MAX_RECORDS, text_read_on, whole_text};
-use dna_node::Cause;
-use dna_station::Head;
-use nsp_link::WITHOUT_QUEUES;
-pub use queued::{judge_queued_end, judge_queued_end_watched};
+use capture::CaptureFault;
+use nsp_link::{WITH_QUEUES, WITHOUT_QUEUES};
 use std::alloc::Global;
 use std::io::Read;
-use wire_base::{Side, Tally};
+use stopping::decide_end;
+use wire_base::Tally;
 
 /// Decides of the text that a reader gives up to its end whether it is a capture whose records a node of a pair can make, whatever the capture
 /// of the other end may be: what came is taken as what the other end sent, and of hints it is only asked that they rise.
@@ -48,7 +41,7 @@ pub fn judge_end<R: Read>(alloc: Global, a: &mut Tally<R>) -> Result<EndVerdict,
     ensures first { IfErr result (λ fault. fault ≢ CaptureFault.Failed) }
     ensures reads { CountsReads (is_failed_read result) (tally_faults a.old) (tally_faults a.new) }
 {
-    find_end::<LinksOnTop<WITHOUT_QUEUES>, R>(alloc, a)
+    find_end::<LinksOnTop<true, WITHOUT_QUEUES>, R>(alloc, a)
 }
 
 /// Decides the same of a station alone: a packet is any bytes and is not read, so that it may be one of another layer or of a third node; and the
@@ -61,7 +54,7 @@ pub fn judge_line_end<R: Read>(alloc: Global, a: &mut Tally<R>) -> Result<EndVer
     ensures first { IfErr result (λ fault. fault ≢ CaptureFault.Failed) }
     ensures reads { CountsReads (is_failed_read result) (tally_faults a.old) (tally_faults a.new) }
 {
-    find_end::<NothingOnTop, R>(alloc, a)
+    find_end::<NothingOnTop<true>, R>(alloc, a)
 }
 
 /// The verdict on one end alone, with the end as it is there, and who was told of its records.
@@ -93,7 +86,7 @@ pub fn judge_end_watched<O: Observer, R: Read>(
     ensures first { IfErr result (λ fault. fault ≢ CaptureFault.Failed) }
     ensures reads { CountsReads (is_failed_read result) (tally_faults a.old) (tally_faults a.new) }
 {
-    watch_end::<LinksOnTop<WITHOUT_QUEUES>, O, R>(alloc, a, observer)
+    watch_end::<LinksOnTop<true, WITHOUT_QUEUES>, O, R>(alloc, a, observer)
 }
 
 /// Decides the same as `judge_line_end`, of whose answer all that is said there holds of this verdict, while an observer is told of each record that
@@ -120,7 +113,40 @@ pub fn judge_line_end_watched<O: Observer, R: Read>(
     ensures first { IfErr result (λ fault. fault ≢ CaptureFault.Failed) }
     ensures reads { CountsReads (is_failed_read result) (tally_faults a.old) (tally_faults a.new) }
 {
-    watch_end::<NothingOnTop, O, R>(alloc, a, observer)
+    watch_end::<NothingOnTop<true>, O, R>(alloc, a, observer)
+}
+
+/// Decides the same of a node with queues between NSP and DDCMP, as `judge_queued` judges a pair of them. What the other end may not have sent is
+/// asked when it comes.
+///
+/// All that is said of `judge_end` holds, with "node with queues" for "node".
+pub fn judge_queued_end<R: Read>(
+    alloc: Global,
+    a: &mut Tally<R>,
+) -> Result<EndVerdict, CaptureFault>
+    ensures judged { IsJudgedAlone (layers_alone_by With) (R.remaining (tally_lent a.old)) result }
+    ensures first { IfErr result (λ fault. fault ≢ CaptureFault.Failed) }
+    ensures reads { CountsReads (is_failed_read result) (tally_faults a.old) (tally_faults a.new) }
+{
+    find_end::<LinksOnTop<true, WITH_QUEUES>, R>(alloc, a)
+}
+
+/// Decides the same as `judge_queued_end`, while an observer is told of each record that is made, as one of side a; and gives the end as it is then.
+///
+/// All that is said of `judge_end_watched` holds, with "node with queues" for "node".
+pub fn judge_queued_end_watched<O: Observer, R: Read>(
+    alloc: Global,
+    a: &mut Tally<R>,
+    observer: O,
+) -> Result<WatchedEnd<O>, CaptureFault>
+    requires { O.told observer [] }
+    ensures judged { IsJudgedAlone (layers_alone_by With) (R.remaining (tally_lent a.old)) (only result (λ watched. watched.verdict)) }
+    ensures stands { IfOk result (λ watched.
+        StandsAlone (layers_alone_by With) (R.remaining (tally_lent a.old)) watched.end watched.verdict (O.told watched.observer)) }
+    ensures first { IfErr result (λ fault. fault ≢ CaptureFault.Failed) }
+    ensures reads { CountsReads (is_failed_read result) (tally_faults a.old) (tally_faults a.new) }
+{
+    watch_end::<LinksOnTop<true, WITH_QUEUES>, O, R>(alloc, a, observer)
 }
 
 // The same over either top.
@@ -161,91 +187,4 @@ fn find_end<T: Top, R: Read>(alloc: Global, a: &mut Tally<R>) -> Result<EndVerdi
         Ok((stopped, _)) => Ok(stopped.verdict),
         Err(fault) => Err(fault),
     }
-}
-
-// Decides the same while this observer is told of the records, and keeps the end as it is then.
-fn decide_end<T: Top, O: Observer, R: Read>(
-    alloc: Global,
-    a: &mut Tally<R>,
-    observer: O,
-) -> Result<(StoppedEnd, O), CaptureFault>
-    requires { O.told observer [] }
-    ensures judged { IsJudgedAlone T.top.end (R.remaining (tally_lent a.old)) (only result (λ stop. stop.0.verdict)) }
-    ensures stopped { IfOk result (λ stop. IsEndStopped T.top (R.remaining (tally_lent a.old)) (O.told stop.1) stop.0) }
-    ensures first { IfErr result (λ fault. fault ≢ CaptureFault.Failed) }
-    ensures reads { CountsReads (is_failed_read result) (tally_faults a.old) (tally_faults a.new) }
-{
-    whole_text();
-    match stop_end::<T, O, R>(alloc, a, observer) {
-        Ok(stop) => Ok(stop),
-        Err(fault) => Err(fault),
-    }
-}
-
-// Finds the same while this observer is told of the records, and keeps the end as it is then.
-fn stop_end<T: Top, O: Observer, R: Read>(
-    alloc: Global,
-    a: &mut Tally<R>,
-    mut observer: O,
-) -> Result<(StoppedEnd, O), CaptureFault>
-    requires { O.told observer [] }
-    ensures stopped { IfOk result (λ stop. IsEndStopped T.top (R.remaining (tally_lent a.old)) (O.told stop.1) stop.0) }
-    ensures fault { IfErr result (λ fault. IsEndAnswer T.top.end (R.remaining (tally_lent a.old)) (Err fault)) }
-    ensures reads { CountsReads (is_failed_read result) (tally_faults a.old) (tally_faults a.new) }
-{
-    text_read_on();
-    T::shows_alone();
-    let mut capture = match CaptureReader::open(alloc, a) {
-        Ok(capture) => capture,
-        Err(fault) => return Err(fault),
-    };
-    let head = Head {
-        own: capture.own(),
-        peer: capture.peer(),
-    };
-    let Ok(mut end) = LoneEnd::new(alloc, head) else {
-        return Err(CaptureFault::OutOfMemory);
-    };
-    for number in 0..MAX_RECORDS + 1 {
-        match capture.advance(a) {
-            Ok(Some(entry)) => match end.make::<T>(entry, capture.bytes()) {
-                Ok(MadeAlone::Done) => {
-                    let next = MadeEntry {
-                        side: Side::A,
-                        entry,
-                        bytes: capture.bytes(),
-                        sound: false,
-                    };
-                    let Ok(()) = observer.made(&next) else {
-                        return Err(CaptureFault::OutOfMemory);
-                    };
-                }
-                Ok(MadeAlone::Fails { accused, refusal }) => {
-                    let stopped = StoppedEnd {
-                        verdict: EndVerdict::Refused {
-                            place: number,
-                            accused,
-                            reason: Reason::of_cause(Cause::Step(refusal)),
-                        },
-                        capture,
-                        end,
-                        ahead: Ahead::Waits(entry),
-                    };
-                    return Ok((stopped, observer));
-                }
-                Err(_) => return Err(CaptureFault::OutOfMemory),
-            },
-            Ok(None) => {
-                let stopped = StoppedEnd {
-                    verdict: EndVerdict::Passed(end.summary::<T>()),
-                    capture,
-                    end,
-                    ahead: Ahead::Ended,
-                };
-                return Ok((stopped, observer));
-            }
-            Err(fault) => return Err(fault),
-        }
-    }
-    unreachable!()
 }

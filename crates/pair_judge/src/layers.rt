@@ -6,7 +6,6 @@ ghost use Rattle.dna_links.specs.WireLinks.{new_wire_links};
 
 mod accusing;
 mod alone;
-mod any_period;
 mod arriving;
 mod failing;
 mod linked;
@@ -16,7 +15,6 @@ mod shown;
 mod user;
 
 pub use alone::NothingOnTop;
-pub use any_period::{LinksOfAnyPeriod, NothingOfAnyPeriod};
 use ddcmp_station::HeldPacket;
 use dna_links::LinkTag;
 use dna_station::Head;

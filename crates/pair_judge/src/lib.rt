@@ -10,6 +10,7 @@ mod carried;
 mod course;
 mod end;
 mod end_verdict;
+mod entering;
 mod failed_cause;
 mod failed_check;
 mod failed_laws;
@@ -58,7 +59,7 @@ pub use judged_ends::JudgedEnds;
 pub use judging::{
     Watched, judge, judge_any_period, judge_any_period_told, judge_line, judge_line_any_period,
     judge_line_any_period_told, judge_line_told, judge_queued, judge_queued_any_period,
-    judge_queued_any_period_told, judge_queued_told, judge_told, judge_watched, judge_with_ends,
+    judge_queued_any_period_told, judge_queued_told, judge_told, judge_watched,
 };
 pub use judging_end::{
     WatchedEnd, judge_end, judge_end_watched, judge_line_end, judge_line_end_watched,

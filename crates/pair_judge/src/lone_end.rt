@@ -1,33 +1,27 @@
 //! One end whose other side is not known, as far as the judge has gone along its capture.
 
 ghost use Rattle.std.specs.Prelude.{◌≡◌, ◌+◌, ◌≤◌, [], IfOk};
-ghost use Rattle.capture.specs.declared.event.Event.TheVariants as Event;
 ghost use Rattle.capture.specs.declared.record.Record.TheVariants as Record;
 ghost use Rattle.capture.specs.Entries.{record_with};
 ghost use Rattle.capture.specs.Range.{NumbersFit};
 ghost use Rattle.capture.specs.declared.limit.TheConstants.{MAX_HINT};
-ghost use Rattle.dna_links.specs.User.{view};
 ghost use Rattle.dna_node.specs.WireLayers.{new_wire_layers_node};
-ghost use Rattle.pair_judge.specs.Counting.{delivers};
-ghost use Rattle.pair_judge.specs.Events.{IsOfOneLink, event_of_station, event_of_links};
 ghost use Rattle.pair_judge.specs.Summary.{counts_of};
-ghost use Rattle.pair_judge.specs.inner.LoneEnd.{HasRoomAlone, IfFailsAlone, MadeAloneIs, node_of_end, summary_of_end};
-ghost use Rattle.pair_judge.specs.inner.Making.{IsCarriedEntry, IsEvent};
+ghost use Rattle.pair_judge.specs.inner.LoneEnd.{HasRoomAlone, IfFailsAlone, MadeAloneIs, head_in, node_of_end, summary_of_end};
+ghost use Rattle.pair_judge.specs.inner.Making.{IsEvent};
 
 mod receiving;
 
 use crate::end_verdict::Accused;
+use crate::entering::enter;
 use crate::layers::Layers;
-use crate::making::is_delivery;
 use crate::noise::hear;
 use crate::step_fault::StepFault;
 use crate::summary::SideSummary;
 use crate::top::Top;
-use capture::{Entry, Fate};
+use capture::{CaptureReader, Entry, Fate};
 use ddcmp_msg::{Reading, read_unit};
-use ddcmp_station::StationEvent;
 use dna_station::{Head, StepRefusal};
-use nsp_link::LinkEvent;
 use receiving::{Came, receive};
 use std::alloc::{AllocError, Global};
 
@@ -54,11 +48,15 @@ pub enum MadeAlone {
 }
 
 impl LoneEnd {
-    /// Before any record. `AllocError`: there is no room for the window of the station.
-    pub fn new(alloc: Global, head: Head) -> Result<LoneEnd, AllocError>
-        ensures node { IfOk result (λ end. node_of_end end ≡ new_wire_layers_node head) }
+    /// Before any record of this capture. `AllocError`: there is no room for the window of the station.
+    pub fn new(alloc: Global, capture: &CaptureReader) -> Result<LoneEnd, AllocError>
+        ensures node { IfOk result (λ end. node_of_end end ≡ new_wire_layers_node (head_in capture.now)) }
         ensures counts { IfOk result (λ end. end.counts ≡ counts_of []) }
     {
+        let head = Head {
+            own: capture.own(),
+            peer: capture.peer(),
+        };
         let Ok(layers) = Layers::new(alloc, head) else {
             return Err(AllocError);
         };
@@ -161,104 +159,9 @@ impl LoneEnd {
         ensures made { IfOk result (λ made. MadeAloneIs T.top made self.old self.new (record_with entry bytes.now)) }
         ensures still { IfOk result (λ made. IfFailsAlone made (self.new ≡ self.old)) }
     {
-        match entry {
-            Entry::Start => Ok(self.make_station_event::<T>(StationEvent::Start)),
-            Entry::Halt => Ok(self.make_station_event::<T>(StationEvent::Halt)),
-            Entry::Open { link } => self.make_link_event::<T>(LinkEvent::Open { link }),
-            Entry::Accept { partner, link } => self.make_link_event::<T>(LinkEvent::Accept {
-                partner,
-                link,
-            }),
-            Entry::Reject { partner, link } => self.make_link_event::<T>(LinkEvent::Reject {
-                partner,
-                link,
-            }),
-            Entry::In { link } => {
-                let message = bytes;
-                self.make_link_event::<T>(LinkEvent::In { link, message })
-            }
-            Entry::Up { link } => {
-                let message = bytes;
-                self.make_link_event::<T>(LinkEvent::Up { link, message })
-            }
-            Entry::Close { link } => self.make_link_event::<T>(LinkEvent::Close { link }),
-            Entry::Boot => Ok(self.make_boot::<T>()),
-            Entry::Abort { link } => self.make_link_event::<T>(LinkEvent::Abort { link }),
-            Entry::Composed => self.make_composed::<T>(bytes),
-            Entry::Interrupt { .. } | Entry::Interrupted { .. } => {
-                Ok(self.make_carried::<T>(entry, bytes))
-            }
-            Entry::Sent | Entry::Received { .. } | Entry::Noise => unreachable!(),
-        }
-    }
-
-    fn make_station_event<T: Top>(&mut self, event: StationEvent) -> MadeAlone
-        requires { HasRoomAlone self.old }
-        ensures made { MadeAloneIs T.top result self.old self.new (Record.User (event_of_station event)) }
-        ensures still { IfFailsAlone result (self.new ≡ self.old) }
-    {
         T::shows_alone();
-        match T::start_or_halt(&mut self.layers, event) {
-            Ok(()) => {
-                self.counts = self.counts.with_station_event(event);
-                MadeAlone::Done
-            }
-            Err(refusal) => by_this_end(refusal),
-        }
-    }
-
-    fn make_boot<T: Top>(&mut self) -> MadeAlone
-        requires { HasRoomAlone self.old }
-        ensures made { MadeAloneIs T.top result self.old self.new (Record.User Event.Boot) }
-        ensures still { IfFailsAlone result (self.new ≡ self.old) }
-    {
-        T::shows_alone();
-        T::boot(&mut self.layers);
-        self.counts = self.counts.with_link_event(false);
-        MadeAlone::Done
-    }
-
-    fn make_composed<T: Top>(&mut self, packet: &[u8]) -> Result<MadeAlone, AllocError>
-        requires { HasRoomAlone self.old }
-        ensures made { IfOk result (λ made. MadeAloneIs T.top made self.old self.new (Record.User (Event.Composed packet.now))) }
-        ensures still { IfOk result (λ made. IfFailsAlone made (self.new ≡ self.old)) }
-    {
-        T::shows_alone();
-        match T::composed(&mut self.layers, packet) {
-            Ok(()) => {
-                self.counts = self.counts.with_link_event(false);
-                Ok(MadeAlone::Done)
-            }
-            Err(StepFault::Refused(refusal)) => Ok(by_this_end(refusal)),
-            Err(StepFault::OutOfMemory) => Err(AllocError),
-        }
-    }
-
-    fn make_carried<T: Top>(&mut self, entry: Entry, bytes: &[u8]) -> MadeAlone
-        requires room { HasRoomAlone self.old }
-        requires carried { IsCarriedEntry entry }
-        ensures made { MadeAloneIs T.top result self.old self.new (record_with entry bytes.now) }
-        ensures still { IfFailsAlone result (self.new ≡ self.old) }
-    {
-        T::shows_alone();
-        T::carries();
-        self.counts = self.counts.with_link_event(false);
-        MadeAlone::Done
-    }
-
-    fn make_link_event<T: Top>(&mut self, event: LinkEvent) -> Result<MadeAlone, AllocError>
-        requires room { HasRoomAlone self.old }
-        requires one { IsOfOneLink (view event) }
-        ensures made { IfOk result (λ made. MadeAloneIs T.top made self.old self.new (Record.User (event_of_links (view event.entry)))) }
-        ensures still { IfOk result (λ made. IfFailsAlone made (self.new ≡ self.old)) }
-    {
-        T::shows_alone();
-        let delivers = is_delivery(&event);
-        match T::at_links(&mut self.layers, event) {
-            Ok(()) => {
-                self.counts = self.counts.with_link_event(delivers);
-                Ok(MadeAlone::Done)
-            }
+        match enter::<T>(&mut self.layers, &mut self.counts, entry, bytes) {
+            Ok(()) => Ok(MadeAlone::Done),
             Err(StepFault::Refused(refusal)) => Ok(by_this_end(refusal)),
             Err(StepFault::OutOfMemory) => Err(AllocError),
         }

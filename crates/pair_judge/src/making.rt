@@ -1,23 +1,21 @@
 //! One record of one side.
 
-ghost use Rattle.std.specs.Prelude.{◌≡◌, ◌≤◌, Some, IfOk, IfErr};
+ghost use Rattle.std.specs.Prelude.{◌≡◌, ◌≤◌, IfOk, IfErr};
 ghost use Rattle.ddcmp_msg.specs.Reading.{IsSound, reading};
-ghost use Rattle.capture.specs.declared.event.Event.TheVariants as Event;
 ghost use Rattle.capture.specs.declared.record.Record.TheVariants as Record;
 ghost use Rattle.capture.specs.Entries.{record_with};
 ghost use Rattle.capture.specs.Range.{NumbersFit};
 ghost use Rattle.capture.specs.declared.limit.TheConstants.{MAX_HINT};
-ghost use Rattle.dna_links.specs.User.{view};
-ghost use Rattle.pair_judge.specs.Counting.{delivers, shows_damage};
-ghost use Rattle.pair_judge.specs.Events.{IsOfOneLink, event_of_station, event_of_links};
+ghost use Rattle.pair_judge.specs.Counting.{shows_damage};
 ghost use Rattle.pair_judge.specs.inner.Lines.{Shows};
 ghost use Rattle.pair_judge.specs.Summary.{HasRoom};
 ghost use Rattle.pair_judge.specs.declared.line.Line.{Line};
-ghost use Rattle.pair_judge.specs.inner.Memory.{MayEnter, MayKeep, MaySend, MayTakeMemory};
-ghost use Rattle.pair_judge.specs.inner.Making.{IfFails, IfSound, IsCarriedEntry, IsEvent, LeavesWaiting, MadeIs, NeverWaits, StandsFor, move};
+ghost use Rattle.pair_judge.specs.inner.Memory.{MayKeep, MaySend, MayTakeMemory};
+ghost use Rattle.pair_judge.specs.inner.Making.{IfFails, IfSound, IsEvent, LeavesWaiting, MadeIs, NeverWaits, StandsFor, move};
 ghost use Rattle.pair_judge.specs.inner.Wire.{JudgeHalf};
 
 use crate::end::End;
+use crate::entering::enter;
 use crate::line::Line;
 use crate::noise::hear;
 use crate::receipt::{Receipt, receive};
@@ -25,9 +23,7 @@ use crate::sending::send;
 use crate::step_fault::StepFault;
 use crate::top::Top;
 use capture::{Entry, Fate};
-use ddcmp_station::StationEvent;
 use dna_station::StepRefusal;
-use nsp_link::LinkEvent;
 use std::alloc::{AllocError, Global};
 
 /// What became of a record.
@@ -108,34 +104,10 @@ fn make_event<T: Top>(own: &mut End, entry: Entry, bytes: &[u8]) -> Result<Made,
     ensures memory { IfErr result (λ _. MayTakeMemory T.top.machine own.old.layers (record_with entry bytes.now)) }
     ensures head { own.new.head ≡ own.old.head }
 {
-    match entry {
-        Entry::Start => Ok(make_station_event::<T>(own, StationEvent::Start)),
-        Entry::Halt => Ok(make_station_event::<T>(own, StationEvent::Halt)),
-        Entry::Open { link } => make_link_event::<T>(own, LinkEvent::Open { link }),
-        Entry::Accept { partner, link } => make_link_event::<T>(
-            own,
-            LinkEvent::Accept { partner, link },
-        ),
-        Entry::Reject { partner, link } => make_link_event::<T>(
-            own,
-            LinkEvent::Reject { partner, link },
-        ),
-        Entry::In { link } => {
-            let message = bytes;
-            make_link_event::<T>(own, LinkEvent::In { link, message })
-        }
-        Entry::Up { link } => {
-            let message = bytes;
-            make_link_event::<T>(own, LinkEvent::Up { link, message })
-        }
-        Entry::Close { link } => make_link_event::<T>(own, LinkEvent::Close { link }),
-        Entry::Boot => Ok(make_boot::<T>(own)),
-        Entry::Abort { link } => make_link_event::<T>(own, LinkEvent::Abort { link }),
-        Entry::Composed => make_composed::<T>(own, bytes),
-        Entry::Interrupt { .. } | Entry::Interrupted { .. } => Ok(make_carried::<T>(
-            own, entry, bytes,
-        )),
-        Entry::Sent | Entry::Received { .. } | Entry::Noise => unreachable!(),
+    match enter::<T>(&mut own.layers, &mut own.counts, entry, bytes) {
+        Ok(()) => Ok(Made::Done { sound: false }),
+        Err(StepFault::Refused(refusal)) => Ok(Made::Fails(refusal)),
+        Err(StepFault::OutOfMemory) => Err(AllocError),
     }
 }
 
@@ -216,122 +188,5 @@ fn make_noise<T: Top>(own: &mut End, bytes: &[u8]) -> Made
             Made::Done { sound: false }
         }
         Err(refusal) => Made::Fails(refusal),
-    }
-}
-
-#[inline(always)]
-fn make_station_event<T: Top>(own: &mut End, event: StationEvent) -> Made
-    requires { HasRoom own.old }
-    ensures made { (incoming : Line) (mine theirs : JudgeHalf) →
-        StandsFor own.old incoming mine → Shows incoming theirs.sent →
-        MadeIs T.top result (move own.old own.new incoming incoming) (Record.User (event_of_station event)) mine theirs }
-    ensures sound { IfSound result ⊥ }
-    ensures waits { NeverWaits result }
-    ensures counts { IfFails result (own.new.counts ≡ own.old.counts) }
-    ensures still { IfFails result (own.new ≡ own.old) }
-    ensures head { own.new.head ≡ own.old.head }
-{
-    match T::start_or_halt(&mut own.layers, event) {
-        Ok(()) => {
-            own.counts = own.counts.with_station_event(event);
-            Made::Done { sound: false }
-        }
-        Err(refusal) => Made::Fails(refusal),
-    }
-}
-
-#[inline(always)]
-fn make_link_event<T: Top>(own: &mut End, event: LinkEvent) -> Result<Made, AllocError>
-    requires room { HasRoom own.old }
-    requires one { IsOfOneLink (view event) }
-    ensures made { IfOk result (λ made. (incoming : Line) (mine theirs : JudgeHalf) →
-        StandsFor own.old incoming mine → Shows incoming theirs.sent →
-        MadeIs T.top made (move own.old own.new incoming incoming) (Record.User (event_of_links (view event.entry))) mine theirs) }
-    ensures sound { IfOk result (λ made. IfSound made ⊥) }
-    ensures waits { IfOk result NeverWaits }
-    ensures counts { IfOk result (λ made. IfFails made (own.new.counts ≡ own.old.counts)) }
-    ensures still { IfOk result (λ made. IfFails made (own.new ≡ own.old)) }
-    ensures memory { IfErr result (λ _.
-        MayEnter T.top.machine own.old.layers (event_of_links (view event.entry)) (Some (view event.entry))) }
-    ensures head { own.new.head ≡ own.old.head }
-{
-    let delivers = is_delivery(&event);
-    match T::at_links(&mut own.layers, event) {
-        Ok(()) => {
-            own.counts = own.counts.with_link_event(delivers);
-            Ok(Made::Done { sound: false })
-        }
-        Err(StepFault::Refused(refusal)) => Ok(Made::Fails(refusal)),
-        Err(StepFault::OutOfMemory) => Err(AllocError),
-    }
-}
-
-// The node starts anew.
-#[inline(always)]
-fn make_boot<T: Top>(own: &mut End) -> Made
-    requires { HasRoom own.old }
-    ensures made { (incoming : Line) (mine theirs : JudgeHalf) →
-        StandsFor own.old incoming mine → Shows incoming theirs.sent →
-        MadeIs T.top result (move own.old own.new incoming incoming) (Record.User Event.Boot) mine theirs }
-    ensures sound { IfSound result ⊥ }
-    ensures waits { NeverWaits result }
-    ensures counts { IfFails result (own.new.counts ≡ own.old.counts) }
-    ensures still { IfFails result (own.new ≡ own.old) }
-    ensures head { own.new.head ≡ own.old.head }
-{
-    T::boot(&mut own.layers);
-    own.counts = own.counts.with_link_event(false);
-    Made::Done { sound: false }
-}
-
-// A packet is composed that will never be sent.
-#[inline(always)]
-fn make_composed<T: Top>(own: &mut End, packet: &[u8]) -> Result<Made, AllocError>
-    requires { HasRoom own.old }
-    ensures made { IfOk result (λ made. (incoming : Line) (mine theirs : JudgeHalf) →
-        StandsFor own.old incoming mine → Shows incoming theirs.sent →
-        MadeIs T.top made (move own.old own.new incoming incoming) (Record.User (Event.Composed packet.now)) mine theirs) }
-    ensures sound { IfOk result (λ made. IfSound made ⊥) }
-    ensures waits { IfOk result NeverWaits }
-    ensures counts { IfOk result (λ made. IfFails made (own.new.counts ≡ own.old.counts)) }
-    ensures still { IfOk result (λ made. IfFails made (own.new ≡ own.old)) }
-    ensures head { own.new.head ≡ own.old.head }
-{
-    match T::composed(&mut own.layers, packet) {
-        Ok(()) => {
-            own.counts = own.counts.with_link_event(false);
-            Ok(Made::Done { sound: false })
-        }
-        Err(StepFault::Refused(refusal)) => Ok(Made::Fails(refusal)),
-        Err(StepFault::OutOfMemory) => Err(AllocError),
-    }
-}
-
-// An event that is carried, and not judged.
-#[inline(always)]
-fn make_carried<T: Top>(own: &mut End, entry: Entry, bytes: &[u8]) -> Made
-    requires room { HasRoom own.old }
-    requires carried { IsCarriedEntry entry }
-    ensures made { (incoming : Line) (mine theirs : JudgeHalf) →
-        StandsFor own.old incoming mine → Shows incoming theirs.sent →
-        MadeIs T.top result (move own.old own.new incoming incoming) (record_with entry bytes.now) mine theirs }
-    ensures sound { IfSound result ⊥ }
-    ensures waits { NeverWaits result }
-    ensures counts { IfFails result (own.new.counts ≡ own.old.counts) }
-    ensures still { IfFails result (own.new ≡ own.old) }
-    ensures head { own.new.head ≡ own.old.head }
-{
-    T::carries();
-    own.counts = own.counts.with_link_event(false);
-    Made::Done { sound: false }
-}
-
-// Whether a message is delivered.
-pub fn is_delivery(event: &LinkEvent) -> bool
-    ensures { result ≡ delivers (event_of_links (view event.now)) }
-{
-    match event {
-        LinkEvent::Up { .. } => true,
-        _ => false,
     }
 }

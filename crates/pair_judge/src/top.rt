@@ -1,7 +1,6 @@
 //! What is on top of the stations that the judge runs: their links (`layers/linked`), or nothing (`layers/alone`).
 
 ghost use Rattle.std.specs.Prelude.{◌≡◌, ◌+◌, ◌^◌, ◌<◌, ◌≤◌, Ok, Err, List, None, Some, IsOk, OnOk, OnErr, IfOk, IfErr};
-ghost use Rattle.two_nodes.specs.Nodes.{Run};
 ghost use Rattle.ddcmp_msg.specs.Message.{MessageValue, view};
 ghost use Rattle.ddcmp_msg.specs.Reading.{ReadingValue};
 ghost use Rattle.ddcmp_station.specs.Arrival.{arrival_view};
@@ -15,15 +14,15 @@ ghost use Rattle.dna_station.specs.WireBook.{wire_sending_refusal};
 ghost use Rattle.dna_station.specs.WireStation.{load};
 ghost use Rattle.dna_links.specs.User.{view as link_view};
 ghost use Rattle.dna_node.specs.Alone.{unknown_tag};
-ghost use Rattle.dna_node.specs.WireLayers.{WireLayers, of_no_link, wire_layers_start};
+ghost use Rattle.dna_node.specs.WireLayers.{WireLayers, of_no_link};
 ghost use Rattle.pair_judge.specs.Events.{IsCarried, IsOfOneLink, event_of_station, event_of_links};
 ghost use Rattle.pair_judge.specs.inner.Delivering.{DeliversInOrder};
 ghost use Rattle.pair_judge.specs.inner.Memory.{IfNoMemory, MayEnter, MayKeep};
-ghost use Rattle.pair_judge.specs.inner.Reached.{IsShown};
+ghost use Rattle.pair_judge.specs.inner.Reached.{ShowsRuns};
 ghost use Rattle.pair_judge.specs.inner.Receipts.{is_damage};
 ghost use Rattle.pair_judge.specs.inner.Steps.{IfRefused, with_link};
 ghost use Rattle.pair_judge.specs.inner.Unit.{tags_of};
-ghost use Rattle.pair_judge.specs.inner.Wire.{EndsAlike, JudgeTop, JudgeWorld, judge_hears, judge_pair};
+ghost use Rattle.pair_judge.specs.inner.Wire.{EndsAlike, JudgeTop, judge_hears};
 
 use crate::held_link::HeldLink;
 use crate::layers::Layers;
@@ -130,8 +129,7 @@ pub trait Top {
 
     /// What a run of the wire nodes shows of nodes of the kind, as a function that does nothing.
     fn shows()
-        ensures { (head_a head_b : Head) (w : JudgeWorld) (of_a of_b : List Record)
-            → Run (judge_pair top) (wire_layers_start head_a head_b) of_a of_b w → IsShown top head_a head_b w of_a of_b };
+        ensures { ShowsRuns top };
 
     /// What a run of nodes of the kind delivers, as a function that does nothing.
     fn delivers()

@@ -1,7 +1,7 @@
 //! Which check the refused record of two texts does not pass.
 
 use nsp_link::{FailedLinkSending, NextPiece, Numbers, PieceShape, WITHOUT_QUEUES};
-use pair_judge::{FailedCheck, judge_with_ends};
+use pair_judge::{FailedCheck, Nobody, judge_watched};
 use std::alloc::Global;
 use wire_base::{Side, Tally};
 
@@ -25,8 +25,8 @@ fn failed(alloc: Global, a: &str, rest: &str, b: &str) -> Option<(Side, FailedCh
     };
     let mut of_a = Tally::new(text.as_bytes());
     let mut of_b = Tally::new(b.as_bytes());
-    match judge_with_ends(alloc, &mut of_a, &mut of_b) {
-        Ok(ends) => ends.failed::<WITHOUT_QUEUES>(),
+    match judge_watched(alloc, &mut of_a, &mut of_b, Nobody) {
+        Ok(watched) => watched.ends.failed::<WITHOUT_QUEUES>(),
         Err(_) => None,
     }
 }

@@ -3,7 +3,7 @@ use ddcmp_msg::{Flags, Message, Reading, read_unit};
 use ddcmp_station::{DataByte, FailedSending, OpenCauses, State, StationView};
 use dna_links::{LinkQueue, Phase, Port, Said};
 use nsp_link::{FailedLinkSending, LinkNumbers, LinkView, NextPiece, PieceShape};
-use pair_judge::{FailedCheck, JudgedEnds, Reason, Verdict, judge_with_ends};
+use pair_judge::{FailedCheck, JudgedEnds, Nobody, Reason, Verdict, judge_watched};
 use std::alloc::{AllocError, Global};
 use why::{
     Accusation, Addresses, AlsoAsked, Check, CheckObject, Differing, EditsTried, Fronts, Lines,
@@ -239,10 +239,11 @@ fn a_refusal_is_told_whole(rt: HostRuntime) -> Result<(), AllocError> {
     let alloc = rt.alloc();
     let mut a = Tally::new(NOT_SET_BACK_A.as_bytes());
     let mut b = Tally::new(NOT_SET_BACK_B.as_bytes());
-    let Ok(ends) = judge_with_ends(alloc, &mut a, &mut b) else {
+    let Ok(watched) = judge_watched(alloc, &mut a, &mut b, Nobody) else {
         assert!(rt; false, "no verdict");
         return Ok(());
     };
+    let ends = watched.ends;
     let Some(refusal) = not_set_back(&ends) else {
         assert!(rt; false, "no record is refused");
         return Ok(());

@@ -4,6 +4,7 @@ use Rattle.ddcmp_msg.specs.Message.{MessageValue}
 use Rattle.ddcmp_msg.specs.Reading.{ReadingValue}
 use Rattle.capture.specs.declared.fate.Fate.{Fate}
 use Rattle.capture.specs.declared.record.Record.{Record}
+use Rattle.capture.specs.Reader.{CaptureState}
 use Rattle.dna_station.specs.declared.head.Head.{Head}
 use Rattle.dna_station.specs.WireStation.{load}
 use Rattle.dna_node.specs.WireLayers.{WireLayers, WireLayersNode}
@@ -21,6 +22,10 @@ use Rattle.pair_judge.specs.EndJudged.{accused_view}
 use Rattle.pair_judge.specs.Summary.{HasRoomFor, counted}
 use Rattle.pair_judge.specs.inner.Receipts.{node_at}
 use Rattle.pair_judge.specs.inner.Wire.{JudgeTop}
+
+-- the head of a capture that is read
+abbrev pub head_in : CaptureState → Head
+head_in capture = record { own = capture.own; peer = capture.peer }
 
 abbrev pub node_of_end : LoneEnd → WireLayersNode
 node_of_end end = node_at end.head end.layers end.front

@@ -63,6 +63,12 @@ module _ (top : JudgeTop) where
     pub shows_a : ShowsHalf w.a world.a
     pub shows_b : ShowsHalf w.b world.b
 
+  -- whatever run
+  abbrev pub ShowsRuns : Type 0
+  ShowsRuns =
+      (head_a head_b : Head) (w : JudgeWorld) (of_a of_b : List Record) → Run (judge_pair top) (wire_layers_start head_a head_b) of_a of_b w →
+      IsShown head_a head_b w of_a of_b
+
   -- these records, which can be made in this order, lead to a world that the two ends stand for
   pub record HasReached (order : List MadeRecord) (a b : End) (made_a made_b : List Record) : Type 0 where
     pub world : JudgeWorld

@@ -1,6 +1,6 @@
 //! A station with nothing on top: its packets are any bytes, and are not read.
 
-ghost use Rattle.pair_judge.specs.inner.Tops.{nothing_on_top};
+ghost use Rattle.pair_judge.specs.inner.Tops.{nothing_top};
 
 use super::Layers;
 use crate::held_link::HeldLink;
@@ -15,11 +15,12 @@ use dna_station::{StepRefusal, captures_deliver_in_order, wire_nodes_see_right};
 use nsp_link::LinkEvent;
 use std::alloc::AllocError;
 
-/// Nothing: packets are any bytes, and what the links' user does is not judged.
-pub struct NothingOnTop;
+/// Nothing: packets are any bytes, and what the links' user does is not judged. The station acts on what comes of its period, or of any, by its bytes
+/// (`OF_PERIOD`).
+pub struct NothingOnTop<const OF_PERIOD: bool>;
 
-impl Top for NothingOnTop {
-    ghost top = { nothing_on_top };
+impl<const OF_PERIOD: bool> Top for NothingOnTop<OF_PERIOD> {
+    ghost top = { nothing_top OF_PERIOD };
 
     #[inline(always)]
     fn start_or_halt(layers: &mut Layers, event: StationEvent) -> Result<(), StepRefusal> {
@@ -68,7 +69,10 @@ impl Top for NothingOnTop {
         _link: &HeldLink,
         fate: Fate,
     ) -> Result<(), StepFault> {
-        match layers.station.ask_arrival::<true>(arrival, fate.is_kept()) {
+        match layers
+            .station
+            .ask_arrival::<OF_PERIOD>(arrival, fate.is_kept())
+        {
             Ok(permit) => {
                 layers.station.arrive(arrival, permit.row, fate.is_kept());
                 Ok(())

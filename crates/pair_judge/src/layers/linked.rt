@@ -1,7 +1,7 @@
-//! The links of each side on top of its station.
+//! The links of each side on top of its station, which asks the period of what comes, or does not.
 
 ghost use Rattle.nsp_link.specs.Kinds.{queues_of};
-ghost use Rattle.pair_judge.specs.inner.Tops.{links_on_top_by};
+ghost use Rattle.pair_judge.specs.inner.Tops.{links_top};
 
 use super::{Layers, OF_NO_LINK};
 use crate::held_link::HeldLink;
@@ -18,11 +18,12 @@ use dna_node::{
 use dna_station::{StepRefusal, captures_deliver_in_order};
 use nsp_link::LinkEvent;
 
-/// The links of each side, on both layers, whose NSP has queues or has none.
-pub struct LinksOnTop<const QUEUES: u8>;
+/// The links of each side, on both layers, whose NSP has queues or has none (`QUEUES`). The station acts on what comes of its period, or of any, by its
+/// bytes (`OF_PERIOD`).
+pub struct LinksOnTop<const OF_PERIOD: bool, const QUEUES: u8>;
 
-impl<const QUEUES: u8> Top for LinksOnTop<QUEUES> {
-    ghost top = { links_on_top_by (queues_of QUEUES) };
+impl<const OF_PERIOD: bool, const QUEUES: u8> Top for LinksOnTop<OF_PERIOD, QUEUES> {
+    ghost top = { links_top OF_PERIOD (queues_of QUEUES) };
 
     #[inline(always)]
     fn start_or_halt(layers: &mut Layers, event: StationEvent) -> Result<(), StepRefusal> {
@@ -56,7 +57,7 @@ impl<const QUEUES: u8> Top for LinksOnTop<QUEUES> {
         link: &HeldLink,
         fate: Fate,
     ) -> Result<(), StepFault> {
-        layers.arrived::<true, true, QUEUES>(arrival, link, fate)
+        layers.arrived::<OF_PERIOD, true, QUEUES>(arrival, link, fate)
     }
 
     fn arrived_unknown(layers: &mut Layers, arrival: Arrival, fate: Fate) -> Result<(), StepFault> {

@@ -14,14 +14,15 @@ use Rattle.pair_judge.specs.inner.Lines.{held}
 use Rattle.pair_judge.specs.inner.Receipts.{node_of}
 use Rattle.pair_judge.specs.inner.Runs.{tag_of}
 use Rattle.pair_judge.proofs.Runs.{length-units_from}
-use Rattle.pair_judge.proofs.Sent.{held_at, item_within, released}
-use Rattle.pair_judge.proofs.Comes.{receives_back, receives_at, comes_met, comes_refused}
+use Rattle.dna_links.proofs.Runs.Owners.{there_is}
+use Rattle.pair_judge.proofs.Sent.{held_at, released}
+use Rattle.pair_judge.proofs.Comes.{receives_back, receives_at, comes_by}
 use Rattle.pair_judge.proofs.receipt.receive.Goals as goal
 
 -- the hint lies below the front, so its unit was sent
 pub returns-then-hint-line-clause-receipt : goal.returns-then-hint-line-clause-receipt
 returns-then-hint-line-clause-receipt g c = λ sent shows.
-    let item = item_within sent c.args.hint (omega (arith, shows.within)) in (
+    let item = there_is sent c.args.hint (omega (arith, shows.within)) in (
       item.0,
       item.1,
       λ head. receives_back g.T.Top.top (node_of head c.args.layers.now c.args.line.now) c.args.hint c.args.fate c.args.bytes.now item.0
@@ -71,7 +72,7 @@ returns-in-Ok-clause-receipt g c = λ sent shows.
         unit = unit;
         was_sent = was_sent;
         step = λ head. receives_at g.T.Top.top (n head) c.args.hint c.args.fate c.args.bytes.now unit (Some arrival) c.if-hint-line.false comes ∙
-            comes_met g.T.Top.top (n head) c.args.hint c.args.fate arrival c.arrived.new.layers
+            comes_by g.T.Top.top (n head) c.args.hint c.args.fate arrival (Ok c.arrived.new.layers)
             (at_link (λ link. g.T.Top.top.machine.arrives c.args.layers.now (with_link link (arrival_view c.in-Some-coming.arrival)) c.args.fate ≡ Ok
             c.arrived.new.layers) c.in-Ok.ensures.ok) ∙ ap Ok (stepped head);
         shows = released c.args.line.now c.release.new.self sent c.args.hint shows c.if-hint-line.false
@@ -93,7 +94,7 @@ returns-in-Err-Refused-clause-receipt g c = λ sent shows.
       unit,
       was_sent,
       λ head. receives_at g.T.Top.top (n head) c.args.hint c.args.fate c.args.bytes.now unit (Some arrival) c.if-hint-line.false comes ∙
-          comes_refused g.T.Top.top (n head) c.args.hint c.args.fate arrival c.in-Err-Refused.refusal
+          comes_by g.T.Top.top (n head) c.args.hint c.args.fate arrival (Err c.in-Err-Refused.refusal)
           (at_link (λ link. g.T.Top.top.machine.arrives c.args.layers.now (with_link link (arrival_view c.in-Some-coming.arrival)) c.args.fate ≡ Err
           c.in-Err-Refused.refusal) (rw c.in-Err-Refused.field-0-is at c.in-Err-Refused.ensures.refused)),
     )

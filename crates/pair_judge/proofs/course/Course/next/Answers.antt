@@ -7,7 +7,7 @@ use Rattle.pair_judge.proofs.course.Course.next.Goals as goal
 pub returns-in-Ok-Some-clause-next : goal.returns-in-Ok-Some-clause-next
 returns-in-Ok-Some-clause-next g c =
     let w = c.text_read_on.ensures in
-    let laws : GrowingLaws = record { one_more = w.one_more; ended = w.ended } in
+    let laws : GrowingLaws = record { opened = w.opened; one_more = w.one_more; ended = w.ended } in
     let head = c.in-Ok-Some.ensures.head in
     let reading = subst (λ (a : Ahead). MayReadAhead a c.args.self.now.capture) c.in-Unread.is c.requires in
     let gives = rw c.in-Ok-Some.field-0-is at c.in-Ok-Some.ensures.gives reading in

@@ -1,6 +1,0 @@
-use Rattle.nsp_link.specs.Kinds.{queues_of}
-use Rattle.pair_judge.proofs.EndsAlone.{layers_end_alike}
-use Rattle.pair_judge.proofs.layers.any_period.LinksOfAnyPeriodTop.shows_alone.Goals as goal
-
-pub returns-clause-ends : goal.returns-clause-ends
-returns-clause-ends g c = layers_end_alike _ _ _ (queues_of g.row.QUEUES)
