@@ -7,8 +7,8 @@ ghost use Rattle.ddcap.specs.PrintedAlone.{end_of};
 
 use crate::all_judged::{AllFault, Captures, in_memory, of_text, read_again, read_on};
 use crate::all_left::{Beyond, NotJudged};
-use crate::all_nodes::wrong_nodes_at;
 use crate::all_pair::Telling;
+use crate::all_read::{address_of, head_of, text_left, wrong_node_of};
 use crate::all_told::{Answer, Refusal};
 use crate::end_telling::{EndPrintout, end_refused_text};
 use crate::end_text::{end_status, end_text};
@@ -20,7 +20,7 @@ use crate::onlooker::{Onlooker, Originals};
 use crate::telling::Form;
 use crate::text::{FAULTY, line_fault_text};
 use capture::CaptureFault;
-use leaving_out::{Head, address_at, bind_all, head, left_out};
+use leaving_out::{Head, bind_all};
 use link_groups::{Groups, OwnAddress};
 use pair_judge::{Accused, EndVerdict, Reason, WatchedEnd, judge_line_end};
 use std::alloc::{AllocError, Global};
@@ -49,22 +49,16 @@ impl<A: Read + Seek> Captures for EndCapture<'_, '_, A> {
         alloc: Global,
         refusal: Refusal,
     ) -> Result<Option<OwnAddress>, AllFault> {
-        let found = address_at(
-            alloc,
-            Side::A,
-            refusal.place,
-            &mut read_again(Side::A, self.a)?,
-        );
-        of_text(Side::A, found)
+        address_of(alloc, Side::A, refusal.place, self.a)
     }
 
     fn judged(&mut self, alloc: Global, not_judged: &NotJudged) -> Result<Answer, AllFault> {
-        let text = self.left(alloc, not_judged)?;
+        let text = text_left(alloc, Side::A, not_judged, self.a)?;
         match self.telling {
             Telling::Explained => {
                 let groups = in_memory(Groups::new(alloc))?;
                 let judges_all = self.all_judged(alloc, groups)?;
-                let whole = self.left(alloc, &judges_all)?;
+                let whole = text_left(alloc, Side::A, &judges_all, self.a)?;
                 let rows = in_memory(LastRows::new(alloc))?;
                 let originals = in_memory(Originals::new(alloc, rows, &whole, &[]))?;
                 self.answer_left(alloc, not_judged, Onlooker::Originals(originals), &text)
@@ -93,19 +87,12 @@ impl<A: Read + Seek> Captures for EndCapture<'_, '_, A> {
 impl<A: Read + Seek> EndCapture<'_, '_, A> {
     // Nothing is left out. These belong together.
     fn all_judged(&mut self, alloc: Global, groups: Groups) -> Result<NotJudged, AllFault> {
-        let own = of_text(Side::A, head(alloc, &mut read_again(Side::A, self.a)?))?;
+        let own = head_of(alloc, Side::A, self.a)?;
         let other = Head {
             own: own.peer,
             peer: own.own,
         };
         in_memory(NotJudged::nothing(alloc, groups, own, other))
-    }
-
-    // The text of what is left of the capture.
-    fn left(&mut self, alloc: Global, not_judged: &NotJudged) -> Result<Vec<u8>, AllFault> {
-        let leaving = not_judged.leaving();
-        let text = left_out(alloc, Side::A, &leaving, &mut read_again(Side::A, self.a)?);
-        of_text(Side::A, text)
     }
 
     /// The answer on the capture itself, from where the file is.
@@ -147,9 +134,7 @@ impl<A: Read + Seek> EndCapture<'_, '_, A> {
         match judge_text(alloc, self.printout.layers, onlooker, text) {
             Ok(watched) => {
                 let made = watched.end.records();
-                let mut reader = read_again(Side::A, self.a)?;
-                let at = wrong_nodes_at(alloc, Side::A, not_judged, made, &mut reader);
-                match of_text(Side::A, at)? {
+                match wrong_node_of(alloc, Side::A, not_judged, made, self.a)? {
                     Some(place) => self.answer(alloc, wrong_node(place)),
                     None => self.answer_watched(alloc, watched),
                 }

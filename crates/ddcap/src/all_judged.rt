@@ -1,5 +1,7 @@
 //! All that refuses captures: they are judged again, each time without what was refused before.
 
+ghost use Rattle.std.specs.Prelude.{◌≡◌, IfOk, Ok};
+
 use crate::all_left::{Beyond, NotJudged};
 use crate::all_told::{AllTold, Answer, MOST_TOLD, Refusal};
 use crate::check::print;
@@ -182,7 +184,9 @@ pub fn read_again<R: Read + Seek>(side: Side, file: &mut R) -> Result<Tally<&mut
 }
 
 /// What was read of the text of this side, or why it was not.
-pub fn of_text<T>(side: Side, read: Result<T, CaptureFault>) -> Result<T, AllFault> {
+pub fn of_text<T>(side: Side, read: Result<T, CaptureFault>) -> Result<T, AllFault>
+    ensures { IfOk result (λ value. read ≡ Ok value) }
+{
     match read {
         Ok(read) => Ok(read),
         Err(CaptureFault::OutOfMemory) => Err(AllFault::OUT_OF_MEMORY),
@@ -200,7 +204,9 @@ pub fn of_text<T>(side: Side, read: Result<T, CaptureFault>) -> Result<T, AllFau
 }
 
 /// What was made in memory, or that there is none.
-pub fn in_memory<T>(made: Result<T, AllocError>) -> Result<T, AllFault> {
+pub fn in_memory<T>(made: Result<T, AllocError>) -> Result<T, AllFault>
+    ensures { IfOk result (λ value. made ≡ Ok value) }
+{
     match made {
         Ok(made) => Ok(made),
         Err(AllocError) => Err(AllFault::OUT_OF_MEMORY),

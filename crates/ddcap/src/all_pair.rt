@@ -1,20 +1,22 @@
 //! All that refuses a pair of captures: `check --all`, `why --all`, `draw --all`.
 
-ghost use Rattle.std.specs.Prelude.{Some};
+ghost use Rattle.std.specs.Prelude.{IfOk, Some};
+ghost use Rattle.wire_base.specs.Tally.{tally_lent};
 ghost use Rattle.pair_judge.specs.Ends.{verdict_in};
 ghost use Rattle.pair_judge.specs.Judged.{IsAnswer};
 ghost use Rattle.pair_judge.specs.Watched.{only};
 ghost use Rattle.ddcap.specs.Layers.{nodes_asked};
+ghost use Rattle.ddcap.specs.inner.AllLeft.{AreBoundByBoth};
 
 use crate::all_judged::{AllFault, Captures, in_memory, of_text, read_again, read_on};
 use crate::all_left::NotJudged;
-use crate::all_nodes::wrong_nodes_at;
+use crate::all_read::{address_of, head_of, text_left, wrong_node_of};
 use crate::all_told::{Answer, Refusal};
 use crate::last_rows::LastRows;
 use crate::layers::{Layers, judge_over, watch_any_period_over, watch_over};
 use crate::onlooker::{Onlooker, Originals};
 use crate::telling::Printout;
-use leaving_out::{address_at, bind_all, head, left_out};
+use leaving_out::bind_all;
 use link_groups::{Groups, OwnAddress};
 use pair_judge::{JudgeFault, Reason, Verdict, Watched, judge_line, judge_line_any_period};
 use std::alloc::Global;
@@ -50,13 +52,9 @@ pub struct LeftTexts {
 
 impl<A: Read + Seek, B: Read + Seek> Captures for PairCaptures<'_, '_, '_, A, B> {
     fn bound(&mut self, alloc: Global) -> Result<NotJudged, AllFault> {
-        let mut groups = in_memory(Groups::new(alloc))?;
-        let mut reader_a = read_again(Side::A, self.a)?;
-        let of_a = bind_all(alloc, Side::A, false, &mut reader_a, &mut groups);
-        of_text(Side::A, of_a)?;
-        let mut reader_b = read_again(Side::B, self.b)?;
-        let of_b = bind_all(alloc, Side::B, false, &mut reader_b, &mut groups);
-        of_text(Side::B, of_b)?;
+        let again_a = read_again(Side::A, self.a);
+        let again_b = read_again(Side::B, self.b);
+        let groups = groups_of_both(alloc, again_a, again_b)?;
         self.all_judged(alloc, groups)
     }
 
@@ -66,11 +64,10 @@ impl<A: Read + Seek, B: Read + Seek> Captures for PairCaptures<'_, '_, '_, A, B>
         refusal: Refusal,
     ) -> Result<Option<OwnAddress>, AllFault> {
         let Refusal { side, place, .. } = refusal;
-        let found = match side {
-            Side::A => address_at(alloc, side, place, &mut read_again(side, self.a)?),
-            Side::B => address_at(alloc, side, place, &mut read_again(side, self.b)?),
-        };
-        of_text(side, found)
+        match side {
+            Side::A => address_of(alloc, side, place, self.a),
+            Side::B => address_of(alloc, side, place, self.b),
+        }
     }
 
     fn judged(&mut self, alloc: Global, not_judged: &NotJudged) -> Result<Answer, AllFault> {
@@ -123,18 +120,15 @@ impl<A: Read + Seek, B: Read + Seek> PairCaptures<'_, '_, '_, A, B> {
 
     // Nothing is left out. These belong together.
     fn all_judged(&mut self, alloc: Global, groups: Groups) -> Result<NotJudged, AllFault> {
-        let head_of_a = of_text(Side::A, head(alloc, &mut read_again(Side::A, self.a)?))?;
-        let head_of_b = of_text(Side::B, head(alloc, &mut read_again(Side::B, self.b)?))?;
+        let head_of_a = head_of(alloc, Side::A, self.a)?;
+        let head_of_b = head_of(alloc, Side::B, self.b)?;
         in_memory(NotJudged::nothing(alloc, groups, head_of_a, head_of_b))
     }
 
     /// The texts of what is left of both captures.
     pub fn left(&mut self, alloc: Global, not_judged: &NotJudged) -> Result<LeftTexts, AllFault> {
-        let leaving = not_judged.leaving();
-        let a = left_out(alloc, Side::A, &leaving, &mut read_again(Side::A, self.a)?);
-        let a = of_text(Side::A, a)?;
-        let b = left_out(alloc, Side::B, &leaving, &mut read_again(Side::B, self.b)?);
-        let b = of_text(Side::B, b)?;
+        let a = text_left(alloc, Side::A, not_judged, self.a)?;
+        let b = text_left(alloc, Side::B, not_judged, self.b)?;
         Ok(LeftTexts { a, b })
     }
 
@@ -169,14 +163,10 @@ impl<A: Read + Seek, B: Read + Seek> PairCaptures<'_, '_, '_, A, B> {
         made_a: u64,
         made_b: u64,
     ) -> Result<Option<Verdict>, AllFault> {
-        let mut reader_a = read_again(Side::A, self.a)?;
-        let at_a = wrong_nodes_at(alloc, Side::A, not_judged, made_a, &mut reader_a);
-        if let Some(place) = of_text(Side::A, at_a)? {
+        if let Some(place) = wrong_node_of(alloc, Side::A, not_judged, made_a, self.a)? {
             return Ok(Some(wrong_node(Side::A, place)));
         }
-        let mut reader_b = read_again(Side::B, self.b)?;
-        let at_b = wrong_nodes_at(alloc, Side::B, not_judged, made_b, &mut reader_b);
-        match of_text(Side::B, at_b)? {
+        match wrong_node_of(alloc, Side::B, not_judged, made_b, self.b)? {
             Some(place) => Ok(Some(wrong_node(Side::B, place))),
             None => Ok(None),
         }
@@ -188,6 +178,25 @@ impl<A: Read + Seek, B: Read + Seek> PairCaptures<'_, '_, '_, A, B> {
         let not_judged = self.all_judged(alloc, groups)?;
         self.left(alloc, &not_judged)
     }
+}
+
+// What belongs together by the texts of both captures. A fault of a's file is told before one of b's.
+fn groups_of_both<A: Read + Drop, B: Read + Drop>(
+    alloc: Global,
+    again_a: Result<Tally<A>, AllFault>,
+    again_b: Result<Tally<B>, AllFault>,
+) -> Result<Groups, AllFault>
+    ensures { IfOk again_a (λ a. IfOk again_b (λ b. IfOk result (λ groups.
+        AreBoundByBoth (A.remaining (tally_lent a)) (B.remaining (tally_lent b)) groups))) }
+{
+    let mut groups = in_memory(Groups::new(alloc))?;
+    let mut reader_a = again_a?;
+    let of_a = bind_all(alloc, Side::A, false, &mut reader_a, &mut groups);
+    of_text(Side::A, of_a)?;
+    let mut reader_b = again_b?;
+    let of_b = bind_all(alloc, Side::B, false, &mut reader_b, &mut groups);
+    of_text(Side::B, of_b)?;
+    Ok(groups)
 }
 
 // This record is refused for the nodes of its packet.

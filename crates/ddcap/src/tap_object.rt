@@ -159,15 +159,26 @@ fn put_refused(
     put_reason(alloc, object, reason)
 }
 
-// The units that no right node sent.
+// The units that no right node sent, and those that one sent only if it dropped packets that it had composed.
 fn put_accused(alloc: Global, object: &mut Vec<u8>, accused: Accused) -> Result<(), AllocError> {
     put(object, ", \"accused\": [")?;
-    put_one_accused(alloc, object, accused.a)?;
-    if accused.a.is_some() && accused.b.is_some() {
+    put_both_accused(alloc, object, accused.a, accused.b)?;
+    put(object, "], \"accused_unless_dropped\": [")?;
+    put_both_accused(alloc, object, accused.segment_a, accused.segment_b)?;
+    put(object, "]")
+}
+
+fn put_both_accused(
+    alloc: Global,
+    object: &mut Vec<u8>,
+    a: Option<Passed>,
+    b: Option<Passed>,
+) -> Result<(), AllocError> {
+    put_one_accused(alloc, object, a)?;
+    if a.is_some() && b.is_some() {
         put(object, ", ")?;
     }
-    put_one_accused(alloc, object, accused.b)?;
-    put(object, "]")
+    put_one_accused(alloc, object, b)
 }
 
 fn put_one_accused(

@@ -47,8 +47,15 @@ both_accused_words None None = codes "\nno consistent explanation was found; thi
 both_accused_words None (Some of_b) = sent_by_none_words (Some of_b)
 both_accused_words (Some of_a) of_b = sent_by_none_words (Some of_a) ++ sent_by_none_words of_b
 
+-- on a line of its own, that only a node that dropped packets sends this unit
+abbrev pub dropped_words : Option Passed → List ℕ
+dropped_words None = []
+dropped_words (Some passed) =
+    codes "\na right node sends " ++ (unit_words passed ++ codes " only if it dropped packets that it had composed")
+
 abbrev pub accused_words : Accused → List ℕ
-accused_words accused = both_accused_words accused.a accused.b
+accused_words accused =
+    both_accused_words accused.a accused.b ++ (dropped_words accused.segment_a ++ dropped_words accused.segment_b)
 
 -- a reason, and whom the answer accuses
 abbrev pub reason_words : Reason → Accused → List ℕ

@@ -67,6 +67,57 @@ impl fmt::Display for SentByNoneWords {
     }
 }
 
+// A line that only a node that dropped packets sends this unit, if there is one.
+#[derive(Clone, Copy)]
+struct DroppedWords {
+    passed: Option<Passed>,
+}
+
+impl fmt::Display for DroppedWords {
+    ghost use Rattle.std.specs.Prelude.{Some};
+    ghost use Rattle.tap_answer.specs.Words.{dropped_words};
+
+    ghost output = { λ words. Some (dropped_words words.passed) };
+
+    fn fmt<W: fmt::Write>(&self, f: &mut fmt::Formatter<W>) -> fmt::Result {
+        let Some(passed) = self.passed else {
+            return Ok(());
+        };
+        let unit = UnitWords { passed };
+        write!(
+            f,
+            "\na right node sends {unit} only if it dropped packets that it had composed"
+        )
+    }
+}
+
+// Which sides no right node is.
+#[derive(Clone, Copy)]
+struct BothAccusedWords {
+    a: Option<Passed>,
+    b: Option<Passed>,
+}
+
+impl fmt::Display for BothAccusedWords {
+    ghost use Rattle.std.specs.Prelude.{Some};
+    ghost use Rattle.tap_answer.specs.Words.{both_accused_words};
+
+    ghost output = { λ words. Some (both_accused_words words.a words.b) };
+
+    fn fmt<W: fmt::Write>(&self, f: &mut fmt::Formatter<W>) -> fmt::Result {
+        let (a, b) = (self.a, self.b);
+        let of_a = SentByNoneWords { passed: a };
+        let of_b = SentByNoneWords { passed: b };
+        match (a, b) {
+            (None, None) => f.write_str(
+                "\nno consistent explanation was found; this alone accuses neither node",
+            ),
+            (None, Some(_)) => write!(f, "{of_b}"),
+            (Some(_), _) => write!(f, "{of_a}{of_b}"),
+        }
+    }
+}
+
 // Whom the answer accuses.
 #[derive(Clone, Copy)]
 struct AccusedWords {
@@ -80,16 +131,16 @@ impl fmt::Display for AccusedWords {
     ghost output = { λ words. Some (accused_words words.accused) };
 
     fn fmt<W: fmt::Write>(&self, f: &mut fmt::Formatter<W>) -> fmt::Result {
-        let Accused { a, b } = self.accused;
-        let of_a = SentByNoneWords { passed: a };
-        let of_b = SentByNoneWords { passed: b };
-        match (a, b) {
-            (None, None) => f.write_str(
-                "\nno consistent explanation was found; this alone accuses neither node",
-            ),
-            (None, Some(_)) => write!(f, "{of_b}"),
-            (Some(_), _) => write!(f, "{of_a}{of_b}"),
-        }
+        let Accused {
+            a,
+            b,
+            segment_a,
+            segment_b,
+        } = self.accused;
+        let both = BothAccusedWords { a, b };
+        let of_a = DroppedWords { passed: segment_a };
+        let of_b = DroppedWords { passed: segment_b };
+        write!(f, "{both}{of_a}{of_b}")
     }
 }
 

@@ -42,6 +42,24 @@ a 810d00020301532002020401040004090007000180ccad
 a 810d00020401511002020401040004090007000280cc5d
 ";
 
+// A link acknowledges nothing yet to a link of which no CI and no CC passed.
+const NO_LINK: &str = "ddwire 1 1.1 1.2
+a 0506c00000017595
+b 0507c00000014855
+a 810d00000101f38002020401040004090007000080cd3d
+";
+
+// A link sends segments 1, 2 and 4, and no 3.
+const GAP: &str = "ddwire 1 1.1 1.2
+a 0506c00000017595
+b 0507c00000014855
+a 810f000001018a40020204010400180000070001020002edfe
+b 8110000101014e4202010402040028070009000102000200b180
+a 810e00010201e6b002020401040020090007000100610e96
+a 810e00010301e7200202040104004009000700020062b8bf
+a 810e00010401e5100202040104006009000700040064daa4
+";
+
 fn found(alloc: Global, text: &str) -> Result<Accused, TapFault> {
     found_over(alloc, text, false)
 }
@@ -61,7 +79,7 @@ fn a_unit_that_no_right_station_sent_is_found(rt: HostRuntime) {
         found(rt.alloc(), WRONG_RESPONSE),
         Ok(Accused {
             a: Some(of_a),
-            b: None
+            ..Accused::NOBODY
         })
     );
     assert_eq!(rt; found(rt.alloc(), RIGHT), Ok(Accused::NOBODY));
@@ -73,8 +91,8 @@ fn a_unit_that_no_right_station_sent_is_found(rt: HostRuntime) {
     assert_eq!(rt;
         found(rt.alloc(), NO_START),
         Ok(Accused {
-            a: None,
-            b: Some(of_b)
+            b: Some(of_b),
+            ..Accused::NOBODY
         })
     );
 }
@@ -90,10 +108,17 @@ fn a_packet_that_no_right_node_sent_is_found(rt: HostRuntime) {
         found(rt.alloc(), BAD_NSP),
         Ok(Accused {
             a: Some(of_a),
-            b: None
+            ..Accused::NOBODY
         })
     );
     assert_eq!(rt; found_over(rt.alloc(), BAD_NSP, true), Ok(Accused::NOBODY));
+    assert_eq!(rt;
+        found(rt.alloc(), NO_LINK),
+        Ok(Accused {
+            a: Some(of_a),
+            ..Accused::NOBODY
+        })
+    );
     let of_link = Passed {
         side: Side::A,
         unit: 4,
@@ -103,7 +128,24 @@ fn a_packet_that_no_right_node_sent_is_found(rt: HostRuntime) {
         found(rt.alloc(), WRONG_ACK),
         Ok(Accused {
             a: Some(of_link),
-            b: None
+            ..Accused::NOBODY
         })
     );
+}
+
+#[test]
+fn a_segment_out_of_order_is_found(rt: HostRuntime) {
+    let of_segment = Passed {
+        side: Side::A,
+        unit: 4,
+        line: 8,
+    };
+    assert_eq!(rt;
+        found(rt.alloc(), GAP),
+        Ok(Accused {
+            segment_a: Some(of_segment),
+            ..Accused::NOBODY
+        })
+    );
+    assert_eq!(rt; found_over(rt.alloc(), GAP, true), Ok(Accused::NOBODY));
 }

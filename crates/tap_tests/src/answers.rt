@@ -18,19 +18,20 @@ r 0 0507c00000014855
 s 050100000001fc55
 ";
 
+const UNPLACED: Passed = Passed {
+    side: Side::A,
+    unit: 7,
+    line: 16,
+};
+
 #[test]
 fn an_unplaced_unit_is_named_with_the_reason(rt: HostRuntime) -> Result<(), AllocError> {
-    let passed = Passed {
-        side: Side::A,
-        unit: 7,
-        line: 16,
-    };
     let verdict = Verdict::Refused {
         side: Side::A,
         place: 20,
         reason: Reason::WrongNumber,
     };
-    let reason = Reason::WrongNumber;
+    let (passed, reason) = (UNPLACED, Reason::WrongNumber);
     assert_eq!(rt;
         said_of(Ending::Unplaced(passed), verdict, false),
         Told::Unexplained { passed, reason }
@@ -46,7 +47,14 @@ fn an_unplaced_unit_is_named_with_the_reason(rt: HostRuntime) -> Result<(), Allo
 each side is explained by itself; this accuses neither node
 "
     );
-    let text = unexplained_text(rt.alloc(), passed, reason, Accused::NOBODY)?;
+    let text = too_wide_text(rt.alloc(), passed)?;
+    assert_eq!(rt; text.as_str(), "a unit 7 line 16: too wide a choice\n");
+    Ok(())
+}
+
+#[test]
+fn whom_an_unplaced_unit_accuses_is_told(rt: HostRuntime) -> Result<(), AllocError> {
+    let text = unexplained_text(rt.alloc(), UNPLACED, Reason::WrongNumber, Accused::NOBODY)?;
     assert_eq!(rt;
         text.as_str(),
         "unexplained a unit 7 line 16: 7 WrongNumber
@@ -55,10 +63,10 @@ ddcap why shows the unit, but whom it accuses depends on what tap assumed
 "
     );
     let accused = Accused {
-        a: Some(passed),
-        b: None,
+        a: Some(UNPLACED),
+        ..Accused::NOBODY
     };
-    let text = unexplained_text(rt.alloc(), passed, reason, accused)?;
+    let text = unexplained_text(rt.alloc(), UNPLACED, Reason::WrongNumber, accused)?;
     assert_eq!(rt;
         text.as_str(),
         "unexplained a unit 7 line 16: 7 WrongNumber
@@ -66,8 +74,19 @@ whatever came to it, no right node sends a unit 7 line 16
 ddcap why shows the unit, but whom it accuses depends on what tap assumed
 "
     );
-    let text = too_wide_text(rt.alloc(), passed)?;
-    assert_eq!(rt; text.as_str(), "a unit 7 line 16: too wide a choice\n");
+    let of_segment = Accused {
+        segment_a: Some(UNPLACED),
+        ..Accused::NOBODY
+    };
+    let text = unexplained_text(rt.alloc(), UNPLACED, Reason::WrongNumber, of_segment)?;
+    assert_eq!(rt;
+        text.as_str(),
+        "unexplained a unit 7 line 16: 7 WrongNumber
+no consistent explanation was found; this alone accuses neither node
+a right node sends a unit 7 line 16 only if it dropped packets that it had composed
+ddcap why shows the unit, but whom it accuses depends on what tap assumed
+"
+    );
     Ok(())
 }
 

@@ -1,5 +1,5 @@
-//! From what passed on a line to the answer: a case of each public call of `accusing`, `accusing_links`, `placing`, `wire_tap` and `tap_answer`.
-//! They are in a crate of their own, which is proved in its tests alone.
+//! From what passed on a line to the answer: a case of each public call of `accusing`, `accusing_links`, `accusing_segments`, `placing`, `wire_tap`
+//! and `tap_answer`. They are in a crate of their own, which is proved in its tests alone.
 #![tactic(auto)]
 
 #[cfg(test)]
@@ -14,3 +14,5 @@ mod captures;
 mod links_told;
 #[cfg(test)]
 mod placings;
+#[cfg(test)]
+mod segments_told;

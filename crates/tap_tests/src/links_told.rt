@@ -38,6 +38,32 @@ const OTHER_1: &[u8] =
 const NAK_1: &[u8] =
     b"\x81\x11\x00\x01\x01\x01\x73\x82\x02\x02\x04\x01\x04\x00\x60\x09\x00\x07\x00\x01\x90\x01\x00\x68\x69\x6a\x51";
 
+// Of side b: a CI from its link 9, and a CC from that to link 7.
+const CALL_OF_9: &[u8] =
+    b"\x81\x0f\x00\x01\x01\x01\xdb\x80\x02\x01\x04\x02\x04\x00\x18\x00\x00\x09\x00\x01\x02\x00\x02\xeb\xd7";
+
+const ANSWER_OF_9: &[u8] =
+    b"\x81\x0f\x00\x01\x01\x01\xdb\x80\x02\x01\x04\x02\x04\x00\x28\x07\x00\x09\x00\x01\x02\x00\x02\xfe\x30";
+
+// Of link 7 to link 9: a CC, a connect acknowledgement, a DI, a link service message, a segment and a DC.
+const CONFIRM: &[u8] =
+    b"\x81\x0f\x00\x01\x01\x01\xdb\x80\x02\x02\x04\x01\x04\x00\x28\x09\x00\x07\x00\x01\x02\x00\x02\x79\x95";
+
+const CONNECT_ACK: &[u8] =
+    b"\x81\x09\x00\x01\x01\x01\x53\x80\x02\x02\x04\x01\x04\x00\x24\x09\x00\x6b\x33";
+
+const DISCONNECT: &[u8] =
+    b"\x81\x0e\x00\x01\x01\x01\xe6\x40\x02\x02\x04\x01\x04\x00\x38\x09\x00\x07\x00\x00\x00\x00\x9e\x14";
+
+const LINK_SERVICE: &[u8] =
+    b"\x81\x0f\x00\x01\x01\x01\xdb\x80\x02\x02\x04\x01\x04\x00\x10\x09\x00\x07\x00\x01\x00\x00\x00\x6a\x55";
+
+const SEGMENT: &[u8] =
+    b"\x81\x0f\x00\x01\x01\x01\xdb\x80\x02\x02\x04\x01\x04\x00\x60\x09\x00\x07\x00\x01\x00\x68\x69\xe0\x79";
+
+const NO_LINK: &[u8] =
+    b"\x81\x0d\x00\x01\x01\x01\xa2\x40\x02\x02\x04\x01\x04\x00\x48\x09\x00\x07\x00\x29\x00\x5e\xc9";
+
 #[test]
 fn a_packet_has_to_be_read_and_to_go_out(rt: HostRuntime) {
     let accuser = LinkAccuser::new(rt.alloc(), 1025, 1026);
@@ -53,6 +79,7 @@ fn a_packet_has_to_be_read_and_to_go_out(rt: HostRuntime) {
 #[test]
 fn an_acknowledgement_needs_a_segment_that_passed(rt: HostRuntime) -> Result<(), AllocError> {
     let mut accuser = LinkAccuser::new(rt.alloc(), 1025, 1026);
+    accuser.other_passed(CALL_OF_9)?;
     assert_eq!(rt; accuser.sends(ACK_0), None);
     assert_eq!(rt; accuser.sends(OTHER_1), None);
     assert_eq!(rt; accuser.sends(ACK_2), Some(Wrong::WrongAck));
@@ -60,6 +87,30 @@ fn an_acknowledgement_needs_a_segment_that_passed(rt: HostRuntime) -> Result<(),
     assert_eq!(rt; accuser.sends(ACK_2), None);
     assert_eq!(rt; accuser.sends(ACK_1), Some(Wrong::WrongAck));
     assert_eq!(rt; accuser.sends(NAK_1), Some(Wrong::WrongAck));
+    assert_eq!(rt; accuser.sends(OF_LINK_8), Some(Wrong::WrongAck));
+    Ok(())
+}
+
+// What needs a link with both addresses.
+const OF_RUN_OR_DI: [&[u8]; 5] = [SEGMENT, ACK_0, OTHER_1, LINK_SERVICE, DISCONNECT];
+
+#[test]
+fn a_link_needs_a_call_or_its_answer(rt: HostRuntime) -> Result<(), AllocError> {
+    let mut accuser = LinkAccuser::new(rt.alloc(), 1025, 1026);
+    for unit in OF_RUN_OR_DI {
+        assert_eq!(rt; accuser.sends(unit), Some(Wrong::NoLink));
+    }
+    assert_eq!(rt; accuser.sends(NO_LINK), None);
+    accuser.other_passed(ANSWER_OF_9)?;
+    for unit in OF_RUN_OR_DI {
+        assert_eq!(rt; accuser.sends(unit), None);
+    }
+    assert_eq!(rt; accuser.sends(OF_LINK_8), Some(Wrong::NoLink));
+    assert_eq!(rt; accuser.sends(CONFIRM), Some(Wrong::NoLink));
+    assert_eq!(rt; accuser.sends(CONNECT_ACK), Some(Wrong::NoLink));
+    accuser.other_passed(CALL_OF_9)?;
+    assert_eq!(rt; accuser.sends(CONFIRM), None);
+    assert_eq!(rt; accuser.sends(CONNECT_ACK), None);
     assert_eq!(rt; accuser.sends(OF_LINK_8), Some(Wrong::WrongAck));
     Ok(())
 }

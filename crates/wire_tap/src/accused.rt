@@ -4,6 +4,7 @@ use crate::fault::{TapFault, reading_fault};
 use crate::tapped::Passed;
 use accusing::{Accuser, Answer};
 use accusing_links::LinkAccuser;
+use accusing_segments::SegmentAccuser;
 use framer::{Found, Framer, Kind};
 use std::alloc::{AllocError, Global};
 use std::io::Read;
@@ -16,16 +17,25 @@ use wire_text::{MAX_PIECES, WireReader};
 pub struct Accused {
     pub a: Option<Passed>,
     pub b: Option<Passed>,
+    /// Where side a is not accused: its first data segment that no right node sent that sends every packet it composed.
+    pub segment_a: Option<Passed>,
+    /// So for side b.
+    pub segment_b: Option<Passed>,
 }
 
 impl Accused {
     /// Nobody is accused.
-    pub const NOBODY: Accused = Accused { a: None, b: None };
+    pub const NOBODY: Accused = Accused {
+        a: None,
+        b: None,
+        segment_a: None,
+        segment_b: None,
+    };
 }
 
 /// Reads the text of what passed to its end, and finds which units no right node sent; over the line alone packets are any bytes. Each unit that was
-/// sent has passed here, and before the first of them neither side was started. The units are told to an `Accuser` and a `LinkAccuser` of each side
-/// in the order in which their last bytes passed; that is read in the code.
+/// sent has passed here, and before the first of them neither side was started. The units are told to an `Accuser`, a `LinkAccuser` and a
+/// `SegmentAccuser` of each side in the order in which their last bytes passed; that is read in the code.
 ///
 /// Faults: `Departs` at the first line that departs from the format, `Read` where a call of the text's reader failed, and `OutOfMemory`.
 pub fn find_accused<W: Read>(
@@ -38,8 +48,8 @@ pub fn find_accused<W: Read>(
         Err(fault) => return Err(reading_fault(fault)),
     };
     let (a, b) = (reader.node_a(), reader.node_b());
-    let mut of_a = SideUnits::of(alloc, Side::A, links_of(alloc, a, b, line_alone))?;
-    let mut of_b = SideUnits::of(alloc, Side::B, links_of(alloc, b, a, line_alone))?;
+    let mut of_a = SideUnits::of(alloc, Side::A, packets_of(alloc, a, b, line_alone))?;
+    let mut of_b = SideUnits::of(alloc, Side::B, packets_of(alloc, b, a, line_alone))?;
     for _ in 0..MAX_PIECES + 1 {
         match reader.advance(wire) {
             Ok(Some(side)) => {
@@ -56,15 +66,20 @@ pub fn find_accused<W: Read>(
     Ok(Accused {
         a: of_a.told.first,
         b: of_b.told.first,
+        segment_a: of_a.told.segment_alone(),
+        segment_b: of_b.told.segment_alone(),
     })
 }
 
 // What is asked of the packets of the node with this address, with that one at the other end; nothing over the line alone.
-fn links_of(alloc: Global, own: u16, peer: u16, line_alone: bool) -> Option<LinkAccuser> {
+fn packets_of(alloc: Global, own: u16, peer: u16, line_alone: bool) -> Option<PacketAccusers> {
     if line_alone {
         return None;
     }
-    Some(LinkAccuser::new(alloc, own, peer))
+    Some(PacketAccusers {
+        links: LinkAccuser::new(alloc, own, peer),
+        segments: SegmentAccuser::new(alloc),
+    })
 }
 
 // How the units of a side are found, and what they told.
@@ -80,7 +95,14 @@ struct SideUnits {
 #[derive(Drop)]
 struct Accusers {
     station: Accuser,
-    links: Option<LinkAccuser>,
+    packets: Option<PacketAccusers>,
+}
+
+// What accuses a side of what is in its data units: of each by itself, and of segments by those before.
+#[derive(Drop)]
+struct PacketAccusers {
+    links: LinkAccuser,
+    segments: SegmentAccuser,
 }
 
 // The units that a side sent so far, and the first one that it can't have sent.
@@ -90,6 +112,8 @@ struct Told {
     accusers: Accusers,
     count: u64,
     first: Option<Passed>,
+    // its first segment that is out of order, unless packets were dropped
+    segment: Option<Passed>,
 }
 
 // What is left of a piece.
@@ -100,17 +124,22 @@ enum Next<'a> {
 
 impl SideUnits {
     // Nothing passed yet.
-    fn of(alloc: Global, side: Side, links: Option<LinkAccuser>) -> Result<SideUnits, AllocError> {
+    fn of(
+        alloc: Global,
+        side: Side,
+        packets: Option<PacketAccusers>,
+    ) -> Result<SideUnits, AllocError> {
         Ok(SideUnits {
             framer: Framer::new(alloc)?,
             told: Told {
                 side,
                 accusers: Accusers {
                     station: Accuser::new(alloc),
-                    links,
+                    packets,
                 },
                 count: 0,
                 first: None,
+                segment: None,
             },
             begun: 0,
         })
@@ -179,15 +208,27 @@ impl Told {
             return Ok(());
         }
         other.other_passed(unit)?;
+        let passed = Passed {
+            side: self.side,
+            unit: self.count,
+            line,
+        };
         if self.first.is_none() && self.accusers.accuse(unit)? {
-            self.first = Some(Passed {
-                side: self.side,
-                unit: self.count,
-                line,
-            });
+            self.first = Some(passed);
+        }
+        if self.segment.is_none() && self.accusers.find_segment(unit)? {
+            self.segment = Some(passed);
         }
         self.count = self.count.saturating_add(1);
         Ok(())
+    }
+
+    // The segment, where the side is not accused.
+    fn segment_alone(&self) -> Option<Passed> {
+        if self.first.is_some() {
+            return None;
+        }
+        self.segment
     }
 }
 
@@ -195,8 +236,9 @@ impl Accusers {
     // This unit of the other side passed.
     fn other_passed(&mut self, unit: &[u8]) -> Result<(), AllocError> {
         self.station.other_passed(unit);
-        if let Some(links) = &mut self.links {
-            links.other_passed(unit)?;
+        if let Some(packets) = &mut self.packets {
+            packets.links.other_passed(unit)?;
+            packets.segments.other_passed(unit)?;
         }
         Ok(())
     }
@@ -206,9 +248,21 @@ impl Accusers {
         if let Answer::CannotHave(_) = self.station.sends(unit)? {
             return Ok(true);
         }
-        let Some(links) = &self.links else {
+        let Some(packets) = &self.packets else {
             return Ok(false);
         };
-        Ok(links.sends(unit).is_some())
+        Ok(packets.links.sends(unit).is_some())
+    }
+
+    // No right node that sends all it composed sent the segment in this unit; otherwise it is sent.
+    fn find_segment(&mut self, unit: &[u8]) -> Result<bool, AllocError> {
+        let Some(packets) = &mut self.packets else {
+            return Ok(false);
+        };
+        if packets.segments.accuses(unit) {
+            return Ok(true);
+        }
+        packets.segments.own_passed(unit)?;
+        Ok(false)
     }
 }

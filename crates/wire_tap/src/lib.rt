@@ -2,7 +2,7 @@
 //!
 //! The crate reads the text of what passed piece by piece, has the units of each direction found in it (`framer`) and each of them placed
 //! (`placing`), and writes both captures. It decides nothing of what it writes: that is judged by `pair_judge`. It also finds units that no right
-//! node sent (`accusing`, `accusing_links`).
+//! node sent (`accusing`, `accusing_links`, `accusing_segments`).
 #![tactic(auto)]
 
 mod accused;

@@ -1,7 +1,10 @@
 -- What `--all` goes by: what a refusal leads to, and what is not judged any more behind it.
-use Rattle.std.specs.Prelude.{◌≡◌, ℕ, Bool, true, false, List, Option, Some, None, not}
+use Rattle.std.specs.Prelude.{◌≡◌, ◌++◌, ℕ, Bool, true, false, List, Option, Some, None, not}
+use Rattle.wire_base.specs.declared.side.Side.TheVariants.{A, B}
+use Rattle.link_groups.specs.Groups.{AreGroupsOf, Binding}
 use Rattle.link_groups.specs.LeftOut as groups
 use Rattle.link_groups.specs.declared.own_address.OwnAddress.{OwnAddress}
+use Rattle.leaving_out.specs.Texts.{Binds}
 use Rattle.pair_judge.specs.declared.reason.Reason.{Reason}
 use Rattle.pair_judge.specs.declared.reason.Reason.TheVariants as reason
 use Rattle.ddcap.specs.declared.all_left.Beyond.{Beyond}
@@ -24,6 +27,11 @@ beyond_of reason.WrongDelivery = Links
 beyond_of reason.AddressInUse = Links
 beyond_of reason.CrossedLink = Links
 beyond_of _ = Ends
+
+-- these labels are those of the groups that both texts bind
+abbrev pub AreBoundByBoth : (text_a text_b : Option (List ℕ)) → (labels : List ℕ) → Type 0
+AreBoundByBoth text_a text_b labels =
+    (of_a : List Binding) × (of_b : List Binding) × Binds A false text_a of_a × Binds B false text_b of_b × AreGroupsOf (of_a ++ of_b) labels
 
 -- nothing is left out yet of these groups, and all is asked
 pub record JudgesAll (labels : List ℕ) (all : NotJudged) : Type 0 where

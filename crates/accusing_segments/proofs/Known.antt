@@ -1,0 +1,176 @@
+-- A set of what is known has one more after it was put in; and histories that answer alike accuse alike.
+use Rattle.std.proofs.Common.{◌≡◌, ℕ, zero, suc, ◌+◌, Bool, true, false, ◌&&◌, ◌||◌, not, eqb, Option, Some, None, List, [], ◌∷◌, ◌++◌}
+use Rattle.std.proofs.Common.{refl, sym, subst, ap, ap₂, ◌∙◌, arith}
+use Rattle.std.proofs.Common.{Ordering, Less, Equal, Greater, nat_cmp, Result, Ok, Err, OnOk, option_map}
+use Rattle.std.specs.List.{list_any}
+use Rattle.std.proofs.lemmas.Map.Lookups.{exact_unsigned}
+use Rattle.std.specs.Ordering.{ordering_then}
+use Rattle.dna_packet.specs.declared.ack_word.AckWord.{AckWord}
+use Rattle.dna_packet.specs.Nsp.{SegmentValue, NspValue, DataSegment, LinkService, DataAck, OtherDataAck, ConnectAck, NoOperation, ConnectInitiate}
+use Rattle.dna_packet.specs.Nsp.{ConnectConfirm, DisconnectInitiate, DisconnectConfirm, view, segment_view}
+use Rattle.dna_packet.specs.declared.nsp.Nsp.{Nsp}
+use Rattle.dna_packet.specs.declared.nsp.Nsp.TheVariants as rust
+use Rattle.dna_packet.specs.declared.nsp.Segment.{Segment}
+use Rattle.dna_packet.specs.declared.nsp.DataAck.{DataAck as DataAckOf}
+use Rattle.dna_links.specs.SegmentBook.{REACH, wire}
+use Rattle.accusing.specs.Placing.{Passed, Own, Other}
+use Rattle.accusing_segments.specs.History.{has, bit, message_in, end_sent, is_named, words_name, acknowledges, in_unit, History, history}
+use Rattle.accusing_segments.specs.Wrong.{before, is_covered, is_acknowledged, is_first, is_next, is_right}
+use Rattle.accusing_segments.specs.Wrong.{is_wrong_message, is_wrong_in, is_wrong_unit}
+use Rattle.accusing_segments.specs.Answers.{Sight, IsAfter}
+use Rattle.accusing_segments.specs.inner.Seen.{seen}
+use Rattle.accusing_segments.proofs.Passing.{own_more, own_same, other_more, other_same}
+
+-- ---- by the order of four numbers
+
+abbrev pub Four : Type 0
+Four = ℕ × ℕ × ℕ × ℕ
+
+abbrev pub four_compared : Four → Four → Ordering
+four_compared x y = ordering_then (ordering_then (ordering_then (nat_cmp x.0 y.0) (nat_cmp x.1 y.1)) (nat_cmp x.2 y.2)) (nat_cmp x.3 y.3)
+
+both_equal : (a b : Ordering) → ordering_then a b ≡ Equal → (a ≡ Equal) × (b ≡ Equal)
+both_equal Less b e = absurd cc
+both_equal Equal b e = (refl, e)
+both_equal Greater b e = absurd cc
+
+same_four : (x y : Four) → x.0 ≡ y.0 → x.1 ≡ y.1 → x.2 ≡ y.2 → x.3 ≡ y.3 → x ≡ y
+same_four (a, b, c, d) (e, f, g, h) one two three four =
+    let one : a ≡ e = one in
+    let two : b ≡ f = two in
+    let three : c ≡ g = three in
+    let four : d ≡ h = four in
+    cc
+
+pub four_exact : (x y : Four) → four_compared x y ≡ Equal → x ≡ y
+four_exact x y e =
+    let all = both_equal (ordering_then (ordering_then (nat_cmp x.0 y.0) (nat_cmp x.1 y.1)) (nat_cmp x.2 y.2)) (nat_cmp x.3 y.3) e in
+    let three = both_equal (ordering_then (nat_cmp x.0 y.0) (nat_cmp x.1 y.1)) (nat_cmp x.2 y.2) all.0 in
+    let two = both_equal (nat_cmp x.0 y.0) (nat_cmp x.1 y.1) three.0 in
+    same_four x y (exact_unsigned x.0 y.0 two.0) (exact_unsigned x.1 y.1 two.1) (exact_unsigned x.2 y.2 three.1) (exact_unsigned x.3 y.3 all.1)
+
+-- ---- words one after the other
+
+any_more : {X : Type 0} (test : X → Bool) (xs : List X) (x : X) → list_any test (xs ++ x ∷ []) ≡ (list_any test (x ∷ []) || list_any test xs)
+any_more {X} test [] x = go (test x)
+  where
+    go : (a : Bool) → (a || false) ≡ ((a || false) || false)
+    go true = refl
+    go false = refl
+any_more {X} test (first ∷ xs) x = go (test first) (test x) _ (any_more test xs x)
+  where
+    go : (a b c : Bool) → list_any test (xs ++ x ∷ []) ≡ ((b || false) || c) →
+        (a || list_any test (xs ++ x ∷ [])) ≡ ((b || false) || (a || c))
+    go true true c e = refl
+    go true false c e = refl
+    go false b c e = e
+
+pub one_word_more : (own far : ℕ) (words : List AckWord) (word : AckWord) (o f n w : ℕ) →
+    words_name own far (words ++ word ∷ []) o f n w ≡ (words_name own far (word ∷ []) o f n w || words_name own far words o f n w)
+one_word_more own far words word o f n w = go (eqb own o) (eqb far f) _ _ _ (any_more (is_named n w) words word)
+  where
+    go : (a b c d e : Bool) → c ≡ (d || e) → (a && (b && c)) ≡ ((a && (b && d)) || (a && (b && e)))
+    go true true c d e same = same
+    go true false c d e same = refl
+    go false b c d e same = refl
+
+-- ---- numbers that were acknowledged
+
+pub none_covered : (named : ℕ → Bool) (number : ℕ) → is_covered named number 0 ≡ false
+unfolding is_covered
+none_covered named number = refl
+
+pub one_more_covered : (named : ℕ → Bool) (number count : ℕ) → named (wire (number + count)) ≡ false → is_covered named number count ≡ false →
+    is_covered named number (count + 1) ≡ false
+unfolding is_covered
+one_more_covered named number count this earlier =
+    let same : suc count ≡ count + 1 = omega arith in
+    subst (λ (x : ℕ). is_covered named number x ≡ false) same (ap₂ (λ (a b : Bool). a || b) this earlier)
+
+-- ---- a segment by what was asked of it
+
+module _ (h : History) (s : SegmentValue) (first : is_first s ≡ false) where
+  pub right_by_next : is_next h s ≡ true → true ≡ is_right h s
+  right_by_next next = sym (ap₂ (λ (a b : Bool). a || (b || is_acknowledged h s)) first next)
+
+  pub right_else : is_next h s ≡ false → (r : Bool) → r ≡ is_acknowledged h s → r ≡ is_right h s
+  right_else next r is = is ∙ sym (ap₂ (λ (a b : Bool). a || (b || is_acknowledged h s)) first next)
+
+-- ---- histories that answer alike
+
+module _ (h k : History) (ends : (o f n w : ℕ) → h.ends o f n w ≡ k.ends o f n w)
+    (words : (o f n w : ℕ) → h.words o f n w ≡ k.words o f n w) where
+  covered_same : (own far number count : ℕ) → is_covered (λ n. h.words own far n 0) number count ≡ is_covered (λ n. k.words own far n 0) number count
+  unfolding is_covered
+  covered_same own far number zero = refl
+  covered_same own far number (suc count) =
+      ap₂ (λ (a b : Bool). a || b) (words own far (wire (number + count)) 0) (covered_same own far number count)
+
+  right_same : (s : SegmentValue) → is_right h s ≡ is_right k s
+  right_same s =
+      ap (λ (b : Bool). (eqb s.number 1 && s.begins) || b)
+      (ap₂ (λ (a b : Bool). a || b) (ends s.srcaddr s.dstaddr (before s.number) (bit s.begins))
+      (ap₂ (λ (a b : Bool). a && b)
+      (ap₂ (λ (a b : Bool). a || b) (ends s.srcaddr s.dstaddr s.number 0) (ends s.srcaddr s.dstaddr s.number 1))
+      (covered_same s.srcaddr s.dstaddr s.number REACH)))
+
+  message_same : (m : NspValue) → is_wrong_message h m ≡ is_wrong_message k m
+  message_same (DataSegment s) = ap not (right_same s)
+  message_same (DataAck dst src acks) = refl
+  message_same (LinkService interrupt dst src rest) = refl
+  message_same (OtherDataAck dst src rest) = refl
+  message_same (ConnectAck dst) = refl
+  message_same (NoOperation rest) = refl
+  message_same (ConnectInitiate retransmitted src services info segsize user_data) = refl
+  message_same (ConnectConfirm dst src services info segsize user_data) = refl
+  message_same (DisconnectInitiate dst src reason user_data) = refl
+  message_same (DisconnectConfirm dst src reason) = refl
+
+  in_same : (o : Option NspValue) → is_wrong_in h o ≡ is_wrong_in k o
+  in_same None = refl
+  in_same (Some m) = message_same m
+
+  pub unit_same : (unit : List ℕ) → is_wrong_unit h unit ≡ is_wrong_unit k unit
+  unit_same unit = in_same (message_in unit)
+
+pub known_same : (sight : Sight) (passed : List Passed) → IsAfter sight passed → (unit : List ℕ) →
+    is_wrong_unit (seen sight) unit ≡ is_wrong_unit (history passed) unit
+known_same sight passed is unit = unit_same (seen sight) (history passed) is.ends is.words unit
+
+-- ---- what is known after a unit
+
+module _ {X Y : Type 0} where
+  pub other_noted : (passed : List Passed) (unit : List ℕ) (old new : Sight) (result : Result X Y) → IsAfter old passed →
+      new.ends ≡ old.ends →
+      ((o f n w : ℕ) → OnOk result (has new.words o f n w ≡ (in_unit acknowledges unit o f n w || has old.words o f n w))) →
+      OnOk result (IsAfter new (passed ++ Other unit ∷ []))
+  other_noted passed unit old new (Ok x) is ends words = record {
+    ends = λ o f n w. ap (λ (ids : List Four). has ids o f n w) ends ∙ is.ends o f n w ∙ sym (own_same end_sent o f n w passed unit);
+    words = λ o f n w.
+        words o f n w ∙ ap (λ (b : Bool). in_unit acknowledges unit o f n w || b) (is.words o f n w)
+        ∙ sym (other_more acknowledges o f n w passed unit);
+  }
+  other_noted passed unit old new (Err y) is ends words = tt
+
+  pub own_noted : (passed : List Passed) (unit : List ℕ) (old new : Sight) (result : Result X Y) → IsAfter old passed →
+      new.words ≡ old.words →
+      ((o f n w : ℕ) → OnOk result (has new.ends o f n w ≡ (in_unit end_sent unit o f n w || has old.ends o f n w))) →
+      OnOk result (IsAfter new (passed ++ Own unit ∷ []))
+  own_noted passed unit old new (Ok x) is words ends = record {
+    ends = λ o f n w.
+        ends o f n w ∙ ap (λ (b : Bool). in_unit end_sent unit o f n w || b) (is.ends o f n w) ∙ sym (own_more end_sent o f n w passed unit);
+    words = λ o f n w. ap (λ (ids : List Four). has ids o f n w) words ∙ is.words o f n w ∙ sym (other_same acknowledges o f n w passed unit);
+  }
+  own_noted passed unit old new (Err y) is words ends = tt
+
+-- ---- the message that was found
+
+pub segment_found : (found : Option Nsp) (message : Nsp) (segment : Segment) (unit : List ℕ) → option_map view found ≡ message_in unit →
+    found ≡ Some message → message ≡ rust.DataSegment segment → message_in unit ≡ Some (DataSegment (segment_view segment))
+segment_found found message segment unit is some data_segment =
+    sym is ∙ ap (λ (o : Option Nsp). option_map view o) some ∙ ap (λ (m : Nsp). Some (view m)) data_segment
+
+pub ack_found : (found : Option Nsp) (message : Nsp) (ack : DataAckOf) (unit : List ℕ) → option_map view found ≡ message_in unit →
+    found ≡ Some message → message ≡ rust.DataAck ack → message_in unit ≡ Some (DataAck ack.dstaddr ack.srcaddr ack.acks.items)
+ack_found found message ack unit is some data_ack =
+    sym is ∙ ap (λ (o : Option Nsp). option_map view o) some ∙ ap (λ (m : Nsp). Some (view m)) data_ack

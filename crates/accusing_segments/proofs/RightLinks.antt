@@ -1,0 +1,175 @@
+-- What every link of a node has given in segments was sent; and what becomes of that by each effect of a row.
+use Rattle.std.proofs.Common.{◌≡◌, ℕ, Bool, true, false, Option, Some, List, [], ◌∷◌, ◌++◌, map, zero, suc, fold, subst, refl}
+use Rattle.std.specs.Prelude.{slice_get, slice_set}
+use Rattle.dna_links.specs.declared.port.Phase.{Phase}
+use Rattle.dna_links.specs.declared.queue.Queues.{Queues}
+use Rattle.dna_links.specs.declared.queue.Queues.TheVariants.{Without, With}
+use Rattle.dna_links.specs.declared.queue.Said.{Said}
+use Rattle.dna_links.specs.LookUps.{is_live}
+use Rattle.dna_links.specs.Links.{LinkOf, LinkTruth}
+use Rattle.dna_links.specs.Queues.{keeps_numbers, further, goes_on, goes_to, ends_by_message, drops, requeued, lets_go}
+use Rattle.dna_links.specs.Queues.{booted_link, forgotten}
+use Rattle.dna_links.specs.Table.{Effect, OpenHere, GiveAddress, Connect, GoTo, End, Drop, EndAll, Say, Settle, Keep, HandIn, TakeSegment, TakeAcks}
+use Rattle.dna_links.specs.WireSegments.{WireSegments, wire_segments}
+use Rattle.dna_links.specs.LinkBook.{blank, does}
+use Rattle.accusing_links.proofs.RightLinks.{is_early}
+use Rattle.accusing_segments.proofs.Gave.{Passings, never, More, Gave, gave_more, never_less, empty_gave, ends_gave}
+
+-- what passed of each link: by its own address and the far one
+abbrev pub Links : Type 1
+Links = (own far : ℕ) → Passings
+
+-- a link that has not been in RUN, and sent nothing
+pub record IsFresh (l : LinkOf WireSegments) : Type 0 where
+  pub gave : Gave never l.segments
+  pub ran : l.queue.ran ≡ false
+
+pub record IsLinkRight (Q : Links) (l : LinkOf WireSegments) : Type 0 where
+  pub early : is_early l.port.phase ≡ true → IsFresh l
+  pub both : (own far : ℕ) → l.port.own ≡ Some own → l.port.far ≡ Some far → Gave (Q own far) l.segments
+
+pub from_never : (Q : Passings) (f : WireSegments) → Gave never f → Gave Q f
+from_never Q f is = gave_more never Q f (never_less Q) is
+
+-- ---- segments
+
+module _ (Q : Passings) where
+  let_go : (before now : Bool) (f : WireSegments) → Gave Q f → Gave Q (lets_go wire_segments before now f)
+  let_go true false f is = ends_gave Q f
+  let_go true true f is = is
+  let_go false now f is = is
+
+  pub requeued_gave : (waits : Option Phase) (said : Said) (l : LinkOf WireSegments) → Gave Q l.segments →
+      Gave Q (requeued wire_segments waits said l).segments
+  requeued_gave waits said l is = let_go (keeps_numbers l) _ l.segments is
+
+  pub goes_to_gave : (queues : Queues) (phase : Phase) (l : LinkOf WireSegments) → Gave Q l.segments →
+      Gave Q (goes_to wire_segments queues phase l).segments
+  goes_to_gave Without phase l is = is
+  goes_to_gave With phase l is = go (is_live l.port.phase)
+    where
+      go : (b : Bool) → Gave Q (goes_on wire_segments b phase l).segments
+      go true = is
+      go false = requeued_gave (Some phase) l.queue.said l is
+
+  ends_by_gave : (queues : Queues) (l : LinkOf WireSegments) → Gave Q l.segments → Gave Q (ends_by_message wire_segments queues l).segments
+  ends_by_gave Without l is = ends_gave Q l.segments
+  ends_by_gave With l is = let_go (keeps_numbers l) _ l.segments is
+
+  drops_gave : (queues : Queues) (l : LinkOf WireSegments) → Gave Q (drops wire_segments queues l).segments
+  drops_gave Without l = ends_gave Q l.segments
+  drops_gave With l = ends_gave Q l.segments
+
+-- ---- links
+
+module _ (Q : Links) (queues : Queues) where
+  abbrev Is : LinkOf WireSegments → Type 0
+  Is l = IsLinkRight Q l
+
+  -- a link that sent nothing is right whatever addresses it gets
+  pub none_gave : (l : LinkOf WireSegments) → Gave never l.segments → (is_early l.port.phase ≡ true → l.queue.ran ≡ false) → Is l
+  none_gave l none ran =
+      record { early = λ e. record { gave = none; ran = ran e }; both = λ own far e f. from_never (Q own far) l.segments none }
+
+  pub blank_right : Is (blank queues wire_segments)
+  blank_right = none_gave (blank queues wire_segments) (empty_gave never) (λ e. refl)
+
+  pub goes_right : (q : Queues) (phase : Phase) (l : LinkOf WireSegments) → is_early phase ≡ false → Is l → Is (goes_to wire_segments q phase l)
+  goes_right Without phase l late is = record { early = λ e. absurd cc; both = is.both }
+  goes_right With phase l late is = go (is_live l.port.phase)
+    where
+      go : (b : Bool) → Is (goes_on wire_segments b phase l)
+      go true = record { early = λ e. absurd cc; both = is.both }
+      go false = record {
+        early = λ e. record { gave = requeued_gave never (Some phase) l.queue.said l (is.early e).gave; ran = (is.early e).ran };
+        both = λ own far e f. requeued_gave (Q own far) (Some phase) l.queue.said l (is.both own far e f);
+      }
+
+  ended_right : (q : Queues) (l : LinkOf WireSegments) → Is l → Is (ends_by_message wire_segments q l)
+  ended_right Without l is = record { early = λ e. absurd cc; both = λ own far e f. ends_by_gave (Q own far) Without l (is.both own far e f) }
+  ended_right With l is = record { early = λ e. absurd cc; both = λ own far e f. ends_by_gave (Q own far) With l (is.both own far e f) }
+
+  pub dropped_right : (q : Queues) (l : LinkOf WireSegments) → Is (drops wire_segments q l)
+  dropped_right Without l = record { early = λ e. absurd cc; both = λ own far e f. drops_gave (Q own far) Without l }
+  dropped_right With l = record { early = λ e. absurd cc; both = λ own far e f. drops_gave (Q own far) With l }
+
+  pub requeued_right : (waits : Option Phase) (said : Said) (l : LinkOf WireSegments) → Is l → Is (requeued wire_segments waits said l)
+  requeued_right waits said l is = record {
+    early = λ e. record { gave = requeued_gave never waits said l (is.early e).gave; ran = (is.early e).ran };
+    both = λ own far e f. requeued_gave (Q own far) waits said l (is.both own far e f);
+  }
+
+  -- by which effects it stays so, whatever it is
+  abbrev pub IsCalm : Effect → Type 0
+  IsCalm (GoTo phase) = is_early phase ≡ false
+  IsCalm OpenHere = ⊥
+  IsCalm (GiveAddress own) = ⊥
+  IsCalm (Connect far segsize) = ⊥
+  IsCalm (TakeSegment segment) = ⊥
+  IsCalm (TakeAcks acks) = ⊥
+  IsCalm effect = Unit {0}
+
+  abbrev pub AreCalm : List Effect → Type 0
+  AreCalm [] = Unit {0}
+  AreCalm (effect ∷ effects) = IsCalm effect × AreCalm effects
+
+  does_right : (truth : LinkTruth (Unit {0})) (l : LinkOf WireSegments) (effect : Effect) → IsCalm effect → Is l →
+      Is (does queues wire_segments truth l effect)
+  does_right truth l (GoTo phase) calm is = goes_right queues phase l calm is
+  does_right truth l End calm is = ended_right queues l is
+  does_right truth l Drop calm is = dropped_right queues l
+  does_right truth l EndAll calm is = is
+  does_right truth l (Say said) calm is = requeued_right l.queue.waits (further said l.queue.said) l is
+  does_right truth l (Settle own) calm is = is
+  does_right truth l Keep calm is = is
+  does_right truth l (HandIn message) calm is =
+      record { early = λ e. record { gave = (is.early e).gave; ran = (is.early e).ran }; both = is.both }
+  does_right truth l OpenHere calm is = absurd calm
+  does_right truth l (GiveAddress own) calm is = absurd calm
+  does_right truth l (Connect far segsize) calm is = absurd calm
+  does_right truth l (TakeSegment segment) calm is = absurd calm
+  does_right truth l (TakeAcks acks) calm is = absurd calm
+
+  pub all_right : (truth : LinkTruth (Unit {0})) (l : LinkOf WireSegments) (effects : List Effect) → AreCalm effects → Is l →
+      Is (fold (does queues wire_segments truth) l effects)
+  all_right truth l [] calm is = is
+  all_right truth l (effect ∷ effects) calm is =
+      all_right truth (does queues wire_segments truth l effect) effects calm.1 (does_right truth l effect calm.0 is)
+
+  -- ---- all links of a node
+
+  abbrev pub AreRight : List (LinkOf WireSegments) → Type 0
+  AreRight [] = Unit {0}
+  AreRight (l ∷ links) = Is l × AreRight links
+
+  pub right_at : (links : List (LinkOf WireSegments)) (n : ℕ) (l : LinkOf WireSegments) → AreRight links → slice_get links n ≡ Some l → Is l
+  right_at [] n l are at = absurd cc
+  right_at (first ∷ links) zero l are at = let same : first ≡ l = cc in subst Is same are.0
+  right_at (first ∷ links) (suc n) l are at = right_at links n l are.1 at
+
+  pub right_pushed : (links : List (LinkOf WireSegments)) (l : LinkOf WireSegments) → AreRight links → Is l → AreRight (links ++ l ∷ [])
+  right_pushed [] l are is = (is, tt)
+  right_pushed (first ∷ links) l are is = (are.0, right_pushed links l are.1 is)
+
+  pub right_changed : (links : List (LinkOf WireSegments)) (n : ℕ) (l : LinkOf WireSegments) → AreRight links → Is l → AreRight (slice_set links n l)
+  right_changed [] n l are is = tt
+  right_changed (first ∷ links) zero l are is = (is, are.1)
+  right_changed (first ∷ links) (suc n) l are is = (are.0, right_changed links n l are.1 is)
+
+  -- an address that is given again
+  pub forgotten_right : (q : Queues) (l : LinkOf WireSegments) → Is l → Is (forgotten wire_segments q l)
+  forgotten_right Without l is = none_gave (forgotten wire_segments Without l) (empty_gave never) (λ e. (is.early e).ran)
+  forgotten_right With l is = none_gave (forgotten wire_segments With l) (empty_gave never) (λ e. (is.early e).ran)
+
+  pub right_booted : (links : List (LinkOf WireSegments)) → AreRight (map (booted_link wire_segments queues) links)
+  right_booted [] = tt
+  right_booted (l ∷ links) = (forgotten_right queues (drops wire_segments queues l) (dropped_right queues l), right_booted links)
+
+-- where more passed
+module _ (Q R : Links) (queues : Queues) (more : (own far : ℕ) → More (Q own far) (R own far)) where
+  pub right_more : (links : List (LinkOf WireSegments)) → AreRight Q queues links → AreRight R queues links
+  right_more [] are = tt
+  right_more (l ∷ links) are = (
+    record { early = are.0.early; both = λ own far e f. gave_more (Q own far) (R own far) l.segments (more own far) (are.0.both own far e f) },
+    right_more links are.1,
+  )

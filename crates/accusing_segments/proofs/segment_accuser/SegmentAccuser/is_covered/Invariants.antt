@@ -1,0 +1,7 @@
+use Rattle.std.proofs.Common.{◌≡◌, false}
+use Rattle.accusing_segments.specs.History.{has}
+use Rattle.accusing_segments.specs.Wrong.{is_covered}
+use Rattle.accusing_segments.proofs.segment_accuser.SegmentAccuser.is_covered.Given as goal
+
+abbrev pub invariant-loop-above : goal.invariant-loop-above
+invariant-loop-above l = is_covered (λ n. has l.self.words l.own l.far n 0) l.number l.above ≡ false

@@ -1,0 +1,6 @@
+-- what no right node that sends all it composed sends
+pub mod History
+pub mod Wrong
+-- what is said of a unit, and what it means
+pub mod Answers
+pub mod inner

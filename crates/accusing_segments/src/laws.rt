@@ -1,0 +1,19 @@
+//! What holds of the definitions in `specs/`, whatever the code does.
+
+ghost use Rattle.std.specs.Prelude.{◌≡◌, ℕ, true, ◌∷◌, ◌++◌, List};
+ghost use Rattle.capture.specs.declared.record.Record.{Record};
+ghost use Rattle.dna_station.specs.declared.head.Head.{Head};
+ghost use Rattle.dna_links.specs.declared.queue.Queues.{Queues};
+ghost use Rattle.accusing.specs.Placing.{Passed, Own};
+ghost use Rattle.accusing_links.specs.Placing.{IsNodePlacing};
+ghost use Rattle.accusing_segments.specs.History.{history};
+ghost use Rattle.accusing_segments.specs.Wrong.{is_wrong_unit};
+ghost use Rattle.accusing_segments.specs.Answers.{SendsAll};
+
+/// Units of which an own one has a data segment that is no first one, does not go on from one that passed, and can't be acknowledged, have no
+/// placing in which every packet that was composed is sent: no right node that sends all it composes sent the side's units among them, with queues
+/// or without.
+pub fn wrong_segments_have_no_placing()
+    ensures { (queues : Queues) (head : Head) (before later : List Passed) (unit : List ℕ) (records : List Record)
+        → is_wrong_unit (history before) unit ≡ true → IsNodePlacing queues head (before ++ Own unit ∷ later) records → SendsAll records → ⊥ }
+{}

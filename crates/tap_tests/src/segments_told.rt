@@ -1,0 +1,52 @@
+use accusing_segments::SegmentAccuser;
+use std::alloc::AllocError;
+
+// Data segments from link 7 of 1.1 to link 9 of 1.2: number 1 with BOM, number 2 with EOM, number 3 with EOM, and numbers 2 and 5 with both. And a
+// data acknowledgement of 2 from link 9 to link 7.
+const FIRST: &[u8] =
+    b"\x81\x0e\x00\x00\x01\x01\xb7\x80\x02\x02\x04\x01\x04\x00\x20\x09\x00\x07\x00\x01\x00\x61\x0e\x96";
+
+const SECOND: &[u8] =
+    b"\x81\x0e\x00\x00\x02\x01\xb7\x70\x02\x02\x04\x01\x04\x00\x40\x09\x00\x07\x00\x02\x00\x62\xb8\xbf";
+
+const NO_BOM: &[u8] =
+    b"\x81\x0e\x00\x00\x03\x01\xb6\xe0\x02\x02\x04\x01\x04\x00\x40\x09\x00\x07\x00\x03\x00\x63\x28\xbf";
+
+const FIFTH: &[u8] =
+    b"\x81\x0e\x00\x00\x03\x01\xb6\xe0\x02\x02\x04\x01\x04\x00\x60\x09\x00\x07\x00\x05\x00\x65\x4a\xa4";
+
+const SECOND_WHOLE: &[u8] =
+    b"\x81\x0e\x00\x00\x03\x01\xb6\xe0\x02\x02\x04\x01\x04\x00\x60\x09\x00\x07\x00\x02\x00\x62\xba\xa7";
+
+const ACK_2: &[u8] =
+    b"\x81\x0d\x00\x02\x01\x01\x52\x40\x02\x01\x04\x02\x04\x00\x04\x07\x00\x09\x00\x02\x80\x3b\x90";
+
+#[test]
+fn a_segment_has_to_follow_the_one_before(rt: HostRuntime) -> Result<(), AllocError> {
+    let mut accuser = SegmentAccuser::new(rt.alloc());
+    assert!(rt; accuser.accuses(SECOND));
+    assert!(rt; !accuser.accuses(FIRST));
+    accuser.own_passed(FIRST)?;
+    assert!(rt; accuser.accuses(NO_BOM));
+    assert!(rt; !accuser.accuses(SECOND));
+    accuser.own_passed(SECOND)?;
+    assert!(rt; accuser.accuses(NO_BOM));
+    assert!(rt; accuser.accuses(FIFTH));
+    Ok(())
+}
+
+#[test]
+fn a_segment_goes_again_as_it_was_until_it_may_be_acknowledged(
+    rt: HostRuntime,
+) -> Result<(), AllocError> {
+    let mut accuser = SegmentAccuser::new(rt.alloc());
+    accuser.own_passed(FIRST)?;
+    accuser.own_passed(SECOND)?;
+    assert!(rt; !accuser.accuses(FIRST));
+    assert!(rt; !accuser.accuses(SECOND));
+    assert!(rt; accuser.accuses(SECOND_WHOLE));
+    accuser.other_passed(ACK_2)?;
+    assert!(rt; !accuser.accuses(SECOND_WHOLE));
+    assert!(rt; accuser.accuses(FIFTH));
+    Ok(())
+}
