@@ -4,9 +4,9 @@
     >>> ddcap.alone('ddcap 1 1.1 1.2\\nu start\\n').is_accepted
     True
 
-This one file and libddcap.so are all it takes (`tools/library` makes that). The library is looked for where the variable LIBDDCAP says, beside this
-file, in the folder out/ of the repository, and where the system has its libraries. Threads may judge at the same time. docs/CAPTURES.md says what
-a capture is; texts are `str` or `bytes`."""
+This one file and libddcap.so are all it takes (`tools/build/library` makes that). The library is looked for where the variable LIBDDCAP says, beside
+this file, in the folder out/ of the repository, and where the system has its libraries. Threads may judge at the same time. docs/CAPTURES.md says
+what a capture is; texts are `str` or `bytes`."""
 import ctypes
 import json as _json
 import os
@@ -46,7 +46,8 @@ def _loaded():
     try:
         library = ctypes.CDLL(path)
     except OSError as error:
-        raise ImportError('libddcap.so is not there, or is for another machine; tools/library makes it, and LIBDDCAP names it: %s' % error) from error
+        raise ImportError('libddcap.so is not there, or is for another machine; tools/build/library makes it, and LIBDDCAP names it: %s'
+                          % error) from error
     text = [ctypes.c_char_p, ctypes.c_size_t]
     for name, texts in ('check', 2), ('alone', 1), ('why', 2):
         call = getattr(library, 'ddcap_' + name)

@@ -1,7 +1,7 @@
 #!/usr/bin/env python3
 """A test of a node that judges itself at its end: each node writes a capture of what it does, and the test asks ddcap whether both are a run.
 
-    tools/library && python3 lib/example.py
+    tools/build/library && python3 lib/example.py
 
 The node here is a toy: it starts, and answers data by an ACK. What a test of yours takes over is `Node.note`, which writes the capture, and
 `LineTest.judged`. Only DDCMP is judged (`line=True`), so a packet may be any bytes."""

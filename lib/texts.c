@@ -1,6 +1,6 @@
 /* What the compiled program calls, answered from memory: files, streams, words. dist/names has the names, and dist/memory.c the rest. No proof covers
- * it; tools/test_library and tools/test_page hold its answers to those of the program. The numbers are Linux's, whatever system it is compiled for:
- * the program knows them. */
+ * it; tools/tests/test_library and tools/tests/test_page hold its answers to those of the program. The numbers are Linux's, whatever system it is
+ * compiled for: the program knows them. */
 #include "texts.h"
 #include "../dist/facts.h"
 

@@ -289,4 +289,4 @@ $('#examples').append(...Object.entries(examples).map(([name, given]) =>
 const wanted = decodeURIComponent(location.hash.slice(1));
 if (examples[wanted]) example(wanted, examples[wanted]);
 
-globalThis.ddcap = {ready, ask: (words, texts) => judge.ask(words, texts), texts: () => current.texts}; // for tools/test_page
+globalThis.ddcap = {ready, ask: (words, texts) => judge.ask(words, texts), texts: () => current.texts}; // for tools/tests/test_page

@@ -1,5 +1,5 @@
 /* What a C library has and a WebAssembly module has not: memory, a few functions over bytes, and numbers of 128 bits. No proof covers it;
- * tools/test_page holds the module's answers to those of the program. */
+ * tools/tests/test_page holds the module's answers to those of the program. */
 #include <stdbool.h>
 #include <stddef.h>
 #include <stdint.h>
