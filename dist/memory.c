@@ -1,5 +1,5 @@
 /* How the program asks for memory. An answer is two words: whether there was some, and where; without memory an address that is never read. No proof
- * covers it; tools/test_dist holds each answer to that of the toolchain's own library, whose meanings these are. */
+ * covers it; tools/tests/test_dist holds each answer to that of the toolchain's own library, whose meanings these are. */
 #include <stddef.h>
 #include <stdint.h>
 #include <stdlib.h>
@@ -15,7 +15,7 @@ void *ddcap_grown(void *old, uint64_t size, uint64_t alignment) {
 void rattle_dealloc(void *at) { free(at); }
 
 #if defined(__ELF__) && (defined(__x86_64__) || defined(__aarch64__))
-/* Here two words are answered as C answers a struct of them; for other machines tools/retarget makes the pair. */
+/* Here two words are answered as C answers a struct of them; for other machines tools/build/retarget makes the pair. */
 struct memory {
   uint64_t given;
   void *at;

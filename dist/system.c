@@ -1,5 +1,5 @@
 /* What the program calls of a system: its words, files, the number of the last failed call. It calls them by the names of dist/names, so that each
- * system has its own flags, types and numbers here; the program knows those of Linux. No proof covers it; tools/test_dist holds each answer to that
+ * system has its own flags, types and numbers here; the program knows those of Linux. No proof covers it; tools/tests/test_dist holds each answer to that
  * of the toolchain's own library, whose meanings these are. */
 #define _FILE_OFFSET_BITS 64
 #include "facts.h"
