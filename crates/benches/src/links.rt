@@ -1,7 +1,4 @@
-//! Measures the links of two nodes that speak to each other. `links N`: N links one after another, each with open, CC, one message
-//! each way and close; the time of each half is printed. `segments N SIZE`: N segments of SIZE bytes over one link, with an
-//! acknowledgement after every 200; how many a second are sent, and how many are taken and delivered. With no word nothing is printed.
-#![tactic(auto)]
+//! The links of two nodes that speak to each other.
 
 use anyhow::Result;
 use arrayvec::ArrayVec;
@@ -10,7 +7,6 @@ use dna_packet::{
     DisconnectInitiate, Nsp, Segment,
 };
 use nsp_link::{LinkEvent, LinkFault, LinkTag, Links, Piece, WITHOUT_QUEUES};
-use std::env;
 use std::time::Instant;
 use wire_base::RingWindow;
 
@@ -178,7 +174,8 @@ fn acknowledge(a: &mut Node, b: &mut Node, first: u64) -> Result<(), LinkFault> 
     carry(b, a, B, &message)
 }
 
-fn measure_links(rt: &HostRuntime, count: u64) -> Result<()> {
+/// Prints the time of each half of so many links, one after another, each with open, CC, one message each way and close.
+pub fn measure_links(rt: &HostRuntime, count: u64) -> Result<()> {
     let mut a: Node = Links::new(rt.alloc(), A, B);
     let mut b: Node = Links::new(rt.alloc(), B, A);
     for _ in 0..2 {
@@ -190,7 +187,9 @@ fn measure_links(rt: &HostRuntime, count: u64) -> Result<()> {
     Ok(())
 }
 
-fn measure_segments(rt: &HostRuntime, count: u64, size: usize) -> Result<()> {
+/// Prints how many segments of this size a second are sent over one link, with an acknowledgement after every 200, and how many are taken and
+/// delivered, over so many.
+pub fn measure_segments(rt: &HostRuntime, count: u64, size: usize) -> Result<()> {
     let mut a: Node = Links::new(rt.alloc(), A, B);
     let mut b: Node = Links::new(rt.alloc(), B, A);
     let mut body = Vec::new(rt.alloc());
@@ -223,24 +222,4 @@ fn measure_segments(rt: &HostRuntime, count: u64, size: usize) -> Result<()> {
         total / taking.max(1)
     )?;
     Ok(())
-}
-
-fn main(rt: HostRuntime) -> Result<()> {
-    let mut words = env::args(&rt)?;
-    let _program = words.next();
-    let Some(what) = words.next() else {
-        return Ok(());
-    };
-    let Some(count) = words.next() else {
-        return Ok(());
-    };
-    let count = count.parse::<u64>()?;
-    if what.as_str() == "links" {
-        return measure_links(&rt, count);
-    }
-    let Some(size) = words.next() else {
-        return Ok(());
-    };
-    let size = size.parse::<usize>()?;
-    measure_segments(&rt, count, size)
 }

@@ -1,9 +1,6 @@
-//! Prints how many items a second each window takes and gives away again, at a capacity of 2,047.
-//! The word is the number of items in thousands; with no word nothing is moved or printed.
-#![tactic(auto)]
+//! How many items a second each window takes and gives away again, at a capacity of 2,047.
 
 use anyhow::Result;
-use std::env;
 use std::time::Instant;
 use wire_base::{PlainWindow, RingWindow, Window};
 
@@ -41,24 +38,20 @@ fn take<W: Window<Item, 4096>>(window: &mut W, thousands: u32) -> u64 {
     taken
 }
 
-fn main(rt: HostRuntime) -> Result<()> {
-    let mut words = env::args(&rt)?;
-    let Some(thousands) = words.nth(1) else {
-        return Ok(());
-    };
-    let thousands = thousands.parse::<u32>()?;
+/// Prints what so many thousands of items came to.
+pub fn measure(rt: &HostRuntime, thousands: u32) -> Result<()> {
     let mut plain: PlainWindow<Item, 4096> = Window::make(rt.alloc(), CAPACITY, 0)?;
     let mut ring: RingWindow<Item, 4096> = Window::make(rt.alloc(), CAPACITY, 0)?;
-    let start = Instant::now(&rt)?;
+    let start = Instant::now(rt)?;
     let taken = take(&mut plain, thousands);
-    let micros = start.elapsed(&rt)?.as_micros().max(1);
+    let micros = start.elapsed(rt)?.as_micros().max(1);
     println!(rt;
         "plain window: {} million a second",
         u128::from(taken) / micros
     )?;
-    let start = Instant::now(&rt)?;
+    let start = Instant::now(rt)?;
     let taken = take(&mut ring, thousands);
-    let micros = start.elapsed(&rt)?.as_micros().max(1);
+    let micros = start.elapsed(rt)?.as_micros().max(1);
     println!(rt;
         "ring window: {} million a second",
         u128::from(taken) / micros

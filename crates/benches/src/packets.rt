@@ -1,12 +1,9 @@
-//! Prints how many NSP messages a second `read_nsp` reads: segments of 512 data bytes, and data acknowledgements.
-//! The word is the number of rounds over 1,000 messages; with no word nothing is read or printed.
-#![tactic(auto)]
+//! How many NSP messages a second `read_nsp` reads: segments of 512 data bytes, and data acknowledgements.
 
 use anyhow::Result;
 use arrayvec::ArrayVec;
 use dna_packet::{AckQualifier, AckWord, DataAck, Nsp, Segment, read_nsp, write_nsp};
 use std::alloc::Global;
-use std::env;
 use std::time::Instant;
 
 const MESSAGES: u16 = 1000;
@@ -67,12 +64,8 @@ fn count_read(bytes: &[u8], len: usize, rounds: u32) -> u64 {
     count
 }
 
-fn main(rt: HostRuntime) -> Result<()> {
-    let mut words = env::args(&rt)?;
-    let Some(rounds) = words.nth(1) else {
-        return Ok(());
-    };
-    let rounds = rounds.parse::<u32>()?;
+/// Prints what so many rounds over 1,000 messages of each kind came to.
+pub fn measure(rt: &HostRuntime, rounds: u32) -> Result<()> {
     let mut segments = Vec::new(rt.alloc());
     let mut acks = Vec::new(rt.alloc());
     for number in 0..MESSAGES {
@@ -83,9 +76,9 @@ fn main(rt: HostRuntime) -> Result<()> {
         ("segments of 512 bytes", segments.as_slice(), 519),
         ("data acks", acks.as_slice(), 7),
     ] {
-        let start = Instant::now(&rt)?;
+        let start = Instant::now(rt)?;
         let count = count_read(bytes, len, rounds);
-        let micros = start.elapsed(&rt)?.as_micros().max(1);
+        let micros = start.elapsed(rt)?.as_micros().max(1);
         println!(rt; "{name}: {} million a second", u128::from(count) / micros)?;
     }
     Ok(())
