@@ -2,7 +2,7 @@
 
 use crate::layers::Layers;
 use crate::recorder::{Tried, stopped};
-use pair_judge::{JudgeFault, Reason, TextFault, Verdict, judge_queued};
+use pair_judge::{JudgeFault, Matter, Reason, TextFault, Verdict, judge_queued};
 use std::alloc::{AllocError, Global};
 use std::io::{Read, Seek};
 use why::QueuedAnswer;
@@ -19,7 +19,7 @@ pub fn with_queues_too<A: Read + Seek, B: Read + Seek>(
     reason: Reason,
     mut tried: Tried,
 ) -> Result<Tried, AllocError> {
-    if tried.failed.is_some() || layers != Layers::Both || !is_by_queues(reason) {
+    if tried.failed.is_some() || layers != Layers::Both || reason.matter() != Matter::LinkNow {
         return Ok(tried);
     }
     if a.rewind().is_err() || b.rewind().is_err() {
@@ -54,17 +54,4 @@ pub fn with_queues_too<A: Read + Seek, B: Read + Seek>(
         ) => Ok(tried),
         Err(fault) => stopped(tried, fault),
     }
-}
-
-// Whether a queue may explain it: a message or an event of a link that has ended or is in another phase, a piece, an older acknowledgement, a stale
-// message.
-fn is_by_queues(reason: Reason) -> bool {
-    matches!(
-        reason,
-        Reason::NoLink
-            | Reason::LinkState
-            | Reason::WrongSegment
-            | Reason::WrongAck
-            | Reason::CrossedLink
-    )
 }

@@ -6,7 +6,7 @@ use crate::near::Near;
 use crate::right_units::right_units;
 use capture::Entry;
 use edited::{Change, Mistake, Row, with_bytes};
-use pair_judge::{JudgedEnds, Reason, Verdict};
+use pair_judge::{JudgedEnds, Matter, Verdict};
 use std::alloc::{AllocError, Global};
 use wire_base::Side;
 
@@ -64,9 +64,7 @@ pub fn is_sent_at_another_time(ends: &JudgedEnds, mistake: Mistake) -> bool {
         return false;
     };
     match mistake {
-        Mistake::TooLate { .. } | Mistake::TooEarly { .. } => {
-            matches!(reason, Reason::WrongState)
-        }
+        Mistake::TooLate { .. } | Mistake::TooEarly { .. } => { reason.matter() == Matter::State }
         _ => false,
     }
 }

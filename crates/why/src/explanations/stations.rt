@@ -1,7 +1,28 @@
 //! The explanations of the reasons of stations.
 
+ghost use Rattle.std.specs.Prelude.{◌≡◌};
+ghost use Rattle.pair_judge.specs.Reason.{reason_of_station};
+
 use crate::explanations::Explanation;
+use dna_station::StationRefusal;
 use pair_judge::Reason;
+
+/// What there is to say of this refusal of a station.
+pub fn of_station(refusal: StationRefusal) -> Explanation
+    ensures { result.reason ≡ reason_of_station refusal }
+{
+    match refusal {
+        StationRefusal::WrongState => WRONG_STATE,
+        StationRefusal::WrongNumber => WRONG_NUMBER,
+        StationRefusal::WrongResponse => WRONG_RESPONSE,
+        StationRefusal::WindowFull => WINDOW_FULL,
+        StationRefusal::Changed => CHANGED,
+        StationRefusal::NoCause => NO_CAUSE,
+        StationRefusal::WrongKeep => WRONG_KEEP,
+        StationRefusal::CrossedPeriod => CROSSED_PERIOD,
+        StationRefusal::WrongUserEvent => WRONG_USER_EVENT,
+    }
+}
 
 pub const WRONG_STATE: Explanation = Explanation {
     reason: Reason::WrongState,
@@ -25,6 +46,9 @@ RUNNING while a packet is unacknowledged.",
   with a STACK; the REP timer still runs when all is acknowledged",
     first: "\
 compare the state in `ddcap why` with what the node did last.",
+    sentence: "STRT is sent in ISTRT, STACK in ASTRT, ACK, NAK and data in RUNNING, and REP in RUNNING while a packet is unacknowledged",
+    page: "docs/REASONS.md#6-wrongstate",
+    table: "docs/PROTOCOL.md#what-may-be-sent",
 };
 
 pub const WRONG_NUMBER: Explanation = Explanation {
@@ -51,6 +75,9 @@ that number.",
     first: "\
 if NUM is too high, look for a missing `s` line before it. If it is too
 low, look for the NAK that made the station go back.",
+    sentence: "NUM of a data message is T, the number that is next to send, and NUM of a REP is N, the highest number given",
+    page: "docs/REASONS.md#7-wrongnumber",
+    table: "docs/PROTOCOL.md#what-may-be-sent",
 };
 
 pub const WRONG_RESPONSE: Explanation = Explanation {
@@ -77,6 +104,9 @@ that number.",
     first: "\
 find the `k` lines of the message that RESP names and of the next one.
 This record belongs between them.",
+    sentence: "RESP of an ACK, a NAK or a data message is R, the number of the last data message that the station received in order",
+    page: "docs/REASONS.md#8-wrongresponse",
+    table: "docs/PROTOCOL.md#what-may-be-sent",
 };
 
 pub const WINDOW_FULL: Explanation = Explanation {
@@ -96,6 +126,9 @@ acknowledgement.",
   unacknowledged",
     first: "\
 find the last received unit that acknowledged anything.",
+    sentence: "At most 255 packets may be unacknowledged, so a new one waits until an acknowledgement makes room for it",
+    page: "docs/REASONS.md#9-windowfull",
+    table: "docs/PROTOCOL.md#what-may-be-sent",
 };
 
 pub const CHANGED: Explanation = Explanation {
@@ -115,6 +148,9 @@ the same data.",
   urgent packet takes over a number",
     first: "\
 compare the byte that `ddcap why` names in both sendings.",
+    sentence: "A packet that is sent again, under a number given before, has the data of its first sending",
+    page: "docs/REASONS.md#10-changed",
+    table: "docs/PROTOCOL.md#sending-again",
 };
 
 pub const NO_CAUSE: Explanation = Explanation {
@@ -142,6 +178,9 @@ an ACK; a NAK of reason 9, 16 or 17, which need no cause.",
     first: "\
 find what the node answered: a damaged unit, a REP, or a packet without
 a buffer.",
+    sentence: "A NAK of reason 1, 2, 3 or 8 needs something that caused it since the start, and each cause is answered at most once",
+    page: "docs/REASONS.md#11-nocause",
+    table: "docs/PROTOCOL.md#causes-of-a-nak",
 };
 
 pub const WRONG_KEEP: Explanation = Explanation {
@@ -164,6 +203,9 @@ buffer.",
     first: "\
 compare NUM of the unit with R in `ddcap why`. If NUM is above R + 1,
 look for a missing `k` line before it.",
+    sentence: "A packet is kept only from an undamaged data message with NUM R + 1, in RUNNING or, where its RESP is 0, in ASTRT",
+    page: "docs/REASONS.md#12-wrongkeep",
+    table: "docs/PROTOCOL.md#what-an-arrival-does",
 };
 
 pub const CROSSED_PERIOD: Explanation = Explanation {
@@ -188,6 +230,9 @@ goes with it.",
     first: "\
 see whether a station restarted just before. If so, neither capture is
 wrong.",
+    sentence: "A message that a station acts on belongs to the present pair of starts; only a STRT may begin another one",
+    page: "docs/REASONS.md#13-crossedperiod",
+    table: "docs/PROTOCOL.md#the-rule-on-periods",
 };
 
 pub const WRONG_USER_EVENT: Explanation = Explanation {
@@ -208,4 +253,7 @@ a halt first, which is possible in every state.",
   repetition of STRT is a new start",
     first: "\
 find out why the station started again.",
+    sentence: "A station is started only in HALTED, so in any other state it is halted before it is started again",
+    page: "docs/REASONS.md#14-wronguserevent",
+    table: "docs/PROTOCOL.md#what-a-station-keeps",
 };

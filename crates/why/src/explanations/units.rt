@@ -1,7 +1,29 @@
 //! The explanations of the reasons of units, hints, the line and noise.
 
-use crate::explanations::Explanation;
+ghost use Rattle.std.specs.Prelude.{◌≡◌};
+ghost use Rattle.pair_judge.specs.Reason.{reason_of_step};
+
+use crate::explanations::links::of_links;
+use crate::explanations::stations::of_station;
+use crate::explanations::{Explanation, packets};
+use dna_station::StepRefusal;
 use pair_judge::Reason;
+
+/// What there is to say of this refusal of a node.
+pub fn of_step(refusal: StepRefusal) -> Explanation
+    ensures { result.reason ≡ reason_of_step refusal }
+{
+    match refusal {
+        StepRefusal::NotAMessage => NOT_A_MESSAGE,
+        StepRefusal::HintOrder => HINT_ORDER,
+        StepRefusal::Undetected => UNDETECTED,
+        StepRefusal::Station(refusal) => of_station(refusal),
+        StepRefusal::BadPacket => packets::BAD_PACKET,
+        StepRefusal::BadNsp => packets::BAD_NSP,
+        StepRefusal::Links(refusal) => of_links(refusal),
+        StepRefusal::NotNoise => NOT_NOISE,
+    }
+}
 
 pub const NOT_A_MESSAGE: Explanation = Explanation {
     reason: Reason::NotAMessage,
@@ -24,6 +46,9 @@ any message in one of these formats.",
     first: "\
 see what `ddcap why` finds wrong: the number of bytes, a block check, or
 the format.",
+    sentence: "A unit that is sent is a DDCMP message in one of the formats of the standard, with the right block checks",
+    page: "docs/REASONS.md#1-notamessage",
+    table: "docs/PROTOCOL.md#units",
 };
 
 pub const HINT_ORDER: Explanation = Explanation {
@@ -47,6 +72,9 @@ the hint of a later unit.",
   waits",
     first: "\
 find the earlier received unit with this hint or a higher one.",
+    sentence: "The hint of a receipt is above the hints of all earlier receipts, since a line neither repeats nor reorders units",
+    page: "docs/REASONS.md#2-hintorder",
+    table: "docs/PROTOCOL.md#the-line",
 };
 
 pub const NO_SUCH_UNIT: Explanation = Explanation {
@@ -68,6 +96,9 @@ the hint of a unit in the other capture.",
     first: "\
 compare the ends of both captures. If the other one merely ends earlier,
 cut this one there.",
+    sentence: "The hint of a receipt names a unit that the other side sends, so it is below the number of s lines in the other capture",
+    page: "docs/REASONS.md#3-nosuchunit",
+    table: "docs/PROTOCOL.md#the-line",
 };
 
 pub const NO_ORDER: Explanation = Explanation {
@@ -87,6 +118,9 @@ receiving a unit that the other side can send first.",
 - captures of two sessions",
     first: "\
 look at the record at which b waits, too; `ddcap why` shows its hint.",
+    sentence: "A unit is received after it was sent, so the two sides never both wait for a unit that the other one has not sent yet",
+    page: "docs/REASONS.md#4-noorder",
+    table: "docs/PROTOCOL.md#the-line",
 };
 
 pub const UNDETECTED: Explanation = Explanation {
@@ -110,6 +144,9 @@ the unit's own bytes, or bytes that read as header bad or data bad.",
     first: "\
 find the same bytes in a nearby `s` line of the other side: the hint
 should point there.",
+    sentence: "The bytes that are received are those of the unit that was sent, or a block check shows that they are damaged",
+    page: "docs/REASONS.md#5-undetected",
+    table: "docs/PROTOCOL.md#the-line",
 };
 
 pub const NOT_NOISE: Explanation = Explanation {
@@ -131,4 +168,7 @@ the other side has these bytes, an `r` line with its hint.",
 - node: an unexpected unit is recorded as noise",
     first: "\
 find these bytes in the `s` lines of the other side.",
+    sentence: "The bytes of an n line show damage: a block check is wrong, or they are too few for a message",
+    page: "docs/REASONS.md#27-notnoise",
+    table: "docs/PROTOCOL.md#the-line",
 };

@@ -22,6 +22,9 @@ control packet, or the low three bits 010 and at least six bytes.",
     first: "\
 look at the first byte of the packet. If the line carries no DECnet, use
 `check --line`.",
+    sentence: "A packet is one that a DDCMP circuit carries: a routing control packet, or a short data packet of at least six bytes",
+    page: "docs/REASONS.md#15-badpacket",
+    table: "docs/PROTOCOL.md#packets-of-a-ddcmp-circuit",
 };
 
 pub const WRONG_NODE: Explanation = Explanation {
@@ -47,6 +50,9 @@ any packet between the two.",
     first: "\
 compare the addresses in `ddcap why` with both heads. If the line joins
 routers, use `check --line`.",
+    sentence: "A packet of a link goes from one to the other of the two nodes that the head of the capture names",
+    page: "docs/REASONS.md#16-wrongnode",
+    table: "docs/LINKS.md#what-may-be-sent",
 };
 
 pub const BAD_NSP: Explanation = Explanation {
@@ -69,6 +75,9 @@ which is not read.",
   messages of another protocol are sent",
     first: "\
 read the bytes of the message beside that table.",
+    sentence: "A data packet holds an NSP message with all its fields and nothing after its end, unless the packet is marked returned",
+    page: "docs/REASONS.md#17-badnsp",
+    table: "docs/PROTOCOL.md#messages-of-nsp",
 };
 
 pub const NO_LINK: Explanation = Explanation {
@@ -99,6 +108,9 @@ the same, once the link exists.",
   --queued)",
     first: "\
 find where the link began, and whether a DI or DC has ended it.",
+    sentence: "The link that a message or an event names was begun by u open or by a CI that was kept, and has not ended (u up may come later)",
+    page: "docs/REASONS.md#18-nolink",
+    table: "docs/LINKS.md#what-may-be-sent",
 };
 
 pub const LINK_STATE: Explanation = Explanation {
@@ -126,4 +138,7 @@ the same in one of these phases.",
     first: "\
 compare the phase in `ddcap why` with what the node did last on this
 link.",
+    sentence: "A message or an event is allowed only in certain phases of its link: a CI in Calling, a CC in Confirming, a DI in DI, segments in RUN",
+    page: "docs/REASONS.md#19-linkstate",
+    table: "docs/LINKS.md#what-may-be-sent",
 };

@@ -1,7 +1,29 @@
 //! The explanations of the reasons of the links.
 
-use crate::explanations::Explanation;
+ghost use Rattle.std.specs.Prelude.{◌≡◌};
+ghost use Rattle.pair_judge.specs.Reason.{reason_of_links};
+
+use crate::explanations::{Explanation, packets};
+use dna_station::LinkRefusal;
 use pair_judge::Reason;
+
+/// What there is to say of this refusal of the links.
+pub fn of_links(refusal: LinkRefusal) -> Explanation
+    ensures { result.reason ≡ reason_of_links refusal }
+{
+    match refusal {
+        LinkRefusal::WrongNode => packets::WRONG_NODE,
+        LinkRefusal::NoLink => packets::NO_LINK,
+        LinkRefusal::LinkState => packets::LINK_STATE,
+        LinkRefusal::WrongSegment => WRONG_SEGMENT,
+        LinkRefusal::WrongAck => WRONG_ACK,
+        LinkRefusal::SegmentTooLong => SEGMENT_TOO_LONG,
+        LinkRefusal::LinkWindowFull => LINK_WINDOW_FULL,
+        LinkRefusal::WrongDelivery => WRONG_DELIVERY,
+        LinkRefusal::CrossedLink => CROSSED_LINK,
+        LinkRefusal::AddressInUse => ADDRESS_IN_USE,
+    }
+}
 
 pub const WRONG_SEGMENT: Explanation = Explanation {
     reason: Reason::WrongSegment,
@@ -32,6 +54,9 @@ segments again, unchanged.",
   before its first sending (an `x` line in format 3)",
     first: "\
 see in `ddcap why` what differs: the number, the bits or the bytes.",
+    sentence: "A new segment has the next number and the next piece of what the user handed in, and any other repeats an earlier one unchanged",
+    page: "docs/REASONS.md#20-wrongsegment",
+    table: "docs/LINKS.md#messages-in-pieces",
 };
 
 pub const WRONG_ACK: Explanation = Explanation {
@@ -59,6 +84,9 @@ a number in that range.",
     first: "\
 if the number is too high, find the `k` line of the segment that it
 names.",
+    sentence: "An ACK or NAK of segments names a number from the last one sent through the highest received without a gap; a repeat may be older",
+    page: "docs/REASONS.md#21-wrongack",
+    table: "docs/LINKS.md#numbers-and-windows",
 };
 
 pub const SEGMENT_TOO_LONG: Explanation = Explanation {
@@ -76,6 +104,9 @@ that many data bytes, or fewer.",
   to SEGSIZE; SEGSIZE has its high byte first",
     first: "\
 compare SEGSIZE in `ddcap why` with the CI or CC that came first.",
+    sentence: "A new segment has no more data bytes than the SEGSIZE that the other end gave in its CI or CC",
+    page: "docs/REASONS.md#22-segmenttoolong",
+    table: "docs/LINKS.md#numbers-and-windows",
 };
 
 pub const LINK_WINDOW_FULL: Explanation = Explanation {
@@ -96,6 +127,9 @@ arrived.",
   subchannel",
     first: "\
 find the last `k` line that acknowledged anything on this link.",
+    sentence: "At most 2,047 segments of a link may be unacknowledged, so a new one waits until an acknowledgement makes room for it",
+    page: "docs/REASONS.md#23-linkwindowfull",
+    table: "docs/LINKS.md#numbers-and-windows",
 };
 
 pub const WRONG_DELIVERY: Explanation = Explanation {
@@ -118,6 +152,9 @@ the next whole message.",
   message is lost",
     first: "\
 find the message in the other side's `u in` lines.",
+    sentence: "What is delivered on a link is its next whole message: in order, each once, and with no segment missing before its end",
+    page: "docs/REASONS.md#24-wrongdelivery",
+    table: "docs/LINKS.md#what-the-user-does",
 };
 
 pub const CROSSED_LINK: Explanation = Explanation {
@@ -142,6 +179,9 @@ a message of the link that goes with this one.",
     first: "\
 see whether an earlier link had this address, and when it ended. If one
 did, neither capture is wrong.",
+    sentence: "A message that a link acts on was sent by the link that it goes with, not by an earlier one with the same address",
+    page: "docs/REASONS.md#25-crossedlink",
+    table: "docs/LINKS.md#what-an-arrival-does",
 };
 
 pub const ADDRESS_IN_USE: Explanation = Explanation {
@@ -163,4 +203,7 @@ another address; the same one once its link is over.",
   of called links are counted separately",
     first: "\
 find what should have ended the earlier link with this address.",
+    sentence: "The own address in u open, u accept or u reject is not that of a link of this node that is still live",
+    page: "docs/REASONS.md#26-addressinuse",
+    table: "docs/LINKS.md#what-the-user-does",
 };
