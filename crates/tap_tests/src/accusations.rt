@@ -49,6 +49,25 @@ b 0507c00000014855
 a 810d00000101f38002020401040004090007000080cd3d
 ";
 
+// A link that was called sends a link service message, before any message of RUN passed for it.
+const NOT_RUNNING: &str = "ddwire 1 1.1 1.2
+a 0506c00000017595
+b 0507c00000014855
+a 810f000001018a40020204010400180000070001020002edfe
+b 8110000101014e42020104020400280700090001020200001120
+b 810f00010201db70020104020400100700090001000000edf0
+";
+
+// The same behind an acknowledgement of the link that called.
+const RUNNING: &str = "ddwire 1 1.1 1.2
+a 0506c00000017595
+b 0507c00000014855
+a 810f000001018a40020204010400180000070001020002edfe
+b 8110000101014e42020104020400280700090001020200001120
+a 810d00010201a2b002020401040004090007000080cd3d
+b 810f000202012b70020104020400100700090001000000edf0
+";
+
 // A link sends segments 1, 2 and 4, and no 3.
 const GAP: &str = "ddwire 1 1.1 1.2
 a 0506c00000017595
@@ -131,6 +150,23 @@ fn a_packet_that_no_right_node_sent_is_found(rt: HostRuntime) {
             ..Accused::NOBODY
         })
     );
+}
+
+#[test]
+fn a_called_link_that_does_not_run_yet_is_found(rt: HostRuntime) {
+    let of_called = Passed {
+        side: Side::B,
+        unit: 2,
+        line: 6,
+    };
+    assert_eq!(rt;
+        found(rt.alloc(), NOT_RUNNING),
+        Ok(Accused {
+            b: Some(of_called),
+            ..Accused::NOBODY
+        })
+    );
+    assert_eq!(rt; found(rt.alloc(), RUNNING), Ok(Accused::NOBODY));
 }
 
 #[test]
