@@ -37,8 +37,8 @@ was_joined connects own far = was_called connects far || connects CC own far
 abbrev pub can_run : Shown → (own far : ℕ) → Bool
 can_run connects own far = (was_called connects far && connects RUN own far) || connects CC own far
 
--- A link can be of which this message may be sent: one that a CI began for a CC or a connect acknowledgement, one with both addresses for a DI, and one
--- in RUN for the others
+-- A link can be of which this message may be sent: one that a CI began for a CC or a connect acknowledgement, one with both addresses for a DI, and
+-- one in RUN for the others
 abbrev pub has_link : Shown → NspValue → Bool
 has_link connects (ConnectAck dst) = was_called connects dst
 has_link connects (ConnectConfirm dst src services info segsize user_data) = was_called connects dst

@@ -8,7 +8,8 @@ use std::collections::BTreeSet;
 use std::marker::Model;
 
 /// What a side showed by messages that passed, three numbers for each thing: a data segment by the link that it is for, the one that it is from, and
-/// its number; a CI, a CC or a message of RUN by its MSGFLG and both links. It takes memory for each once, and so for at most 4,096 segments of two links.
+/// its number; a CI, a CC or a message of RUN by its MSGFLG and both links. It takes memory for each once, and so for at most 4,096 segments of two
+/// links.
 #[derive(Drop)]
 pub struct Triples {
     shown: BTreeSet<(u16, u16, u16)>,

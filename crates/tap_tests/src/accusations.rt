@@ -79,6 +79,16 @@ a 810e00010301e7200202040104004009000700020062b8bf
 a 810e00010401e5100202040104006009000700040064daa4
 ";
 
+// A link sends two data bytes, and then three, to one with SEGSIZE 2.
+const TOO_LONG: &str = "ddwire 1 1.1 1.2
+a 0506c00000017595
+b 0507c00000014855
+a 810f000001018a40020204010400180000070001020002edfe
+b 8110000101014e42020104020400280700090001020200001120
+a 810f00010201db70020204010400600900070001006162a7ee
+a 8110000103014f2202020401040060090007000200616263ab93
+";
+
 fn found(alloc: Global, text: &str) -> Result<Accused, TapFault> {
     found_over(alloc, text, false)
 }
@@ -167,6 +177,23 @@ fn a_called_link_that_does_not_run_yet_is_found(rt: HostRuntime) {
         })
     );
     assert_eq!(rt; found(rt.alloc(), RUNNING), Ok(Accused::NOBODY));
+}
+
+#[test]
+fn a_segment_that_is_too_long_is_found(rt: HostRuntime) {
+    let of_segment = Passed {
+        side: Side::A,
+        unit: 3,
+        line: 7,
+    };
+    assert_eq!(rt;
+        found(rt.alloc(), TOO_LONG),
+        Ok(Accused {
+            a: Some(of_segment),
+            ..Accused::NOBODY
+        })
+    );
+    assert_eq!(rt; found_over(rt.alloc(), TOO_LONG, true), Ok(Accused::NOBODY));
 }
 
 #[test]
