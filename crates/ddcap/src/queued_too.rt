@@ -9,8 +9,9 @@ use why::QueuedAnswer;
 use wire_base::Tally;
 
 /// Judges the pair again as that of nodes with queues, where both layers were judged without them and such nodes may do what is refused for this
-/// reason, and keeps the answer beside what small edits told. It is not asked where a file can't be read again from its beginning, or where a read of one failed before; and nothing is kept where
-/// a text departs from its format further on. `AllocError`: there is no memory to judge it.
+/// reason (a message or an event of a link that has ended or is in another phase, a piece, an older acknowledgement, a stale message), and keeps
+/// the answer beside what small edits told. It is not asked where a file can't be read again from its beginning, or where a read of one failed
+/// before; and nothing is kept where a text departs from its format further on. `AllocError`: there is no memory to judge it.
 pub fn with_queues_too<A: Read + Seek, B: Read + Seek>(
     alloc: Global,
     layers: Layers,

@@ -10,8 +10,8 @@ use pair_judge::{JudgedEnds, Matter, Verdict};
 use std::alloc::{AllocError, Global};
 use wire_base::Side;
 
-/// The changes of both captures, judged over these layers, under which the refused unit of this side is one that is right there, at both ends; none where no unit is refused that
-/// was sent. `AllocError` where there is no memory for them.
+/// The changes of both captures, judged over these layers, under which the refused unit of this side is one that is right there, at both ends; none
+/// where no unit is refused that was sent. `AllocError` where there is no memory for them.
 pub fn unit_changes(
     alloc: Global,
     layers: Layers,
