@@ -15,7 +15,7 @@ use Rattle.dna_links.specs.declared.port.LinkTest.TheVariants.{TheLink, BegunBy}
 use Rattle.dna_links.specs.declared.queue.Queues.{Queues}
 use Rattle.dna_links.specs.declared.queue.Queues.TheVariants.{Without, With}
 use Rattle.dna_links.specs.declared.queue.Said.TheVariants.{OfRun, Disconnect}
-use Rattle.dna_links.specs.LookUps.{is_live, is_in, is_at, has_both, passes}
+use Rattle.dna_links.specs.LookUps.{is_live, is_at, has_both, passes}
 use Rattle.dna_links.specs.Links.{LinkOf, Carried}
 use Rattle.dna_links.specs.Queues.{in_use, port_of_waiting, may_send, is_silent, is_over}
 use Rattle.dna_links.specs.Table.{Ask, Effect, Say, Keep, SendsSegment, SendsAcks, in_turn, sending_row}

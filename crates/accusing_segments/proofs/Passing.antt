@@ -1,5 +1,5 @@
 -- What passed stays so; and what is in a unit that passes is known then.
-use Rattle.std.proofs.Common.{◌≡◌, ℕ, zero, suc, ◌+◌, ◌<◌, Bool, true, false, ◌||◌, ◌≤◌, length, leb, eqb, Option, Some, Result, Ok, List}
+use Rattle.std.proofs.Common.{◌≡◌, ℕ, zero, suc, ◌+◌, ◌<◌, Bool, true, false, ◌||◌, ◌≤◌, leb, eqb, Option, Some, Result, Ok, List}
 use Rattle.std.proofs.Common.{[], ◌∷◌, ◌++◌, refl, subst, ap, ◌∙◌, arith}
 use Rattle.std.specs.List.{list_any}
 use Rattle.std.proofs.lemmas.Bool.{and_from, eq-eqb, eqb-true, eqb-false, le-leb, or_left, or_right}

@@ -1,4 +1,4 @@
-use Rattle.std.proofs.Common.{List, ℕ, ap}
+use Rattle.std.proofs.Common.{ap}
 use Rattle.dna_packet.specs.Nsp.{view}
 use Rattle.dna_packet.specs.declared.nsp.Nsp.TheVariants as rust
 use Rattle.accusing_segments.specs.Answers.{Sight}
