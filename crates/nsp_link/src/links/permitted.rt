@@ -51,8 +51,8 @@ impl<W: Window<Piece, 4096> + Drop> Links<W> {
         self.make::<QUEUES>(message, permit)
     }
 
-    /// Their node sent this message to node `dst` as node `src`, if it may: [`Links::ask_sending`] and [`Links::send`] in a row. The answer is the tag
-    /// that the message goes with.
+    /// Their node sent this message to node `dst` as node `src`, if it may: [`Links::ask_sending`] and [`Links::send`] in a row. The answer is the
+    /// tag that the message goes with.
     ///
     /// `Refused`: the refusal of the check that it does not pass, `WrongNode`, `NoLink`, `LinkState`, `WrongAck`, `LinkWindowFull`, `SegmentTooLong`
     /// or `WrongSegment`. `OutOfMemory`, after all of these: memory was refused. After any of them the links are as they were.
@@ -65,7 +65,8 @@ impl<W: Window<Piece, 4096> + Drop> Links<W> {
     ) -> Result<LinkTag, LinkFault>
         requires { nsp.IsInRange (nsp.view message.now) }
         ensures ok { IfOk result (λ tag. wire_links_sent (queues_of QUEUES) self.old
-            (record { dst = dst; src = src; message = nsp.view message.now }) ≡ Ok (record { links = self.new; truth = record { tag = tag; known = tt } })) }
+            (record { dst = dst; src = src; message = nsp.view message.now })
+            ≡ Ok (record { links = self.new; truth = record { tag = tag; known = tt } })) }
         ensures refused { IfErr result (λ fault. IsFault
             (wire_links_sent (queues_of QUEUES) self.old (record { dst = dst; src = src; message = nsp.view message.now }))
             (sending_takes_memory (queues_of QUEUES) self.old (nsp.view message.now)) fault) }
@@ -87,7 +88,8 @@ impl<W: Window<Piece, 4096> + Drop> Links<W> {
         message: &Nsp,
         permit: LinkSendPermit,
     ) -> Result<LinkTag, AllocError>
-        requires { Fits (segment_in (nsp.view message.now)) (sending_takes_memory (queues_of QUEUES) self.old (nsp.view message.now)) self.old permit }
+        requires { Fits (segment_in (nsp.view message.now)) (sending_takes_memory (queues_of QUEUES) self.old (nsp.view message.now))
+            self.old permit }
         ensures ok { IfOk result (λ tag. permitted (queues_of QUEUES) (segment_in (nsp.view message.now)) self.old permit
             ≡ record { links = self.new; truth = record { tag = tag; known = tt } }) }
         ensures memory { OnErr result (sending_takes_memory (queues_of QUEUES) self.old (nsp.view message.now) ≡ true) }
