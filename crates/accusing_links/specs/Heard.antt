@@ -7,7 +7,7 @@ use Rattle.accusing_links.specs.Connects.{connect_of}
 pub record Heard : Type 0 where
   -- the data segments
   pub segments : Shown
-  -- the CIs, CCs and messages of RUN, by their links
+  -- the CIs and CCs
   pub connects : Shown
 
 abbrev pub heard : List Passed → Heard

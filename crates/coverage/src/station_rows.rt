@@ -100,7 +100,9 @@ fn nak_row(reason: NakReason) -> Row
         | NakReason::DataCheck
         | NakReason::RepResponse
         | NakReason::NoBuffer => Row::Sends(Sending::NakOfCause),
-        _ => Row::Sends(Sending::OtherNak),
+        NakReason::Overrun | NakReason::MessageTooLong | NakReason::HeaderFormat => {
+            Row::Sends(Sending::OtherNak)
+        }
     }
 }
 

@@ -1,4 +1,6 @@
 mod Words
+mod FailedWords
+mod FailedLate
 mod FailedTurn
 pub mod FailedSending
 pub mod FailedEvent
@@ -21,7 +23,7 @@ mod Ended
 mod Shown
 mod LateWords
 mod Requeued
-mod Permitted
+mod Numbered
 mod Used
 mod Settled
 mod InUse

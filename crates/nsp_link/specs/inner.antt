@@ -6,4 +6,3 @@ pub mod Queue
 pub mod Late
 pub mod Rows
 pub mod Failed
-pub mod Permitted

@@ -1,7 +1,6 @@
 pub mod CountLaws
 pub mod NameLaws
 pub mod MoveLaws
-pub mod TimeLaws
 pub mod TellLaws
 pub mod PassLaws
 pub mod SideLaws

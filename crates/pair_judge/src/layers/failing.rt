@@ -69,10 +69,10 @@ impl Layers {
         match &read_nsp(carried.message) {
             Ok(message) => match self
                 .links
-                .ask_sending::<QUEUES>(carried.dst, carried.src, message)
+                .failed_sending::<QUEUES>(carried.dst, carried.src, message)
             {
-                Ok(_permit) => None,
-                Err(failed) => Some(FailedCheck::LinkSending(failed)),
+                Some(failed) => Some(FailedCheck::LinkSending(failed)),
+                None => None,
             },
             Err(fault) => Some(FailedCheck::Nsp(*fault)),
         }

@@ -1,0 +1,126 @@
+//! Which acknowledgement word may not be sent.
+
+ghost use Rattle.std.specs.Prelude.{◌≡◌, ◌≤◌, None, if◌then◌else◌};
+ghost use Rattle.std.specs.List.{AllByRecursion};
+ghost use Rattle.dna_packet.specs.AckWord.{IsAckWord};
+ghost use Rattle.nsp_link.specs.FailedSending as spec;
+
+use super::LastSent;
+use super::late::LateSent;
+use crate::failed::{FailedLinkSending, Numbers};
+use dna_packet::AckWord;
+use link_segments::{REACH, is_of_data};
+use wire_base::Seq;
+
+impl LastSent {
+    /// The first of these words that may not be sent, with the numbers that are allowed in its place, as in `behind_all`.
+    #[tactic(auto, using(crate::proofs::FailedWords::word_by_word))]
+    pub fn failed_words(
+        self,
+        again: bool,
+        received: Seq<4096>,
+        words: &[AckWord],
+    ) -> Option<FailedLinkSending>
+        requires { AllByRecursion IsAckWord words.now }
+        ensures { result ≡ spec.failed_words again received words.now self }
+    {
+        let mut sent = self;
+        for word in words {
+            if is_of_data(word.qualifier) {
+                let Some(next) = sent.behind(again, received, word.number) else {
+                    return Some(FailedLinkSending::Acknowledgement {
+                        seen: word.number,
+                        allowed: sent.word_numbers(again, received),
+                    });
+                };
+                sent = next;
+            }
+        }
+        None
+    }
+
+    /// The same of the words of a new segment of a node with queues, which may lie so far below the last one sent, as in `behind_all_late`.
+    #[tactic(auto, using(crate::proofs::FailedLate::word_by_word))]
+    pub fn failed_late(
+        self,
+        gap: u16,
+        received: Seq<4096>,
+        words: &[AckWord],
+    ) -> Option<FailedLinkSending>
+        requires { AllByRecursion IsAckWord words.now }
+        ensures { result ≡ spec.failed_late received words.now (record { sent = self; gap = gap }) }
+    {
+        let mut late = LateSent { sent: self, gap };
+        for word in words {
+            if is_of_data(word.qualifier) {
+                let Some(next) = late.sent.behind_late(late.gap, received, word.number) else {
+                    return Some(FailedLinkSending::Acknowledgement {
+                        seen: word.number,
+                        allowed: late.numbers(received),
+                    });
+                };
+                late = next;
+            }
+        }
+        None
+    }
+
+    // The numbers that a word after this one may have.
+    fn word_numbers(self, again: bool, received: Seq<4096>) -> Numbers
+        ensures { result ≡ spec.word_numbers again received self }
+    {
+        Numbers {
+            lowest: self.last.value(),
+            highest: received.value(),
+            again: self.earliest(again),
+        }
+    }
+
+    fn earliest(self, again: bool) -> Option<u16>
+        ensures { result ≡ if again then spec.from_below self.last (spec.words_back self) else None }
+    {
+        if !again {
+            return None;
+        }
+        from_below(self.last, self.back())
+    }
+
+    // How far a word of a segment that is sent again may reach back.
+    fn back(self) -> u16
+        ensures back { result ≡ spec.words_back self }
+        ensures reach { result ≤ 2047 }
+    {
+        if self.is_high {
+            return REACH;
+        }
+        REACH.min(self.last.value())
+    }
+}
+
+impl LateSent {
+    // The numbers that a word of a new segment after this one may have.
+    fn numbers(self, received: Seq<4096>) -> Numbers
+        ensures { result ≡ spec.late_numbers received self }
+    {
+        let LateSent { sent, gap } = self;
+        let reach = sent.back();
+        let back = if gap < reach { gap } else { reach };
+        Numbers {
+            lowest: sent.last.value(),
+            highest: received.value(),
+            again: from_below(sent.last, back),
+        }
+    }
+}
+
+/// So many numbers below a number, if any.
+pub fn from_below(number: Seq<4096>, count: u16) -> Option<u16>
+    requires { count ≤ 2047 }
+    ensures { result ≡ spec.from_below number count }
+{
+    if count == 0 {
+        return None;
+    }
+    let above = u64::from(number.value()) + 4096;
+    Some(Seq::<4096>::of(above - u64::from(count)).value())
+}
