@@ -7,6 +7,15 @@ export const printed = answer => decode(answer.out) + decode(answer.err);
 
 // A line of `tap` on a unit that is wrong whatever came to its node.
 const ACCUSES = /^whatever came to it, no right node sends /m;
+// And on one that is right only of a node that dropped packets.
+const ACCUSES_UNLESS = /^a right node sends .* only if it dropped packets that it had composed$/m;
+
+// What it means that `tap` found no explanation.
+function unexplained(text) {
+  if (ACCUSES.test(text)) return 'Whatever came to it, no right node sends this.';
+  if (ACCUSES_UNLESS.test(text)) return 'A right node sends this only if it dropped packets that it had composed.';
+  return 'No way was found in which two right nodes would send this. This alone accuses neither node.';
+}
 
 // Of a verdict its kind (good, bad or fault), a title, what it means, and the program's own first line. `isOneEnd` and `isWire` tell what was judged.
 export function verdictOf(answer, isOneEnd, isWire) {
@@ -17,8 +26,7 @@ export function verdictOf(answer, isOneEnd, isWire) {
     passed: ['good', 'Passed', 'This end kept to the rules, as far as one end shows.'],
     refused: ['bad', 'Refused', isOneEnd ? 'No capture of the other end would make this one right.'
       : 'The records of both captures can’t be put in any order that obeys the protocol.'],
-    unexplained: ['bad', 'Unexplained', ACCUSES.test(printed(answer)) ? 'Whatever came to it, no right node sends this.'
-      : 'No way was found in which two right nodes would send this. This alone accuses neither node.'],
+    unexplained: ['bad', 'Unexplained', unexplained(printed(answer))],
     'apart:': ['bad', 'Apart', 'Each side by itself could have sent this, but no way was found in which both did. This accuses neither node.'],
   };
   const fault = answer.status === 2 ? 'Mend that line, and drop the file again.' : 'Something failed that is no fault of the texts.';

@@ -6,7 +6,7 @@ import re
 from collections import namedtuple
 
 TESTS = (
-    'machine_rows', 'pair_tests', 'public_tests', 'tap_tests', 'leaving_tests', 'link_tests', 'packet_bench', 'window_bench', 'link_bench',
+    'machine_rows', 'pair_tests', 'public_tests', 'tap_tests', 'leaving_tests', 'link_tests', 'benches',
     'link_allocations', 'dna_rows',
 )
 TOP = os.path.dirname(os.path.dirname(os.path.dirname(os.path.abspath(__file__))))

@@ -28,7 +28,7 @@ def text_of(*path):
 
 def numbers():
     """The number of each reason, by its name."""
-    entries = re.findall(r'Reason::(\w+) => \((\d+), "\1"\)', text_of('crates', 'pair_judge', 'src', 'reason.rt'))
+    entries = re.findall(r'Reason::(\w+) => \((\d+), "\1"', text_of('crates', 'pair_judge', 'src', 'reason.rt'))
     return {name: int(number) for name, number in entries}
 
 

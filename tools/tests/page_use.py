@@ -118,6 +118,8 @@ def several_drops(use):
     use.expect('a wire text without an explanation', use.choose('a', os.path.join(LISTS, 'tap', 'skipped_number.wire')) == 'Unexplained')
     use.expect('its place, and nobody accused', 'unit 7 of a' in use.text('#verdict') and 'Accused' not in use.text('#verdict'))
     use.expect('on what it rests', 'every unit sent passed this point' in use.text('#verdict .meaning'))
+    use.expect('a segment that was left out', use.choose('a', os.path.join(LISTS, 'tap', 'skipped_segment.wire')) == 'Unexplained')
+    use.expect('that a right node may have dropped it', 'only if it dropped packets that it had composed' in use.text('#verdict .meaning'))
     use.expect('a script too', use.choose('a', example('lost_and_damaged.script')) == 'Accepted')
     use.expect('a pair in place of a script', use.choose('a', example('two_links.a'), example('two_links.b')) == 'Accepted')
     use.expect('as it was chosen before', use.browser.value(chosen) == [False, 'plain'])

@@ -31,7 +31,7 @@ use Rattle.accusing_links.specs.declared.wrong.Wrong.TheVariants.{WrongNode, NoL
 use Rattle.accusing_links.specs.Placing.{node_machine, IsNodePlacing}
 use Rattle.accusing_links.specs.Answers.{IsWrong}
 use Rattle.accusing_links.specs.Segments.{Shown, packet_in, is_this, shown_in, shown_by, passed_of, segment_of}
-use Rattle.accusing_links.specs.Connects.{CI, CC, connect_of}
+use Rattle.accusing_links.specs.Connects.{CI, CC, RUN, connect_of}
 use Rattle.accusing_links.specs.Heard.{heard}
 use Rattle.accusing_links.specs.Wrong.{wrong_content, wrong_in, wrong_unit}
 use Rattle.accusing_links.proofs.Answered.{Good}
@@ -44,7 +44,7 @@ use Rattle.accusing_links.proofs.LinkSteps.{HasPassed, AcksFine, user_right, arr
 use Rattle.accusing_links.proofs.LinkSends.{sent_right, sent_fine}
 use Rattle.accusing_links.proofs.Tied.{AreTied, tied_more}
 use Rattle.accusing_links.proofs.TiedSteps.{ConnectPassed, user_tied, arrived_tied}
-use Rattle.accusing_links.proofs.TiedSends.{Joined, LinkFine, sent_tied, sent_linked}
+use Rattle.accusing_links.proofs.TiedSends.{Joined, CanRun, LinkFine, sent_tied, sent_linked}
 use Rattle.accusing_links.proofs.Passing.{AsNumbers, other_passed, passed_more, message_right, link_right}
 
 module _ (queues : Queues) (head : Head) where
@@ -132,10 +132,10 @@ module _ (queues : Queues) (head : Head) where
     connect_passed : (m : NspValue) → ((a b c : ℕ) → connect_of m a b c ≡ true → P a b c) → ConnectPassed P m
     connect_passed (ConnectInitiate retransmitted src services info segsize user_data) came = came CI 0 src (this_is CI 0 src)
     connect_passed (ConnectConfirm dst src services info segsize user_data) came = came CC dst src (this_is CC dst src)
-    connect_passed (DataSegment s) came = tt
-    connect_passed (LinkService interrupt dst src rest) came = tt
-    connect_passed (DataAck dst src acks) came = tt
-    connect_passed (OtherDataAck dst src rest) came = tt
+    connect_passed (DataSegment s) came = came RUN s.dstaddr s.srcaddr (this_is RUN s.dstaddr s.srcaddr)
+    connect_passed (LinkService interrupt dst src rest) came = came RUN dst src (this_is RUN dst src)
+    connect_passed (DataAck dst src acks) came = came RUN dst src (this_is RUN dst src)
+    connect_passed (OtherDataAck dst src rest) came = came RUN dst src (this_is RUN dst src)
     connect_passed (ConnectAck dst) came = tt
     connect_passed (NoOperation rest) came = tt
     connect_passed (DisconnectInitiate dst src reason user_data) came = tt
@@ -225,11 +225,16 @@ module _ (queues : Queues) (head : Head) where
     joined_more own far (inl called) = inl (passed_more connect_of before one CI 0 far called)
     joined_more own far (inr answered) = inr (passed_more connect_of before one CC own far answered)
 
+    run_more : (own far : ℕ) → CanRun (P before) own far → CanRun (P after) own far
+    run_more own far (inl called) =
+        inl (passed_more connect_of before one CI 0 far called.0, passed_more connect_of before one RUN own far called.1)
+    run_more own far (inr answered) = inr (passed_more connect_of before one CC own far answered)
+
     link_more : (m : NspValue) → LinkFine (P before) m → LinkFine (P after) m
-    link_more (DataSegment s) fine = joined_more s.srcaddr s.dstaddr fine
-    link_more (DataAck dst src acks) fine = joined_more src dst fine
-    link_more (LinkService interrupt dst src rest) fine = joined_more src dst fine
-    link_more (OtherDataAck dst src rest) fine = joined_more src dst fine
+    link_more (DataSegment s) fine = run_more s.srcaddr s.dstaddr fine
+    link_more (DataAck dst src acks) fine = run_more src dst fine
+    link_more (LinkService interrupt dst src rest) fine = run_more src dst fine
+    link_more (OtherDataAck dst src rest) fine = run_more src dst fine
     link_more (ConnectAck dst) fine = passed_more connect_of before one CI 0 dst fine
     link_more (NoOperation rest) fine = tt
     link_more (ConnectInitiate retransmitted src services info segsize user_data) fine = tt

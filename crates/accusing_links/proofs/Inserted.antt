@@ -1,10 +1,14 @@
--- A set of segments has one more after it was put in.
-use Rattle.std.proofs.Common.{◌≡◌, ℕ, Bool, true, false, ◌||◌, List, [], ◌∷◌, refl, sym, ap, ◌∙◌}
+-- A set of segments has one more after it was put in, and is as it was once that is taken out.
+use Rattle.std.proofs.Common.{◌≡◌, ℕ, Bool, true, false, ◌||◌, not, cond, eqb, ltb, List, [], ◌∷◌, refl, sym, ap, ap₂, ◌∙◌, arith}
+use Rattle.std.proofs.Common.{ltb-true}
+use Rattle.std.proofs.lemmas.Bool.{eq-eqb}
 use Rattle.std.proofs.Common.{Ordering, Less, Equal, Greater, nat_cmp}
 use Rattle.std.proofs.lemmas.Map.Lookups.{exact_unsigned}
-use Rattle.std.specs.Ordering.{match_ordering, ordering_then}
+use Rattle.std.specs.Ordering.{match_ordering, ordering_then, is_eq}
 use Rattle.std.specs.List.{list_any}
 use Rattle.std.specs.BTreeSet.{insert_key}
+use Rattle.std.specs.BTreeMap.{is_at}
+use Rattle.std.specs.Set.{remove_key}
 
 twice : (a b : Bool) → (a || b) ≡ (a || (a || b))
 twice true b = refl
@@ -25,6 +29,26 @@ module _ {K : Type 0} (compare : K → K → Ordering) (exact : (x y : K) → co
       go Less e later = refl
       go Equal e later = twice (test x) (list_any test keys) ∙ ap (λ (y : K). test y || (test x || list_any test keys)) (sym (exact k x e))
       go Greater e later = ap (λ (b : Bool). test x || b) later ∙ turned (test x) (test k) (list_any test keys)
+
+pub was_absent : (b : Bool) → not b ≡ true → b ≡ false
+was_absent true e = absurd cc
+was_absent false e = refl
+
+-- one that was not there, put in and taken out again
+module _ {K : Type 0} (compare : K → K → Ordering) (k : K) (same : compare k k ≡ Equal) where
+  pub taken_out : (keys : List K) → list_any (is_at (compare k)) keys ≡ false → remove_key (is_at (compare k)) (insert_key compare keys k) ≡ keys
+  taken_out [] e = ap (λ (o : Ordering). cond (is_eq o) [] (k ∷ [])) same
+  taken_out (x ∷ keys) e = go (compare k x) refl e (taken_out keys)
+    where
+      go : (o : Ordering) → compare k x ≡ o → (is_eq o || list_any (is_at (compare k)) keys) ≡ false →
+          (list_any (is_at (compare k)) keys ≡ false → remove_key (is_at (compare k)) (insert_key compare keys k) ≡ keys) →
+          remove_key (is_at (compare k)) (match_ordering o (k ∷ x ∷ keys) (x ∷ keys) (x ∷ insert_key compare keys k)) ≡ x ∷ keys
+      go Less at f later =
+          ap (λ (o : Ordering). cond (is_eq o) (x ∷ keys) (k ∷ remove_key (is_at (compare k)) (x ∷ keys))) same
+      go Equal at f later = absurd cc
+      go Greater at f later =
+          ap (λ (o : Ordering). cond (is_eq o) (insert_key compare keys k) (x ∷ remove_key (is_at (compare k)) (insert_key compare keys k))) at
+          ∙ ap (λ (ys : List K). x ∷ ys) (later f)
 
 -- ---- by the order of three numbers
 
@@ -47,3 +71,14 @@ three_exact x y e =
     let all = both_equal (ordering_then (nat_cmp x.0 y.0) (nat_cmp x.1 y.1)) (nat_cmp x.2 y.2) e in
     let first = both_equal (nat_cmp x.0 y.0) (nat_cmp x.1 y.1) all.0 in
     same_three x.0 x.1 x.2 y.0 y.1 y.2 (exact_unsigned x.0 y.0 first.0) (exact_unsigned x.1 y.1 first.1) (exact_unsigned x.2 y.2 all.1)
+
+same_number : (n : ℕ) → nat_cmp n n ≡ Equal
+same_number n = go (ltb n n) refl
+  where
+    go : (b : Bool) → ltb n n ≡ b → cond b Less (cond (eqb n n) Equal Greater) ≡ Equal
+    go true e = let l = ltb-true n n e in absurd (omega (arith, l))
+    go false e = ap (λ (b : Bool). cond b Equal Greater) (eq-eqb n n refl)
+
+pub three_same : (x : Three) → three_compared x x ≡ Equal
+three_same x =
+    ap₂ ordering_then (ap₂ ordering_then (same_number x.0) (same_number x.1)) (same_number x.2)

@@ -3,7 +3,7 @@ use Rattle.std.proofs.Common.{◌≡◌, ℕ, Bool, true, false, ◌&&◌, ◌||
 use Rattle.std.proofs.Common.{refl, sym}
 use Rattle.std.proofs.Common.{ap, ap₂, ◌∙◌, ◌⊎◌, inl, inr, OnOk, OnErr}
 use Rattle.std.specs.List.{list_all}
-use Rattle.std.proofs.lemmas.Bool.{eq-eqb}
+use Rattle.std.proofs.lemmas.Bool.{eq-eqb, and_from}
 use Rattle.ddcmp_msg.specs.Reading.{reading}
 use Rattle.dna_packet.specs.declared.ack_word.AckWord.{AckWord}
 use Rattle.dna_packet.specs.Nsp.{NspValue, DataSegment, DataAck, LinkService, OtherDataAck, ConnectAck, NoOperation, ConnectInitiate, ConnectConfirm}
@@ -19,13 +19,13 @@ use Rattle.accusing_links.specs.declared.wrong.Wrong.{Wrong}
 use Rattle.accusing_links.specs.declared.wrong.Wrong.TheVariants.{WrongNode, NoLink, WrongAck}
 use Rattle.accusing_links.specs.Answers.{Sight, IsAfter}
 use Rattle.accusing_links.specs.Segments.{Shown, has, packet_in, shown_by, passed_of, segment_of}
-use Rattle.accusing_links.specs.Connects.{CI, CC, connect_of, was_joined, has_link}
+use Rattle.accusing_links.specs.Connects.{CI, CC, RUN, connect_of, was_joined, can_run, has_link}
 use Rattle.accusing_links.specs.Heard.{Heard}
 use Rattle.accusing_links.specs.Wrong.{goes_out, is_right_word, are_right_words, wrong_of_link, wrong_content, wrong_in, wrong_unit}
 use Rattle.accusing_links.proofs.RightLinks.{Numbers}
 use Rattle.accusing_links.proofs.Received.{AreFine}
 use Rattle.accusing_links.proofs.LinkSteps.{AcksFine}
-use Rattle.accusing_links.proofs.TiedSends.{Joined, LinkFine}
+use Rattle.accusing_links.proofs.TiedSends.{Joined, CanRun, LinkFine}
 
 -- ---- what passed
 
@@ -86,11 +86,15 @@ module _ (one two : Shown) (same : Alike one two) where
   joined_same : (own far : ℕ) → was_joined one own far ≡ was_joined two own far
   joined_same own far = ap₂ (λ (a b : Bool). a || b) (same CI 0 far) (same CC own far)
 
+  run_same : (own far : ℕ) → can_run one own far ≡ can_run two own far
+  run_same own far =
+      ap₂ (λ (a b : Bool). a || b) (ap₂ (λ (a b : Bool). a && b) (same CI 0 far) (same RUN own far)) (same CC own far)
+
   link_same : (m : NspValue) → has_link one m ≡ has_link two m
-  link_same (DataSegment s) = joined_same _ _
-  link_same (DataAck dst src acks) = joined_same _ _
-  link_same (LinkService interrupt dst src rest) = joined_same _ _
-  link_same (OtherDataAck dst src rest) = joined_same _ _
+  link_same (DataSegment s) = run_same _ _
+  link_same (DataAck dst src acks) = run_same _ _
+  link_same (LinkService interrupt dst src rest) = run_same _ _
+  link_same (OtherDataAck dst src rest) = run_same _ _
   link_same (ConnectAck dst) = same CI 0 dst
   link_same (NoOperation rest) = refl
   link_same (ConnectInitiate retransmitted src services info segsize user_data) = refl
@@ -156,11 +160,16 @@ was_right : (connects : Shown) (own far : ℕ) → Joined (AsNumbers connects) o
 was_right connects own far (inl called) = ap (λ (b : Bool). b || connects CC own far) called
 was_right connects own far (inr answered) = or_later (connects CI 0 far) (connects CC own far) answered
 
+run_right : (connects : Shown) (own far : ℕ) → CanRun (AsNumbers connects) own far → can_run connects own far ≡ true
+run_right connects own far (inl called) =
+    ap (λ (b : Bool). b || connects CC own far) (and_from (connects CI 0 far) (connects RUN own far) called.0 called.1)
+run_right connects own far (inr answered) = or_later (connects CI 0 far && connects RUN own far) (connects CC own far) answered
+
 pub link_right : (connects : Shown) (m : NspValue) → LinkFine (AsNumbers connects) m → has_link connects m ≡ true
-link_right connects (DataSegment s) fine = was_right connects _ _ fine
-link_right connects (DataAck dst src acks) fine = was_right connects _ _ fine
-link_right connects (LinkService interrupt dst src rest) fine = was_right connects _ _ fine
-link_right connects (OtherDataAck dst src rest) fine = was_right connects _ _ fine
+link_right connects (DataSegment s) fine = run_right connects _ _ fine
+link_right connects (DataAck dst src acks) fine = run_right connects _ _ fine
+link_right connects (LinkService interrupt dst src rest) fine = run_right connects _ _ fine
+link_right connects (OtherDataAck dst src rest) fine = run_right connects _ _ fine
 link_right connects (ConnectAck dst) fine = fine
 link_right connects (NoOperation rest) fine = refl
 link_right connects (ConnectInitiate retransmitted src services info segsize user_data) fine = refl

@@ -1,6 +1,7 @@
--- What is sent keeps it that links have their far addresses by CIs and CCs that passed; and each message that needs a link has one that can be.
+-- What is sent keeps it that links have their far addresses by CIs and CCs that passed, and run by messages of RUN; and each message that needs a
+-- link has one that can be.
 use Rattle.std.proofs.Common.{◌≡◌, ℕ, Bool, true, false, ◌&&◌, ◌⊎◌, inl, inr, not, eqb, Option, Some, None, Result, Err, List, [], ◌∷◌}
-use Rattle.std.proofs.Common.{refl, sym, ◌∙◌}
+use Rattle.std.proofs.Common.{refl, sym, ap, ◌∙◌, ◌||◌}
 use Rattle.std.specs.Prelude.{slice_get}
 use Rattle.std.proofs.lemmas.Bool.{and_parts}
 use Rattle.dna_packet.specs.Nsp.{NspValue, DataSegment, LinkService, DataAck, OtherDataAck, ConnectAck, NoOperation, ConnectInitiate}
@@ -16,33 +17,36 @@ use Rattle.dna_links.specs.declared.queue.Queues.TheVariants.{Without, With}
 use Rattle.dna_links.specs.declared.queue.Said.TheVariants.{OfRun, Disconnect}
 use Rattle.dna_links.specs.LookUps.{is_live, is_at, has_both, passes}
 use Rattle.dna_links.specs.Links.{LinkOf, Carried}
-use Rattle.dna_links.specs.Queues.{in_use, port_of_waiting, may_send, is_silent}
+use Rattle.dna_links.specs.Queues.{in_use, port_of_waiting, may_send, is_silent, is_over}
 use Rattle.dna_links.specs.Table.{Ask, Effect, Say, Keep, SendsSegment, SendsAcks, in_turn, sending_row}
 use Rattle.dna_links.specs.WireSegments.{WireSegments, wire_segments}
 use Rattle.dna_links.specs.WireLinks.{WireLinks, wire_links_sent}
 use Rattle.dna_links.specs.LinkBook.{blank, kept, asked, by_row, after, of_none, waits}
 use Rattle.dna_links.specs.Sending.{Sent, sent_as}
-use Rattle.accusing_links.specs.Connects.{CI, CC}
+use Rattle.accusing_links.specs.Connects.{CI, CC, RUN}
 use Rattle.accusing_links.proofs.Answered.{Good, good_err, good_check, link_good, in_use_good, seen_good}
 use Rattle.accusing_links.proofs.RightLinks.{Numbers}
 use Rattle.accusing_links.proofs.LinkSteps.{at_is}
 use Rattle.accusing_links.proofs.LinkSends.{good_always}
-use Rattle.accusing_links.proofs.Tied.{Is, AreTied, tied_at}
+use Rattle.accusing_links.proofs.Tied.{Is, has_run, or_ran, AreTied, tied_at}
 use Rattle.accusing_links.proofs.TiedRows.{IsCalmRow, after_tied, calm_row}
 use Rattle.accusing_links.proofs.TiedSteps.{begun_in}
 
 abbrev pub Joined : Numbers → ℕ → ℕ → Type 0
 Joined P own far = P CI 0 far ⊎ P CC own far
 
+abbrev pub CanRun : Numbers → ℕ → ℕ → Type 0
+CanRun P own far = (P CI 0 far × P RUN own far) ⊎ P CC own far
+
 -- a link of which a message may be sent can be
 abbrev pub LinkFine : Numbers → NspValue → Type 0
 LinkFine P (ConnectAck dst) = P CI 0 dst
 LinkFine P (ConnectConfirm dst src services info segsize user_data) = P CI 0 dst
 LinkFine P (DisconnectInitiate dst src reason user_data) = Joined P src dst
-LinkFine P (DataSegment s) = Joined P s.srcaddr s.dstaddr
-LinkFine P (DataAck dst src acks) = Joined P src dst
-LinkFine P (LinkService interrupt dst src rest) = Joined P src dst
-LinkFine P (OtherDataAck dst src rest) = Joined P src dst
+LinkFine P (DataSegment s) = CanRun P s.srcaddr s.dstaddr
+LinkFine P (DataAck dst src acks) = CanRun P src dst
+LinkFine P (LinkService interrupt dst src rest) = CanRun P src dst
+LinkFine P (OtherDataAck dst src rest) = CanRun P src dst
 LinkFine P m = Unit {0}
 
 module _ (P : Numbers) (queues : Queues) (s : WireLinks) (are : AreTied P queues s.links) where
@@ -126,6 +130,36 @@ module _ (P : Numbers) (queues : Queues) (s : WireLinks) (are : AreTied P queues
       (λ n l found. good_always (Joined P own far)
       (joined_by own far n l (in_use With l) found.there (port_in_use l.queue.waits l) found.passes) _)
 
+  -- a link in RUN
+  ran : (q : Queues) (l : LinkOf WireSegments) → may_send q Running l ≡ true → has_run l.port.phase l.queue.ran ≡ true
+  ran Without l e = ap (λ (b : Bool). b || l.queue.ran) e
+  ran With l e = or_ran l.port.phase l.queue.ran (and_parts l.queue.ran (not (is_over l.queue.said)) e).0
+
+  run_by : (own far n : ℕ) (l : LinkOf WireSegments) (port : Port) → slice_get s.links n ≡ Some l → IsPortOf l port →
+      passes (TheLink own far) port ≡ true → has_run l.port.phase l.queue.ran ≡ true → CanRun P own far
+  run_by own far n l port at of passed run = go l.port.opened refl
+    where
+      both : (l.port.own ≡ Some own) × (l.port.far ≡ Some far)
+      both =
+          let parts = and_parts (is_live port.phase) (has_both port own far) passed in
+          let each = and_parts (is_at port.own own) (is_at port.far far) parts.1 in
+          (sym of.own ∙ at_is port.own own each.0, sym of.far ∙ at_is port.far far each.1)
+
+      go : (b : Bool) → l.port.opened ≡ b → CanRun P own far
+      go true e = inr ((there n l at).by_answer e own far both.0 both.1)
+      go false e = inl ((there n l at).by_call e far both.1, (there n l at).by_run e run own far both.0 both.1)
+
+  run_fine : (own far : ℕ) (es : List Effect) (asks : List Ask) →
+      Good (Any (CanRun P own far)) (asks_by es (in_turn (TheLink own far) Running asks))
+  run_fine own far es asks =
+      in_use_good (Any (CanRun P own far)) queues (TheLink own far) s _ _ (good_err (Any (CanRun P own far)) NoLink)
+      (λ n l found. good_check (Any (CanRun P own far)) (may_send queues Running l) LinkState _ (λ e.
+      good_always (CanRun P own far)
+      (run_by own far n l l.port found.there (record { own = refl; far = refl; opened = refl }) found.passes (ran queues l e)) _))
+      (λ n l found. good_check (Any (CanRun P own far)) (may_send queues Running l) LinkState _ (λ e.
+      good_always (CanRun P own far)
+      (run_by own far n l (in_use With l) found.there (port_in_use l.queue.waits l) found.passes (ran queues l e)) _))
+
   -- a link that was accepted
   accepted_begun : (q : Queues) (l : LinkOf WireSegments) → may_send q Confirming l ≡ true → Is P queues l → l.port.opened ≡ false
   accepted_begun Without l e is = begun_in Confirming l.port.phase l.port.opened e is.begun
@@ -180,10 +214,10 @@ module _ (P : Numbers) (queues : Queues) (s : WireLinks) (are : AreTied P queues
   message_fine (ConnectConfirm dst src services info segsize user_data) = confirm_fine src dst (kept queues [])
   message_fine (DisconnectInitiate dst src reason user_data) = joined_fine src dst (kept queues (Say Disconnect ∷ [])) Disconnecting []
   message_fine (DataSegment segment) =
-      joined_fine segment.srcaddr segment.dstaddr (kept queues (Say OfRun ∷ Keep ∷ [])) Running (SendsSegment segment ∷ [])
-  message_fine (DataAck dst src acks) = joined_fine src dst (kept queues (Say OfRun ∷ Keep ∷ [])) Running (SendsAcks acks ∷ [])
-  message_fine (LinkService interrupt dst src rest) = joined_fine src dst (kept queues (Say OfRun ∷ [])) Running []
-  message_fine (OtherDataAck dst src rest) = joined_fine src dst (kept queues (Say OfRun ∷ [])) Running []
+      run_fine segment.srcaddr segment.dstaddr (kept queues (Say OfRun ∷ Keep ∷ [])) (SendsSegment segment ∷ [])
+  message_fine (DataAck dst src acks) = run_fine src dst (kept queues (Say OfRun ∷ Keep ∷ [])) (SendsAcks acks ∷ [])
+  message_fine (LinkService interrupt dst src rest) = run_fine src dst (kept queues (Say OfRun ∷ [])) []
+  message_fine (OtherDataAck dst src rest) = run_fine src dst (kept queues (Say OfRun ∷ [])) []
   message_fine (NoOperation rest) = good_always (Unit {0}) tt _
   message_fine (ConnectInitiate retransmitted src services info segsize user_data) = good_always (Unit {0}) tt _
   message_fine (DisconnectConfirm dst src reason) = good_always (Unit {0}) tt _

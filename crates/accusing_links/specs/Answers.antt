@@ -13,7 +13,7 @@ use Rattle.accusing_links.specs.Heard.{Heard, heard}
 abbrev pub IsWrong : Head → List Passed → Type 0
 IsWrong head passed = (queues : Queues) (records : List Record) → IsNodePlacing queues head passed records → ⊥
 
--- the node's addresses, and what passed of the other side: data segments, CIs and CCs
+-- the node's addresses, and what passed of the other side: data segments, and by their links CIs, CCs and messages of RUN
 pub record Sight : Type 0 where
   pub head : Head
   pub segments : List (ℕ × ℕ × ℕ)

@@ -1,6 +1,6 @@
--- Of which messages no link can be, by the CIs and CCs of the other side that passed (NSP 4.0, session control interface, port states): by one of
--- them a link gets its far address, and by nothing else.
-use Rattle.std.specs.Prelude.{ℕ, Bool, true, false, ◌||◌}
+-- Of which messages no link can be, by what passed of the links of the other side (NSP 4.0, session control interface, port states): a link gets its
+-- far address by a CI or a CC, and by nothing else; and one that a CI began is in RUN once a message of RUN came to it.
+use Rattle.std.specs.Prelude.{ℕ, Bool, true, false, ◌&&◌, ◌||◌}
 use Rattle.dna_packet.specs.Nsp.{NspValue, DataSegment, LinkService, DataAck, OtherDataAck, ConnectAck, ConnectInitiate, ConnectConfirm}
 use Rattle.dna_packet.specs.Nsp.{DisconnectInitiate}
 use Rattle.accusing_links.specs.Segments.{Shown, is_this}
@@ -12,10 +12,18 @@ CI = 0x18
 abbrev pub CC : ℕ
 CC = 0x28
 
--- a CI or a CC: its MSGFLG, DSTADDR, of a CI 0, and SRCADDR
+-- any message of RUN: a data segment, a link service message, or an acknowledgement of either subchannel
+abbrev pub RUN : ℕ
+RUN = 0x04
+
+-- a CI, a CC or a message of RUN: its MSGFLG, DSTADDR, of a CI 0, and SRCADDR
 abbrev pub connect_of : NspValue → Shown
 connect_of (ConnectInitiate retransmitted src services info segsize user_data) msgflg own far = is_this (CI, 0, src) msgflg own far
 connect_of (ConnectConfirm dst src services info segsize user_data) msgflg own far = is_this (CC, dst, src) msgflg own far
+connect_of (DataSegment s) msgflg own far = is_this (RUN, s.dstaddr, s.srcaddr) msgflg own far
+connect_of (DataAck dst src acks) msgflg own far = is_this (RUN, dst, src) msgflg own far
+connect_of (LinkService interrupt dst src rest) msgflg own far = is_this (RUN, dst, src) msgflg own far
+connect_of (OtherDataAck dst src rest) msgflg own far = is_this (RUN, dst, src) msgflg own far
 connect_of other msgflg own far = false
 
 -- a CI passed from this link; that, or a CC from it to that one
@@ -25,13 +33,18 @@ was_called connects far = connects CI 0 far
 abbrev pub was_joined : Shown → (own far : ℕ) → Bool
 was_joined connects own far = was_called connects far || connects CC own far
 
--- A link can be of which this message may be sent: one that a CI began for a CC or a connect acknowledgement, one with both addresses for the others
+-- a link can be in RUN: a CI passed from that one and a message of RUN from it to this one, or a CC
+abbrev pub can_run : Shown → (own far : ℕ) → Bool
+can_run connects own far = (was_called connects far && connects RUN own far) || connects CC own far
+
+-- A link can be of which this message may be sent: one that a CI began for a CC or a connect acknowledgement, one with both addresses for a DI, and
+-- one in RUN for the others
 abbrev pub has_link : Shown → NspValue → Bool
 has_link connects (ConnectAck dst) = was_called connects dst
 has_link connects (ConnectConfirm dst src services info segsize user_data) = was_called connects dst
 has_link connects (DisconnectInitiate dst src reason user_data) = was_joined connects src dst
-has_link connects (DataSegment s) = was_joined connects s.srcaddr s.dstaddr
-has_link connects (DataAck dst src acks) = was_joined connects src dst
-has_link connects (LinkService interrupt dst src rest) = was_joined connects src dst
-has_link connects (OtherDataAck dst src rest) = was_joined connects src dst
+has_link connects (DataSegment s) = can_run connects s.srcaddr s.dstaddr
+has_link connects (DataAck dst src acks) = can_run connects src dst
+has_link connects (LinkService interrupt dst src rest) = can_run connects src dst
+has_link connects (OtherDataAck dst src rest) = can_run connects src dst
 has_link connects m = true

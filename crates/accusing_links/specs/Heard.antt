@@ -7,7 +7,7 @@ use Rattle.accusing_links.specs.Connects.{connect_of}
 pub record Heard : Type 0 where
   -- the data segments
   pub segments : Shown
-  -- the CIs and CCs
+  -- the CIs, CCs and messages of RUN, by their links
   pub connects : Shown
 
 abbrev pub heard : List Passed → Heard

@@ -22,10 +22,12 @@ use dna_station::Head;
 use std::alloc::{AllocError, Global};
 use std::marker::Model;
 
-// The MSGFLG of a CI that is sent for the first time, and of a CC.
+// The MSGFLG of a CI that is sent for the first time, and of a CC; and one that stands for all messages of RUN.
 const CI: u16 = 0x18;
 
 const CC: u16 = 0x28;
+
+const RUN: u16 = 0x04;
 
 /// The node of one side of a line, of whose units is asked what is in them. The units of the other side are told by `other_passed` in the order in
 /// which they passed beside them.
@@ -40,6 +42,8 @@ const CC: u16 = 0x28;
 ///  other  data, a CC from link 9 to link 7
 ///  own    data, link 7 acknowledges 0 to link 9             None
 ///  own    data, a CC from link 7 to link 9                  NoLink: no CI of link 9 passed
+///  other  data, a CI from link 5
+///  own    data, a segment from link 3 to link 5             NoLink: no message of RUN from link 5 to link 3 passed
 ///  other  data, segment 1 from link 9 to link 7
 ///  own    data, link 7 acknowledges 1 to link 9             None
 ///  own    data, link 7 acknowledges 2 to link 9             WrongAck: no segment 2 passed
@@ -48,7 +52,7 @@ const CC: u16 = 0x28;
 pub struct LinkAccuser {
     // the addresses of the node and of the one at the other end
     head: Head,
-    // the data segments of the other side that passed, and its CIs and CCs
+    // the data segments of the other side that passed; and its CIs, CCs and messages of RUN, by their links
     segments: Triples,
     connects: Triples,
 }
@@ -74,8 +78,8 @@ impl LinkAccuser {
         }
     }
 
-    /// This unit of the other side passed, and may come to this side from now on. It takes memory for a segment, and for a CI or CC between two
-    /// links, that passed for the first time; where that is refused, nothing changes.
+    /// This unit of the other side passed, and may come to this side from now on. It takes memory for a segment, and for a CI, a CC or a
+    /// message of RUN between two links, that passed for the first time; where that is refused, nothing changes.
     pub fn other_passed(&mut self, unit: &[u8]) -> Result<(), AllocError>
         ensures head { self.new.head ≡ self.old.head }
         ensures after { (passed : List Passed) → IsAfter self.old passed → OnOk result (IsAfter self.new (passed ++ Other unit.now ∷ [])) }
@@ -131,14 +135,18 @@ impl LinkAccuser {
             return Ok(());
         };
         match message {
-            Nsp::DataSegment(segment) => self
-                .segments
-                .show(segment.dstaddr, segment.srcaddr, segment.number),
+            Nsp::DataSegment(segment) => self.segments.show_beside(
+                (segment.dstaddr, segment.srcaddr, segment.number),
+                &mut self.connects,
+                (RUN, segment.dstaddr, segment.srcaddr),
+            ),
             Nsp::ConnectInitiate(message) => self.connects.show(CI, 0, message.srcaddr),
             Nsp::ConnectConfirm(message) => {
                 self.connects.show(CC, message.dstaddr, message.srcaddr)
             }
-            Nsp::DataAck(_) | Nsp::LinkService(_) | Nsp::OtherDataAck(_) => Ok(()),
+            Nsp::DataAck(m) => self.connects.show(RUN, m.dstaddr, m.srcaddr),
+            Nsp::LinkService(m) => self.connects.show(RUN, m.dstaddr, m.srcaddr),
+            Nsp::OtherDataAck(m) => self.connects.show(RUN, m.dstaddr, m.srcaddr),
             Nsp::ConnectAck(_) | Nsp::NoOperation(_) => Ok(()),
             Nsp::DisconnectInitiate(_) | Nsp::DisconnectConfirm(_) => Ok(()),
         }
@@ -213,10 +221,10 @@ impl LinkAccuser {
             Nsp::ConnectAck(m) => self.was_called(m.dstaddr),
             Nsp::ConnectConfirm(m) => self.was_called(m.dstaddr),
             Nsp::DisconnectInitiate(m) => self.was_joined(m.srcaddr, m.dstaddr),
-            Nsp::DataSegment(m) => self.was_joined(m.srcaddr, m.dstaddr),
-            Nsp::DataAck(m) => self.was_joined(m.srcaddr, m.dstaddr),
-            Nsp::LinkService(m) => self.was_joined(m.srcaddr, m.dstaddr),
-            Nsp::OtherDataAck(m) => self.was_joined(m.srcaddr, m.dstaddr),
+            Nsp::DataSegment(m) => self.can_run(m.srcaddr, m.dstaddr),
+            Nsp::DataAck(m) => self.can_run(m.srcaddr, m.dstaddr),
+            Nsp::LinkService(m) => self.can_run(m.srcaddr, m.dstaddr),
+            Nsp::OtherDataAck(m) => self.can_run(m.srcaddr, m.dstaddr),
             Nsp::NoOperation(_) | Nsp::ConnectInitiate(_) | Nsp::DisconnectConfirm(_) => true,
         }
     }
@@ -233,6 +241,14 @@ impl LinkAccuser {
         ensures { result ≡ calls.was_joined (has self.now.connects) own far }
     {
         self.was_called(far) || self.connects.has(CC, own, far)
+    }
+
+    // A link can be in RUN: a CI passed from that one and a message of RUN from it to this one, or a CC.
+    fn can_run(&self, own: u16, far: u16) -> bool
+        ensures { result ≡ calls.can_run (has self.now.connects) own far }
+    {
+        (self.was_called(far) && self.connects.has(RUN, own, far))
+            || self.connects.has(CC, own, far)
     }
 
     // Whether the words of this message acknowledge what passed.

@@ -8,7 +8,8 @@ use std::collections::BTreeSet;
 use std::marker::Model;
 
 /// What a side showed by messages that passed, three numbers for each thing: a data segment by the link that it is for, the one that it is from, and
-/// its number; a CI or a CC by its MSGFLG and both links. It takes memory for each once, and so for at most 4,096 segments of two links.
+/// its number; a CI, a CC or a message of RUN by its MSGFLG and both links. It takes memory for each once, and so for at most 4,096 segments of two
+/// links.
 #[derive(Drop)]
 pub struct Triples {
     shown: BTreeSet<(u16, u16, u16)>,
@@ -46,5 +47,28 @@ impl Triples {
     {
         self.shown.insert((first, second, third))?;
         Ok(())
+    }
+
+    /// These are shown here, and those in `other`. Where memory is refused, nothing changes in either.
+    pub fn show_beside(
+        &mut self,
+        these: (u16, u16, u16),
+        other: &mut Triples,
+        those: (u16, u16, u16),
+    ) -> Result<(), AllocError>
+        ensures ok { (a b c : ℕ) → OnOk result (has self.new a b c ≡ (is_this these a b c || has self.old a b c)) }
+        ensures other_ok { (a b c : ℕ) → OnOk result (has other.new a b c ≡ (is_this those a b c || has other.old a b c)) }
+        ensures err { (a b c : ℕ) → OnErr result (has self.new a b c ≡ has self.old a b c) }
+        ensures other_err { (a b c : ℕ) → OnErr result (has other.new a b c ≡ has other.old a b c) }
+    {
+        let is_new = self.shown.insert(these)?;
+        let Err(error) = other.show(those.0, those.1, those.2) else {
+            return Ok(());
+        };
+        if is_new {
+            self.shown.remove(&these);
+            return Err(error);
+        }
+        Err(error)
     }
 }

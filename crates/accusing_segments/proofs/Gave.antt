@@ -16,29 +16,33 @@ use Rattle.dna_links.specs.Segmentation.{Whole, next_message}
 use Rattle.accusing_links.proofs.Words.{distance_on}
 use Rattle.accusing_links.proofs.Pieces.{dropped_get}
 
--- of one link: the numbers of the segments that were sent, with whether one ended its message, and the numbers that were acknowledged
+-- of one link: the numbers of the segments that were sent, with whether one ended its message; the numbers that were acknowledged; and for how many
+-- data bytes the other side has room in a segment
 pub record Passings : Type 1 where
   pub ends : ℕ → Bool → Type 0
   pub word : ℕ → Type 0
+  pub room : ℕ → Type 0
 
 abbrev pub never : Passings
-never = record { ends = λ n e. ⊥; word = λ n. ⊥ }
+never = record { ends = λ n e. ⊥; word = λ n. ⊥; room = λ n. ⊥ }
 
 -- more passed
 pub record More (Q R : Passings) : Type 0 where
   pub ends : (n : ℕ) (e : Bool) → Q.ends n e → R.ends n e
   pub word : (n : ℕ) → Q.word n → R.word n
+  pub room : (n : ℕ) → Q.room n → R.room n
 
 -- a segment that begins a message, or does not, may follow the one with this number: it is the first, or that one ended its message exactly if so
 abbrev pub Follows : Passings → ℕ → Bool → Type 0
 Follows Q number begins = ((number ≡ 0) × (begins ≡ true)) ⊎ Q.ends (wire number) begins
 
--- All numbers that were given were sent; each piece that is outstanding followed the one before, and the next piece may follow the last one
+-- All numbers that were given were sent; each piece that is outstanding followed the one before, with room for it, and the next piece may follow the
+-- last one
 pub record Holds (Q : Passings) (acknowledged : ℕ) (outstanding : List Piece) (begun many : Bool) : Type 0 where
   pub acked : ℕ
   pub here : acknowledged ≡ wire acked
   pub all : (n : ℕ) → 1 ≤ n → n ≤ acked + length outstanding → (e : Bool) × Q.ends (wire n) e
-  pub each : (i : ℕ) (p : Piece) → slice_get outstanding i ≡ Some p → Follows Q (acked + i) p.begins
+  pub each : (i : ℕ) (p : Piece) → slice_get outstanding i ≡ Some p → Follows Q (acked + i) p.begins × Q.room (length p.body)
   pub last : Follows Q (acked + length outstanding) (not begun)
   pub word : (acked ≡ 0) ⊎ Q.word (wire acked)
   pub reaches : many ≡ true → REACH ≤ acked + length outstanding
@@ -64,7 +68,7 @@ weaker Q R acknowledged outstanding begun many more is = record {
   acked = is.acked;
   here = is.here;
   all = λ n l m. let found = is.all n l m in (found.0, more.ends (wire n) found.0 found.1);
-  each = λ i p e. follows_more Q R more (is.acked + i) p.begins (is.each i p e);
+  each = λ i p e. let found = is.each i p e in (follows_more Q R more (is.acked + i) p.begins found.0, more.room (length p.body) found.1);
   last = follows_more Q R more (is.acked + length outstanding) (not begun) is.last;
   word = words is.word;
   reaches = is.reaches;
@@ -78,7 +82,10 @@ pub gave_more : (Q R : Passings) (f : WireSegments) → More Q R → Gave Q f �
 gave_more Q R f more is = weaker Q R _ _ _ _ more is
 
 pub never_less : (Q : Passings) → More never Q
-never_less Q = record { ends = λ n e none. absurd none; word = λ n none. absurd none }
+never_less Q = record { ends = λ n e none. absurd none; word = λ n none. absurd none; room = λ n none. absurd none }
+
+pub same_more : (Q : Passings) → More Q Q
+same_more Q = record { ends = λ n e is. is; word = λ n is. is; room = λ n is. is }
 
 module _ (Q : Passings) where
   nothing_given : Holds Q 0 [] false false
@@ -132,7 +139,7 @@ module _ (Q : Passings) where
       all = λ n first most. is.all n first (omega (arith, same_highest l, most));
       each = λ i p e.
           let at : is.acked + (on + i) ≡ is.acked + on + i = omega arith in
-          subst (λ (x : ℕ). Follows Q x p.begins) at (is.each (on + i) p (sym (dropped_get on k.outstanding i) ∙ e));
+          subst (λ (x : ℕ). Follows Q x p.begins × Q.room (length p.body)) at (is.each (on + i) p (sym (dropped_get on k.outstanding i) ∙ e));
       last = subst (λ (x : ℕ). Follows Q x (not k.unsent.begun)) (sym (same_highest l)) is.last;
       word = inr (subst Q.word goes_on came);
       reaches = λ e. subst (λ (x : ℕ). REACH ≤ x) (sym (same_highest l)) (is.reaches e);

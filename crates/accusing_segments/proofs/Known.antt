@@ -1,7 +1,7 @@
 -- A set of what is known has one more after it was put in; and histories that answer alike accuse alike.
 use Rattle.std.proofs.Common.{◌≡◌, ℕ, zero, suc, ◌+◌, Bool, true, false, ◌&&◌, ◌||◌, not, eqb, Option, Some, None, List, [], ◌∷◌, ◌++◌}
 use Rattle.std.proofs.Common.{refl, sym, subst, ap, ap₂, ◌∙◌, arith}
-use Rattle.std.proofs.Common.{Ordering, Less, Equal, Greater, nat_cmp, Result, Ok, Err, OnOk, option_map}
+use Rattle.std.proofs.Common.{Ordering, Less, Equal, Greater, nat_cmp, Result, Ok, Err, OnOk, option_map, length}
 use Rattle.std.specs.List.{list_any}
 use Rattle.std.proofs.lemmas.Map.Lookups.{exact_unsigned}
 use Rattle.std.specs.Ordering.{ordering_then}
@@ -14,9 +14,11 @@ use Rattle.dna_packet.specs.declared.nsp.Segment.{Segment}
 use Rattle.dna_packet.specs.declared.nsp.DataAck.{DataAck as DataAckOf}
 use Rattle.dna_links.specs.SegmentBook.{REACH, wire}
 use Rattle.accusing.specs.Placing.{Passed, Own, Other}
-use Rattle.accusing_segments.specs.History.{has, bit, message_in, end_sent, is_named, words_name, acknowledges, in_unit, History, history}
+use Rattle.accusing_segments.specs.Fits.{fits}
+use Rattle.accusing_segments.specs.History.{has, bit, message_in, end_sent, is_named, words_name, acknowledges, has_room, in_unit, said, History}
+use Rattle.accusing_segments.specs.History.{history}
 use Rattle.accusing_segments.specs.Wrong.{before, is_covered, is_acknowledged, is_first, is_next, is_right}
-use Rattle.accusing_segments.specs.Wrong.{is_wrong_message, is_wrong_in, is_wrong_unit}
+use Rattle.accusing_segments.specs.Wrong.{is_wrong_message, is_wrong_in, is_wrong_unit, is_in_room, is_long_message, is_long_in, is_long_unit}
 use Rattle.accusing_segments.specs.Answers.{Sight, IsAfter}
 use Rattle.accusing_segments.specs.inner.Seen.{seen}
 use Rattle.accusing_segments.proofs.Passing.{own_more, own_same, other_more, other_same}
@@ -98,21 +100,22 @@ module _ (h : History) (s : SegmentValue) (first : is_first s ≡ false) where
 
 -- ---- histories that answer alike
 
+words_covered : (h k : History) → ((o f n w : ℕ) → h.words o f n w ≡ k.words o f n w) → (own far number count : ℕ) →
+    is_covered (λ n. h.words own far n 0) number count ≡ is_covered (λ n. k.words own far n 0) number count
+unfolding is_covered
+words_covered h k words own far number zero = refl
+words_covered h k words own far number (suc count) =
+    ap₂ (λ (a b : Bool). a || b) (words own far (wire (number + count)) 0) (words_covered h k words own far number count)
+
 module _ (h k : History) (ends : (o f n w : ℕ) → h.ends o f n w ≡ k.ends o f n w)
     (words : (o f n w : ℕ) → h.words o f n w ≡ k.words o f n w) where
-  covered_same : (own far number count : ℕ) → is_covered (λ n. h.words own far n 0) number count ≡ is_covered (λ n. k.words own far n 0) number count
-  unfolding is_covered
-  covered_same own far number zero = refl
-  covered_same own far number (suc count) =
-      ap₂ (λ (a b : Bool). a || b) (words own far (wire (number + count)) 0) (covered_same own far number count)
-
   right_same : (s : SegmentValue) → is_right h s ≡ is_right k s
   right_same s =
       ap (λ (b : Bool). (eqb s.number 1 && s.begins) || b)
       (ap₂ (λ (a b : Bool). a || b) (ends s.srcaddr s.dstaddr (before s.number) (bit s.begins))
       (ap₂ (λ (a b : Bool). a && b)
       (ap₂ (λ (a b : Bool). a || b) (ends s.srcaddr s.dstaddr s.number 0) (ends s.srcaddr s.dstaddr s.number 1))
-      (covered_same s.srcaddr s.dstaddr s.number REACH)))
+      (words_covered h k words s.srcaddr s.dstaddr s.number REACH)))
 
   message_same : (m : NspValue) → is_wrong_message h m ≡ is_wrong_message k m
   message_same (DataSegment s) = ap not (right_same s)
@@ -133,6 +136,34 @@ module _ (h k : History) (ends : (o f n w : ℕ) → h.ends o f n w ≡ k.ends o
   pub unit_same : (unit : List ℕ) → is_wrong_unit h unit ≡ is_wrong_unit k unit
   unit_same unit = in_same (message_in unit)
 
+-- so of what is too long
+module _ (h k : History) (words : (o f n w : ℕ) → h.words o f n w ≡ k.words o f n w) (rooms : (o f b w : ℕ) → h.rooms o f b w ≡ k.rooms o f b w) where
+  room_same : (s : SegmentValue) → is_in_room h s ≡ is_in_room k s
+  room_same s =
+      ap₂ (λ (a b : Bool). a || b)
+      (ap₂ (λ (a b : Bool). a || b) (rooms 0 s.dstaddr (length s.body) 0) (rooms s.srcaddr s.dstaddr (length s.body) 0))
+      (words_covered h k words s.srcaddr s.dstaddr s.number REACH)
+
+  long_message_same : (m : NspValue) → is_long_message h m ≡ is_long_message k m
+  long_message_same (DataSegment s) = ap not (room_same s)
+  long_message_same (DataAck dst src acks) = refl
+  long_message_same (LinkService interrupt dst src rest) = refl
+  long_message_same (OtherDataAck dst src rest) = refl
+  long_message_same (ConnectAck dst) = refl
+  long_message_same (NoOperation rest) = refl
+  long_message_same (ConnectInitiate retransmitted src services info segsize user_data) = refl
+  long_message_same (ConnectConfirm dst src services info segsize user_data) = refl
+  long_message_same (DisconnectInitiate dst src reason user_data) = refl
+  long_message_same (DisconnectConfirm dst src reason) = refl
+
+  long_in_same : (o : Option NspValue) → is_long_in h o ≡ is_long_in k o
+  long_in_same None = refl
+  long_in_same (Some m) = long_message_same m
+
+pub long_same : (sight : Sight) (passed : List Passed) → IsAfter sight passed → (unit : List ℕ) →
+    is_long_unit (seen sight) unit ≡ is_long_unit (history passed) unit
+long_same sight passed is unit = long_in_same (seen sight) (history passed) is.words is.rooms (message_in unit)
+
 pub known_same : (sight : Sight) (passed : List Passed) → IsAfter sight passed → (unit : List ℕ) →
     is_wrong_unit (seen sight) unit ≡ is_wrong_unit (history passed) unit
 known_same sight passed is unit = unit_same (seen sight) (history passed) is.ends is.words unit
@@ -143,25 +174,30 @@ module _ {X Y : Type 0} where
   pub other_noted : (passed : List Passed) (unit : List ℕ) (old new : Sight) (result : Result X Y) → IsAfter old passed →
       new.ends ≡ old.ends →
       ((o f n w : ℕ) → OnOk result (has new.words o f n w ≡ (in_unit acknowledges unit o f n w || has old.words o f n w))) →
+      ((o f b w : ℕ) → OnOk result (fits new.rooms o f b w ≡ (in_unit has_room unit o f b w || fits old.rooms o f b w))) →
       OnOk result (IsAfter new (passed ++ Other unit ∷ []))
-  other_noted passed unit old new (Ok x) is ends words = record {
+  other_noted passed unit old new (Ok x) is ends words rooms = record {
     ends = λ o f n w. ap (λ (ids : List Four). has ids o f n w) ends ∙ is.ends o f n w ∙ sym (own_same end_sent o f n w passed unit);
     words = λ o f n w.
         words o f n w ∙ ap (λ (b : Bool). in_unit acknowledges unit o f n w || b) (is.words o f n w)
         ∙ sym (other_more acknowledges o f n w passed unit);
+    rooms = λ o f b w.
+        rooms o f b w ∙ ap (λ (x : Bool). in_unit has_room unit o f b w || x) (is.rooms o f b w) ∙ sym (other_more has_room o f b w passed unit);
   }
-  other_noted passed unit old new (Err y) is ends words = tt
+  other_noted passed unit old new (Err y) is ends words rooms = tt
 
   pub own_noted : (passed : List Passed) (unit : List ℕ) (old new : Sight) (result : Result X Y) → IsAfter old passed →
-      new.words ≡ old.words →
+      new.words ≡ old.words → new.rooms ≡ old.rooms →
       ((o f n w : ℕ) → OnOk result (has new.ends o f n w ≡ (in_unit end_sent unit o f n w || has old.ends o f n w))) →
       OnOk result (IsAfter new (passed ++ Own unit ∷ []))
-  own_noted passed unit old new (Ok x) is words ends = record {
+  own_noted passed unit old new (Ok x) is words rooms ends = record {
     ends = λ o f n w.
         ends o f n w ∙ ap (λ (b : Bool). in_unit end_sent unit o f n w || b) (is.ends o f n w) ∙ sym (own_more end_sent o f n w passed unit);
     words = λ o f n w. ap (λ (ids : List Four). has ids o f n w) words ∙ is.words o f n w ∙ sym (other_same acknowledges o f n w passed unit);
+    rooms = λ o f b w.
+        ap (λ (sizes : List ((ℕ × ℕ) × ℕ)). fits sizes o f b w) rooms ∙ is.rooms o f b w ∙ sym (other_same has_room o f b w passed unit);
   }
-  own_noted passed unit old new (Err y) is words ends = tt
+  own_noted passed unit old new (Err y) is words rooms ends = tt
 
 -- ---- the message that was found
 
@@ -174,3 +210,16 @@ pub ack_found : (found : Option Nsp) (message : Nsp) (ack : DataAckOf) (unit : L
     found ≡ Some message → message ≡ rust.DataAck ack → message_in unit ≡ Some (DataAck ack.dstaddr ack.srcaddr ack.acks.items)
 ack_found found message ack unit is some data_ack =
     sym is ∙ ap (λ (o : Option Nsp). option_map view o) some ∙ ap (λ (m : Nsp). Some (view m)) data_ack
+
+pub message_found : (found : Option Nsp) (message other : Nsp) (unit : List ℕ) → option_map view found ≡ message_in unit → found ≡ Some message →
+    message ≡ other → message_in unit ≡ Some (view other)
+message_found found message other unit is some same =
+    sym is ∙ ap (λ (o : Option Nsp). option_map view o) some ∙ ap (λ (m : Nsp). Some (view m)) same
+
+-- a SEGSIZE was told
+pub room_told : {X Y : Type 0} (result : Result X Y) (before old new : List ((ℕ × ℕ) × ℕ)) (unit : List ℕ) (m : NspValue) → message_in unit ≡ Some m →
+    before ≡ old → (o f b w : ℕ) → OnOk result (fits new o f b w ≡ (has_room m o f b w || fits before o f b w)) →
+    OnOk result (fits new o f b w ≡ (in_unit has_room unit o f b w || fits old o f b w))
+room_told {X} {Y} (Ok x) before old new unit m is same o f b w e =
+    e ∙ ap₂ (λ (message : Option NspValue) (sizes : List ((ℕ × ℕ) × ℕ)). said has_room message o f b w || fits sizes o f b w) (sym is) same
+room_told {X} {Y} (Err y) before old new unit m is same o f b w e = tt

@@ -13,3 +13,4 @@ pub mod Passing
 pub mod Final
 -- what the accuser keeps of what passed
 pub mod Known
+pub mod Sizes

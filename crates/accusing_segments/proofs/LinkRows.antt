@@ -61,16 +61,19 @@ module _ (Q : Links) (queues : Queues) where
   delivered_right message l d made is = record {
     early = λ e. record { gave = delivers_gave never message l.segments d made (is.early e).gave; ran = (is.early e).ran };
     both = λ own far e f. delivers_gave (Q own far) message l.segments d made (is.both own far e f);
+    room = is.room;
   }
 
   pub gap_right : (gap : ℕ) (l : LinkOf WireSegments) → Is l → Is (with_queue (record l.queue { gap = gap }) l)
-  gap_right gap l is = record { early = λ e. record { gave = (is.early e).gave; ran = (is.early e).ran }; both = is.both }
+  gap_right gap l is =
+      record { early = λ e. record { gave = (is.early e).gave; ran = (is.early e).ran }; both = is.both; room = is.room }
 
   acks_right : (l : LinkOf WireSegments) (acks : List AckWord) (sent : Sending WireSegments (Unit {0})) → wire.sends_acks acks l.segments ≡ Ok sent →
       Is l → Is (with_segments sent.segments l)
   acks_right l acks sent made is = record {
     early = λ e. record { gave = acks_sent never acks l.segments (is.early e).gave sent made; ran = (is.early e).ran };
     both = λ own far e f. acks_sent (Q own far) acks l.segments (is.both own far e f) sent made;
+    room = is.room;
   }
 
   -- ---- what is left of all links
@@ -124,7 +127,7 @@ module _ (Q : Links) (queues : Queues) where
     after_right (Settle own ∷ effects) n l k is =
         by_found (HasAddress own) s _ are
         (λ m x at. right_changed Q queues s.links m _ are (settled_right x.queue.waits x (right_at Q queues s.links m x are at)))
-    after_right (EndAll ∷ effects) n l k is = right_booted Q queues s.links
+    after_right (EndAll ∷ effects) n l k is = right_booted Q queues s.links are
     after_right (effect ∷ effects) None l k is = right_pushed Q queues _ l (others_right (effect ∷ effects)) is
     after_right (effect ∷ effects) (Some m) l k is = right_changed Q queues _ m l (others_right (effect ∷ effects)) is
 

@@ -1,5 +1,6 @@
 -- What is sent keeps it that what the links have given in segments was sent; and a segment that is sent may be.
 use Rattle.std.proofs.Common.{◌≡◌, ℕ, ◌<◌, Bool, true, false, ◌&&◌, eqb, Option, Some, None, Result, List, [], ◌∷◌, refl, sym, subst, ◌∙◌, not}
+use Rattle.std.proofs.Common.{◌≤◌, inr}
 use Rattle.std.specs.Prelude.{slice_get}
 use Rattle.std.proofs.lemmas.Bool.{and_parts}
 use Rattle.dna_packet.specs.Nsp.{SegmentValue, NspValue, DataSegment, LinkService, DataAck, OtherDataAck, ConnectAck, NoOperation, ConnectInitiate}
@@ -124,6 +125,10 @@ module _ (Q R : Links) (queues : Queues) (more : (own far : ℕ) → More (Q own
       gave : Gave (Q segment.srcaddr segment.dstaddr) l.segments
       gave = (right_at Q queues s.links n l are is.there).both segment.srcaddr segment.dstaddr is.own is.far
 
+      -- there is room for what fits
+      fits : (k : ℕ) → k ≤ l.segsize → (Q segment.srcaddr segment.dstaddr).room k
+      fits = (right_at Q queues s.links n l are is.there).room segment.srcaddr segment.dstaddr (inr is.own) is.far
+
       -- with what it has given then
       now_right : (f : WireSegments) → Gave (R segment.srcaddr segment.dstaddr) f → IsLinkRight R (with_segments f l)
       now_right f now = record {
@@ -134,6 +139,7 @@ module _ (Q R : Links) (queues : Queues) (more : (own far : ℕ) → More (Q own
             let same_own : segment.srcaddr ≡ o = cc in
             let same_far : segment.dstaddr ≡ x = cc in
             subst (λ (y : ℕ). Gave (R y x) f) same_own (subst (λ (y : ℕ). Gave (R segment.srcaddr y) f) same_far now);
+        room = (right_at R queues s.links n l grown is.there).room;
       }
 
       abbrev left : LinkOf WireSegments → Unit {0} → Result (Sent WireSegments (Unit {0})) LinkRefusal
@@ -155,12 +161,12 @@ module _ (Q R : Links) (queues : Queues) (more : (own far : ℕ) → More (Q own
       sends_good Without =
           good_on Done (wire.sends_segment l.segsize segment l.segments) _ (λ sent made.
           let all = sends_segment_good (Q segment.srcaddr segment.dstaddr) (R segment.srcaddr segment.dstaddr) (more _ _) l.segments gave segment
-          small gone l.segsize sent made in
+          small gone l.segsize fits sent made in
           left_good _ sent.known (now_right sent.segments all.1) all.0)
       sends_good With =
           good_on Done (wire.sends_late l.queue.gap l.segsize segment l.segments) _ (λ late_sent made.
           let all = sends_late_good (Q segment.srcaddr segment.dstaddr) (R segment.srcaddr segment.dstaddr) (more _ _) l.segments gave segment
-          small gone l.queue.gap l.segsize late_sent made in
+          small gone l.queue.gap l.segsize fits late_sent made in
           left_good _ late_sent.sent.known
           (gap_right R queues late_sent.gap (with_segments late_sent.sent.segments l) (now_right late_sent.sent.segments all.1)) all.0)
 

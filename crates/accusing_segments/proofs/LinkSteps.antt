@@ -1,5 +1,6 @@
 -- What the user does and what comes keeps it that what the links of a node have given in segments was sent.
 use Rattle.std.proofs.Common.{◌≡◌, ℕ, Bool, true, false, ◌&&◌, eqb, Option, Some, None, Result, List, [], ◌∷◌, refl, sym, ap, subst, ◌∙◌}
+use Rattle.std.proofs.Common.{◌≤◌, inl, inr}
 use Rattle.std.specs.Prelude.{slice_get}
 use Rattle.std.proofs.lemmas.Bool.{and_parts}
 use Rattle.dna_packet.specs.declared.ack_word.AckWord.{AckWord}
@@ -8,6 +9,7 @@ use Rattle.dna_packet.specs.Nsp.{ConnectConfirm, DisconnectInitiate, DisconnectC
 use Rattle.dna_station.specs.declared.link_refusal.LinkRefusal.{LinkRefusal}
 use Rattle.dna_station.specs.declared.link_refusal.LinkRefusal.TheVariants.{NoLink, AddressInUse, CrossedLink, WrongNode}
 use Rattle.dna_links.specs.declared.port.Phase.{Phase}
+use Rattle.dna_links.specs.declared.port.Port.{Port}
 use Rattle.dna_links.specs.declared.port.Phase.TheVariants.{Calling, Called, Confirming, Running, Disconnecting, Ended}
 use Rattle.dna_links.specs.declared.port.LinkTest.TheVariants.{LiveAt, LiveTo, CallingAt, CalledBy, ActedOn}
 use Rattle.dna_links.specs.declared.queue.Queues.{Queues}
@@ -27,7 +29,7 @@ use Rattle.accusing_links.proofs.Answered.{Good, good_ok, good_err, good_check, 
 use Rattle.accusing_links.proofs.RightLinks.{is_early}
 use Rattle.accusing_links.proofs.LinkSteps.{at_is}
 use Rattle.accusing_segments.proofs.Gave.{never, Gave, WordsPassed, empty_gave, acks_gave, segment_gave}
-use Rattle.accusing_segments.proofs.RightLinks.{Links, IsLinkRight, none_gave, goes_right, AreRight, right_at}
+use Rattle.accusing_segments.proofs.RightLinks.{Links, IsLinkRight, HasRoom, none_gave, goes_right, AreRight, right_at}
 use Rattle.accusing_segments.proofs.LinkRows.{IsCalmRow, after_right, calm_row}
 
 -- ---- ports
@@ -98,10 +100,12 @@ kept_acks : (q : Queues) (acks : List AckWord) → kept q (TakeAcks acks ∷ [])
 kept_acks Without acks = refl
 kept_acks With acks = refl
 
--- what the words of a message that comes acknowledge was acknowledged
+-- what the words of a message that comes acknowledge was acknowledged; and for what it says there is room
 abbrev pub HasCome : Links → NspValue → Type 0
 HasCome Q (DataSegment s) = WordsPassed (Q s.dstaddr s.srcaddr).word s.acks
 HasCome Q (DataAck dst src acks) = WordsPassed (Q dst src).word acks
+HasCome Q (ConnectInitiate retransmitted src services info segsize user_data) = (own n : ℕ) → n ≤ segsize → (Q own src).room n
+HasCome Q (ConnectConfirm dst src services info segsize user_data) = (n : ℕ) → n ≤ segsize → (Q dst src).room n
 HasCome Q m = Unit {0}
 
 module _ (Q : Links) (queues : Queues) (s : WireLinks) (are : AreRight Q queues s.links) where
@@ -127,7 +131,8 @@ module _ (Q : Links) (queues : Queues) (s : WireLinks) (are : AreRight Q queues 
         Good Are (asks_by es (FindsNone (LiveAt own) (Some AddressInUse) ∷ []))
     open_good own es same = subst (λ (x : List Effect). Good Are (asks_by x (FindsNone (LiveAt own) (Some AddressInUse) ∷ []))) (sym same)
         (link_good Are (LiveAt own) s _ _
-        (good_ok Are _ (each (GiveAddress own ∷ OpenHere ∷ []) None _ tt (none_gave Q queues _ (empty_gave never) (λ e. refl))))
+        (good_ok Are _ (each (GiveAddress own ∷ OpenHere ∷ []) None _ tt (none_gave Q queues _ (empty_gave never) (λ e. refl)
+        (λ o f how e. absurd cc))))
         (λ n l found. good_err Are AddressInUse))
 
     answer_good : (far own : ℕ) (phase : Phase) (es : List Effect) → is_early phase ≡ false → es ≡ GiveAddress own ∷ GoTo phase ∷ [] →
@@ -136,34 +141,58 @@ module _ (Q : Links) (queues : Queues) (s : WireLinks) (are : AreRight Q queues 
         subst (λ (x : List Effect). Good Are (asks_by x (Finds (CalledBy far) (Some NoLink) ∷ FindsNone (LiveAt own) (Some AddressInUse) ∷ [])))
         (sym same)
         (link_good Are (CalledBy far) s _ _ (good_err Are NoLink) (λ n l found.
-        let early = called_early l.port.phase (and_parts (is_in Called l.port.phase) (is_at l.port.far far) found.passes).0 in
+        let called = (and_parts (is_in Called l.port.phase) (is_at l.port.far far) found.passes).0 in
+        let early = called_early l.port.phase called in
+        let room = (there n l found.there).room in
         let none = (there n l found.there).early early in
         link_good Are (LiveAt own) s _ _
         (good_ok Are _ (each (GiveAddress own ∷ GoTo phase ∷ []) (Some n) _ tt
         (goes_right Q queues queues phase (record l { port = record l.port { own = Some own } }) late
-        (none_gave Q queues (record l { port = record l.port { own = Some own } }) none.gave (λ e. none.ran)))))
+        (none_gave Q queues (record l { port = record l.port { own = Some own } }) none.gave (λ e. none.ran)
+        (λ o f how e. room o f (inl called) e)))))
         (λ m x other. good_err Are AddressInUse)))
 
-    connect_good : (far segsize : ℕ) (es : List Effect) → es ≡ Connect far segsize ∷ [] → Good Are (asks_by es (FindsNone (LiveTo far) None ∷ []))
-    connect_good far segsize es same =
+    connect_good : (far segsize : ℕ) (es : List Effect) → ((own n : ℕ) → n ≤ segsize → (Q own far).room n) → es ≡ Connect far segsize ∷ [] →
+        Good Are (asks_by es (FindsNone (LiveTo far) None ∷ []))
+    connect_good far segsize es came same =
         subst (λ (x : List Effect). Good Are (asks_by x (FindsNone (LiveTo far) None ∷ []))) (sym same)
         (link_good Are (LiveTo far) s _ _
-        (good_ok Are _ (each (Connect far segsize ∷ []) None _ tt (none_gave Q queues _ (empty_gave never) (λ e. refl))))
+        (good_ok Are _ (each (Connect far segsize ∷ []) None _ tt (none_gave Q queues _ (empty_gave never) (λ e. refl)
+        (λ o f how e n fits. let same_far : far ≡ f = cc in subst (λ (x : ℕ). (Q o x).room n) same_far (came o n fits)))))
         (λ n l found. good_ok Are s are))
 
-    confirm_good : (own far segsize : ℕ) (es : List Effect) → es ≡ Connect far segsize ∷ GoTo Running ∷ [] →
+    -- a calling link is answered
+    answered_room : (own far segsize : ℕ) (port : Port) → ((n : ℕ) → n ≤ segsize → (Q own far).room n) → is_in Calling port.phase ≡ true →
+        port.own ≡ Some own → HasRoom Q (record port { far = Some far }) segsize
+    answered_room own far segsize port came calling at o f (inl called) e n fits = absurd (no port.phase calling called)
+      where
+        no : (phase : Phase) → is_in Calling phase ≡ true → is_in Called phase ≡ true → ⊥
+        no Calling a b = cc
+        no Called a b = cc
+        no Confirming a b = cc
+        no Running a b = cc
+        no Disconnecting a b = cc
+        no Ended a b = cc
+    answered_room own far segsize port came calling at o f (inr here) e n fits =
+        let same_own : own ≡ o = cc in
+        let same_far : far ≡ f = cc in
+        subst (λ (x : ℕ). (Q x f).room n) same_own (subst (λ (x : ℕ). (Q own x).room n) same_far (came n fits))
+
+    confirm_good : (own far segsize : ℕ) (es : List Effect) → ((n : ℕ) → n ≤ segsize → (Q own far).room n) →
+        es ≡ Connect far segsize ∷ GoTo Running ∷ [] →
         Good Are (asks_by es (Finds (CallingAt own) None ∷ ForThisLink CrossedLink ∷ []))
-    confirm_good own far segsize es same =
+    confirm_good own far segsize es came same =
         subst (λ (x : List Effect). Good Are (asks_by x (Finds (CallingAt own) None ∷ ForThisLink CrossedLink ∷ []))) (sym same)
         (link_good Are (CallingAt own) s _ _ (good_ok Are s are) (λ n l found.
-        let early = calling_early l.port.phase (and_parts (is_in Calling l.port.phase) (is_at l.port.own own) found.passes).0 in
+        let parts = and_parts (is_in Calling l.port.phase) (is_at l.port.own own) found.passes in
+        let early = calling_early l.port.phase parts.0 in
         let none = (there n l found.there).early early in
         good_check Are _ CrossedLink _ (λ e.
         good_ok Are _ (each (Connect far segsize ∷ GoTo Running ∷ []) (Some n) _ tt
         (goes_right Q queues queues Running
         (record l { port = record l.port { far = Some far }; partner = truth.tag.link; segsize = segsize }) refl
         (none_gave Q queues (record l { port = record l.port { far = Some far }; partner = truth.tag.link; segsize = segsize }) none.gave
-        (λ e. none.ran)))))))
+        (λ e. none.ran) (answered_room own far segsize l.port came parts.0 (at_is l.port.own own parts.1))))))))
 
     -- ---- a segment comes, or acknowledgement words
 
@@ -178,6 +207,7 @@ module _ (Q : Links) (queues : Queues) (s : WireLinks) (are : AreRight Q queues 
             let same_far : far ≡ f = cc in
             subst (λ (x : ℕ). Gave (Q x f) (takes m.segments)) same_own
             (subst (λ (x : ℕ). Gave (Q own x) (takes m.segments)) same_far (good m.segments (is.both own far has_own has_far)));
+        room = is.room;
       }
 
       take_good : (effect : Effect) (es : List Effect) → es ≡ GoTo Running ∷ effect ∷ [] →
@@ -236,9 +266,9 @@ module _ (Q : Links) (queues : Queues) (s : WireLinks) (are : AreRight Q queues 
     message_right (ConnectAck dst) small came = comes_calm (ConnectAck dst) (record { calm = tt; quiet = tt })
     message_right (NoOperation rest) small came = comes_calm (NoOperation rest) (record { calm = tt; quiet = tt })
     message_right (ConnectInitiate retransmitted src services info segsize user_data) small came =
-        connect_good rule truth src segsize _ (kept_connect queues src segsize)
+        connect_good rule truth src segsize _ came (kept_connect queues src segsize)
     message_right (ConnectConfirm dst src services info segsize user_data) small came =
-        confirm_good rule truth dst src segsize _ (kept_confirm queues src segsize)
+        confirm_good rule truth dst src segsize _ came (kept_confirm queues src segsize)
     message_right (DisconnectInitiate dst src reason user_data) small came =
         comes_calm (DisconnectInitiate dst src reason user_data) (record { calm = (tt, tt); quiet = (tt, tt) })
     message_right (DisconnectConfirm dst src reason) small came =

@@ -23,15 +23,15 @@ use Rattle.dna_links.specs.WireLinks.{WireLinks, wire_links_user, wire_links_sen
 use Rattle.dna_links.specs.Arriving.{of_anyone}
 use Rattle.dna_node.specs.TagRules.{Rules, by_bytes_with}
 use Rattle.dna_node.specs.Content.{content, link_event}
-use Rattle.dna_node.specs.WireLayers.{WireLayers, LayersTag, with_wire_links, with_tag, to_wire_station, tag_or_none}
+use Rattle.dna_node.specs.WireLayers.{WireLayers, LayersTag, with_wire_links, with_tag, with_wire_composed, to_wire_station, tag_or_none}
 use Rattle.dna_node.specs.WireLayers.{wire_sends_first, wire_sends_again, wire_sends_on, wire_keeps_packet, wire_keeps, wire_meets_on}
-use Rattle.dna_node.specs.WireLayers.{wire_user_on}
+use Rattle.dna_node.specs.WireLayers.{wire_user_on, wire_composes}
 use Rattle.dna_node.proofs.ReadInRange.{content_in_range}
 use Rattle.accusing.specs.Placing.{machine}
 use Rattle.accusing_links.specs.Placing.{node_machine}
 use Rattle.accusing_links.proofs.Answered.{Good}
 use Rattle.accusing_links.proofs.Held.{AreHeld, Carries, label_held, arrives_held, user_held, sends_held}
-use Rattle.accusing_segments.proofs.Gave.{More}
+use Rattle.accusing_segments.proofs.Gave.{More, same_more}
 use Rattle.accusing_segments.proofs.SegmentSends.{fine_more}
 use Rattle.accusing_segments.proofs.RightLinks.{Links, AreRight, right_more}
 use Rattle.accusing_segments.proofs.LinkSteps.{HasCome, user_right, arrived_right}
@@ -81,10 +81,10 @@ fine_still Q R more (ConnectConfirm dst src services info segsize user_data) fin
 fine_still Q R more (DisconnectInitiate dst src reason user_data) fine = tt
 fine_still Q R more (DisconnectConfirm dst src reason) fine = tt
 
--- what is composed is sent
-abbrev pub IsSent : Event → Type 0
-IsSent (events.Composed packet) = ⊥
-IsSent event = Unit {0}
+-- a segment in what is composed, and never sent, counts as sent
+abbrev pub MayAct : Links → Event → Type 0
+MayAct Q (events.Composed packet) = (carried : Carried) → content packet ≡ Ok (Some carried) → HasGone Q carried.message
+MayAct Q event = Unit {0}
 
 module _ (queues : Queues) where
   abbrev rules : Rules
@@ -234,6 +234,20 @@ module _ (queues : Queues) where
         (user_right Q queues s.links is.links of_links) e (user_held (In (SendsFine Q)) s.station station event made is.held)
     user_on_right s after event (Some of_links) (Err refusal) made e is = absurd cc
 
-    pub acts_right : (s after : WireLayers) (event : Event) → IsSent event → (node_machine queues).user s event ≡ Ok after → Right s → Right after
-    acts_right s after (events.Composed packet) sent e is = absurd sent
+    composed_right : (s after : WireLayers) (body : List ℕ) (c : Result (Option Carried) StepRefusal) → content body ≡ c →
+        ((packet : Carried) → content body ≡ Ok (Some packet) → HasGone Q packet.message) → wire_composes rules s c ≡ Ok after → Right s → Right after
+    composed_right s after body (Ok None) read gone e is = subst Right (ok_is _ after e) is
+    composed_right s after body (Ok (Some packet)) read gone e is =
+        go (wire_links_sent queues s.links packet)
+        (sent_good Q Q queues (λ own far. same_more (Q own far)) s.links is.links packet (content_in_range body packet read) (gone packet read)) e
+      where
+        go : (r : Result (Sent WireSegments (Unit {0})) LinkRefusal) →
+            Good (λ (made : Sent WireSegments (Unit {0})). AreRight Q queues made.links.links × SendsFine Q packet.message) r →
+            with_wire_composed s r ≡ Ok after → Right after
+        go (Ok made) good f = subst Right (ok_is _ after f) (record { links = (good made refl).0; held = is.held })
+        go (Err refusal) good f = absurd cc
+    composed_right s after body (Err refusal) read gone e is = absurd cc
+
+    pub acts_right : (s after : WireLayers) (event : Event) → MayAct Q event → (node_machine queues).user s event ≡ Ok after → Right s → Right after
+    acts_right s after (events.Composed packet) sent e is = composed_right s after packet (content packet) refl sent e is
     acts_right s after event sent e is = user_on_right s after event (link_event event) (machine.user s.station event) refl e is

@@ -1,8 +1,8 @@
 -- What passed stays so; and what is in a unit that passes is known then.
-use Rattle.std.proofs.Common.{◌≡◌, ℕ, zero, suc, ◌+◌, ◌<◌, Bool, true, false, ◌||◌, eqb, Option, Some, Result, Ok, List}
+use Rattle.std.proofs.Common.{◌≡◌, ℕ, zero, suc, ◌+◌, ◌<◌, Bool, true, false, ◌||◌, ◌≤◌, leb, eqb, Option, Some, Result, Ok, List}
 use Rattle.std.proofs.Common.{[], ◌∷◌, ◌++◌, refl, subst, ap, ◌∙◌, arith}
 use Rattle.std.specs.List.{list_any}
-use Rattle.std.proofs.lemmas.Bool.{and_from, eq-eqb, eqb-true, eqb-false, or_left, or_right}
+use Rattle.std.proofs.lemmas.Bool.{and_from, eq-eqb, eqb-true, eqb-false, le-leb, or_left, or_right}
 use Rattle.ddcmp_msg.specs.Message.{MessageValue, Data, Ack, Nak, Rep, Strt, Stack}
 use Rattle.ddcmp_msg.specs.Reading.{ReadingValue, reading, Sound}
 use Rattle.dna_packet.specs.declared.ack_word.AckWord.{AckWord}
@@ -15,9 +15,10 @@ use Rattle.dna_links.specs.Links.{Carried}
 use Rattle.dna_node.specs.Content.{content}
 use Rattle.accusing.specs.Placing.{Passed, Own, Other}
 use Rattle.accusing_links.specs.Segments.{packet_in}
-use Rattle.accusing_segments.specs.History.{Known, is_this, bit, end_sent, is_named, words_name, acknowledges, message_of, message_within, said}
+use Rattle.accusing_segments.specs.History.{Known, is_this, bit, end_sent, is_named, words_name, acknowledges, is_room, has_room, message_of}
+use Rattle.accusing_segments.specs.History.{message_within, said}
 use Rattle.accusing_segments.specs.History.{in_unit, by_own, by_other, history}
-use Rattle.accusing_segments.specs.Wrong.{is_covered, is_acknowledged, is_first, is_next, is_right}
+use Rattle.accusing_segments.specs.Wrong.{is_covered, is_acknowledged, is_first, is_next, is_right, is_short, is_in_room}
 use Rattle.accusing_segments.proofs.Gave.{More, WordsPassed}
 use Rattle.accusing_segments.proofs.SegmentSends.{IsFine, Released, First, Next}
 use Rattle.accusing_segments.proofs.RightLinks.{Links}
@@ -71,16 +72,37 @@ module _ (says : NspValue → Known) (own far number what : ℕ) where
 
 -- ---- what passed of each link
 
-abbrev pub AsLinks : List Passed → Links
-AsLinks passed own far = record {
-  ends = λ n e. by_own end_sent passed own far n (bit e) ≡ true;
+-- this is known of a node that drops no packet that it composed
+abbrev pub Unless : (drops : Bool) → Type 0 → Type 0
+Unless true P = Unit {0}
+Unless false P = P
+
+pub unless : (drops : Bool) (P : Type 0) → P → Unless drops P
+unless true P is = tt
+unless false P is = is
+
+unless_more : (drops : Bool) (P P' : Type 0) → (P → P') → Unless drops P → Unless drops P'
+unless_more true P P' more is = tt
+unless_more false P P' more is = more is
+
+or_more : (a b c d : Bool) → (a ≡ true → c ≡ true) → (b ≡ true → d ≡ true) → (a || b) ≡ true → (c || d) ≡ true
+or_more true b c d one two e = or_left c d (one refl)
+or_more false b c d one two e = or_right c d (two e)
+
+-- `drops` tells whether the node may drop packets that it composed
+abbrev pub AsLinks : (drops : Bool) → List Passed → Links
+AsLinks drops passed own far = record {
+  ends = λ n e. Unless drops (by_own end_sent passed own far n (bit e) ≡ true);
   word = λ n. by_other acknowledges passed own far n 0 ≡ true;
+  room = λ n. (by_other has_room passed 0 far n 0 || by_other has_room passed own far n 0) ≡ true;
 }
 
-pub passed_more : (passed : List Passed) (one : Passed) (own far : ℕ) → More (AsLinks passed own far) (AsLinks (passed ++ one ∷ []) own far)
-passed_more passed one own far = record {
-  ends = λ n b e. own_stays end_sent own far n (bit b) passed one e;
+pub passed_more : (drops : Bool) (passed : List Passed) (one : Passed) (own far : ℕ) →
+    More (AsLinks drops passed own far) (AsLinks drops (passed ++ one ∷ []) own far)
+passed_more drops passed one own far = record {
+  ends = λ n b e. unless_more drops _ _ (own_stays end_sent own far n (bit b) passed one) e;
   word = λ n e. other_stays acknowledges own far n 0 passed one e;
+  room = λ n e. or_more _ _ _ _ (other_stays has_room 0 far n 0 passed one) (other_stays has_room own far n 0 passed one) e;
 }
 
 -- ---- what is in a unit
@@ -104,7 +126,7 @@ this_is a b c d =
     (and_from (eqb b b) _ (eq-eqb b b refl) (and_from (eqb c c) (eqb d d) (eq-eqb c c refl) (eq-eqb d d refl)))
 
 -- a segment in a unit of this side was sent
-module _ (passed : List Passed) (unit : List ℕ) (sound : MessageValue) (packet : Carried) (read : reading unit ≡ Sound sound)
+module _ (drops : Bool) (passed : List Passed) (unit : List ℕ) (sound : MessageValue) (packet : Carried) (read : reading unit ≡ Sound sound)
     (is : content (body_of sound) ≡ Ok (Some packet)) where
   said_now : (says : NspValue → Known) (own far number what : ℕ) → says packet.message own far number what ≡ true →
       by_own says (passed ++ Own unit ∷ []) own far number what ≡ true
@@ -112,10 +134,10 @@ module _ (passed : List Passed) (unit : List ℕ) (sound : MessageValue) (packet
       own_more says own far number what passed unit
       ∙ or_left _ _ (in_unit_is says unit sound packet read is own far number what ∙ e)
 
-  gone_as : (m : NspValue) → packet.message ≡ m → HasGone (AsLinks (passed ++ Own unit ∷ [])) m
+  gone_as : (m : NspValue) → packet.message ≡ m → HasGone (AsLinks drops (passed ++ Own unit ∷ [])) m
   gone_as (DataSegment s) same =
-      said_now end_sent s.srcaddr s.dstaddr s.number (bit s.ends)
-      (ap (λ (m : NspValue). end_sent m s.srcaddr s.dstaddr s.number (bit s.ends)) same ∙ this_is s.srcaddr s.dstaddr s.number (bit s.ends))
+      unless drops _ (said_now end_sent s.srcaddr s.dstaddr s.number (bit s.ends)
+      (ap (λ (m : NspValue). end_sent m s.srcaddr s.dstaddr s.number (bit s.ends)) same ∙ this_is s.srcaddr s.dstaddr s.number (bit s.ends)))
   gone_as (LinkService interrupt dst src rest) same = tt
   gone_as (DataAck dst src acks) same = tt
   gone_as (OtherDataAck dst src rest) same = tt
@@ -126,15 +148,32 @@ module _ (passed : List Passed) (unit : List ℕ) (sound : MessageValue) (packet
   gone_as (DisconnectInitiate dst src reason user_data) same = tt
   gone_as (DisconnectConfirm dst src reason) same = tt
 
-  pub gone_now : HasGone (AsLinks (passed ++ Own unit ∷ [])) packet.message
+  pub gone_now : HasGone (AsLinks drops (passed ++ Own unit ∷ [])) packet.message
   gone_now = gone_as packet.message refl
 
--- ---- words that come
+-- of a node that may drop packets nothing is asked
+pub gone_any : (passed : List Passed) (m : NspValue) → HasGone (AsLinks true passed) m
+gone_any passed (DataSegment s) = tt
+gone_any passed (LinkService interrupt dst src rest) = tt
+gone_any passed (DataAck dst src acks) = tt
+gone_any passed (OtherDataAck dst src rest) = tt
+gone_any passed (ConnectAck dst) = tt
+gone_any passed (NoOperation rest) = tt
+gone_any passed (ConnectInitiate retransmitted src services info segsize user_data) = tt
+gone_any passed (ConnectConfirm dst src services info segsize user_data) = tt
+gone_any passed (DisconnectInitiate dst src reason user_data) = tt
+gone_any passed (DisconnectConfirm dst src reason) = tt
 
--- what a unit of the other side acknowledges was acknowledged
-abbrev pub Came : List Passed → List ℕ → Type 0
-Came passed unit =
-    (own far number : ℕ) → in_unit acknowledges unit own far number 0 ≡ true → by_other acknowledges passed own far number 0 ≡ true
+-- ---- what comes
+
+-- what a unit of the other side acknowledges was acknowledged, and for what it has room there is room
+pub record Came (passed : List Passed) (unit : List ℕ) : Type 0 where
+  pub words : (own far number : ℕ) → in_unit acknowledges unit own far number 0 ≡ true → by_other acknowledges passed own far number 0 ≡ true
+  pub rooms : (own far bytes : ℕ) → in_unit has_room unit own far bytes 0 ≡ true → by_other has_room passed own far bytes 0 ≡ true
+
+this_room : (own far segsize bytes : ℕ) → bytes ≤ segsize → is_room own far segsize own far bytes 0 ≡ true
+this_room own far segsize bytes l =
+    and_from (eqb own own) _ (eq-eqb own own refl) (and_from (eqb far far) (leb bytes segsize) (eq-eqb far far refl) (le-leb bytes segsize l))
 
 words_all : (W : ℕ → Type 0) (words : List AckWord) → ((number : ℕ) → list_any (is_named number 0) words ≡ true → W number) → WordsPassed W words
 words_all W [] each = tt
@@ -147,27 +186,36 @@ words_all W (word ∷ words) each = (
 words_are : (dst src number : ℕ) (words : List AckWord) → list_any (is_named number 0) words ≡ true → words_name dst src words dst src number 0 ≡ true
 words_are dst src number words e = and_from (eqb dst dst) _ (eq-eqb dst dst refl) (and_from (eqb src src) _ (eq-eqb src src refl) e)
 
-module _ (passed : List Passed) (unit : List ℕ) (sound : MessageValue) (packet : Carried) (read : reading unit ≡ Sound sound)
+module _ (drops : Bool) (passed : List Passed) (unit : List ℕ) (sound : MessageValue) (packet : Carried) (read : reading unit ≡ Sound sound)
     (is : content (body_of sound) ≡ Ok (Some packet)) (came : Came passed unit) where
-  come_as : (m : NspValue) → packet.message ≡ m → HasCome (AsLinks passed) m
+  room_came : (m : NspValue) → packet.message ≡ m → (own far bytes : ℕ) → has_room m own far bytes 0 ≡ true →
+      by_other has_room passed own far bytes 0 ≡ true
+  room_came m same own far bytes e =
+      came.rooms own far bytes (in_unit_is has_room unit sound packet read is own far bytes 0
+      ∙ ap (λ (x : NspValue). has_room x own far bytes 0) same ∙ e)
+
+  come_as : (m : NspValue) → packet.message ≡ m → HasCome (AsLinks drops passed) m
   come_as (DataSegment s) same =
       words_all (λ n. by_other acknowledges passed s.dstaddr s.srcaddr n 0 ≡ true) s.acks (λ number e.
-      came s.dstaddr s.srcaddr number (in_unit_is acknowledges unit sound packet read is s.dstaddr s.srcaddr number 0
+      came.words s.dstaddr s.srcaddr number (in_unit_is acknowledges unit sound packet read is s.dstaddr s.srcaddr number 0
       ∙ ap (λ (m : NspValue). acknowledges m s.dstaddr s.srcaddr number 0) same ∙ words_are s.dstaddr s.srcaddr number s.acks e))
   come_as (DataAck dst src acks) same =
       words_all (λ n. by_other acknowledges passed dst src n 0 ≡ true) acks (λ number e.
-      came dst src number (in_unit_is acknowledges unit sound packet read is dst src number 0
+      came.words dst src number (in_unit_is acknowledges unit sound packet read is dst src number 0
       ∙ ap (λ (m : NspValue). acknowledges m dst src number 0) same ∙ words_are dst src number acks e))
   come_as (LinkService interrupt dst src rest) same = tt
   come_as (OtherDataAck dst src rest) same = tt
   come_as (ConnectAck dst) same = tt
   come_as (NoOperation rest) same = tt
-  come_as (ConnectInitiate retransmitted src services info segsize user_data) same = tt
-  come_as (ConnectConfirm dst src services info segsize user_data) same = tt
+  come_as (ConnectInitiate retransmitted src services info segsize user_data) same =
+      λ own n l. or_left _ _
+      (room_came (ConnectInitiate retransmitted src services info segsize user_data) same 0 src n (this_room 0 src segsize n l))
+  come_as (ConnectConfirm dst src services info segsize user_data) same =
+      λ n l. or_right _ _ (room_came (ConnectConfirm dst src services info segsize user_data) same dst src n (this_room dst src segsize n l))
   come_as (DisconnectInitiate dst src reason user_data) same = tt
   come_as (DisconnectConfirm dst src reason) same = tt
 
-  pub come_now : HasCome (AsLinks passed) packet.message
+  pub come_now : HasCome (AsLinks drops passed) packet.message
   come_now = come_as packet.message refl
 
 -- ---- a segment that may be sent is right
@@ -182,10 +230,11 @@ covered named number on (suc count) l e = go (eqb on count) refl (λ less. cover
     go true f later = or_left _ _ (subst (λ (x : ℕ). named (wire (number + x)) ≡ true) (eqb-true on count f) e)
     go false f later = let other = eqb-false on count f in or_right (named (wire (number + count))) _ (later (omega (arith, l, other)))
 
-pub fine_is_right : (passed : List Passed) (s : SegmentValue) → IsFine (AsLinks passed s.srcaddr s.dstaddr) s → is_right (history passed) s ≡ true
-fine_is_right passed s (First number begins) =
+pub fine_is_right : (passed : List Passed) (s : SegmentValue) → IsFine (AsLinks false passed s.srcaddr s.dstaddr) s →
+    is_right (history passed) s ≡ true
+fine_is_right passed s (First number begins room) =
     or_left (is_first s) _ (and_from (eqb s.number 1) s.begins (eq-eqb s.number 1 number) begins)
-fine_is_right passed s (Next ends) = or_right (is_first s) _ (or_left (is_next (history passed) s) _ ends)
+fine_is_right passed s (Next ends room) = or_right (is_first s) _ (or_left (is_next (history passed) s) _ ends)
 fine_is_right passed s (Released e ends on near word) =
     or_right (is_first s) _
     (or_right (is_next (history passed) s) (is_acknowledged (history passed) s)
@@ -195,3 +244,11 @@ fine_is_right passed s (Released e ends on near word) =
         ((history passed).ends s.srcaddr s.dstaddr s.number 0 || (history passed).ends s.srcaddr s.dstaddr s.number 1) ≡ true
     by_end true f = or_right _ _ f
     by_end false f = or_left _ _ f
+
+-- and in room, whether packets may be dropped or not
+pub fine_fits : (drops : Bool) (passed : List Passed) (s : SegmentValue) → IsFine (AsLinks drops passed s.srcaddr s.dstaddr) s →
+    is_in_room (history passed) s ≡ true
+fine_fits drops passed s (First number begins room) = or_left (is_short (history passed) s) _ room
+fine_fits drops passed s (Next ends room) = or_left (is_short (history passed) s) _ room
+fine_fits drops passed s (Released e ends on near word) =
+    or_right (is_short (history passed) s) _ (covered (λ n. (history passed).words s.srcaddr s.dstaddr n 0) s.number on REACH near word)

@@ -1,11 +1,14 @@
--- What every link of a node has given in segments was sent; and what becomes of that by each effect of a row.
-use Rattle.std.proofs.Common.{◌≡◌, ℕ, Bool, true, false, Option, Some, List, [], ◌∷◌, ◌++◌, map, zero, suc, fold, subst, refl}
+-- What every link of a node has given in segments was sent, and had room at the other side; and what becomes of that by each effect of a row.
+use Rattle.std.proofs.Common.{◌≡◌, ℕ, Bool, true, false, Option, Some, None, List, [], ◌∷◌, ◌++◌, map, zero, suc, fold, subst, refl}
+use Rattle.std.proofs.Common.{◌≤◌, ◌⊎◌, inl, inr}
 use Rattle.std.specs.Prelude.{slice_get, slice_set}
 use Rattle.dna_links.specs.declared.port.Phase.{Phase}
+use Rattle.dna_links.specs.declared.port.Phase.TheVariants.{Calling, Called, Confirming, Running, Disconnecting, Ended}
+use Rattle.dna_links.specs.declared.port.Port.{Port}
 use Rattle.dna_links.specs.declared.queue.Queues.{Queues}
 use Rattle.dna_links.specs.declared.queue.Queues.TheVariants.{Without, With}
 use Rattle.dna_links.specs.declared.queue.Said.{Said}
-use Rattle.dna_links.specs.LookUps.{is_live}
+use Rattle.dna_links.specs.LookUps.{is_live, is_in}
 use Rattle.dna_links.specs.Links.{LinkOf, LinkTruth}
 use Rattle.dna_links.specs.Queues.{keeps_numbers, further, goes_on, goes_to, ends_by_message, drops, requeued, lets_go}
 use Rattle.dna_links.specs.Queues.{booted_link, forgotten}
@@ -24,9 +27,34 @@ pub record IsFresh (l : LinkOf WireSegments) : Type 0 where
   pub gave : Gave never l.segments
   pub ran : l.queue.ran ≡ false
 
+-- there is room for so many bytes at this own address, or at any for a link that a CI just began
+abbrev pub HasRoom : Links → Port → ℕ → Type 0
+HasRoom Q port segsize =
+    (own far : ℕ) → (is_in Called port.phase ≡ true) ⊎ (port.own ≡ Some own) → port.far ≡ Some far → (n : ℕ) → n ≤ segsize → (Q own far).room n
+
+-- in another phase
+pub room_later : (Q : Links) (port : Port) (phase : Phase) (segsize : ℕ) → is_early phase ≡ false → HasRoom Q port segsize →
+    HasRoom Q (record port { phase = phase }) segsize
+room_later Q port phase segsize late room own far (inr at) to n l = room own far (inr at) to n l
+room_later Q port phase segsize late room own far (inl called) to n l = absurd (no phase late called)
+  where
+    no : (phase : Phase) → is_early phase ≡ false → is_in Called phase ≡ true → ⊥
+    no Called a b = cc
+    no Calling a b = cc
+    no Confirming a b = cc
+    no Running a b = cc
+    no Disconnecting a b = cc
+    no Ended a b = cc
+
+-- without its own address
+pub room_forgotten : (Q : Links) (port : Port) (segsize : ℕ) → HasRoom Q port segsize → HasRoom Q (record port { own = None }) segsize
+room_forgotten Q port segsize room own far (inl called) to n l = room own far (inl called) to n l
+room_forgotten Q port segsize room own far (inr at) to n l = absurd cc
+
 pub record IsLinkRight (Q : Links) (l : LinkOf WireSegments) : Type 0 where
   pub early : is_early l.port.phase ≡ true → IsFresh l
   pub both : (own far : ℕ) → l.port.own ≡ Some own → l.port.far ≡ Some far → Gave (Q own far) l.segments
+  pub room : HasRoom Q l.port l.segsize
 
 pub from_never : (Q : Passings) (f : WireSegments) → Gave never f → Gave Q f
 from_never Q f is = gave_more never Q f (never_less Q) is
@@ -67,36 +95,59 @@ module _ (Q : Links) (queues : Queues) where
   Is l = IsLinkRight Q l
 
   -- a link that sent nothing is right whatever addresses it gets
-  pub none_gave : (l : LinkOf WireSegments) → Gave never l.segments → (is_early l.port.phase ≡ true → l.queue.ran ≡ false) → Is l
-  none_gave l none ran =
-      record { early = λ e. record { gave = none; ran = ran e }; both = λ own far e f. from_never (Q own far) l.segments none }
+  pub none_gave : (l : LinkOf WireSegments) → Gave never l.segments → (is_early l.port.phase ≡ true → l.queue.ran ≡ false) →
+      HasRoom Q l.port l.segsize → Is l
+  none_gave l none ran room = record {
+    early = λ e. record { gave = none; ran = ran e };
+    both = λ own far e f. from_never (Q own far) l.segments none;
+    room = room;
+  }
 
   pub blank_right : Is (blank queues wire_segments)
-  blank_right = none_gave (blank queues wire_segments) (empty_gave never) (λ e. refl)
+  blank_right = none_gave (blank queues wire_segments) (empty_gave never) (λ e. refl) (λ own far how e. absurd cc)
 
   pub goes_right : (q : Queues) (phase : Phase) (l : LinkOf WireSegments) → is_early phase ≡ false → Is l → Is (goes_to wire_segments q phase l)
-  goes_right Without phase l late is = record { early = λ e. absurd cc; both = is.both }
+  goes_right Without phase l late is =
+      record { early = λ e. absurd cc; both = is.both; room = room_later Q l.port phase l.segsize late is.room }
   goes_right With phase l late is = go (is_live l.port.phase)
     where
       go : (b : Bool) → Is (goes_on wire_segments b phase l)
-      go true = record { early = λ e. absurd cc; both = is.both }
+      go true = record { early = λ e. absurd cc; both = is.both; room = room_later Q l.port phase l.segsize late is.room }
       go false = record {
         early = λ e. record { gave = requeued_gave never (Some phase) l.queue.said l (is.early e).gave; ran = (is.early e).ran };
         both = λ own far e f. requeued_gave (Q own far) (Some phase) l.queue.said l (is.both own far e f);
+        room = is.room;
       }
 
   ended_right : (q : Queues) (l : LinkOf WireSegments) → Is l → Is (ends_by_message wire_segments q l)
-  ended_right Without l is = record { early = λ e. absurd cc; both = λ own far e f. ends_by_gave (Q own far) Without l (is.both own far e f) }
-  ended_right With l is = record { early = λ e. absurd cc; both = λ own far e f. ends_by_gave (Q own far) With l (is.both own far e f) }
+  ended_right Without l is = record {
+    early = λ e. absurd cc;
+    both = λ own far e f. ends_by_gave (Q own far) Without l (is.both own far e f);
+    room = room_later Q l.port Ended l.segsize refl is.room;
+  }
+  ended_right With l is = record {
+    early = λ e. absurd cc;
+    both = λ own far e f. ends_by_gave (Q own far) With l (is.both own far e f);
+    room = room_later Q l.port Ended l.segsize refl is.room;
+  }
 
-  pub dropped_right : (q : Queues) (l : LinkOf WireSegments) → Is (drops wire_segments q l)
-  dropped_right Without l = record { early = λ e. absurd cc; both = λ own far e f. drops_gave (Q own far) Without l }
-  dropped_right With l = record { early = λ e. absurd cc; both = λ own far e f. drops_gave (Q own far) With l }
+  pub dropped_right : (q : Queues) (l : LinkOf WireSegments) → Is l → Is (drops wire_segments q l)
+  dropped_right Without l is = record {
+    early = λ e. absurd cc;
+    both = λ own far e f. drops_gave (Q own far) Without l;
+    room = room_later Q l.port Ended l.segsize refl is.room;
+  }
+  dropped_right With l is = record {
+    early = λ e. absurd cc;
+    both = λ own far e f. drops_gave (Q own far) With l;
+    room = room_later Q l.port Ended l.segsize refl is.room;
+  }
 
   pub requeued_right : (waits : Option Phase) (said : Said) (l : LinkOf WireSegments) → Is l → Is (requeued wire_segments waits said l)
   requeued_right waits said l is = record {
     early = λ e. record { gave = requeued_gave never waits said l (is.early e).gave; ran = (is.early e).ran };
     both = λ own far e f. requeued_gave (Q own far) waits said l (is.both own far e f);
+    room = is.room;
   }
 
   -- by which effects it stays so, whatever it is
@@ -117,13 +168,13 @@ module _ (Q : Links) (queues : Queues) where
       Is (does queues wire_segments truth l effect)
   does_right truth l (GoTo phase) calm is = goes_right queues phase l calm is
   does_right truth l End calm is = ended_right queues l is
-  does_right truth l Drop calm is = dropped_right queues l
+  does_right truth l Drop calm is = dropped_right queues l is
   does_right truth l EndAll calm is = is
   does_right truth l (Say said) calm is = requeued_right l.queue.waits (further said l.queue.said) l is
   does_right truth l (Settle own) calm is = is
   does_right truth l Keep calm is = is
   does_right truth l (HandIn message) calm is =
-      record { early = λ e. record { gave = (is.early e).gave; ran = (is.early e).ran }; both = is.both }
+      record { early = λ e. record { gave = (is.early e).gave; ran = (is.early e).ran }; both = is.both; room = is.room }
   does_right truth l OpenHere calm is = absurd calm
   does_right truth l (GiveAddress own) calm is = absurd calm
   does_right truth l (Connect far segsize) calm is = absurd calm
@@ -158,18 +209,25 @@ module _ (Q : Links) (queues : Queues) where
 
   -- an address that is given again
   pub forgotten_right : (q : Queues) (l : LinkOf WireSegments) → Is l → Is (forgotten wire_segments q l)
-  forgotten_right Without l is = none_gave (forgotten wire_segments Without l) (empty_gave never) (λ e. (is.early e).ran)
-  forgotten_right With l is = none_gave (forgotten wire_segments With l) (empty_gave never) (λ e. (is.early e).ran)
+  forgotten_right Without l is =
+      none_gave (forgotten wire_segments Without l) (empty_gave never) (λ e. (is.early e).ran) (room_forgotten Q l.port l.segsize is.room)
+  forgotten_right With l is =
+      none_gave (forgotten wire_segments With l) (empty_gave never) (λ e. (is.early e).ran) (room_forgotten Q l.port l.segsize is.room)
 
-  pub right_booted : (links : List (LinkOf WireSegments)) → AreRight (map (booted_link wire_segments queues) links)
-  right_booted [] = tt
-  right_booted (l ∷ links) = (forgotten_right queues (drops wire_segments queues l) (dropped_right queues l), right_booted links)
+  pub right_booted : (links : List (LinkOf WireSegments)) → AreRight links → AreRight (map (booted_link wire_segments queues) links)
+  right_booted [] are = tt
+  right_booted (l ∷ links) are =
+      (forgotten_right queues (drops wire_segments queues l) (dropped_right queues l are.0), right_booted links are.1)
 
 -- where more passed
 module _ (Q R : Links) (queues : Queues) (more : (own far : ℕ) → More (Q own far) (R own far)) where
   pub right_more : (links : List (LinkOf WireSegments)) → AreRight Q queues links → AreRight R queues links
   right_more [] are = tt
   right_more (l ∷ links) are = (
-    record { early = are.0.early; both = λ own far e f. gave_more (Q own far) (R own far) l.segments (more own far) (are.0.both own far e f) },
+    record {
+      early = are.0.early;
+      both = λ own far e f. gave_more (Q own far) (R own far) l.segments (more own far) (are.0.both own far e f);
+      room = λ own far how e n fits. (more own far).room n (are.0.room own far how e n fits);
+    },
     right_more links are.1,
   )

@@ -1,4 +1,5 @@
--- A segment that a link may send is its first, or follows the one before, or may be acknowledged; and what it has given was sent.
+-- A segment that a link may send is its first, or follows the one before, with room for its data, or may be acknowledged; and what it has given was
+-- sent.
 use Rattle.std.proofs.Common.{◌≡◌, ℕ, zero, suc, ◌+◌, ◌-◌, ◌<◌, ◌≤◌, Bool, true, false, ◌&&◌, ◌||◌, not, cond, leb, ltb, Option, Some, None}
 use Rattle.std.proofs.Common.{Result, Ok, Err, List, [], ◌∷◌, ◌++◌, length, refl, sym, subst, ap, ◌∙◌, arith, ◌⊎◌, inl, inr, length-append}
 use Rattle.std.proofs.Common.{eqb-true, ltb-true}
@@ -22,8 +23,8 @@ use Rattle.accusing_segments.proofs.Gave.{Passings, More, Follows, follows_more,
 -- why a segment may be sent
 pub data IsFine (Q : Passings) (s : SegmentValue) : Type 0 where
   Released : (e : Bool) → Q.ends s.number e → (on : ℕ) → on < REACH → Q.word (wire (s.number + on)) → IsFine Q s
-  First : s.number ≡ 1 → s.begins ≡ true → IsFine Q s
-  Next : Q.ends (before s.number) s.begins → IsFine Q s
+  First : s.number ≡ 1 → s.begins ≡ true → Q.room (length s.body) → IsFine Q s
+  Next : Q.ends (before s.number) s.begins → Q.room (length s.body) → IsFine Q s
 
 -- it was sent
 abbrev pub Gone : Passings → SegmentValue → Type 0
@@ -31,13 +32,13 @@ Gone Q s = Q.ends s.number s.ends
 
 pub fine_more : (Q R : Passings) (s : SegmentValue) → More Q R → IsFine Q s → IsFine R s
 fine_more Q R s more (Released e sent on near word) = Released e (more.ends s.number e sent) on near (more.word _ word)
-fine_more Q R s more (First number begins) = First number begins
-fine_more Q R s more (Next sent) = Next (more.ends (before s.number) s.begins sent)
+fine_more Q R s more (First number begins room) = First number begins (more.room (length s.body) room)
+fine_more Q R s more (Next sent room) = Next (more.ends (before s.number) s.begins sent) (more.room (length s.body) room)
 
-follows_fine : (Q : Passings) (s : SegmentValue) (n : ℕ) → s.number ≡ wire (n + 1) → Follows Q n s.begins → IsFine Q s
-follows_fine Q s n at (inl first) = First (let z = first.0 in omega (arith, z, at)) first.1
-follows_fine Q s n at (inr sent) =
-    let same : wire n ≡ before s.number = omega (arith, at) in Next (subst (λ (x : ℕ). Q.ends x s.begins) same sent)
+follows_fine : (Q : Passings) (s : SegmentValue) (n : ℕ) → s.number ≡ wire (n + 1) → Follows Q n s.begins → Q.room (length s.body) → IsFine Q s
+follows_fine Q s n at (inl first) room = First (let z = first.0 in omega (arith, z, at)) first.1 room
+follows_fine Q s n at (inr sent) room =
+    let same : wire n ≡ before s.number = omega (arith, at) in Next (subst (λ (x : ℕ). Q.ends x s.begins) same sent) room
 
 distance_back : (n number : ℕ) → number < 4096 → distance number (wire n) ≤ n → number ≡ wire (n - distance number (wire n))
 distance_back n number l m = omega (arith, l, m)
@@ -98,7 +99,7 @@ module _ (Q R : Passings) (more : More Q R) (f : WireSegments) (is : Gave Q f) (
 
   -- ---- a new one
 
-  module _ (new : is_new s f.variables ≡ true) (next : is_next_piece (piece_of s) f.variables.unsent ≡ true) where
+  module _ (new : is_new s f.variables ≡ true) (next : is_next_piece (piece_of s) f.variables.unsent ≡ true) (room : Q.room (length s.body)) where
     number_is : s.number ≡ wire (highest + 1)
     number_is = let e = eqb-true s.number (wire (highest_given f.variables + 1)) new in omega (arith, e, given)
 
@@ -109,7 +110,7 @@ module _ (Q R : Passings) (more : More Q R) (f : WireSegments) (is : Gave Q f) (
     next_follows = subst (Follows Q highest) (sym parts.1) is.last
 
     new_fine : IsFine Q s
-    new_fine = follows_fine Q s highest number_is next_follows
+    new_fine = follows_fine Q s highest number_is next_follows room
 
     size : length (f.variables.outstanding ++ piece_of s ∷ []) ≡ length f.variables.outstanding + 1
     size = length-append f.variables.outstanding (piece_of s ∷ [])
@@ -134,17 +135,22 @@ module _ (Q R : Passings) (more : More Q R) (f : WireSegments) (is : Gave Q f) (
             let at : s.number ≡ wire n = omega (arith, m, most, later_is, number_is) in
             (s.ends, subst (λ (x : ℕ). R.ends x s.ends) at gone)
 
-    new_each : (i : ℕ) (p : Piece) → slice_get (f.variables.outstanding ++ piece_of s ∷ []) i ≡ Some p → Follows R (is.acked + i) p.begins
+    new_each : (i : ℕ) (p : Piece) → slice_get (f.variables.outstanding ++ piece_of s ∷ []) i ≡ Some p →
+        Follows R (is.acked + i) p.begins × R.room (length p.body)
     new_each i p e = go (pushed_at f.variables.outstanding (piece_of s) i p e)
       where
         go : (slice_get f.variables.outstanding i ≡ Some p) ⊎ ((i ≡ length f.variables.outstanding) × (piece_of s ≡ p)) →
-            Follows R (is.acked + i) p.begins
-        go (inl there) = follows_more Q R more (is.acked + i) p.begins (is.each i p there)
+            Follows R (is.acked + i) p.begins × R.room (length p.body)
+        go (inl there) =
+            let found = is.each i p there in
+            (follows_more Q R more (is.acked + i) p.begins found.0, more.room (length p.body) found.1)
         go (inr last) =
             let place = last.0 in
             let at : highest ≡ is.acked + i = omega (arith, place) in
-            subst (λ (x : Piece). Follows R (is.acked + i) x.begins) last.1
-            (subst (λ (x : ℕ). Follows R x s.begins) at (follows_more Q R more highest s.begins next_follows))
+            subst (λ (x : Piece). Follows R (is.acked + i) x.begins × R.room (length x.body)) last.1 (
+              subst (λ (x : ℕ). Follows R x s.begins) at (follows_more Q R more highest s.begins next_follows),
+              more.room (length s.body) room,
+            )
 
     new_many : (b : Bool) → f.gave_many ≡ b → (b || leb REACH (highest_given f.variables + 1)) ≡ true → REACH ≤ later
     new_many true e g = let m = is.reaches e in omega (arith, m, later_is)
@@ -164,12 +170,17 @@ module _ (Q R : Passings) (more : More Q R) (f : WireSegments) (is : Gave Q f) (
       reaches = new_many f.gave_many refl;
     }
 
-  new_good : (segsize : ℕ) (last : LastSent) → is_new s f.variables ≡ true → Good IsSent (sends_new segsize (piece_of s) last f)
-  new_good segsize last new =
+  -- there is room for this many bytes
+  abbrev pub HasRoom : ℕ → Type 0
+  HasRoom segsize = (n : ℕ) → n ≤ segsize → Q.room n
+
+  new_good : (segsize : ℕ) (last : LastSent) → HasRoom segsize → is_new s f.variables ≡ true → Good IsSent (sends_new segsize (piece_of s) last f)
+  new_good segsize last fits new =
       good_check IsSent (ltb (length f.variables.outstanding) REACH) LinkWindowFull _ (λ e.
       good_check IsSent (leb (length s.body) segsize) SegmentTooLong _ (λ g.
       good_check IsSent (is_next_piece (piece_of s) f.variables.unsent) WrongSegment _ (λ h.
-      good_ok IsSent (sending (with_last last (with_new (piece_of s) f))) (new_fine new h, new_gave new h last))))
+      let room = fits (length s.body) (leb-true (length s.body) segsize g) in
+      good_ok IsSent (sending (with_last last (with_new (piece_of s) f))) (new_fine new h room, new_gave new h room last))))
 
   -- ---- one that goes again
 
@@ -205,8 +216,10 @@ module _ (Q R : Passings) (more : More Q R) (f : WireSegments) (is : Gave Q f) (
             let l = leb-false (length f.variables.outstanding) below less in
             let to : s.number ≡ wire (is.acked + (length f.variables.outstanding - 1 - below) + 1) = omega (arith, l, stands) in
             let same = same_is (piece_of s) first g in
+            let found = is.each _ first at in
             follows_fine Q s (is.acked + (length f.variables.outstanding - 1 - below)) to
-            (subst (λ (x : Piece). Follows Q (is.acked + (length f.variables.outstanding - 1 - below)) x.begins) same (is.each _ first at))
+            (subst (λ (x : Piece). Follows Q (is.acked + (length f.variables.outstanding - 1 - below)) x.begins) same found.0)
+            (subst (λ (x : Piece). Q.room (length x.body)) same found.1)
 
         by_word : length f.variables.outstanding ≤ below → (is.acked ≡ 0) ⊎ Q.word (wire is.acked) → IsFine Q s
         by_word l (inl none) = absurd (omega (arith, l, none, within))
@@ -230,17 +243,17 @@ module _ (Q R : Passings) (more : More Q R) (f : WireSegments) (is : Gave Q f) (
 
   -- ---- any
 
-  named_good : (segsize : ℕ) (o : Option LastSent) → Good IsSent (segment_named o segsize s f)
-  named_good segsize None = good_err IsSent WrongAck
-  named_good segsize (Some last) = go (is_new s f.variables) refl
+  named_good : (segsize : ℕ) (o : Option LastSent) → HasRoom segsize → Good IsSent (segment_named o segsize s f)
+  named_good segsize None fits = good_err IsSent WrongAck
+  named_good segsize (Some last) fits = go (is_new s f.variables) refl
     where
       go : (b : Bool) → is_new s f.variables ≡ b →
           Good IsSent (cond b (sends_new segsize (piece_of s) last f) (sends_again below (piece_of s) last f))
-      go true new = new_good segsize last new
+      go true new = new_good segsize last fits new
       go false old = again_good last
 
-  pub sends_segment_good : (segsize : ℕ) → Good IsSent (sends_segment segsize s f)
-  sends_segment_good segsize = named_good segsize (all_named (not (is_new s f.variables)) f.variables.received s.acks (last_of f))
+  pub sends_segment_good : (segsize : ℕ) → HasRoom segsize → Good IsSent (sends_segment segsize s f)
+  sends_segment_good segsize fits = named_good segsize (all_named (not (is_new s f.variables)) f.variables.received s.acks (last_of f)) fits
 
   abbrev pub IsLate : Late WireSegments (Unit {0}) → Type 0
   IsLate late = IsSent late.sent
@@ -250,19 +263,20 @@ module _ (Q R : Passings) (more : More Q R) (f : WireSegments) (is : Gave Q f) (
   gap_good gap (Ok sent) good = good_ok IsLate (record { sent = sent; gap = gap sent }) (good sent refl)
   gap_good gap (Err refusal) good = good_err IsLate refusal
 
-  late_good : (segsize : ℕ) (o : Option LateSent) → is_new s f.variables ≡ true → Good IsLate (new_late o segsize s f)
-  late_good segsize None new = good_err IsLate WrongAck
-  late_good segsize (Some next) new = gap_good (λ sent. next.gap) (sends_new segsize (piece_of s) next.sent f) (new_good segsize next.sent new)
+  late_good : (segsize : ℕ) (o : Option LateSent) → HasRoom segsize → is_new s f.variables ≡ true → Good IsLate (new_late o segsize s f)
+  late_good segsize None fits new = good_err IsLate WrongAck
+  late_good segsize (Some next) fits new =
+      gap_good (λ sent. next.gap) (sends_new segsize (piece_of s) next.sent f) (new_good segsize next.sent fits new)
 
-  pub sends_late_good : (gap segsize : ℕ) → Good IsLate (sends_late gap segsize s f)
-  sends_late_good gap segsize = go (is_new s f.variables) refl
+  pub sends_late_good : (gap segsize : ℕ) → HasRoom segsize → Good IsLate (sends_late gap segsize s f)
+  sends_late_good gap segsize fits = go (is_new s f.variables) refl
     where
       go : (b : Bool) → is_new s f.variables ≡ b →
           Good IsLate (cond b
           (new_late (all_named_late f.variables.received s.acks (record { sent = last_of f; gap = gap })) segsize s f)
           (with_gap (λ sent. wider gap (went_on f sent.segments)) (sends_segment segsize s f)))
-      go true new = late_good segsize (all_named_late f.variables.received s.acks (record { sent = last_of f; gap = gap })) new
-      go false old = gap_good (λ sent. wider gap (went_on f sent.segments)) (sends_segment segsize s f) (sends_segment_good segsize)
+      go true new = late_good segsize (all_named_late f.variables.received s.acks (record { sent = last_of f; gap = gap })) fits new
+      go false old = gap_good (λ sent. wider gap (went_on f sent.segments)) (sends_segment segsize s f) (sends_segment_good segsize fits)
 
 -- acknowledgement words give no segment
 pub acks_sent : (Q : Passings) (words : List AckWord) (f : WireSegments) → Gave Q f →

@@ -8,6 +8,7 @@ use Rattle.dna_links.specs.declared.queue.Queues.{Queues}
 use Rattle.accusing.specs.Placing.{Passed}
 use Rattle.accusing_links.specs.Placing.{IsNodePlacing}
 use Rattle.accusing_segments.specs.History.{Known, has, history}
+use Rattle.accusing_segments.specs.Fits.{fits}
 
 -- no packet was composed and then never sent: none of these records says so (`x`)
 abbrev pub SendsAll : List Record → Type 0
@@ -20,10 +21,11 @@ SendsAll (one ∷ records) = SendsAll records
 abbrev pub IsWrong : List Passed → Type 0
 IsWrong passed = (queues : Queues) (head : Head) (records : List Record) → IsNodePlacing queues head passed records → SendsAll records → ⊥
 
--- what passed, as lists
+-- what passed, as lists; and of a link and one of the other side the largest SEGSIZE of that
 pub record Sight : Type 0 where
   pub ends : List (ℕ × ℕ × ℕ × ℕ)
   pub words : List (ℕ × ℕ × ℕ × ℕ)
+  pub rooms : List ((ℕ × ℕ) × ℕ)
 
 abbrev pub IsAs : List (ℕ × ℕ × ℕ × ℕ) → Known → Type 0
 IsAs ids known = (own far number what : ℕ) → has ids own far number what ≡ known own far number what
@@ -32,3 +34,4 @@ IsAs ids known = (own far number what : ℕ) → has ids own far number what ≡
 pub record IsAfter (sight : Sight) (passed : List Passed) : Type 0 where
   pub ends : IsAs sight.ends (history passed).ends
   pub words : IsAs sight.words (history passed).words
+  pub rooms : (own far bytes what : ℕ) → fits sight.rooms own far bytes what ≡ (history passed).rooms own far bytes what

@@ -1,9 +1,10 @@
--- Which data segments this side sent, and which of them the other side acknowledged, by the units that passed.
-use Rattle.std.specs.Prelude.{ℕ, Bool, true, false, ◌&&◌, ◌||◌, ◌==◌, Option, Some, None, List, [], ◌∷◌, Result, Ok, Err}
+-- Which data segments this side sent, and which of them the other side acknowledged, and for how many data bytes it has room in a segment, by the
+-- units that passed.
+use Rattle.std.specs.Prelude.{ℕ, Bool, true, false, ◌&&◌, ◌||◌, ◌==◌, nat_le, Option, Some, None, List, [], ◌∷◌, Result, Ok, Err}
 use Rattle.std.specs.List.{list_any}
 use Rattle.ddcmp_msg.specs.Reading.{reading}
 use Rattle.dna_packet.specs.declared.ack_word.AckWord.{AckWord}
-use Rattle.dna_packet.specs.Nsp.{NspValue, DataSegment, DataAck}
+use Rattle.dna_packet.specs.Nsp.{NspValue, DataSegment, DataAck, ConnectInitiate, ConnectConfirm}
 use Rattle.dna_station.specs.declared.refusal.StepRefusal.{StepRefusal}
 use Rattle.dna_links.specs.SegmentBook.{is_of_data}
 use Rattle.dna_links.specs.Links.{Carried}
@@ -45,6 +46,15 @@ acknowledges (DataSegment s) own far number what = words_name s.dstaddr s.srcadd
 acknowledges (DataAck dst src acks) own far number what = words_name dst src acks own far number what
 acknowledges other own far number what = false
 
+-- A CI or a CC from the link `far` to the link `own`, of a CI 0, has room for so many data bytes in a segment: its SEGSIZE. Nothing further is known
+abbrev pub is_room : (own far segsize : ℕ) → Known
+is_room own far segsize o f bytes what = own == o && (far == f && nat_le bytes segsize)
+
+abbrev pub has_room : NspValue → Known
+has_room (ConnectInitiate retransmitted src services info segsize user_data) own far bytes what = is_room 0 src segsize own far bytes what
+has_room (ConnectConfirm dst src services info segsize user_data) own far bytes what = is_room dst src segsize own far bytes what
+has_room other own far bytes what = false
+
 -- ---- of the units that passed
 
 -- the message of the links in a data unit; None where there is none that can be read
@@ -81,6 +91,7 @@ module _ (says : NspValue → Known) where
 pub record History : Type 0 where
   pub ends : Known
   pub words : Known
+  pub rooms : Known
 
 abbrev pub history : List Passed → History
-history passed = record { ends = by_own end_sent passed; words = by_other acknowledges passed }
+history passed = record { ends = by_own end_sent passed; words = by_other acknowledges passed; rooms = by_other has_room passed }

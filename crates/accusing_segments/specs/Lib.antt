@@ -1,5 +1,6 @@
 -- what no right node that sends all it composed sends
 pub mod History
+pub mod Fits
 pub mod Wrong
 -- what is said of a unit, and what it means
 pub mod Answers

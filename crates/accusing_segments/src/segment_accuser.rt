@@ -2,15 +2,19 @@
 
 ghost use Rattle.std.specs.Prelude.{◌≡◌, ◌&&◌, ◌||◌, [], ◌∷◌, ◌++◌, ℕ, true, List, OnOk, IsTrue};
 ghost use Rattle.dna_packet.specs.Nsp.{segment_view, view, DataSegment};
+ghost use Rattle.dna_station.specs.declared.head.Head.{Head};
 ghost use Rattle.dna_links.specs.SegmentBook.{REACH};
 ghost use Rattle.accusing.specs.Placing.{Passed, Own, Other};
+ghost use Rattle.accusing_links.specs.Answers as anyhow;
 ghost use Rattle.accusing_segments.specs.Answers.{IsAfter, IsWrong};
-ghost use Rattle.accusing_segments.specs.History.{acknowledges, bit, end_sent, has, history, in_unit, words_name};
+ghost use Rattle.accusing_segments.specs.Fits.{fits};
+ghost use Rattle.accusing_segments.specs.History.{acknowledges, bit, end_sent, has, has_room, history, in_unit, words_name};
 ghost use Rattle.accusing_segments.specs.Wrong as specs;
 ghost use Rattle.accusing_segments.specs.inner.Seen.{seen};
 
 use crate::kept::Kept;
 use crate::message::message_in;
+use crate::rooms::Rooms;
 use dna_packet::{AckQualifier, AckWord, Nsp, Segment};
 use std::alloc::{AllocError, Global};
 use std::marker::Model;
@@ -30,6 +34,14 @@ const REACH: u16 = 2047;
 ///  own    link 7 sends segment 5 to link 9, BOM, EOM   yes: no segment 4 passed
 ///  other  link 9 acknowledges segment 2 to link 7
 ///  own    link 7 sends segment 2 to link 9, BOM, EOM   no: it may be acknowledged, and what goes again is not asked then
+///
+///  passed                                              is too long
+///  own    link 7 sends segment 1 to link 9, 20 bytes   yes: no SEGSIZE passed
+///  other  link 9 calls, SEGSIZE 20
+///  own    link 7 sends segment 1 to link 9, 20 bytes   no
+///  own    link 7 sends segment 2 to link 9, 21 bytes   yes
+///  other  link 9 acknowledges segment 2 to link 7
+///  own    link 7 sends segment 2 to link 9, 21 bytes   no: it may be acknowledged
 /// ```
 #[derive(Drop)]
 pub struct SegmentAccuser {
@@ -37,6 +49,8 @@ pub struct SegmentAccuser {
     ends: Kept,
     // the numbers that the other side acknowledged
     words: Kept,
+    // for how many data bytes it has room in a segment
+    rooms: Rooms,
 }
 
 impl Model for SegmentAccuser {
@@ -44,7 +58,7 @@ impl Model for SegmentAccuser {
 
     ghost Value = { Sight };
 
-    ghost view = { λ a. record { ends = a.ends; words = a.words } };
+    ghost view = { λ a. record { ends = a.ends; words = a.words; rooms = a.rooms } };
 }
 
 impl SegmentAccuser {
@@ -55,10 +69,12 @@ impl SegmentAccuser {
         SegmentAccuser {
             ends: Kept::nothing(alloc),
             words: Kept::nothing(alloc),
+            rooms: Rooms::none(alloc),
         }
     }
 
-    /// This unit of the other side passed, and may come to this side from now on. It takes memory for the numbers that it acknowledges.
+    /// This unit of the other side passed, and may come to this side from now on. It takes memory for the numbers that it acknowledges,
+    /// and for the first SEGSIZE between two links.
     pub fn other_passed(&mut self, unit: &[u8]) -> Result<(), AllocError>
         ensures { (passed : List Passed) → IsAfter self.old passed → OnOk result (IsAfter self.new (passed ++ Other unit.now ∷ [])) }
     {
@@ -80,6 +96,18 @@ impl SegmentAccuser {
     {
         self.is_wrong(unit)
     }
+
+    /// The node with any addresses can't send this unit now if it is a right one, whether it sends every packet that it composed or not, whatever
+    /// came to it of what passed, whatever was lost or damaged, whatever noise there was and whatever its user did: its data segment has more bytes
+    /// than each SEGSIZE that passed for its link, and can't be one that goes again when it was acknowledged. `false` says nothing. It takes no
+    /// memory.
+    pub fn is_too_long(&self, unit: &[u8]) -> bool
+        ensures known { (passed : List Passed) → IsAfter self.now passed → result ≡ specs.is_long_unit (history passed) unit.now }
+        ensures wrong { (passed : List Passed) → IsAfter self.now passed → result ≡ true
+            → (head : Head) → anyhow.IsWrong head (passed ++ Own unit.now ∷ []) }
+    {
+        self.is_long(unit)
+    }
 }
 
 impl SegmentAccuser {
@@ -87,6 +115,8 @@ impl SegmentAccuser {
         ensures ends { self.new.ends ≡ self.old.ends }
         ensures words { (o f n w : ℕ) → OnOk result (has self.new.words o f n w
             ≡ (in_unit acknowledges unit.now o f n w || has self.old.words o f n w)) }
+        ensures rooms { (o f b w : ℕ) → OnOk result (fits self.new.rooms o f b w
+            ≡ (in_unit has_room unit.now o f b w || fits self.old.rooms o f b w)) }
     {
         let Some(message) = message_in(unit) else {
             return Ok(());
@@ -94,15 +124,17 @@ impl SegmentAccuser {
         match message {
             Nsp::DataSegment(m) => self.hears_words(m.dstaddr, m.srcaddr, &m.acks),
             Nsp::DataAck(m) => self.hears_words(m.dstaddr, m.srcaddr, &m.acks),
+            Nsp::ConnectInitiate(m) => self.rooms.tell(0, m.srcaddr, m.segsize),
+            Nsp::ConnectConfirm(m) => self.rooms.tell(m.dstaddr, m.srcaddr, m.segsize),
             Nsp::LinkService(_) | Nsp::OtherDataAck(_) | Nsp::ConnectAck(_) => Ok(()),
-            Nsp::NoOperation(_) | Nsp::ConnectInitiate(_) | Nsp::ConnectConfirm(_) => Ok(()),
-            Nsp::DisconnectInitiate(_) | Nsp::DisconnectConfirm(_) => Ok(()),
+            Nsp::NoOperation(_) | Nsp::DisconnectInitiate(_) | Nsp::DisconnectConfirm(_) => Ok(()),
         }
     }
 
     // These words came to link `own` from link `far`.
     fn hears_words(&mut self, own: u16, far: u16, words: &[AckWord]) -> Result<(), AllocError>
         ensures ends { self.new.ends ≡ self.old.ends }
+        ensures rooms { self.new.rooms ≡ self.old.rooms }
         ensures words { (o f n w : ℕ) → OnOk result (has self.new.words o f n w
             ≡ (words_name own far words.now o f n w || has self.old.words o f n w)) }
     {
@@ -114,6 +146,7 @@ impl SegmentAccuser {
 
     fn hears_word(&mut self, own: u16, far: u16, word: AckWord) -> Result<(), AllocError>
         ensures ends { self.new.ends ≡ self.old.ends }
+        ensures rooms { self.new.rooms ≡ self.old.rooms }
         ensures words { (o f n w : ℕ) → OnOk result (has self.new.words o f n w
             ≡ (words_name own far (word ∷ []) o f n w || has self.old.words o f n w)) }
     {
@@ -125,6 +158,7 @@ impl SegmentAccuser {
 
     fn sends(&mut self, unit: &[u8]) -> Result<(), AllocError>
         ensures words { self.new.words ≡ self.old.words }
+        ensures rooms { self.new.rooms ≡ self.old.rooms }
         ensures ends { (o f n w : ℕ) → OnOk result (has self.new.ends o f n w
             ≡ (in_unit end_sent unit.now o f n w || has self.old.ends o f n w)) }
     {
@@ -142,6 +176,7 @@ impl SegmentAccuser {
 
     fn sends_segment(&mut self, segment: &Segment<'_>) -> Result<(), AllocError>
         ensures words { self.new.words ≡ self.old.words }
+        ensures rooms { self.new.rooms ≡ self.old.rooms }
         ensures ends { (o f n w : ℕ) → OnOk result (has self.new.ends o f n w
             ≡ (end_sent (DataSegment (segment_view segment.now)) o f n w || has self.old.ends o f n w)) }
     {
@@ -162,6 +197,49 @@ impl SegmentAccuser {
             Nsp::ConnectConfirm(_) | Nsp::DisconnectInitiate(_) => false,
             Nsp::DisconnectConfirm(_) => false,
         }
+    }
+
+    fn is_long(&self, unit: &[u8]) -> bool
+        ensures { result ≡ specs.is_long_unit (seen self.now) unit.now }
+    {
+        let Some(message) = message_in(unit) else {
+            return false;
+        };
+        match message {
+            Nsp::DataSegment(segment) => !self.is_in_room(&segment),
+            Nsp::DataAck(_) | Nsp::LinkService(_) | Nsp::OtherDataAck(_) => false,
+            Nsp::ConnectAck(_) | Nsp::NoOperation(_) | Nsp::ConnectInitiate(_) => false,
+            Nsp::ConnectConfirm(_) | Nsp::DisconnectInitiate(_) => false,
+            Nsp::DisconnectConfirm(_) => false,
+        }
+    }
+
+    // A SEGSIZE passed for this segment, or it may be acknowledged.
+    fn is_in_room(&self, segment: &Segment<'_>) -> bool
+        ensures { result ≡ specs.is_in_room (seen self.now) (segment_view segment.now) }
+    {
+        let (own, far, number) = (segment.srcaddr, segment.dstaddr, segment.number);
+        if self.is_short(own, far, segment.body.len()) {
+            return true;
+        }
+        self.is_covered(own, far, number)
+    }
+
+    // A SEGSIZE passed for so many bytes.
+    fn is_short(&self, own: u16, far: u16, bytes: usize) -> bool
+        ensures { result ≡ (fits self.now.rooms 0 far bytes 0 || fits self.now.rooms own far bytes 0) }
+    {
+        if self.has_room(0, far, bytes) {
+            return true;
+        }
+        self.has_room(own, far, bytes)
+    }
+
+    // A SEGSIZE from `far` to `own` passed for so many bytes.
+    fn has_room(&self, own: u16, far: u16, bytes: usize) -> bool
+        ensures { result ≡ fits self.now.rooms own far bytes 0 }
+    {
+        self.rooms.has(own, far, bytes)
     }
 
     // A right node may send this segment.

@@ -4,8 +4,7 @@ use Rattle.std.specs.Option.{option_map, option_to_list}
 use Rattle.ddcmp_msg.specs.Message.{MessageValue, Data, Ack, Nak, Rep, Strt, Stack}
 use Rattle.ddcmp_msg.specs.Reading.{ReadingValue, reading, Sound, HeaderBad, DataBad, Malformed}
 use Rattle.ddcmp_msg.specs.declared.nak_reason.NakReason.{NakReason}
-use Rattle.ddcmp_msg.specs.declared.nak_reason.NakReason.TheVariants.{HeaderCheck, DataCheck, RepResponse, NoBuffer, Overrun, MessageTooLong}
-use Rattle.ddcmp_msg.specs.declared.nak_reason.NakReason.TheVariants.{HeaderFormat}
+use Rattle.ddcmp_msg.specs.declared.nak_reason.NakReason.TheVariants.{HeaderCheck, DataCheck, RepResponse, NoBuffer}
 use Rattle.dna_packet.specs.Nsp.{NspValue, DataSegment, LinkService, DataAck, OtherDataAck, ConnectAck, NoOperation, ConnectInitiate, ConnectConfirm}
 use Rattle.dna_packet.specs.Nsp.{DisconnectInitiate, DisconnectConfirm}
 use Rattle.capture.specs.Fates.{is_kept}
@@ -70,9 +69,7 @@ nak_row HeaderCheck = Sends sending.NakOfCause
 nak_row DataCheck = Sends sending.NakOfCause
 nak_row RepResponse = Sends sending.NakOfCause
 nak_row NoBuffer = Sends sending.NakOfCause
-nak_row Overrun = Sends sending.OtherNak
-nak_row MessageTooLong = Sends sending.OtherNak
-nak_row HeaderFormat = Sends sending.OtherNak
+nak_row reason = Sends sending.OtherNak
 
 -- data whose number, T, is N + 1 are new, and else they are sent again
 abbrev pub data_row : (is_new : Bool) → Row

@@ -100,9 +100,7 @@ fn nak_row(reason: NakReason) -> Row
         | NakReason::DataCheck
         | NakReason::RepResponse
         | NakReason::NoBuffer => Row::Sends(Sending::NakOfCause),
-        NakReason::Overrun | NakReason::MessageTooLong | NakReason::HeaderFormat => {
-            Row::Sends(Sending::OtherNak)
-        }
+        _ => Row::Sends(Sending::OtherNak),
     }
 }
 

@@ -12,7 +12,7 @@ use crate::onlooker::{Onlooker, Originals};
 use crate::telling::Form;
 use drawing::{DrawnPair, Range, tell_behind};
 use ladder::{Drawn, Fate, Keep, Ladder, Marked, Row};
-use pair_judge::{Reason, Verdict};
+use pair_judge::Verdict;
 use std::alloc::{AllocError, Global};
 use std::io::{Read, Seek};
 use why::LinkPast;
@@ -80,7 +80,7 @@ pub fn all_drawn<A: Read + Seek, B: Read + Seek>(
     match ends.verdict() {
         Verdict::Accepted(_) => originals.rows.ladder.end(),
         Verdict::Refused { side, reason, .. } => {
-            in_memory(originals.refused(side, reason == Reason::Undetected))?;
+            in_memory(originals.refused(side, reason.is_of_changed_bytes()))?;
             let told = tell_behind(
                 alloc,
                 &mut originals.rows.ladder,

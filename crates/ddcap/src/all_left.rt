@@ -7,7 +7,7 @@ ghost use Rattle.ddcap.specs.inner.AllLeft.{JudgesAll, Leaves, beyond_of};
 
 use leaving_out::{Head, Leaving};
 use link_groups::{Groups, LeftGroups, OwnAddress};
-use pair_judge::Reason;
+use pair_judge::{Matter, Reason};
 use std::alloc::{AllocError, Global};
 
 /// What a refusal for a reason leads to.
@@ -30,16 +30,13 @@ impl Beyond {
     pub fn of(reason: Reason) -> Beyond
         ensures { result ≡ beyond_of reason }
     {
-        match reason {
-            Reason::CrossedPeriod => Beyond::AnyPeriod,
-            Reason::BadPacket => Beyond::UnreadPackets,
-            Reason::BadNsp => Beyond::UnreadMessages,
-            Reason::WrongNode | Reason::NoLink | Reason::LinkState | Reason::WrongSegment => {
-                Beyond::Links
-            }
-            Reason::WrongAck | Reason::SegmentTooLong | Reason::LinkWindowFull => Beyond::Links,
-            Reason::WrongDelivery | Reason::CrossedLink | Reason::AddressInUse => Beyond::Links,
-            _ => Beyond::Ends,
+        match reason.matter() {
+            Matter::Soundness | Matter::Hints | Matter::Passage => Beyond::Ends,
+            Matter::State | Matter::Response | Matter::Station => Beyond::Ends,
+            Matter::Period => Beyond::AnyPeriod,
+            Matter::Packet => Beyond::UnreadPackets,
+            Matter::Nsp => Beyond::UnreadMessages,
+            Matter::Nodes | Matter::LinkNow | Matter::Link => Beyond::Links,
         }
     }
 

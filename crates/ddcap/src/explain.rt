@@ -5,9 +5,9 @@ ghost use Rattle.ddcap.specs.Explaining.{Explains, explanation_head, explanation
 ghost use Rattle.ddcap.specs.Printed.{moved};
 
 use crate::check::{print, print_out_of_memory};
-use crate::explanations::Explanation;
 use std::alloc::{AllocError, Global};
 use std::io::Write;
+use why::Explanation;
 use wire_base::Tally;
 
 /// The status where the explanation was printed.

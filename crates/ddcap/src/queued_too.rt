@@ -2,15 +2,16 @@
 
 use crate::layers::Layers;
 use crate::recorder::{Tried, stopped};
-use pair_judge::{JudgeFault, Reason, TextFault, Verdict, judge_queued};
+use pair_judge::{JudgeFault, Matter, Reason, TextFault, Verdict, judge_queued};
 use std::alloc::{AllocError, Global};
 use std::io::{Read, Seek};
 use why::QueuedAnswer;
 use wire_base::Tally;
 
 /// Judges the pair again as that of nodes with queues, where both layers were judged without them and such nodes may do what is refused for this
-/// reason, and keeps the answer beside what small edits told. It is not asked where a file can't be read again from its beginning, or where a read of one failed before; and nothing is kept where
-/// a text departs from its format further on. `AllocError`: there is no memory to judge it.
+/// reason (a message or an event of a link that has ended or is in another phase, a piece, an older acknowledgement, a stale message), and keeps
+/// the answer beside what small edits told. It is not asked where a file can't be read again from its beginning, or where a read of one failed
+/// before; and nothing is kept where a text departs from its format further on. `AllocError`: there is no memory to judge it.
 pub fn with_queues_too<A: Read + Seek, B: Read + Seek>(
     alloc: Global,
     layers: Layers,
@@ -19,7 +20,7 @@ pub fn with_queues_too<A: Read + Seek, B: Read + Seek>(
     reason: Reason,
     mut tried: Tried,
 ) -> Result<Tried, AllocError> {
-    if tried.failed.is_some() || layers != Layers::Both || !is_by_queues(reason) {
+    if tried.failed.is_some() || layers != Layers::Both || reason.matter() != Matter::LinkNow {
         return Ok(tried);
     }
     if a.rewind().is_err() || b.rewind().is_err() {
@@ -54,17 +55,4 @@ pub fn with_queues_too<A: Read + Seek, B: Read + Seek>(
         ) => Ok(tried),
         Err(fault) => stopped(tried, fault),
     }
-}
-
-// Whether a queue may explain it: a message or an event of a link that has ended or is in another phase, a piece, an older acknowledgement, a stale
-// message.
-fn is_by_queues(reason: Reason) -> bool {
-    matches!(
-        reason,
-        Reason::NoLink
-            | Reason::LinkState
-            | Reason::WrongSegment
-            | Reason::WrongAck
-            | Reason::CrossedLink
-    )
 }

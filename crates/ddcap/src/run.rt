@@ -13,7 +13,6 @@ use crate::departure::{explain_departure_of_end, explain_departure_of_pair};
 use crate::draw_files::draw_files;
 use crate::end_telling::{EndPrintout, why_end_to};
 use crate::explain::explain_to;
-use crate::explanations::explanation_of;
 use crate::fault_told::FaultTold;
 use crate::files::{Named, Wanted, opened, opened_plain};
 use crate::help::help_to;
@@ -32,6 +31,7 @@ use pair_judge::Reason;
 use std::env;
 use std::io::{ErrorKind, Write};
 use std::rt::{Env, Files};
+use why::explanation_of;
 use wire_base::Tally;
 
 // The status of words that are no task.

@@ -178,7 +178,7 @@ pub fn refused_text(
     match printout.form {
         Form::Json => objects_text(alloc, refusal, &ends, &tried),
         Form::Rows => {
-            let is_changed = matches!(refused.reason, Reason::Undetected);
+            let is_changed = refused.reason.is_of_changed_bytes();
             ladder.refused(refused.side, refusal.says, refusal.bytes, is_changed);
             tell_later(&mut ladder, &tried.later);
             rows_text(alloc, printout, refusal, &ends, &ladder, &tried)

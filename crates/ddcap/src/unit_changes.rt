@@ -6,12 +6,12 @@ use crate::near::Near;
 use crate::right_units::right_units;
 use capture::Entry;
 use edited::{Change, Mistake, Row, with_bytes};
-use pair_judge::{JudgedEnds, Reason, Verdict};
+use pair_judge::{JudgedEnds, Matter, Verdict};
 use std::alloc::{AllocError, Global};
 use wire_base::Side;
 
-/// The changes of both captures, judged over these layers, under which the refused unit of this side is one that is right there, at both ends; none where no unit is refused that
-/// was sent. `AllocError` where there is no memory for them.
+/// The changes of both captures, judged over these layers, under which the refused unit of this side is one that is right there, at both ends; none
+/// where no unit is refused that was sent. `AllocError` where there is no memory for them.
 pub fn unit_changes(
     alloc: Global,
     layers: Layers,
@@ -64,9 +64,7 @@ pub fn is_sent_at_another_time(ends: &JudgedEnds, mistake: Mistake) -> bool {
         return false;
     };
     match mistake {
-        Mistake::TooLate { .. } | Mistake::TooEarly { .. } => {
-            matches!(reason, Reason::WrongState)
-        }
+        Mistake::TooLate { .. } | Mistake::TooEarly { .. } => { reason.matter() == Matter::State }
         _ => false,
     }
 }

@@ -12,6 +12,7 @@ use Rattle.pair_judge.specs.Ends.{ShownEnds}
 use Rattle.pair_judge.specs.Finding.{of_side}
 use Rattle.pair_judge.specs.Judged.{Answer, IfTold, IsAcceptance, IsAnswer, IsExact, IsFaultyWhere, JudgesOrFails}
 use Rattle.pair_judge.specs.Order.{MadeRecord}
+use Rattle.pair_judge.specs.Reason.{is_of_changed_bytes}
 use Rattle.pair_judge.specs.Watched.{WasTold}
 use Rattle.pair_judge.specs.declared.fault.JudgeFault.{JudgeFault}
 use Rattle.pair_judge.specs.declared.fault.JudgeFault.TheVariants.{Capture, OutOfMemory}
@@ -27,7 +28,7 @@ use Rattle.drawing.specs.declared.range.Range.{Range}
 use Rattle.drawing.specs.declared.range.Start.{Start}
 use Rattle.drawing.specs.declared.telling.BothEnds.{BothEnds}
 use Rattle.drawing.specs.declared.telling.Onward.{Onward}
-use Rattle.drawing.specs.Drawing.{IsDrawing, IsLadder, IsLadderBy, IsPicture, TellsAhead, is_changed, kind_by}
+use Rattle.drawing.specs.Drawing.{IsDrawing, IsLadder, IsLadderBy, IsPicture, TellsAhead, kind_by}
 use Rattle.drawing.specs.Telling.{WereTold, keep_by, keep_for, keep_of}
 use Rattle.drawing.specs.inner.Ending.{EndsDrawing, IsBegun}
 use Rattle.drawing.specs.inner.Kept.{IsEnds, IsOnward, Rest}
@@ -151,7 +152,7 @@ onward_so range text_a text_b ends telling start begun result some judged told b
 -- ---- the refused record
 
 pub told_ahead : (side : Side) (reason : Reason) (ends : ShownEnds) (before after : LadderView) (entry : Entry) (bytes : List ℕ)
-    → (of_side side ends.a ends.b).ahead ≡ Some (record_with entry bytes) → after ≡ refused before side entry bytes (is_changed reason)
+    → (of_side side ends.a ends.b).ahead ≡ Some (record_with entry bytes) → after ≡ refused before side entry bytes (is_of_changed_bytes reason)
     → TellsAhead side reason ends before after
 told_ahead side reason ends before after entry bytes ahead is = inl (entry, bytes, ahead, is)
 

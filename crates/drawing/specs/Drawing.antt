@@ -1,5 +1,5 @@
 -- What is drawn of two captures, and what is written of it.
-use Rattle.std.specs.Prelude.{◌≡◌, ◌⊎◌, ℕ, Bool, true, false, List, [], ◌∷◌, Option, Some, None, Result, Ok, Err}
+use Rattle.std.specs.Prelude.{◌≡◌, ◌⊎◌, ℕ, true, List, [], ◌∷◌, Option, Some, None, Result, Ok, Err}
 use Rattle.std.specs.Io.KnownBytes.{Appends}
 use Rattle.wire_base.specs.Tally.{AppendsBeginning, CountedFault}
 use Rattle.wire_base.specs.declared.side.Side.{Side}
@@ -13,9 +13,9 @@ use Rattle.pair_judge.specs.Ends.{ShownEnds}
 use Rattle.pair_judge.specs.Finding.{of_side}
 use Rattle.pair_judge.specs.Judged.{IsAnswer}
 use Rattle.pair_judge.specs.Order.{MadeRecord}
+use Rattle.pair_judge.specs.Reason.{is_of_changed_bytes}
 use Rattle.pair_judge.specs.Watched.{WasTold}
 use Rattle.pair_judge.specs.declared.reason.Reason.{Reason}
-use Rattle.pair_judge.specs.declared.reason.Reason.TheVariants.{Undetected}
 use Rattle.pair_judge.specs.declared.verdict.Verdict.{Verdict}
 use Rattle.pair_judge.specs.declared.verdict.Verdict.TheVariants.{Accepted, Refused}
 use Rattle.pair_judge.specs.declared.fault.JudgeFault.{JudgeFault}
@@ -36,16 +36,11 @@ kind_by judging.Line = stations_alone
 
 -- ---- the ladder
 
--- the record is refused since its bytes are not those of its unit and show no damage
-abbrev pub is_changed : Reason → Bool
-is_changed Undetected = true
-is_changed reason = false
-
 -- the record ahead of this side is told as refused for this reason; where none is shown, none is
 abbrev pub TellsAhead : Side → Reason → ShownEnds → LadderView → LadderView → Type 0
 TellsAhead side reason ends before after =
     ((entry : Entry) × (bytes : List ℕ) × ((of_side side ends.a ends.b).ahead ≡ Some (record_with entry bytes))
-    × (after ≡ refused before side entry bytes (is_changed reason)))
+    × (after ≡ refused before side entry bytes (is_of_changed_bytes reason)))
     ⊎ (((of_side side ends.a ends.b).ahead ≡ None) × (after ≡ before))
 
 -- records after the refused one, and perhaps that none is left

@@ -267,17 +267,7 @@ fn tell_ahead(ladder: &mut Ladder, ends: &JudgedEnds, side: Side, reason: Reason
     ensures { spec.TellsAhead side reason ends.now ladder.old ladder.new }
 {
     if let Some((entry, bytes)) = ends.ahead(side) {
-        ladder.refused(side, entry, bytes, is_changed(reason));
-    }
-}
-
-// Whether a record is refused since its bytes are not those of its unit and show no damage.
-fn is_changed(reason: Reason) -> bool
-    ensures { result ≡ spec.is_changed reason }
-{
-    match reason {
-        Reason::Undetected => true,
-        _ => false,
+        ladder.refused(side, entry, bytes, reason.is_of_changed_bytes());
     }
 }
 

@@ -4,10 +4,8 @@ use Rattle.std.proofs.Common.{length, get_or, set, refl}
 use Rattle.std.proofs.Common.{sym, subst, ap, ◌∙◌}
 use Rattle.std.specs.Prelude.{slice_get}
 use Rattle.std.proofs.lemmas.List.{set-get_or}
-use Rattle.dna_station.specs.declared.link_refusal.LinkRefusal.{LinkRefusal}
 use Rattle.dna_station.specs.declared.link_refusal.LinkRefusal.TheVariants.{WrongDelivery}
 use Rattle.dna_links.specs.inner.Forms.{delivered}
-use Rattle.dna_links.specs.inner.Forms.{truth_of}
 use Rattle.std.proofs.lemmas.Option.{slice_get_read}
 use Rattle.dna_links.specs.LookUps.{is_live, is_at}
 use Rattle.dna_links.specs.Links.{LinkOf, changed, with_segments}
@@ -18,7 +16,6 @@ use Rattle.dna_links.specs.declared.port.Port.{Port}
 use Rattle.dna_links.specs.LookUps.{is_called, is_calling}
 use Rattle.nsp_link.specs.inner.Index.{IsIndexed, Stays, counting}
 use Rattle.nsp_link.specs.inner.Indexing.{AreIndexed}
-use Rattle.nsp_link.specs.inner.Rows.{sent_by}
 use Rattle.nsp_link.specs.declared.index.Index.{Index}
 use Rattle.nsp_link.proofs.Indexed.{indexed_change, indexed_confirm, indexed_end, no_more, stays_same}
 use Rattle.nsp_link.proofs.Used.{used_change, uses_same}
@@ -30,9 +27,6 @@ and_false false = refl
 pub map_ok : {A E P Q : Type 0} (r : Result A E) → (P → Q) → OnOk r P → OnOk r Q
 map_ok (Ok x) f h = f h
 map_ok (Err e) f h = h
-
-abbrev made_ok : {R : Type 0} → R → Result R LinkRefusal
-made_ok made = Ok made
 
 -- one of the links of a node, at its number
 pub record InPlace (node peer : ℕ) (items : List (LinkOf WireSegments)) (s : WireLinks) (n : ℕ) (l : LinkOf WireSegments) : Type 0 where
@@ -81,11 +75,6 @@ module _ {node peer : ℕ} {items : List (LinkOf WireSegments)} {s : WireLinks} 
   pub change_none : {m : LinkOf WireSegments} → m ≡ l → record { node = node; peer = peer; links = set items n m } ≡ s
   change_none e = ap (λ (xs : List (LinkOf WireSegments)). record { node = node; peer = peer; links = xs })
       (ap (λ (k : LinkOf WireSegments). set items n k) (e ∙ at.there) ∙ set-get_or items n l) ∙ at.is
-
-  -- a message that is sent
-  pub sent_made : (link m : LinkOf WireSegments) → made_ok (sent_by s n link m) ≡
-      Ok (record { links = record { node = node; peer = peer; links = set items n m }; truth = truth_of wire_segments n link tt })
-  sent_made link m = ap (λ (t : WireLinks). Ok (record { links = t; truth = truth_of wire_segments n link tt })) (sym (changes_to m))
 
   -- a message that is delivered, or not
   pub told_made : (message : List ℕ) (r : Bool) {m : LinkOf WireSegments} → m ≡ with_segments m.segments l →

@@ -1,5 +1,5 @@
 -- The link in use that a check is asked of.
-use Rattle.std.proofs.Common.{◌≡◌, ℕ, Bool, true, false, Option, Some, None, ap, ◌∙◌}
+use Rattle.std.proofs.Common.{◌≡◌, ℕ, Bool, true, false, Option, Some, None, Result, Err, ap, ◌∙◌}
 use Rattle.std.specs.Prelude.{slice_get}
 use Rattle.dna_links.specs.declared.port.LinkTest.{LinkTest}
 use Rattle.dna_links.specs.declared.port.LinkTest.TheVariants.{LiveAt}
@@ -10,11 +10,12 @@ use Rattle.dna_links.specs.Queues.{may_send}
 use Rattle.dna_links.specs.WireSegments.{WireSegments}
 use Rattle.dna_links.specs.WireLinks.{WireLinks}
 use Rattle.nsp_link.specs.FailedEvent.{failed_abort, failed_close, failed_handing_in}
-use Rattle.nsp_link.specs.FailedSending.{failed_in_turn, named, out_of_turn}
+use Rattle.nsp_link.specs.FailedSending.{asked_in_turn, out_of_turn, unless}
 use Rattle.nsp_link.specs.Missing.{missing}
 use Rattle.nsp_link.specs.declared.failed.FailedLinkSending.{FailedLinkSending}
 use Rattle.nsp_link.specs.declared.failed.FailedLinkSending.TheVariants.{NoLink}
-use Rattle.nsp_link.specs.inner.Failed.{fails_in_turn, fails_to_abort, fails_to_close, fails_to_hand_in}
+use Rattle.nsp_link.specs.declared.permit.LinkSendPermit.{LinkSendPermit}
+use Rattle.nsp_link.specs.inner.Failed.{asks_in_turn, fails_to_abort, fails_to_close, fails_to_hand_in}
 use Rattle.nsp_link.specs.inner.Rows.{found_in_use, number_in_use}
 use Rattle.nsp_link.proofs.InUse.{running_keeps, seen_waiting, unseen_waiting}
 use Rattle.nsp_link.proofs.Rows.{in_use_same}
@@ -30,29 +31,30 @@ module _ {R : Type 0} (queues : Queues) (test : LinkTest) (s : WireLinks) (other
 
 -- ---- a message
 
-module _ (queues : Queues) (test : LinkTest) (wanted : Phase) (fails : LinkOf WireSegments → Option FailedLinkSending) (s : WireLinks) where
-  abbrev none : Option FailedLinkSending
-  none = Some (NoLink (missing test s))
+module _ (queues : Queues) (test : LinkTest) (wanted : Phase) (next : ℕ → LinkOf WireSegments → Result LinkSendPermit FailedLinkSending)
+    (s : WireLinks) where
+  abbrev none : Result LinkSendPermit FailedLinkSending
+  none = Err (NoLink (missing test s))
 
-  abbrev asked : ℕ → LinkOf WireSegments → Option FailedLinkSending
-  asked number link = named (may_send queues wanted link) (out_of_turn queues wanted number link) (fails link)
+  abbrev asked : ℕ → LinkOf WireSegments → Result LinkSendPermit FailedLinkSending
+  asked number link = unless (may_send queues wanted link) (out_of_turn queues wanted number link) (next number link)
 
-  pub turn_none : number_in_use queues test s ≡ None → fails_in_turn queues test wanted fails s ≡ Some (NoLink (missing test s))
+  pub turn_none : number_in_use queues test s ≡ None → asks_in_turn queues test wanted next s ≡ Err (NoLink (missing test s))
   turn_none e = use_none queues test s none asked e
 
   module _ (n : ℕ) (l : LinkOf WireSegments) (e : number_in_use queues test s ≡ Some n) (there : slice_get s.links n ≡ Some l) where
     by_turn : (b : Bool) → may_send queues wanted l ≡ b →
-        fails_in_turn queues test wanted fails s ≡ named b (out_of_turn queues wanted n l) (fails l)
+        asks_in_turn queues test wanted next s ≡ unless b (out_of_turn queues wanted n l) (next n l)
     by_turn b is =
-        use_found queues test s none asked n l e there ∙ ap (λ (b : Bool). named b (out_of_turn queues wanted n l) (fails l)) is
+        use_found queues test s none asked n l e there ∙ ap (λ (b : Bool). unless b (out_of_turn queues wanted n l) (next n l)) is
 
-    pub turn_passed : may_send queues wanted l ≡ true → fails_in_turn queues test wanted fails s ≡ fails l
+    pub turn_passed : may_send queues wanted l ≡ true → asks_in_turn queues test wanted next s ≡ next n l
     turn_passed is = by_turn true is
 
-    pub turn_failed : may_send queues wanted l ≡ false → fails_in_turn queues test wanted fails s ≡ Some (out_of_turn queues wanted n l)
+    pub turn_failed : may_send queues wanted l ≡ false → asks_in_turn queues test wanted next s ≡ Err (out_of_turn queues wanted n l)
     turn_failed is = by_turn false is
 
-  pub turn_same : fails_in_turn queues test wanted fails s ≡ failed_in_turn queues test wanted fails s
+  pub turn_same : asks_in_turn queues test wanted next s ≡ asked_in_turn queues test wanted next s
   turn_same = in_use_same test s none asked queues
 
 pub ruleset turns = (turn_none, turn_passed, turn_failed, running_keeps, seen_waiting, unseen_waiting)

@@ -1,8 +1,4 @@
 -- What a look-up for what is sent and for its user finds, with queues or without.
-use Rattle.dna_station.specs.declared.link_refusal.LinkRefusal.{LinkRefusal}
-use Rattle.dna_station.specs.declared.link_refusal.LinkRefusal.TheVariants.{NoLink, LinkState}
-use Rattle.std.proofs.Common.{Result, Err}
-use Rattle.dna_links.specs.Sending.{Sent}
 use Rattle.std.proofs.Common.{◌≡◌, ℕ, ◌<◌, Bool, true, false, ◌&&◌, ◌||◌, not, cond, Option, Some, None, List, [], ◌∷◌, suc, ◌+◌, nat_lt, refl, sym, subst, ap, ◌∙◌, arith, length, eqb}
 use Rattle.std.specs.Prelude.{slice_get, position, is_some}
 use Rattle.std.specs.List.{list_any, position_or_len}
@@ -19,14 +15,14 @@ use Rattle.dna_links.specs.declared.queue.Queues.{Queues}
 use Rattle.dna_links.specs.declared.queue.Queues.TheVariants.{Without, With}
 use Rattle.dna_links.specs.declared.queue.LinkQueue.{LinkQueue}
 use Rattle.dna_links.specs.LookUps.{is_live, is_at, is_calling, is_connected, is_in, passes, takes_messages}
-use Rattle.dna_links.specs.Links.{LinkOf, check, number_of, with_seen, at_number, on_link}
+use Rattle.dna_links.specs.Links.{LinkOf, number_of, with_seen, at_number, on_link}
 use Rattle.dna_links.specs.Queues.{has_waiting, in_use, is_over, may_send, port_of_waiting}
 use Rattle.dna_links.specs.WireSegments.{WireSegments}
 use Rattle.dna_links.specs.WireLinks.{WireLinks}
 use Rattle.nsp_link.specs.inner.Index.{IsIndexed, AreUsed, candidate, counted, passes_at, passes_in, passing, used_by, uses}
 use Rattle.nsp_link.specs.inner.Indexing.{CallsAt, KeepsAt, UsesAt}
 use Rattle.nsp_link.specs.inner.Queue.{keeps}
-use Rattle.nsp_link.specs.inner.Rows.{first_of, in_turn, is_of_own, number_in_use}
+use Rattle.nsp_link.specs.inner.Rows.{first_of, is_of_own, number_in_use}
 use Rattle.nsp_link.proofs.Counting.{counted_some, counted_none}
 use Rattle.nsp_link.proofs.LookUps.{first_true, second_true, found, held, IsFound, At, Nowhere, passes_lives, is_of_live}
 use Rattle.nsp_link.proofs.Found.{link_passes}
@@ -326,14 +322,3 @@ pub calls_at : (queues : Queues) (s : WireLinks) (n : ℕ) (k : LinkOf WireSegme
 calls_at queues s n k there e = at_place (λ l. is_calling (in_use queues l).phase) s n k there e
 
 pub ruleset found_in_use = (connected_keeps_at, connected_used_at, messages_keep_at, running_keeps_at, calls_at)
-
--- what is sent in its turn
-pub turn_found : (queues : Queues) (test : LinkTest) (phase : Phase)
-    (next : ℕ → LinkOf WireSegments → Result (Sent WireSegments (Unit {0})) LinkRefusal) (s : WireLinks) (n : ℕ) (l : LinkOf WireSegments) →
-    number_in_use queues test s ≡ Some n → slice_get s.links n ≡ Some l → may_send queues phase l ≡ true →
-    in_turn queues test phase next s ≡ next n l
-turn_found queues test phase next s n l e there turn =
-    ap (λ (o : Option ℕ). at_number s.links o (Err NoLink) (λ number link. check (may_send queues phase link) LinkState (next number link))) e
-    ∙ ap (λ (o : Option (LinkOf WireSegments)). on_link n o (Err NoLink) (λ number link.
-    check (may_send queues phase link) LinkState (next number link))) there
-    ∙ ap (λ (b : Bool). check b LinkState (next n l)) turn

@@ -1,6 +1,4 @@
 mod Words
-mod FailedWords
-mod FailedLate
 mod FailedTurn
 pub mod FailedSending
 pub mod FailedEvent
@@ -23,7 +21,7 @@ mod Ended
 mod Shown
 mod LateWords
 mod Requeued
-mod Numbered
+mod Permitted
 mod Used
 mod Settled
 mod InUse

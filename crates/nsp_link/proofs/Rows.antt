@@ -1,24 +1,22 @@
 -- The rows of `Table` come to what `Rows` of `specs/inner` says.
-use Rattle.std.proofs.Common.{◌≡◌, ℕ, false, Option, Some, None, Err, refl}
+use Rattle.std.proofs.Common.{◌≡◌, ℕ, Option, Some, None, Err, refl}
 use Rattle.std.specs.Prelude.{slice_get, position}
 use Rattle.dna_packet.specs.Nsp.{NspValue, DataSegment, LinkService, DataAck, OtherDataAck, ConnectAck, NoOperation, ConnectInitiate}
 use Rattle.dna_packet.specs.Nsp.{ConnectConfirm, DisconnectInitiate, DisconnectConfirm}
 use Rattle.dna_station.specs.declared.link_refusal.LinkRefusal.TheVariants.{NoLink}
 use Rattle.dna_links.specs.declared.port.LinkTest.{LinkTest}
-use Rattle.dna_links.specs.declared.port.LinkTest.TheVariants.{LiveAt, TheLink, OpenedAt}
+use Rattle.dna_links.specs.declared.port.LinkTest.TheVariants.{LiveAt}
 use Rattle.dna_links.specs.declared.queue.Queues.{Queues}
 use Rattle.dna_links.specs.declared.queue.Queues.TheVariants.{Without, With}
 use Rattle.dna_links.specs.declared.tag.LinkTag.{LinkTag}
 use Rattle.dna_links.specs.LookUps.{passes}
 use Rattle.dna_links.specs.Links.{LinkOf, number_of, at_number, on_link}
 use Rattle.dna_links.specs.Queues.{in_use, with_in_use}
-use Rattle.dna_links.specs.Sending.{message_sent}
 use Rattle.dna_links.specs.Arriving.{PartnerRule, message_arrived}
 use Rattle.dna_links.specs.User.{LinkEventValue, Open, Accept, Reject, In, Up, Close, Abort, Boot}
-use Rattle.dna_links.specs.WireSegments.{WireSegments, is_new, wire_segments}
+use Rattle.dna_links.specs.WireSegments.{WireSegments, wire_segments}
 use Rattle.dna_links.specs.WireLinks.{WireLinks, wire_links_user}
-use Rattle.nsp_link.specs.inner.Rows.{acts, first_of, found_in_use, sends, takes, takes_memory}
-use Rattle.nsp_link.specs.Phases.{sending_takes_memory}
+use Rattle.nsp_link.specs.inner.Rows.{acts, first_of, found_in_use, takes}
 use Rattle.nsp_link.proofs.Found.{number_within, some_there}
 
 -- ---- a link in use
@@ -60,43 +58,6 @@ acts_same With s (Up own message) = refl
 acts_same With s (Close own) = in_use_same (LiveAt own) s (Err NoLink) _ With
 acts_same With s (Abort own) = in_use_same (LiveAt own) s (Err NoLink) _ With
 acts_same With s Boot = refl
-
--- ---- what is sent
-
-pub sends_same : (queues : Queues) (s : WireLinks) (m : NspValue) → sends queues s m ≡ message_sent queues wire_segments s m
-sends_same Without s (ConnectInitiate retransmitted src services info segsize user_data) = refl
-sends_same Without s (ConnectAck dst) = refl
-sends_same Without s (ConnectConfirm dst src services info segsize user_data) = refl
-sends_same Without s (DisconnectInitiate dst src reason user_data) = refl
-sends_same Without s (DisconnectConfirm dst src reason) = refl
-sends_same Without s (DataSegment segment) = refl
-sends_same Without s (DataAck dst src acks) = refl
-sends_same Without s (LinkService interrupt dst src rest) = refl
-sends_same Without s (OtherDataAck dst src rest) = refl
-sends_same Without s (NoOperation rest) = refl
-sends_same With s (ConnectInitiate retransmitted src services info segsize user_data) = in_use_same (OpenedAt src) s (Err NoLink) _ With
-sends_same With s (ConnectAck dst) = refl
-sends_same With s (ConnectConfirm dst src services info segsize user_data) = in_use_same (TheLink src dst) s (Err NoLink) _ With
-sends_same With s (DisconnectInitiate dst src reason user_data) = in_use_same (TheLink src dst) s (Err NoLink) _ With
-sends_same With s (DisconnectConfirm dst src reason) = refl
-sends_same With s (DataSegment segment) = in_use_same (TheLink segment.srcaddr segment.dstaddr) s (Err NoLink) _ With
-sends_same With s (DataAck dst src acks) = in_use_same (TheLink src dst) s (Err NoLink) _ With
-sends_same With s (LinkService interrupt dst src rest) = in_use_same (TheLink src dst) s (Err NoLink) _ With
-sends_same With s (OtherDataAck dst src rest) = in_use_same (TheLink src dst) s (Err NoLink) _ With
-sends_same With s (NoOperation rest) = refl
-
-pub memory_same : (queues : Queues) (s : WireLinks) (m : NspValue) → takes_memory queues s m ≡ sending_takes_memory queues s m
-memory_same queues s (DataSegment segment) =
-    in_use_same (TheLink segment.srcaddr segment.dstaddr) s false (λ number link. is_new segment link.segments.variables) queues
-memory_same queues s (ConnectInitiate retransmitted src services info segsize user_data) = refl
-memory_same queues s (ConnectAck dst) = refl
-memory_same queues s (ConnectConfirm dst src services info segsize user_data) = refl
-memory_same queues s (DisconnectInitiate dst src reason user_data) = refl
-memory_same queues s (DisconnectConfirm dst src reason) = refl
-memory_same queues s (DataAck dst src acks) = refl
-memory_same queues s (LinkService interrupt dst src rest) = refl
-memory_same queues s (OtherDataAck dst src rest) = refl
-memory_same queues s (NoOperation rest) = refl
 
 -- ---- what comes
 

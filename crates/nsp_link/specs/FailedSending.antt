@@ -1,7 +1,7 @@
--- The first check that a message does not pass which a node's links send, with queues or without, by its name, with what is seen there and what is
--- allowed. The checks are those of `Table` and `WireSegments` of `dna_links`, in their order.
+-- What a node's links answer, with queues or without, when they are asked for a message: a permit, or else the first check that it does not pass,
+-- by its name, with what is seen there and what is allowed. The checks are those of `Table` and `WireSegments` of `dna_links`, in their order.
 use Rattle.std.specs.Prelude.{ℕ, ◌+◌, ◌-◌, Bool, true, false, ◌&&◌, ◌||◌, not, ◌==◌, nat_lt, nat_le, min, if◌then◌else◌, Option, Some, None, List, []}
-use Rattle.std.specs.Prelude.{◌∷◌, length, take, slice_get}
+use Rattle.std.specs.Prelude.{◌∷◌, length, take, slice_get, Result, Ok, Err}
 use Rattle.dna_packet.specs.Nsp.{SegmentValue, NspValue, DataSegment, LinkService, DataAck, OtherDataAck, ConnectAck, NoOperation, ConnectInitiate}
 use Rattle.dna_packet.specs.Nsp.{ConnectConfirm, DisconnectInitiate, DisconnectConfirm}
 use Rattle.dna_packet.specs.declared.ack_word.AckWord.{AckWord}
@@ -11,22 +11,26 @@ use Rattle.dna_station.specs.declared.link_refusal.LinkRefusal.TheVariants.{Segm
 use Rattle.dna_links.specs.declared.port.Phase.{Phase}
 use Rattle.dna_links.specs.declared.port.Phase.TheVariants.{Calling, Confirming, Running, Disconnecting}
 use Rattle.dna_links.specs.declared.port.LinkTest.{LinkTest}
-use Rattle.dna_links.specs.declared.port.LinkTest.TheVariants.{TheLink, OpenedAt, BegunBy}
+use Rattle.dna_links.specs.declared.port.LinkTest.TheVariants.{HasAddress, TheLink, OpenedAt, CalledBy, BegunBy}
 use Rattle.dna_links.specs.declared.queue.Queues.{Queues}
 use Rattle.dna_links.specs.declared.queue.Queues.TheVariants.{Without, With}
+use Rattle.dna_links.specs.declared.queue.Said.{Said}
+use Rattle.dna_links.specs.declared.queue.Said.TheVariants.{OfRun, Disconnect}
 use Rattle.dna_links.specs.SegmentBook.{REACH, wire, distance, is_of_data}
 use Rattle.dna_links.specs.Links.{LinkOf, Carried, with_link, with_seen}
 use Rattle.dna_links.specs.Queues.{in_use, with_in_use, may_send}
 use Rattle.dna_links.specs.Segmentation.{Piece, piece_of, same_piece, Unsent, is_next_piece}
 use Rattle.dna_links.specs.WireSegments.{WireSegments, LastSent, LateSent, last_named, last_named_late, gap_at, last_of, is_new, highest_given}
 use Rattle.dna_links.specs.WireLinks.{WireLinks}
-use Rattle.nsp_link.specs.Missing.{missing}
+use Rattle.nsp_link.specs.Missing.{missing, refusal_in}
 use Rattle.nsp_link.specs.declared.failed.FailedLinkSending.{FailedLinkSending}
 use Rattle.nsp_link.specs.declared.failed.FailedLinkSending.TheVariants as failed
 use Rattle.nsp_link.specs.declared.failed.NextPiece.{NextPiece}
 use Rattle.nsp_link.specs.declared.failed.Nodes.{Nodes}
 use Rattle.nsp_link.specs.declared.failed.Numbers.{Numbers}
 use Rattle.nsp_link.specs.declared.failed.PieceShape.{PieceShape}
+use Rattle.nsp_link.specs.declared.permit.LinkSendPermit.{LinkSendPermit}
+use Rattle.nsp_link.specs.declared.permit.LinkSendPermit.TheVariants.{OfNoLink, OfLink, Shows, GoesOn, Gives, Drops, Settles}
 
 -- a check that is not passed is named; after one that is passed come the next ones
 abbrev pub named : {F : Type 0} → Bool → F → Option F → Option F
@@ -36,6 +40,15 @@ named false failed next = Some failed
 abbrev pub or_next : {F : Type 0} → Option F → Option F → Option F
 or_next None next = next
 or_next (Some failed) next = Some failed
+
+-- the same where an answer follows that is not a check
+abbrev pub unless : {P F : Type 0} → Bool → F → Result P F → Result P F
+unless true failed next = next
+unless false failed next = Err failed
+
+abbrev pub then_asked : {X P F : Type 0} → Result X F → (X → Result P F) → Result P F
+then_asked (Ok x) next = next x
+then_asked (Err failed) next = Err failed
 
 -- ---- numbers that are allowed
 
@@ -64,20 +77,21 @@ word_numbers again received sent = record {
 }
 
 -- the word after which there is no last one fails; else the later ones may
-abbrev pub failed_behind : Option LastSent → FailedLinkSending → (LastSent → Option FailedLinkSending) → Option FailedLinkSending
-failed_behind None word later = Some word
+abbrev pub failed_behind : {P : Type 0} → Option LastSent → FailedLinkSending → (LastSent → Result P FailedLinkSending) → Result P FailedLinkSending
+failed_behind None word later = Err word
 failed_behind (Some sent) word later = later sent
 
-abbrev pub failed_words : (again : Bool) (received : ℕ) → List AckWord → LastSent → Option FailedLinkSending
-failed_words again received [] sent = None
-failed_words again received (word ∷ words) sent =
+-- the last one after these words
+abbrev pub asked_words : (again : Bool) (received : ℕ) → List AckWord → LastSent → Result LastSent FailedLinkSending
+asked_words again received [] sent = Ok sent
+asked_words again received (word ∷ words) sent =
     if is_of_data word.qualifier
     then failed_behind (last_named again received word.number sent) (failed.Acknowledgement word.number (word_numbers again received sent))
-    (λ next. failed_words again received words next)
-    else failed_words again received words sent
+    (λ next. asked_words again received words next)
+    else asked_words again received words sent
 
-abbrev pub failed_acks : List AckWord → WireSegments → Option FailedLinkSending
-failed_acks words f = failed_words false f.variables.received words (last_of f)
+abbrev pub asked_acks : (link : ℕ) → List AckWord → WireSegments → Result LinkSendPermit FailedLinkSending
+asked_acks link words f = then_asked (asked_words false f.variables.received words (last_of f)) (λ sent. Ok (GoesOn link sent))
 
 -- with queues: in a new segment, where a word may lie so far below the last one sent
 abbrev pub late_numbers : (received : ℕ) → LateSent → Numbers
@@ -87,13 +101,13 @@ late_numbers received late = record {
   again = from_below late.sent.last (min late.gap (words_back late.sent));
 }
 
-abbrev pub failed_late : (received : ℕ) → List AckWord → LateSent → Option FailedLinkSending
-failed_late received [] late = None
-failed_late received (word ∷ words) late =
+abbrev pub asked_late : (received : ℕ) → List AckWord → LateSent → Result LateSent FailedLinkSending
+asked_late received [] late = Ok late
+asked_late received (word ∷ words) late =
     if is_of_data word.qualifier
     then failed_behind (last_named_late received word.number late) (failed.Acknowledgement word.number (late_numbers received late))
-    (λ next. failed_late received words (record { sent = next; gap = gap_at received word.number late.sent }))
-    else failed_late received words late
+    (λ next. asked_late received words (record { sent = next; gap = gap_at received word.number late.sent }))
+    else asked_late received words late
 
 -- ---- segments
 
@@ -112,11 +126,12 @@ next_of begun (Some rest) = Some (record { begins = not begun; left = length res
 abbrev pub next_in : Unsent → Option NextPiece
 next_in u = next_of u.begun (slice_get u.messages 0)
 
-abbrev pub failed_new : (segsize : ℕ) → Piece → WireSegments → Option FailedLinkSending
-failed_new segsize p f =
-    named (nat_lt (length f.variables.outstanding) REACH) (failed.Room (length f.variables.outstanding) 2046)
-    (named (nat_le (length p.body) segsize) (failed.Length (length p.body) segsize)
-    (named (is_next_piece p f.variables.unsent) (failed.NextPiece (shape_of p) (next_in f.variables.unsent)) None))
+-- the permit, where these checks are passed too
+abbrev pub asked_new : (segsize : ℕ) → Piece → WireSegments → LinkSendPermit → Result LinkSendPermit FailedLinkSending
+asked_new segsize p f permit =
+    unless (nat_lt (length f.variables.outstanding) REACH) (failed.Room (length f.variables.outstanding) 2046)
+    (unless (nat_le (length p.body) segsize) (failed.Length (length p.body) segsize)
+    (unless (is_next_piece p f.variables.unsent) (failed.NextPiece (shape_of p) (next_in f.variables.unsent)) (Ok permit)))
 
 -- how many of the last ones may be sent again
 abbrev pub segments_back : WireSegments → ℕ
@@ -130,38 +145,46 @@ segment_numbers f = record {
   again = from_below (wire (highest_given f.variables + 1)) (segments_back f);
 }
 
-abbrev pub failed_given : SegmentValue → Option Piece → Option FailedLinkSending
-failed_given s None = None
-failed_given s (Some first) = named (same_piece (piece_of s) first) (failed.AsFirstGiven s.number (shape_of (piece_of s)) (shape_of first)) None
+abbrev pub asked_given : SegmentValue → Option Piece → LinkSendPermit → Result LinkSendPermit FailedLinkSending
+asked_given s None permit = Ok permit
+asked_given s (Some first) permit =
+    unless (same_piece (piece_of s) first) (failed.AsFirstGiven s.number (shape_of (piece_of s)) (shape_of first)) (Ok permit)
 
 -- so far below the highest given, a segment is outstanding or acknowledged
-abbrev pub failed_repeat : (below : ℕ) → SegmentValue → List Piece → Option FailedLinkSending
-failed_repeat below s outstanding =
-    if nat_le (length outstanding) below then None else failed_given s (slice_get outstanding (length outstanding - 1 - below))
+abbrev pub asked_repeat : (below : ℕ) → SegmentValue → List Piece → LinkSendPermit → Result LinkSendPermit FailedLinkSending
+asked_repeat below s outstanding permit =
+    if nat_le (length outstanding) below then Ok permit else asked_given s (slice_get outstanding (length outstanding - 1 - below)) permit
 
 abbrev pub may_repeat : (below : ℕ) → WireSegments → Bool
 may_repeat below f = nat_lt below REACH && (f.gave_many || nat_lt below (highest_given f.variables))
 
-abbrev pub failed_again : (below : ℕ) → SegmentValue → WireSegments → Option FailedLinkSending
-failed_again below s f =
-    named (may_repeat below f) (failed.Number s.number (segment_numbers f))
-    (failed_repeat below s f.variables.outstanding)
+abbrev pub asked_below : (below : ℕ) → SegmentValue → WireSegments → LinkSendPermit → Result LinkSendPermit FailedLinkSending
+asked_below below s f permit =
+    unless (may_repeat below f) (failed.Number s.number (segment_numbers f)) (asked_repeat below s f.variables.outstanding permit)
 
-abbrev pub failed_segment : (segsize : ℕ) → SegmentValue → WireSegments → Option FailedLinkSending
-failed_segment segsize s f =
-    or_next (failed_words (not (is_new s f.variables)) f.variables.received s.acks (last_of f))
-    (if is_new s f.variables then failed_new segsize (piece_of s) f else failed_again (distance s.number (highest_given f.variables)) s f)
+abbrev pub asked_again : (link : ℕ) → SegmentValue → WireSegments → Result LinkSendPermit FailedLinkSending
+asked_again link s f =
+    then_asked (asked_words true f.variables.received s.acks (last_of f)) (λ sent.
+    asked_below (distance s.number (highest_given f.variables)) s f (GoesOn link sent))
+
+abbrev pub asked_segment : (link segsize : ℕ) → SegmentValue → WireSegments → Result LinkSendPermit FailedLinkSending
+asked_segment link segsize s f =
+    if is_new s f.variables
+    then then_asked (asked_words false f.variables.received s.acks (last_of f)) (λ sent.
+    asked_new segsize (piece_of s) f (Gives link (record { sent = sent; gap = 0 })))
+    else asked_again link s f
 
 -- with queues the words of a new one may reach back
-abbrev pub failed_segment_late : (gap segsize : ℕ) → SegmentValue → WireSegments → Option FailedLinkSending
-failed_segment_late gap segsize s f =
+abbrev pub asked_segment_late : (link gap segsize : ℕ) → SegmentValue → WireSegments → Result LinkSendPermit FailedLinkSending
+asked_segment_late link gap segsize s f =
     if is_new s f.variables
-    then or_next (failed_late f.variables.received s.acks (record { sent = last_of f; gap = gap })) (failed_new segsize (piece_of s) f)
-    else failed_segment segsize s f
+    then then_asked (asked_late f.variables.received s.acks (record { sent = last_of f; gap = gap })) (λ late.
+    asked_new segsize (piece_of s) f (Gives link late))
+    else asked_again link s f
 
-abbrev pub failed_segment_of : Queues → SegmentValue → LinkOf WireSegments → Option FailedLinkSending
-failed_segment_of Without s link = failed_segment link.segsize s link.segments
-failed_segment_of With s link = failed_segment_late link.queue.gap link.segsize s link.segments
+abbrev pub asked_segment_of : Queues → SegmentValue → ℕ → LinkOf WireSegments → Result LinkSendPermit FailedLinkSending
+asked_segment_of Without s number link = asked_segment number link.segsize s link.segments
+asked_segment_of With s number link = asked_segment_late number link.queue.gap link.segsize s link.segments
 
 -- ---- which link
 
@@ -174,43 +197,62 @@ out_of_turn Without wanted number link = failed.Phase number link.port.phase wan
 out_of_turn With wanted number link = failed.Turn number (in_use With link).phase link.queue wanted
 
 -- a connect acknowledgement where no live link is found
-abbrev pub failed_waiting : Queues → LinkTest → WireLinks → Option FailedLinkSending
-failed_waiting Without test s = Some (failed.NoLink (missing test s))
-failed_waiting With test s = with_seen (in_use With) test s (Some (failed.NoLink (missing test s))) (λ number link. None)
+abbrev pub asked_waiting : Queues → LinkTest → WireLinks → Result LinkSendPermit FailedLinkSending
+asked_waiting Without test s = Err (failed.NoLink (missing test s))
+asked_waiting With test s = with_seen (in_use With) test s (Err (failed.NoLink (missing test s))) (λ number link. Ok OfNoLink)
 
--- a DC between the addresses of a live link
-abbrev pub failed_end : (src dst : ℕ) → WireLinks → Option FailedLinkSending
-failed_end src dst s = with_link (TheLink src dst) s None (λ number link. Some (failed.Live number))
+-- a DC with this address
+abbrev pub asked_to_settle : Queues → (own : ℕ) → WireLinks → Result LinkSendPermit FailedLinkSending
+asked_to_settle Without own s = Ok OfNoLink
+asked_to_settle With own s = with_link (HasAddress own) s (Ok OfNoLink) (λ number link. Ok (Settles number))
+
+-- a message that shows how far its link has come, and nothing else
+abbrev pub showing : Queues → Said → ℕ → LinkSendPermit
+showing Without said number = OfLink number
+showing With said number = Shows number said
 
 module _ (queues : Queues) where
-  abbrev pub failed_in_turn : LinkTest → Phase → (LinkOf WireSegments → Option FailedLinkSending) → WireLinks → Option FailedLinkSending
-  failed_in_turn test wanted fails s = with_in_use queues test s (Some (failed.NoLink (missing test s))) (λ number link.
-      named (may_send queues wanted link) (out_of_turn queues wanted number link) (fails link))
+  -- a DC: not between the addresses of a live link; with address 0 it may end the call that it is for
+  abbrev pub asked_end : (src dst : ℕ) → WireLinks → Result LinkSendPermit FailedLinkSending
+  asked_end src dst s =
+      with_link (TheLink src dst) s
+      (if src == 0 then with_link (CalledBy dst) s (Ok OfNoLink) (λ number link. Ok (Drops number)) else asked_to_settle queues src s)
+      (λ number link. Err (failed.Live number))
 
-  abbrev pub failed_phase : LinkTest → Phase → WireLinks → Option FailedLinkSending
-  failed_phase test wanted s = failed_in_turn test wanted (λ link. None) s
+  abbrev pub asked_in_turn : LinkTest → Phase → (ℕ → LinkOf WireSegments → Result LinkSendPermit FailedLinkSending) → WireLinks →
+      Result LinkSendPermit FailedLinkSending
+  asked_in_turn test wanted next s = with_in_use queues test s (Err (failed.NoLink (missing test s))) (λ number link.
+      unless (may_send queues wanted link) (out_of_turn queues wanted number link) (next number link))
 
-  abbrev pub failed_in_run : (src dst : ℕ) → (LinkOf WireSegments → Option FailedLinkSending) → WireLinks → Option FailedLinkSending
-  failed_in_run src dst fails s = failed_in_turn (TheLink src dst) Running fails s
+  abbrev pub asked_of_link : LinkTest → Phase → WireLinks → Result LinkSendPermit FailedLinkSending
+  asked_of_link test wanted s = asked_in_turn test wanted (λ number link. Ok (OfLink number)) s
+
+  abbrev pub asked_to_show : LinkTest → Phase → Said → WireLinks → Result LinkSendPermit FailedLinkSending
+  asked_to_show test wanted said s = asked_in_turn test wanted (λ number link. Ok (showing queues said number)) s
 
   -- ---- a row for each message
 
-  abbrev pub failed_message : WireLinks → NspValue → Option FailedLinkSending
-  failed_message s (ConnectInitiate retransmitted src services info segsize user_data) = failed_phase (OpenedAt src) Calling s
-  failed_message s (ConnectAck dst) = with_link (BegunBy dst) s (failed_waiting queues (BegunBy dst) s) (λ number link. None)
-  failed_message s (ConnectConfirm dst src services info segsize user_data) = failed_phase (TheLink src dst) Confirming s
-  failed_message s (DisconnectInitiate dst src reason user_data) = failed_phase (TheLink src dst) Disconnecting s
-  failed_message s (DisconnectConfirm dst src reason) = failed_end src dst s
-  failed_message s (DataSegment segment) = failed_in_run segment.srcaddr segment.dstaddr (failed_segment_of queues segment) s
-  failed_message s (DataAck dst src acks) = failed_in_run src dst (λ link. failed_acks acks link.segments) s
-  failed_message s (LinkService interrupt dst src rest) = failed_phase (TheLink src dst) Running s
-  failed_message s (OtherDataAck dst src rest) = failed_phase (TheLink src dst) Running s
-  failed_message s (NoOperation rest) = None
+  abbrev pub asked_message : WireLinks → NspValue → Result LinkSendPermit FailedLinkSending
+  asked_message s (ConnectInitiate retransmitted src services info segsize user_data) = asked_of_link (OpenedAt src) Calling s
+  asked_message s (ConnectAck dst) = with_link (BegunBy dst) s (asked_waiting queues (BegunBy dst) s) (λ number link. Ok (OfLink number))
+  asked_message s (ConnectConfirm dst src services info segsize user_data) = asked_of_link (TheLink src dst) Confirming s
+  asked_message s (DisconnectInitiate dst src reason user_data) = asked_to_show (TheLink src dst) Disconnecting Disconnect s
+  asked_message s (DisconnectConfirm dst src reason) = asked_end src dst s
+  asked_message s (DataSegment segment) =
+      asked_in_turn (TheLink segment.srcaddr segment.dstaddr) Running (asked_segment_of queues segment) s
+  asked_message s (DataAck dst src acks) = asked_in_turn (TheLink src dst) Running (λ number link. asked_acks number acks link.segments) s
+  asked_message s (LinkService interrupt dst src rest) = asked_to_show (TheLink src dst) Running OfRun s
+  asked_message s (OtherDataAck dst src rest) = asked_to_show (TheLink src dst) Running OfRun s
+  asked_message s (NoOperation rest) = Ok OfNoLink
 
+  abbrev pub asked_sending : WireLinks → Carried → Result LinkSendPermit FailedLinkSending
+  asked_sending s packet =
+      unless (packet.src == s.node && packet.dst == s.peer) (failed.Nodes (nodes_of packet) (record { source = s.node; destination = s.peer }))
+      (asked_message s packet.message)
+
+  -- the check alone, if there is one
   abbrev pub failed_sending : WireLinks → Carried → Option FailedLinkSending
-  failed_sending s packet =
-      named (packet.src == s.node && packet.dst == s.peer) (failed.Nodes (nodes_of packet) (record { source = s.node; destination = s.peer }))
-      (failed_message s packet.message)
+  failed_sending s packet = refusal_in (asked_sending s packet)
 
 -- the refusal of each
 abbrev pub refusal_of_sending : FailedLinkSending → LinkRefusal

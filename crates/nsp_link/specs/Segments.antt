@@ -1,18 +1,10 @@
 -- The steps of one link's segments in parts, as the code takes them.
-use Rattle.std.specs.Prelude.{ℕ, ◌+◌, ◌-◌, Bool, ◌&&◌, ◌||◌, nat_lt, nat_le}
+use Rattle.std.specs.Prelude.{ℕ, ◌+◌, ◌-◌, Bool, ◌&&◌, nat_le}
 use Rattle.dna_packet.specs.Nsp.{SegmentValue}
 use Rattle.dna_links.specs.SegmentBook.{REACH, distance}
-use Rattle.dna_links.specs.Segmentation.{piece_of, in_order}
-use Rattle.dna_links.specs.WireSegments.{LinkVariables, WireSegments, highest_given, is_repeat, segment_taken}
+use Rattle.dna_links.specs.Segmentation.{in_order}
+use Rattle.dna_links.specs.WireSegments.{LinkVariables, WireSegments, segment_taken}
 use Rattle.link_segments.specs.Received.{is_missing_at}
-
--- a segment that is not new is one of the last 2,047 given, and, while that one is not acknowledged, carries the same
-abbrev pub is_true_repeat_at : ℕ → SegmentValue → WireSegments → Bool
-is_true_repeat_at below s f = (nat_lt below REACH && (f.gave_many || nat_lt below (highest_given f.variables))) &&
-    is_repeat below (piece_of s) f.variables.outstanding
-
-abbrev pub is_true_repeat : SegmentValue → WireSegments → Bool
-is_true_repeat s f = is_true_repeat_at (distance s.number (highest_given f.variables)) s f
 
 -- a segment that comes is at most 2,047 above the highest received without a gap, and missing
 abbrev pub is_missing : (above : ℕ) → LinkVariables → Bool

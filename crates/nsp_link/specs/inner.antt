@@ -6,3 +6,4 @@ pub mod Queue
 pub mod Late
 pub mod Rows
 pub mod Failed
+pub mod Permitted

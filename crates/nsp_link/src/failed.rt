@@ -1,6 +1,9 @@
 //! Which check a message or an event does not pass, with what is seen and what is allowed.
 
-use crate::LinkTag;
+ghost use Rattle.std.specs.Prelude.{◌≡◌};
+ghost use Rattle.nsp_link.specs.FailedSending.{refusal_of_sending};
+
+use crate::{LinkRefusal, LinkTag};
 use dna_links::{LinkQueue, LinkTest, Phase};
 
 /// The first check that a message does not pass which the node of the links sent (NSP 4.0, port states, data segments and acknowledgements),
@@ -64,6 +67,27 @@ pub enum FailedLinkSending {
         seen: PieceShape,
         allowed: PieceShape,
     },
+}
+
+impl FailedLinkSending {
+    /// The refusal that this check gives.
+    pub fn refusal(self) -> LinkRefusal
+        ensures { result ≡ refusal_of_sending self }
+    {
+        match self {
+            FailedLinkSending::Nodes { .. } => LinkRefusal::WrongNode,
+            FailedLinkSending::NoLink(_) => LinkRefusal::NoLink,
+            FailedLinkSending::Phase { .. } => LinkRefusal::LinkState,
+            FailedLinkSending::Turn { .. } => LinkRefusal::LinkState,
+            FailedLinkSending::Live { .. } => LinkRefusal::LinkState,
+            FailedLinkSending::Acknowledgement { .. } => LinkRefusal::WrongAck,
+            FailedLinkSending::Room { .. } => LinkRefusal::LinkWindowFull,
+            FailedLinkSending::Length { .. } => LinkRefusal::SegmentTooLong,
+            FailedLinkSending::NextPiece { .. } => LinkRefusal::WrongSegment,
+            FailedLinkSending::Number { .. } => LinkRefusal::WrongSegment,
+            FailedLinkSending::AsFirstGiven { .. } => LinkRefusal::WrongSegment,
+        }
+    }
 }
 
 /// The first check that a message does not pass which came to the node of the links (NSP 4.0, port states), with what is seen there and

@@ -4,11 +4,13 @@ ghost use Rattle.std.specs.Prelude.{◌≡◌, ◌<◌, false};
 ghost use Rattle.std.specs.List.{AllByRecursion};
 ghost use Rattle.dna_packet.specs.AckWord.{IsAckWord};
 ghost use Rattle.dna_links.specs.SegmentBook.{distance, is_of_data};
-ghost use Rattle.dna_links.specs.WireSegments.{all_named, last_named, is_ahead, is_behind, moved_to};
+ghost use Rattle.dna_links.specs.WireSegments.{last_named, is_ahead, is_behind, moved_to};
+ghost use Rattle.nsp_link.specs.FailedSending.{asked_words};
 
-pub(crate) mod failing;
+pub(crate) mod allowed;
 pub(crate) mod late;
 
+use crate::failed::FailedLinkSending;
 use dna_packet::AckWord;
 use link_segments::{REACH, is_of_data};
 use std::marker::Model;
@@ -50,22 +52,31 @@ impl LastSent {
     }
 
     /// The last one after these words, where each may be sent: it names a number from the last one sent through the highest received,
-    /// or, in a segment that is sent again, an earlier one, which it leaves as it is. Words of the other subchannel are not judged.
-    #[tactic(auto, using(crate::proofs::Words::words))]
-    pub fn behind_all(self, again: bool, received: Seq<4096>, words: &[AckWord]) -> Option<LastSent>
+    /// or, in a segment that is sent again, an earlier one, which it leaves as it is. Words of the other subchannel are not judged. Else the first
+    /// one that may not be sent, with the numbers that are allowed in its place.
+    #[tactic(auto, using(crate::proofs::Words::word_by_word))]
+    pub fn ask_words(
+        self,
+        again: bool,
+        received: Seq<4096>,
+        words: &[AckWord],
+    ) -> Result<LastSent, FailedLinkSending>
         requires { AllByRecursion IsAckWord words.now }
-        ensures { result ≡ all_named again received words.now self }
+        ensures { result ≡ asked_words again received words.now self }
     {
         let mut sent = self;
         for word in words {
             if is_of_data(word.qualifier) {
                 let Some(next) = sent.behind(again, received, word.number) else {
-                    return None;
+                    return Err(FailedLinkSending::Acknowledgement {
+                        seen: word.number,
+                        allowed: sent.word_numbers(again, received),
+                    });
                 };
                 sent = next;
             }
         }
-        Some(sent)
+        Ok(sent)
     }
 
     // The last one after a word with this number, where it may be sent.

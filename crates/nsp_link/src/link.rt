@@ -13,6 +13,7 @@ ghost use Rattle.nsp_link.specs.Kinds.{queues_of};
 ghost use Rattle.nsp_link.specs.inner.Index.{begins_use, use_that_ends};
 
 mod arriving;
+mod asking;
 mod due;
 mod failing;
 mod queue;

@@ -1,28 +1,19 @@
 //! The segments of one link, both ways.
 
-ghost use Rattle.std.specs.Prelude.{◌≡◌, ◌<◌, ◌+◌, ◌==◌, Ok, Err, None, true, false, length, nat_lt, nat_le, OnOk, OnErr, IfOk, IfErr};
+ghost use Rattle.std.specs.Prelude.{◌≡◌, ◌<◌, ◌==◌, None, Some, false, length, OnOk, OnErr};
 ghost use Rattle.std.specs.Prelude.{if◌then◌else◌};
-ghost use Rattle.std.specs.List.{AllByRecursion};
-ghost use Rattle.dna_packet.specs.AckWord.{IsAckWord};
-ghost use Rattle.dna_packet.specs.Nsp.{segment_view};
-ghost use Rattle.dna_links.specs.Segmentation.{piece_of};
-ghost use Rattle.dna_links.specs.SegmentBook.{wire, distance};
-ghost use Rattle.dna_links.specs.WireSegments.{empty, hands_in, delivers, sends_acks, sends_segment, sends_new, sends_again, is_repeat};
-ghost use Rattle.dna_links.specs.WireSegments.{takes_segment, takes_acks, ends, sending};
-ghost use Rattle.dna_links.specs.WireSegments as spec;
-ghost use Rattle.nsp_link.specs.Fault.{IsFault};
+ghost use Rattle.dna_links.specs.WireSegments.{empty, hands_in, delivers, ends};
 ghost use Rattle.nsp_link.specs.Given.{given_of};
 
+mod asking;
 mod due;
 mod failing;
-mod late;
 mod receiving;
 mod sending;
 mod shown;
 
+use crate::Given;
 use crate::last_sent::LastSent;
-use crate::{Given, LinkFault, LinkRefusal};
-use dna_packet::{AckWord, Segment};
 use link_segments::{Outstanding, Piece, Received, Unsent};
 use std::alloc::{AllocError, Global};
 use std::marker::Model;

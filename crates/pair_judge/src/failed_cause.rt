@@ -3,7 +3,6 @@
 ghost use Rattle.std.specs.Prelude.{◌≡◌, List, ◌∷◌, Option};
 ghost use Rattle.nsp_link.specs.FailedArrival as arrives;
 ghost use Rattle.nsp_link.specs.FailedEvent as events;
-ghost use Rattle.nsp_link.specs.FailedSending as sends;
 ghost use Rattle.pair_judge.specs.FailedCheck.{cause_of, reason_of_failed};
 ghost use Rattle.pair_judge.specs.FailedIn as spec;
 ghost use Rattle.pair_judge.specs.declared.failed_check.FailedCheck.{FailedCheck as Check};
@@ -12,7 +11,7 @@ use crate::failed_check::FailedCheck;
 use crate::reason::Reason;
 use dna_node::Cause;
 use dna_station::{LinkRefusal, StationRefusal, StepRefusal};
-use nsp_link::{FailedLinkArrival, FailedLinkEvent, FailedLinkSending};
+use nsp_link::{FailedLinkArrival, FailedLinkEvent};
 
 impl FailedCheck {
     /// The reason that is printed for it.
@@ -36,7 +35,7 @@ impl FailedCheck {
             FailedCheck::StationEvent { .. } => of_station(StationRefusal::WrongUserEvent),
             FailedCheck::Packet(_) => Cause::Step(StepRefusal::BadPacket),
             FailedCheck::Nsp(_) => Cause::Step(StepRefusal::BadNsp),
-            FailedCheck::LinkSending(failed) => of_links(link_sending(failed)),
+            FailedCheck::LinkSending(failed) => of_links(failed.refusal()),
             FailedCheck::LinkArrival(failed) => of_links(link_arrival(failed)),
             FailedCheck::LinkEvent(failed) => of_links(link_event(failed)),
             FailedCheck::Noise => Cause::Step(StepRefusal::NotNoise),
@@ -71,24 +70,6 @@ fn of_links(refusal: LinkRefusal) -> Cause
     ensures { result ≡ Cause.Step (StepRefusal.Links refusal) }
 {
     Cause::Step(StepRefusal::Links(refusal))
-}
-
-fn link_sending(failed: FailedLinkSending) -> LinkRefusal
-    ensures { result ≡ sends.refusal_of_sending failed }
-{
-    match failed {
-        FailedLinkSending::Nodes { .. } => LinkRefusal::WrongNode,
-        FailedLinkSending::NoLink(_) => LinkRefusal::NoLink,
-        FailedLinkSending::Phase { .. } => LinkRefusal::LinkState,
-        FailedLinkSending::Turn { .. } => LinkRefusal::LinkState,
-        FailedLinkSending::Live { .. } => LinkRefusal::LinkState,
-        FailedLinkSending::Acknowledgement { .. } => LinkRefusal::WrongAck,
-        FailedLinkSending::Room { .. } => LinkRefusal::LinkWindowFull,
-        FailedLinkSending::Length { .. } => LinkRefusal::SegmentTooLong,
-        FailedLinkSending::NextPiece { .. } => LinkRefusal::WrongSegment,
-        FailedLinkSending::Number { .. } => LinkRefusal::WrongSegment,
-        FailedLinkSending::AsFirstGiven { .. } => LinkRefusal::WrongSegment,
-    }
 }
 
 fn link_arrival(failed: FailedLinkArrival) -> LinkRefusal

@@ -33,6 +33,7 @@ mod noise;
 mod observer;
 mod packet;
 mod reason;
+mod reason_kind;
 mod receipt;
 mod refusal;
 mod sending;
@@ -67,7 +68,8 @@ pub use judging_end::{
 };
 pub use made_entry::MadeEntry;
 pub use observer::{Nobody, Observer};
-pub use reason::Reason;
+pub use reason::{REASONS, Reason};
+pub use reason_kind::{Blame, Matter};
 pub use refusal::refused_captures;
 pub use side_end::SideEnd;
 pub use summary::{SideSummary, Summary};

@@ -3,15 +3,14 @@
 ghost use Rattle.std.specs.Prelude.{◌≡◌};
 ghost use Rattle.pair_judge.specs.Reason as spec;
 
+use crate::reason_kind::{Blame, Matter};
 use dna_node::Cause;
 use dna_station::{LinkRefusal, StationRefusal, StepRefusal};
 use std::fmt;
 
 /// Why a record can't be made, with the number and the name that are printed.
 ///
-/// By whose fault each comes: 2 by the hints; 3 and 4 by the hints, or by captures that do not pair; 5 by the line (damage that no
-/// block check shows) or likewise; 16 by the sender, or by heads that do not pair; 1, 6 to 11, 15, 17 and 20 to 23 by the sender; 18
-/// and 19 by the sender or a user; 14 and 26 by a user; 12, 24 and 27 by the receiver's own claim; 13 and 25 by nobody.
+/// What others ask of a reason is in its row ([`Reason::matter`], [`Reason::blame`]): so they need not know each reason.
 #[derive(Clone, Copy, Debug, PartialEq, Eq)]
 pub enum Reason {
     /// 1: the bytes that were sent are no sound message.
@@ -71,41 +70,43 @@ pub enum Reason {
 }
 
 impl Reason {
-    ghost use Rattle.pair_judge.specs.Reason.{reason_name, reason_number};
+    ghost use Rattle.pair_judge.specs.Reason.{reason_blame, reason_name, reason_number, reason_matter};
 
-    // The table: each reason's number and name.
-    fn entry<'a>(self) -> (u8, &'a str)
+    // The table: each reason's number and name, what its rule is about, and by whose fault it is.
+    fn row<'a>(self) -> (u8, &'a str, Matter, Blame)
         ensures number { result.0 ≡ reason_number self }
         ensures name { result.1.now ≡ reason_name self }
+        ensures matter { result.2 ≡ reason_matter self }
+        ensures blame { result.3 ≡ reason_blame self }
     {
         match self {
-            Reason::NotAMessage => (1, "NotAMessage"),
-            Reason::HintOrder => (2, "HintOrder"),
-            Reason::NoSuchUnit => (3, "NoSuchUnit"),
-            Reason::NoOrder => (4, "NoOrder"),
-            Reason::Undetected => (5, "Undetected"),
-            Reason::WrongState => (6, "WrongState"),
-            Reason::WrongNumber => (7, "WrongNumber"),
-            Reason::WrongResponse => (8, "WrongResponse"),
-            Reason::WindowFull => (9, "WindowFull"),
-            Reason::Changed => (10, "Changed"),
-            Reason::NoCause => (11, "NoCause"),
-            Reason::WrongKeep => (12, "WrongKeep"),
-            Reason::CrossedPeriod => (13, "CrossedPeriod"),
-            Reason::WrongUserEvent => (14, "WrongUserEvent"),
-            Reason::BadPacket => (15, "BadPacket"),
-            Reason::WrongNode => (16, "WrongNode"),
-            Reason::BadNsp => (17, "BadNsp"),
-            Reason::NoLink => (18, "NoLink"),
-            Reason::LinkState => (19, "LinkState"),
-            Reason::WrongSegment => (20, "WrongSegment"),
-            Reason::WrongAck => (21, "WrongAck"),
-            Reason::SegmentTooLong => (22, "SegmentTooLong"),
-            Reason::LinkWindowFull => (23, "LinkWindowFull"),
-            Reason::WrongDelivery => (24, "WrongDelivery"),
-            Reason::CrossedLink => (25, "CrossedLink"),
-            Reason::AddressInUse => (26, "AddressInUse"),
-            Reason::NotNoise => (27, "NotNoise"),
+            Reason::NotAMessage => (1, "NotAMessage", Matter::Soundness, Blame::Sender),
+            Reason::HintOrder => (2, "HintOrder", Matter::Hints, Blame::Hints),
+            Reason::NoSuchUnit => (3, "NoSuchUnit", Matter::Hints, Blame::Hints),
+            Reason::NoOrder => (4, "NoOrder", Matter::Hints, Blame::Hints),
+            Reason::Undetected => (5, "Undetected", Matter::Passage, Blame::LineOrCaptures),
+            Reason::WrongState => (6, "WrongState", Matter::State, Blame::Sender),
+            Reason::WrongNumber => (7, "WrongNumber", Matter::Station, Blame::Sender),
+            Reason::WrongResponse => (8, "WrongResponse", Matter::Response, Blame::Sender),
+            Reason::WindowFull => (9, "WindowFull", Matter::Station, Blame::Sender),
+            Reason::Changed => (10, "Changed", Matter::Station, Blame::Sender),
+            Reason::NoCause => (11, "NoCause", Matter::Station, Blame::Sender),
+            Reason::WrongKeep => (12, "WrongKeep", Matter::Station, Blame::Claim),
+            Reason::CrossedPeriod => (13, "CrossedPeriod", Matter::Period, Blame::Nobody),
+            Reason::WrongUserEvent => (14, "WrongUserEvent", Matter::Station, Blame::Starter),
+            Reason::BadPacket => (15, "BadPacket", Matter::Packet, Blame::Sender),
+            Reason::WrongNode => (16, "WrongNode", Matter::Nodes, Blame::SenderOrHeads),
+            Reason::BadNsp => (17, "BadNsp", Matter::Nsp, Blame::Sender),
+            Reason::NoLink => (18, "NoLink", Matter::LinkNow, Blame::SenderOrUser),
+            Reason::LinkState => (19, "LinkState", Matter::LinkNow, Blame::SenderOrUser),
+            Reason::WrongSegment => (20, "WrongSegment", Matter::LinkNow, Blame::Sender),
+            Reason::WrongAck => (21, "WrongAck", Matter::LinkNow, Blame::Sender),
+            Reason::SegmentTooLong => (22, "SegmentTooLong", Matter::Link, Blame::Sender),
+            Reason::LinkWindowFull => (23, "LinkWindowFull", Matter::Link, Blame::Sender),
+            Reason::WrongDelivery => (24, "WrongDelivery", Matter::Link, Blame::Claim),
+            Reason::CrossedLink => (25, "CrossedLink", Matter::LinkNow, Blame::Nobody),
+            Reason::AddressInUse => (26, "AddressInUse", Matter::Link, Blame::Chooser),
+            Reason::NotNoise => (27, "NotNoise", Matter::Soundness, Blame::Claim),
         }
     }
 
@@ -113,8 +114,69 @@ impl Reason {
     pub fn number(self) -> u8
         ensures { result ≡ reason_number self }
     {
-        let (number, _) = self.entry();
+        let (number, ..) = self.row();
         number
+    }
+
+    /// What the rule is about that is broken.
+    pub fn matter(self) -> Matter
+        ensures { result ≡ reason_matter self }
+    {
+        let (_, _, matter, _) = self.row();
+        matter
+    }
+
+    /// Whether the bytes of a record are not those of its unit, and show no damage.
+    pub fn is_of_changed_bytes(self) -> bool
+        ensures { result ≡ spec.is_of_changed_bytes self }
+    {
+        match self.matter() {
+            Matter::Passage => true,
+            _ => false,
+        }
+    }
+
+    /// By whose fault it is.
+    pub fn blame(self) -> Blame
+        ensures { result ≡ reason_blame self }
+    {
+        let (_, _, _, blame) = self.row();
+        blame
+    }
+
+    /// The cause whose reason it is.
+    pub fn cause(self) -> Cause
+        ensures { spec.reason_of result ≡ self }
+    {
+        match self {
+            Reason::NotAMessage => Cause::Step(StepRefusal::NotAMessage),
+            Reason::HintOrder => Cause::Step(StepRefusal::HintOrder),
+            Reason::NoSuchUnit => Cause::NoSuchUnit,
+            Reason::NoOrder => Cause::NoOrder,
+            Reason::Undetected => Cause::Step(StepRefusal::Undetected),
+            Reason::WrongState => station(StationRefusal::WrongState),
+            Reason::WrongNumber => station(StationRefusal::WrongNumber),
+            Reason::WrongResponse => station(StationRefusal::WrongResponse),
+            Reason::WindowFull => station(StationRefusal::WindowFull),
+            Reason::Changed => station(StationRefusal::Changed),
+            Reason::NoCause => station(StationRefusal::NoCause),
+            Reason::WrongKeep => station(StationRefusal::WrongKeep),
+            Reason::CrossedPeriod => station(StationRefusal::CrossedPeriod),
+            Reason::WrongUserEvent => station(StationRefusal::WrongUserEvent),
+            Reason::BadPacket => Cause::Step(StepRefusal::BadPacket),
+            Reason::WrongNode => links(LinkRefusal::WrongNode),
+            Reason::BadNsp => Cause::Step(StepRefusal::BadNsp),
+            Reason::NoLink => links(LinkRefusal::NoLink),
+            Reason::LinkState => links(LinkRefusal::LinkState),
+            Reason::WrongSegment => links(LinkRefusal::WrongSegment),
+            Reason::WrongAck => links(LinkRefusal::WrongAck),
+            Reason::SegmentTooLong => links(LinkRefusal::SegmentTooLong),
+            Reason::LinkWindowFull => links(LinkRefusal::LinkWindowFull),
+            Reason::WrongDelivery => links(LinkRefusal::WrongDelivery),
+            Reason::CrossedLink => links(LinkRefusal::CrossedLink),
+            Reason::AddressInUse => links(LinkRefusal::AddressInUse),
+            Reason::NotNoise => Cause::Step(StepRefusal::NotNoise),
+        }
     }
 
     /// The reason of a cause.
@@ -177,6 +239,49 @@ impl Reason {
     }
 }
 
+fn station(refusal: StationRefusal) -> Cause
+    ensures { result ≡ Cause.Step (StepRefusal.Station refusal) }
+{
+    Cause::Step(StepRefusal::Station(refusal))
+}
+
+fn links(refusal: LinkRefusal) -> Cause
+    ensures { result ≡ Cause.Step (StepRefusal.Links refusal) }
+{
+    Cause::Step(StepRefusal::Links(refusal))
+}
+
+/// All reasons, in the order of their numbers.
+pub static REASONS: [Reason; 27] = [
+    Reason::NotAMessage,
+    Reason::HintOrder,
+    Reason::NoSuchUnit,
+    Reason::NoOrder,
+    Reason::Undetected,
+    Reason::WrongState,
+    Reason::WrongNumber,
+    Reason::WrongResponse,
+    Reason::WindowFull,
+    Reason::Changed,
+    Reason::NoCause,
+    Reason::WrongKeep,
+    Reason::CrossedPeriod,
+    Reason::WrongUserEvent,
+    Reason::BadPacket,
+    Reason::WrongNode,
+    Reason::BadNsp,
+    Reason::NoLink,
+    Reason::LinkState,
+    Reason::WrongSegment,
+    Reason::WrongAck,
+    Reason::SegmentTooLong,
+    Reason::LinkWindowFull,
+    Reason::WrongDelivery,
+    Reason::CrossedLink,
+    Reason::AddressInUse,
+    Reason::NotNoise,
+];
+
 /// Printed as its name.
 impl fmt::Display for Reason {
     ghost use Rattle.std.specs.Prelude.{Some};
@@ -185,7 +290,7 @@ impl fmt::Display for Reason {
     ghost output = { λ reason. Some (reason_name reason) };
 
     fn fmt<W: fmt::Write>(&self, f: &mut fmt::Formatter<W>) -> fmt::Result {
-        let (_, name) = self.entry();
+        let (_, name, ..) = self.row();
         f.write_str(name)
     }
 }

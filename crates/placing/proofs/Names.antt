@@ -31,7 +31,7 @@ module _ (all : List (List ℕ)) where
   follow old new [] h e = (tt, same old new h e)
   follow old new (None ∷ acts) h (between, (bytes, n), rest) = follow between new acts (one_past old between bytes h n) rest
   follow old new (Some (Sent bytes) ∷ acts) h (between, n, rest) = follow between new acts (one_sent old between bytes h n) rest
-  follow old new (Some (Received hint fate bytes) ∷ acts) h (between, (e, n), rest) =
+  follow old new (Some (Received hint fate bytes) ∷ acts) h (between, (e, time, n), rest) =
       let on = follow between new acts (one_past old between bytes h n) rest in
       ((subst (λ (number : ℕ). IsUnit all number bytes) (sym e) (next_is old between bytes h n), on.0), on.1)
   follow old new (Some (Noise bytes) ∷ acts) h (between, e, rest) = follow between new acts (same old between h e) rest

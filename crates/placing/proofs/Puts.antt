@@ -1,5 +1,5 @@
 -- Lines that are put one after another.
-use Rattle.std.proofs.Common.{◌≡◌, ℕ, ◌+◌, Option, Some, None, List, [], ◌∷◌, ◌++◌, refl, sym, ap, subst, ◌∙◌}
+use Rattle.std.proofs.Common.{◌≡◌, ℕ, ◌+◌, Option, Some, None, List, [], ◌∷◌, ◌++◌, drop, refl, sym, ap, subst, ◌∙◌}
 use Rattle.std.proofs.lemmas.List.{append_assoc, append-nil}
 use Rattle.capture.specs.declared.record.Record.{Record}
 use Rattle.capture.specs.declared.fate.Fate.{Fate}
@@ -12,7 +12,7 @@ use Rattle.capture.specs.declared.entry.Entry.{Entry}
 use Rattle.capture.specs.declared.entry.Entry.TheVariants as entries
 use Rattle.capture.specs.Entries.{record_with}
 use Rattle.placing.specs.inner.Aside.{IsOfNoUnit}
-use Rattle.placing.specs.Placed.{Units, Waiting, AllFollow, records_of, Puts, units_sent}
+use Rattle.placing.specs.Placed.{Units, Waiting, AllFollow, IsInTime, records_of, Puts, units_sent}
 
 -- ---- one after another
 
@@ -52,34 +52,35 @@ one_line : (r : Record) (old new : List ℕ) → new ≡ old ++ record_line Numb
 one_line r old new e = e ∙ ap (λ (text : List ℕ). old ++ text) (sym (append-nil (record_line Number r)))
 
 -- the next unit of the side is taken, and then its line is put
-pub puts_sent : (old mid new : Waiting) (bytes : List ℕ) → old.units.own ≡ bytes ∷ mid.units.own → mid.units.other ≡ old.units.other →
-    mid.units.gone ≡ old.units.gone → mid.text ≡ old.text → new.units ≡ mid.units → new.text ≡ mid.text ++ record_line Number (Sent bytes) →
+pub puts_sent : (old mid new : Waiting) (bytes : List ℕ) → old.units.own ≡ bytes ∷ mid.units.own → mid.units.seen ≡ drop 1 old.units.seen →
+    mid.units.other ≡ old.units.other → mid.units.gone ≡ old.units.gone → mid.text ≡ old.text → new.units ≡ mid.units → new.text ≡ mid.text ++ record_line Number (Sent bytes) →
     Puts old new
-puts_sent old mid new bytes own other gone same units text =
+puts_sent old mid new bytes own seen other gone same units text =
     record {
       acts = Some (Sent bytes) ∷ [];
-      follow = (mid.units, record { own = own; other = other; gone = gone }, units);
+      follow = (mid.units, record { own = own; seen = seen; other = other; gone = gone }, units);
       text = one_line (Sent bytes) old.text new.text (text ∙ ap (λ (t : List ℕ). t ++ record_line Number (Sent bytes)) same);
     }
 
 -- the same of the other side's
-pub puts_came : (old mid new : Waiting) (hint : ℕ) (fate : Fate) (bytes : List ℕ) → hint ≡ old.units.gone → mid.units.own ≡ old.units.own →
+pub puts_came : (old mid new : Waiting) (hint : ℕ) (fate : Fate) (bytes : List ℕ) → hint ≡ old.units.gone →
+    IsInTime hint old.units.seen → mid.units.own ≡ old.units.own → mid.units.seen ≡ old.units.seen →
     old.units.other ≡ bytes ∷ mid.units.other → mid.units.gone ≡ old.units.gone + 1 → mid.text ≡ old.text → new.units ≡ mid.units →
     new.text ≡ mid.text ++ record_line Number (Received hint fate bytes) → Puts old new
-puts_came old mid new hint fate bytes named own other gone same units text =
+puts_came old mid new hint fate bytes named time own seen other gone same units text =
     record {
       acts = Some (Received hint fate bytes) ∷ [];
-      follow = (mid.units, (named, record { own = own; other = other; gone = gone }), units);
+      follow = (mid.units, (named, time, record { own = own; seen = seen; other = other; gone = gone }), units);
       text = one_line (Received hint fate bytes) old.text new.text
           (text ∙ ap (λ (t : List ℕ). t ++ record_line Number (Received hint fate bytes)) same);
     }
 
-pub puts_lost : (old new : Waiting) (bytes : List ℕ) → new.units.own ≡ old.units.own → old.units.other ≡ bytes ∷ new.units.other →
+pub puts_lost : (old new : Waiting) (bytes : List ℕ) → new.units.own ≡ old.units.own → new.units.seen ≡ old.units.seen → old.units.other ≡ bytes ∷ new.units.other →
     new.units.gone ≡ old.units.gone + 1 → new.text ≡ old.text → Puts old new
-puts_lost old new bytes own other gone text =
+puts_lost old new bytes own seen other gone text =
     record {
       acts = None ∷ [];
-      follow = (new.units, (bytes, record { own = own; other = other; gone = gone }), refl);
+      follow = (new.units, (bytes, record { own = own; seen = seen; other = other; gone = gone }), refl);
       text = text ∙ sym (append-nil old.text);
     }
 
@@ -117,7 +118,7 @@ sent-follow old new [] e = ap (λ (u : Units). u.own) e
 sent-follow old new (None ∷ acts) (between, (bytes, n), rest) = sent-follow between new acts rest ∙ n.own
 sent-follow old new (Some (Sent bytes) ∷ acts) (between, n, rest) =
     ap (λ (units : List (List ℕ)). bytes ∷ units) (sent-follow between new acts rest) ∙ sym n.own
-sent-follow old new (Some (Received hint fate bytes) ∷ acts) (between, (e, n), rest) = sent-follow between new acts rest ∙ n.own
+sent-follow old new (Some (Received hint fate bytes) ∷ acts) (between, (e, time, n), rest) = sent-follow between new acts rest ∙ n.own
 sent-follow old new (Some (Noise bytes) ∷ acts) (between, e, rest) = sent-follow between new acts rest ∙ ap (λ (u : Units). u.own) e
 sent-follow old new (Some (User event) ∷ acts) (between, e, rest) = sent-follow between new acts rest ∙ ap (λ (u : Units). u.own) e
 

@@ -1,13 +1,16 @@
 -- What is written of one side: its units, each once and in order, and between them what came to it and what its user did.
-use Rattle.std.specs.Prelude.{◌≡◌, ℕ, ◌+◌, List, [], ◌∷◌, ◌++◌, length, Option, Some, None}
+use Rattle.std.specs.Prelude.{◌≡◌, ℕ, ◌+◌, ◌≤◌, ◌<◌, List, [], ◌∷◌, ◌++◌, drop, length, slice_get}
+use Rattle.std.specs.Prelude.{Option, Some, None, IfSome}
 use Rattle.capture.specs.declared.record.Record.{Record}
 use Rattle.capture.specs.declared.record.Record.TheVariants.{Sent, Received, Noise, User}
 use Rattle.capture.specs.declared.hint.HintForm.TheVariants.{Number}
 use Rattle.capture.specs.Text.{record_lines}
 
--- The units of the side that are not written yet; those of the other side that may still come, and how many can't any more.
+-- The units of the side that are not written yet, and for each of them how many of the other side had passed before it; those of the other side
+-- that may still come, and how many can't any more.
 pub record Units : Type 0 where
   pub own : List (List ℕ)
+  pub seen : List ℕ
   pub other : List (List ℕ)
   pub gone : ℕ
 
@@ -17,11 +20,16 @@ pub record Waiting : Type 0 where
   pub text : List ℕ
 
 abbrev pub nothing : Waiting
-nothing = record { units = record { own = []; other = []; gone = 0 }; text = [] }
+nothing = record { units = record { own = []; seen = []; other = []; gone = 0 }; text = [] }
+
+-- how many units of the other side passed
+abbrev pub other_count : Units → ℕ
+other_count units = units.gone + length units.other
 
 -- one more unit of the side passed, and one more of the other side
 abbrev pub with_own : List ℕ → Waiting → Waiting
-with_own unit w = record w { units = record w.units { own = w.units.own ++ unit ∷ [] } }
+with_own unit w =
+    record w { units = record w.units { own = w.units.own ++ unit ∷ []; seen = w.units.seen ++ other_count w.units ∷ [] } }
 
 abbrev pub with_other : List ℕ → Waiting → Waiting
 with_other unit w = record w { units = record w.units { other = w.units.other ++ unit ∷ [] } }
@@ -29,21 +37,27 @@ with_other unit w = record w { units = record w.units { other = w.units.other ++
 -- the next unit of the side is the one with these bytes, and waits no more
 pub record NextIsSent (bytes : List ℕ) (old new : Units) : Type 0 where
   pub own : old.own ≡ bytes ∷ new.own
+  pub seen : new.seen ≡ drop 1 old.seen
   pub other : new.other ≡ old.other
   pub gone : new.gone ≡ old.gone
 
 -- the next unit of the other side is the one with these bytes, and can't come any more
 pub record NextIsPast (bytes : List ℕ) (old new : Units) : Type 0 where
   pub own : new.own ≡ old.own
+  pub seen : new.seen ≡ old.seen
   pub other : old.other ≡ bytes ∷ new.other
   pub gone : new.gone ≡ old.gone + 1
 
--- A record is of the next unit of the side; or of the next one of the other side, which its hint names; or of no unit. None: the next unit of the
--- other side was lost, which no record tells.
+-- the unit of the other side with this number had passed before the next one of the side
+abbrev pub IsInTime : ℕ → List ℕ → Type 0
+IsInTime number seen = IfSome (slice_get seen 0) (λ count. number < count)
+
+-- A record is of the next unit of the side; or of the next one of the other side, which its hint names, and which had passed before; or of no unit.
+-- None: the next unit of the other side was lost, which no record tells.
 abbrev pub Follows : Units → Option Record → Units → Type 0
 Follows old None new = (bytes : List ℕ) × NextIsPast bytes old new
 Follows old (Some (Sent bytes)) new = NextIsSent bytes old new
-Follows old (Some (Received hint fate bytes)) new = (hint ≡ old.gone) × NextIsPast bytes old new
+Follows old (Some (Received hint fate bytes)) new = (hint ≡ old.gone) × IsInTime hint old.seen × NextIsPast bytes old new
 Follows old (Some (Noise bytes)) new = new ≡ old
 Follows old (Some (User event)) new = new ≡ old
 
@@ -94,3 +108,21 @@ NameUnits all (Sent bytes ∷ rs) = NameUnits all rs
 NameUnits all (Received hint fate bytes ∷ rs) = IsUnit all hint bytes × NameUnits all rs
 NameUnits all (Noise bytes ∷ rs) = NameUnits all rs
 NameUnits all (User event ∷ rs) = NameUnits all rs
+
+-- ---- when they came
+
+-- The hints rise: the first is this number or more, each is more than the one before, and all are below the other number.
+abbrev pub HintsRise : (front limit : ℕ) → List Record → Type 0
+HintsRise front limit [] = front ≤ limit
+HintsRise front limit (Sent bytes ∷ rs) = HintsRise front limit rs
+HintsRise front limit (Received hint fate bytes ∷ rs) = (front ≤ hint) × HintsRise (hint + 1) limit rs
+HintsRise front limit (Noise bytes ∷ rs) = HintsRise front limit rs
+HintsRise front limit (User event ∷ rs) = HintsRise front limit rs
+
+-- Of each receipt this holds: of the number of units of the side that are sent before it, here so many to begin with, and of its hint.
+abbrev pub AllCome : (ℕ → ℕ → Type 0) → ℕ → List Record → Type 0
+AllCome Comes sent [] = Unit {0}
+AllCome Comes sent (Sent bytes ∷ rs) = AllCome Comes (sent + 1) rs
+AllCome Comes sent (Received hint fate bytes ∷ rs) = Comes sent hint × AllCome Comes sent rs
+AllCome Comes sent (Noise bytes ∷ rs) = AllCome Comes sent rs
+AllCome Comes sent (User event ∷ rs) = AllCome Comes sent rs

@@ -1,12 +1,12 @@
 //! The units that are not written yet, and the lines that are.
 
-ghost use Rattle.std.specs.Prelude.{◌≡◌, ◌≤◌, ◌<◌, ◌+◌, ◌-◌, ◌↔◌, IsTrue, [], ◌∷◌, ◌++◌, length, None, IfSome, OnOk, OnErr};
+ghost use Rattle.std.specs.Prelude.{◌≡◌, ◌≤◌, ◌<◌, ◌+◌, ◌-◌, ◌↔◌, IsTrue, [], ◌∷◌, ◌++◌, drop, length, None, IfSome, OnOk, OnErr};
 ghost use Rattle.capture.specs.Entries.{record_with};
 ghost use Rattle.capture.specs.Text.{record_line};
 ghost use Rattle.capture.specs.declared.hint.HintForm.TheVariants.{Number};
 ghost use Rattle.capture.specs.declared.limit.TheConstants.{MAX_UNIT, MAX_HINT, MAX_MESSAGE};
 ghost use Rattle.placing.specs.inner.Aside.{IsOfNoUnit};
-ghost use Rattle.placing.specs.Placed.{Puts, nothing, with_other, with_own};
+ghost use Rattle.placing.specs.Placed.{IsInTime, Puts, nothing, with_other, with_own};
 
 mod other_units;
 mod own_units;
@@ -26,6 +26,8 @@ use std::marker::Model;
 #[derive(Drop)]
 pub(crate) struct Waiting {
     own: VecDeque<PassedUnit>,
+    // for each of these, how many units of the other side had passed before it
+    seen: VecDeque<u64>,
     other: VecDeque<PassedUnit>,
     // how many units of the other side can't come any more
     gone: u64,
@@ -46,7 +48,7 @@ impl Model for Waiting {
 
     ghost Value = { Waiting };
 
-    ghost view = { λ w. record { units = record { own = w.own.items; other = w.other.items; gone = w.gone }; text = w.text.items } };
+    ghost view = { λ w. record { units = record { own = w.own.items; seen = w.seen.items; other = w.other.items; gone = w.gone }; text = w.text.items } };
 
     ghost invariant = { λ w. w.gone + length w.other.items ≤ MAX_HINT };
 }
@@ -63,6 +65,7 @@ impl Waiting {
         };
         Waiting {
             own: VecDeque::new(alloc),
+            seen: VecDeque::new(alloc),
             other: VecDeque::new(alloc),
             gone: 0,
             text: Vec::new(alloc),
@@ -96,6 +99,8 @@ impl Waiting {
     {
         let copy = PassedUnit::of(self.alloc, unit)?;
         self.own.reserve(1)?;
+        self.seen.reserve(1)?;
+        let seen = self.gone + self.other.len() as u64;
         let number = self.taken.saturating_add(self.own.len() as u64);
         if let Some(messages) = &mut self.messages {
             if self.turned.boots_before(number) {
@@ -104,6 +109,7 @@ impl Waiting {
             messages.sent(unit)?;
         }
         self.own.push_back_reserved(copy);
+        self.seen.push_back_reserved(seen);
         Ok(())
     }
 
@@ -211,17 +217,34 @@ impl Waiting {
         !self.own.is_empty()
     }
 
+    // Whether the next unit of the other side had passed before the next one of the side.
+    fn has_passed(&self) -> bool
+        ensures { IsTrue result → IsInTime self.now.units.gone self.now.units.seen }
+    {
+        match self.seen.front() {
+            Some(count) => self.gone < *count,
+            None => true,
+        }
+    }
+
     // The next unit of the side waits no more.
     fn take_own(&mut self) -> Option<PassedUnit>
         ensures taken { IfSome result (λ unit. self.old.units.own ≡ unit ∷ self.new.units.own) }
         ensures none { result ≡ None → self.new ≡ self.old }
         ensures empty { result ≡ None → self.old.units.own ≡ [] }
+        ensures seen { IfSome result (λ _. self.new.units.seen ≡ drop 1 self.old.units.seen) }
         ensures other { self.new.units.other ≡ self.old.units.other }
         ensures gone { self.new.units.gone ≡ self.old.units.gone }
         ensures text { self.new.text ≡ self.old.text }
     {
         self.taken = self.taken.saturating_add(1);
-        self.own.pop_front()
+        match self.own.pop_front() {
+            Some(unit) => {
+                let _ = self.seen.pop_front();
+                Some(unit)
+            }
+            None => None,
+        }
     }
 
     // The next unit of the other side can't come any more.
@@ -230,6 +253,7 @@ impl Waiting {
         ensures counted { IfSome result (λ unit. self.new.units.gone ≡ self.old.units.gone + 1) }
         ensures none { result ≡ None → self.new ≡ self.old }
         ensures own { self.new.units.own ≡ self.old.units.own }
+        ensures seen { self.new.units.seen ≡ self.old.units.seen }
         ensures text { self.new.text ≡ self.old.text }
     {
         match self.other.pop_front() {

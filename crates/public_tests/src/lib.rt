@@ -3,14 +3,20 @@
 #![tactic(auto)]
 
 #[cfg(test)]
-mod answers_told;
+mod checks_told;
 #[cfg(test)]
 mod lines_edited;
 #[cfg(test)]
 mod pieces_read;
 #[cfg(test)]
+mod records_told;
+#[cfg(test)]
+mod refusals_told;
+#[cfg(test)]
 mod rows_drawn;
 #[cfg(test)]
 mod rows_met;
+#[cfg(test)]
+mod sides_told;
 #[cfg(test)]
 mod units_found;

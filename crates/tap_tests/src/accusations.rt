@@ -49,6 +49,25 @@ b 0507c00000014855
 a 810d00000101f38002020401040004090007000080cd3d
 ";
 
+// A link that was called sends a link service message, before any message of RUN passed for it.
+const NOT_RUNNING: &str = "ddwire 1 1.1 1.2
+a 0506c00000017595
+b 0507c00000014855
+a 810f000001018a40020204010400180000070001020002edfe
+b 8110000101014e42020104020400280700090001020200001120
+b 810f00010201db70020104020400100700090001000000edf0
+";
+
+// The same behind an acknowledgement of the link that called.
+const RUNNING: &str = "ddwire 1 1.1 1.2
+a 0506c00000017595
+b 0507c00000014855
+a 810f000001018a40020204010400180000070001020002edfe
+b 8110000101014e42020104020400280700090001020200001120
+a 810d00010201a2b002020401040004090007000080cd3d
+b 810f000202012b70020104020400100700090001000000edf0
+";
+
 // A link sends segments 1, 2 and 4, and no 3.
 const GAP: &str = "ddwire 1 1.1 1.2
 a 0506c00000017595
@@ -58,6 +77,16 @@ b 8110000101014e4202010402040028070009000102000200b180
 a 810e00010201e6b002020401040020090007000100610e96
 a 810e00010301e7200202040104004009000700020062b8bf
 a 810e00010401e5100202040104006009000700040064daa4
+";
+
+// A link sends two data bytes, and then three, to one with SEGSIZE 2.
+const TOO_LONG: &str = "ddwire 1 1.1 1.2
+a 0506c00000017595
+b 0507c00000014855
+a 810f000001018a40020204010400180000070001020002edfe
+b 8110000101014e42020104020400280700090001020200001120
+a 810f00010201db70020204010400600900070001006162a7ee
+a 8110000103014f2202020401040060090007000200616263ab93
 ";
 
 fn found(alloc: Global, text: &str) -> Result<Accused, TapFault> {
@@ -131,6 +160,40 @@ fn a_packet_that_no_right_node_sent_is_found(rt: HostRuntime) {
             ..Accused::NOBODY
         })
     );
+}
+
+#[test]
+fn a_called_link_that_does_not_run_yet_is_found(rt: HostRuntime) {
+    let of_called = Passed {
+        side: Side::B,
+        unit: 2,
+        line: 6,
+    };
+    assert_eq!(rt;
+        found(rt.alloc(), NOT_RUNNING),
+        Ok(Accused {
+            b: Some(of_called),
+            ..Accused::NOBODY
+        })
+    );
+    assert_eq!(rt; found(rt.alloc(), RUNNING), Ok(Accused::NOBODY));
+}
+
+#[test]
+fn a_segment_that_is_too_long_is_found(rt: HostRuntime) {
+    let of_segment = Passed {
+        side: Side::A,
+        unit: 3,
+        line: 7,
+    };
+    assert_eq!(rt;
+        found(rt.alloc(), TOO_LONG),
+        Ok(Accused {
+            a: Some(of_segment),
+            ..Accused::NOBODY
+        })
+    );
+    assert_eq!(rt; found_over(rt.alloc(), TOO_LONG, true), Ok(Accused::NOBODY));
 }
 
 #[test]

@@ -3,7 +3,7 @@
 use placing::{Assumed, Explained, Turn};
 use std::alloc::Global;
 use wire_base::{Side, Tally};
-use wire_tap::{Asked, Ending, Skipped, TapFault, Tapped, Units, tap};
+use wire_tap::{Asked, Ending, Passed, Skipped, TapFault, Tapped, Units, tap};
 
 const STARTUP: &str = "ddwire 1 1.1 1.2
 a 96960506c00000
@@ -59,6 +59,33 @@ fn a_startup_that_passed_gives_both_captures(rt: HostRuntime) -> Result<(), TapF
     assert!(rt; !tapped.is_silent());
     assert_eq!(rt; a.as_slice(), LINES_A.as_bytes());
     assert_eq!(rt; b.as_slice(), LINES_B.as_bytes());
+    Ok(())
+}
+
+// The ACK answers the STACK, whose last byte passed after it.
+const ANSWERED_EARLY: &str = "ddwire 1 1.1 1.2
+a 0506c00000017595
+b 0507c000000148
+a 050100000001fc55
+b 55
+";
+
+const EARLY_A: &str = "ddcap 1 1.1 1.2
+u start
+s 0506c00000017595
+s 050100000001fc55
+";
+
+#[test]
+fn no_unit_comes_before_its_last_byte_passed(rt: HostRuntime) -> Result<(), TapFault> {
+    let (tapped, a, _) = tapped(rt.alloc(), ANSWERED_EARLY, &[])?;
+    let answer = Passed {
+        side: Side::A,
+        unit: 1,
+        line: 4,
+    };
+    assert_eq!(rt; tapped.ending, Ending::Unplaced(answer));
+    assert_eq!(rt; a.as_slice(), EARLY_A.as_bytes());
     Ok(())
 }
 

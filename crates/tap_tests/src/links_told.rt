@@ -45,6 +45,13 @@ const CALL_OF_9: &[u8] =
 const ANSWER_OF_9: &[u8] =
     b"\x81\x0f\x00\x01\x01\x01\xdb\x80\x02\x01\x04\x02\x04\x00\x28\x07\x00\x09\x00\x01\x02\x00\x02\xfe\x30";
 
+// Link service messages from that link to link 7, and to link 8.
+const RUN_TO_7: &[u8] =
+    b"\x81\x0f\x00\x00\x01\x01\x8a\x40\x02\x01\x04\x02\x04\x00\x10\x07\x00\x09\x00\x01\x00\x00\x00\xed\xf0";
+
+const RUN_TO_8: &[u8] =
+    b"\x81\x0f\x00\x00\x01\x01\x8a\x40\x02\x01\x04\x02\x04\x00\x10\x08\x00\x09\x00\x01\x00\x00\x00\xad\xb0";
+
 // Of link 7 to link 9: a CC, a connect acknowledgement, a DI, a link service message, a segment and a DC.
 const CONFIRM: &[u8] =
     b"\x81\x0f\x00\x01\x01\x01\xdb\x80\x02\x02\x04\x01\x04\x00\x28\x09\x00\x07\x00\x01\x02\x00\x02\x79\x95";
@@ -80,6 +87,8 @@ fn a_packet_has_to_be_read_and_to_go_out(rt: HostRuntime) {
 fn an_acknowledgement_needs_a_segment_that_passed(rt: HostRuntime) -> Result<(), AllocError> {
     let mut accuser = LinkAccuser::new(rt.alloc(), 1025, 1026);
     accuser.other_passed(CALL_OF_9)?;
+    accuser.other_passed(RUN_TO_7)?;
+    accuser.other_passed(RUN_TO_8)?;
     assert_eq!(rt; accuser.sends(ACK_0), None);
     assert_eq!(rt; accuser.sends(OTHER_1), None);
     assert_eq!(rt; accuser.sends(ACK_2), Some(Wrong::WrongAck));
@@ -111,6 +120,28 @@ fn a_link_needs_a_call_or_its_answer(rt: HostRuntime) -> Result<(), AllocError> 
     accuser.other_passed(CALL_OF_9)?;
     assert_eq!(rt; accuser.sends(CONFIRM), None);
     assert_eq!(rt; accuser.sends(CONNECT_ACK), None);
-    assert_eq!(rt; accuser.sends(OF_LINK_8), Some(Wrong::WrongAck));
+    assert_eq!(rt; accuser.sends(OF_LINK_8), Some(Wrong::NoLink));
+    Ok(())
+}
+
+// What is sent in RUN alone.
+const OF_RUN: [&[u8]; 4] = [SEGMENT, ACK_0, OTHER_1, LINK_SERVICE];
+
+#[test]
+fn a_called_link_runs_by_a_message_of_run_for_both_addresses(
+    rt: HostRuntime,
+) -> Result<(), AllocError> {
+    let mut accuser = LinkAccuser::new(rt.alloc(), 1025, 1026);
+    accuser.other_passed(CALL_OF_9)?;
+    accuser.other_passed(RUN_TO_8)?;
+    for unit in OF_RUN {
+        assert_eq!(rt; accuser.sends(unit), Some(Wrong::NoLink));
+    }
+    assert_eq!(rt; accuser.sends(CONFIRM), None);
+    assert_eq!(rt; accuser.sends(DISCONNECT), None);
+    accuser.other_passed(RUN_TO_7)?;
+    for unit in OF_RUN {
+        assert_eq!(rt; accuser.sends(unit), None);
+    }
     Ok(())
 }

@@ -21,6 +21,36 @@ const SECOND_WHOLE: &[u8] =
 const ACK_2: &[u8] =
     b"\x81\x0d\x00\x02\x01\x01\x52\x40\x02\x01\x04\x02\x04\x00\x04\x07\x00\x09\x00\x02\x80\x3b\x90";
 
+// A CI from link 9 with SEGSIZE 1, and a CC from it to link 7 with SEGSIZE 2.
+const CALL_1: &[u8] =
+    b"\x81\x0f\x00\x00\x01\x01\x8a\x40\x02\x01\x04\x02\x04\x00\x18\x00\x00\x09\x00\x01\x02\x01\x00\x6b\x86";
+
+const ANSWER_2: &[u8] =
+    b"\x81\x10\x00\x00\x01\x01\x1f\x82\x02\x01\x04\x02\x04\x00\x28\x07\x00\x09\x00\x01\x02\x02\x00\x00\x11\x20";
+
+// Segment 1 with two bytes, and segment 2 with three.
+const TWO_BYTES: &[u8] =
+    b"\x81\x0f\x00\x00\x01\x01\x8a\x40\x02\x02\x04\x01\x04\x00\x20\x09\x00\x07\x00\x01\x00\x61\x62\x96\x2d";
+
+const THREE_BYTES: &[u8] =
+    b"\x81\x10\x00\x00\x02\x01\x1f\x72\x02\x02\x04\x01\x04\x00\x40\x09\x00\x07\x00\x02\x00\x62\x63\x64\x1a\xab";
+
+#[test]
+fn a_segment_has_the_room_that_a_segsize_leaves(rt: HostRuntime) -> Result<(), AllocError> {
+    let mut accuser = SegmentAccuser::new(rt.alloc());
+    assert!(rt; accuser.is_too_long(FIRST));
+    accuser.other_passed(CALL_1)?;
+    assert!(rt; !accuser.is_too_long(FIRST));
+    assert!(rt; accuser.is_too_long(TWO_BYTES));
+    accuser.other_passed(ANSWER_2)?;
+    accuser.other_passed(CALL_1)?;
+    assert!(rt; !accuser.is_too_long(TWO_BYTES));
+    assert!(rt; accuser.is_too_long(THREE_BYTES));
+    accuser.other_passed(ACK_2)?;
+    assert!(rt; !accuser.is_too_long(THREE_BYTES));
+    Ok(())
+}
+
 #[test]
 fn a_segment_has_to_follow_the_one_before(rt: HostRuntime) -> Result<(), AllocError> {
     let mut accuser = SegmentAccuser::new(rt.alloc());

@@ -6,14 +6,12 @@ use Rattle.wire_base.specs.declared.side.Side.{Side}
 use Rattle.wire_base.specs.declared.side.Side.TheVariants.{A}
 use Rattle.capture.specs.declared.entry.Entry.{Entry}
 use Rattle.capture.specs.declared.entry.Entry.TheVariants.{Sent, Received, Noise, Composed}
-use Rattle.pair_judge.specs.Reason.{reason_name, reason_number}
+use Rattle.pair_judge.specs.Reason.{reason_blame, reason_name, reason_number}
 use Rattle.pair_judge.specs.declared.end_verdict.Accused.{Accused}
 use Rattle.pair_judge.specs.declared.end_verdict.Accused.TheVariants as ends
 use Rattle.pair_judge.specs.declared.reason.Reason.{Reason}
-use Rattle.pair_judge.specs.declared.reason.Reason.TheVariants.{NotAMessage, HintOrder, NoSuchUnit, NoOrder, Undetected, WrongState, WrongNumber}
-use Rattle.pair_judge.specs.declared.reason.Reason.TheVariants.{WrongResponse, WindowFull, Changed, NoCause, WrongKeep, CrossedPeriod, WrongUserEvent}
-use Rattle.pair_judge.specs.declared.reason.Reason.TheVariants.{BadPacket, WrongNode, BadNsp, NoLink, LinkState, WrongSegment, WrongAck}
-use Rattle.pair_judge.specs.declared.reason.Reason.TheVariants.{SegmentTooLong, LinkWindowFull, WrongDelivery, CrossedLink, AddressInUse, NotNoise}
+use Rattle.pair_judge.specs.declared.reason_kind.Blame.{Blame}
+use Rattle.pair_judge.specs.declared.reason_kind.Blame.TheVariants as blame
 use Rattle.why.specs.declared.accusation.Accusation.{Accusation}
 use Rattle.why.specs.declared.accusation.Accusation.TheVariants.{Sender, OtherSender, Hints, Line, Claim, Nobody, User}
 use Rattle.why.specs.declared.accusation.Accusation.TheVariants.{Starter, Chooser, OtherEnd, Queue}
@@ -39,35 +37,21 @@ abbrev pub accuses_nodes : Entry → Accusation
 accuses_nodes (Received fate hint) = OtherSender
 accuses_nodes entry = Sender
 
--- A row for each reason
+-- A row for each kind of fault
+abbrev pub accuses_by : Blame → Entry → Accusation
+accuses_by blame.Sender entry = Sender
+accuses_by blame.SenderOrHeads entry = accuses_nodes entry
+accuses_by blame.SenderOrUser entry = sender_or_user (is_of_user entry)
+accuses_by blame.Hints entry = Hints
+accuses_by blame.LineOrCaptures entry = Line
+accuses_by blame.Claim entry = Claim
+accuses_by blame.Nobody entry = Nobody
+accuses_by blame.Starter entry = Starter
+accuses_by blame.Chooser entry = Chooser
+
+-- by whose fault the reason is
 abbrev pub accuses : Reason → Entry → Accusation
-accuses NotAMessage entry = Sender
-accuses HintOrder entry = Hints
-accuses NoSuchUnit entry = Hints
-accuses NoOrder entry = Hints
-accuses Undetected entry = Line
-accuses WrongState entry = Sender
-accuses WrongNumber entry = Sender
-accuses WrongResponse entry = Sender
-accuses WindowFull entry = Sender
-accuses Changed entry = Sender
-accuses NoCause entry = Sender
-accuses WrongKeep entry = Claim
-accuses CrossedPeriod entry = Nobody
-accuses WrongUserEvent entry = Starter
-accuses BadPacket entry = Sender
-accuses WrongNode entry = accuses_nodes entry
-accuses BadNsp entry = Sender
-accuses NoLink entry = sender_or_user (is_of_user entry)
-accuses LinkState entry = sender_or_user (is_of_user entry)
-accuses WrongSegment entry = Sender
-accuses WrongAck entry = Sender
-accuses SegmentTooLong entry = Sender
-accuses LinkWindowFull entry = Sender
-accuses WrongDelivery entry = Claim
-accuses CrossedLink entry = Nobody
-accuses AddressInUse entry = Chooser
-accuses NotNoise entry = Claim
+accuses reason = accuses_by (reason_blame reason)
 
 -- of one end alone: the other end, where what came of it is wrong
 abbrev pub end_accuses : Accused → Reason → Entry → Accusation

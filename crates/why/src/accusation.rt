@@ -4,7 +4,7 @@ ghost use Rattle.std.specs.Prelude.{◌≡◌};
 ghost use Rattle.why.specs.Refused as spec;
 
 use capture::Entry;
-use pair_judge::{Accused, Reason};
+use pair_judge::{Accused, Blame, Reason};
 use std::fmt;
 use wire_base::Side;
 
@@ -40,28 +40,16 @@ impl Accusation {
     pub fn of(reason: Reason, entry: Entry) -> Accusation
         ensures { result ≡ spec.accuses reason entry }
     {
-        match reason {
-            Reason::NotAMessage
-            | Reason::WrongState
-            | Reason::WrongNumber
-            | Reason::WrongResponse
-            | Reason::WindowFull
-            | Reason::Changed
-            | Reason::NoCause
-            | Reason::BadPacket
-            | Reason::BadNsp
-            | Reason::WrongSegment
-            | Reason::WrongAck
-            | Reason::SegmentTooLong
-            | Reason::LinkWindowFull => Accusation::Sender,
-            Reason::WrongNode => Accusation::of_nodes(entry),
-            Reason::HintOrder | Reason::NoSuchUnit | Reason::NoOrder => Accusation::Hints,
-            Reason::Undetected => Accusation::Line,
-            Reason::WrongKeep | Reason::WrongDelivery | Reason::NotNoise => Accusation::Claim,
-            Reason::CrossedPeriod | Reason::CrossedLink => Accusation::Nobody,
-            Reason::WrongUserEvent => Accusation::Starter,
-            Reason::AddressInUse => Accusation::Chooser,
-            Reason::NoLink | Reason::LinkState => Accusation::of_link(entry),
+        match reason.blame() {
+            Blame::Sender => Accusation::Sender,
+            Blame::SenderOrHeads => Accusation::of_nodes(entry),
+            Blame::SenderOrUser => Accusation::of_link(entry),
+            Blame::Hints => Accusation::Hints,
+            Blame::LineOrCaptures => Accusation::Line,
+            Blame::Claim => Accusation::Claim,
+            Blame::Nobody => Accusation::Nobody,
+            Blame::Starter => Accusation::Starter,
+            Blame::Chooser => Accusation::Chooser,
         }
     }
 
@@ -164,17 +152,6 @@ fn is_of_user(entry: Entry) -> bool
 {
     match entry {
         Entry::Sent | Entry::Received { .. } | Entry::Noise | Entry::Composed => false,
-        Entry::Start
-        | Entry::Halt
-        | Entry::Open { .. }
-        | Entry::Accept { .. }
-        | Entry::Reject { .. }
-        | Entry::In { .. }
-        | Entry::Up { .. }
-        | Entry::Close { .. }
-        | Entry::Boot
-        | Entry::Abort { .. }
-        | Entry::Interrupt { .. }
-        | Entry::Interrupted { .. } => true,
+        _ => true,
     }
 }

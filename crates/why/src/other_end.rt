@@ -14,7 +14,7 @@ use crate::words::{Range, short_number_or, words_if};
 use ddcmp_msg::{Message, Reading, read_unit};
 use ddcmp_station::StationView;
 use nsp_link::{LinkView, Nodes};
-use pair_judge::Reason;
+use pair_judge::{Matter, Reason};
 use std::alloc::{AllocError, Global};
 use std::fmt::{self, Formatter, Write};
 
@@ -68,15 +68,15 @@ struct SeenThere<'a> {
 impl fmt::Display for SeenThere<'_> {
     fn fmt<W: Write>(&self, f: &mut Formatter<W>) -> fmt::Result {
         let bytes = self.bytes;
-        match self.reason {
-            Reason::WrongResponse => {
+        match self.reason.matter() {
+            Matter::Response => {
                 write!(
                     f,
                     "RESP {}",
                     short_number_or("?", response_in(read_unit(bytes)))
                 )
             }
-            Reason::WrongNode => write_packet(f, packet_in(read_unit(bytes))),
+            Matter::Nodes => write_packet(f, packet_in(read_unit(bytes))),
             _ => write_message(f, message_in_unit(bytes)),
         }
     }
@@ -132,15 +132,15 @@ impl fmt::Display for AllowedThere<'_> {
             link,
             ..
         } = self.told;
-        match reason {
-            Reason::WrongResponse => {
+        match reason.matter() {
+            Matter::Response => {
                 let range = Range {
                     first: u16::from(station.acknowledged),
                     last: u16::from(station.given),
                 };
                 write!(f, "RESP {range}")
             }
-            Reason::WrongNode => {
+            Matter::Nodes => {
                 let nodes = NodesWords { nodes };
                 write!(
                     f,

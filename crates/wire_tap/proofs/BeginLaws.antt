@@ -1,6 +1,6 @@
 -- What a tap wrote before the first piece.
 use Rattle.std.proofs.Common.{◌≡◌, ℕ, Bool, true, false, inl, List, [], Option, Ok, Err, refl, sym, ap, subst}
-use Rattle.std.proofs.Common.{append-nil}
+use Rattle.std.proofs.Common.{append-nil, arith}
 use Rattle.std.proofs.KnownBytes.{Keeps-refl}
 use Rattle.wire_base.specs.Tally.{AppendsBeginning}
 use Rattle.wire_base.specs.declared.side.Side.{Side}
@@ -32,11 +32,12 @@ use Rattle.capture.specs.Passing.{AppendsSome}
 use Rattle.capture.specs.inner.Outlets.{FailsAt, Outlet, outlet}
 use Rattle.wire_tap.specs.Units.{messages, units_of}
 use Rattle.wire_tap.specs.declared.fault.TapFault.TheVariants as faults
-use Rattle.wire_tap.specs.inner.Moving.{IsLineUnderWay, IsUnderWay, SpellsNumbers}
+use Rattle.wire_tap.specs.inner.Moving.{AreInTime, IsLineUnderWay, IsUnderWay, SpellsNumbers}
 use Rattle.wire_tap.specs.inner.Moving.{fault_of, head_a, head_b}
 use Rattle.wire_tap.specs.inner.Moving.{line_state}
 use Rattle.wire_tap.specs.declared.side_tap.SideTap.{SideTap}
 use Rattle.wire_tap.specs.inner.Side.{IsNew, side_state, units_in}
+use Rattle.wire_tap.proofs.TimeLaws.{none_in_time}
 
 -- lines are spelled in the format of these captures as in format 1
 pub spelled : (turns : List Turn) → SpellsNumbers (format_of turns)
@@ -77,7 +78,7 @@ module _ (format : Format) (text left : Option (List ℕ)) (old : Held) (state :
   nothing_sent = record { wire = wire_begun; come = come_begun; a = []; b = [] }
 
   nothing_named : IsReached text nothing_sent
-  nothing_named = (read_begun, record { a = tt; b = tt })
+  nothing_named = (read_begun, record { a = tt; b = tt }, record { a = tt; b = tt; rise_a = omega arith; rise_b = omega arith })
 
   -- the writer of a side fails at its head
   pub head_fails : (last : Option (Side × ℕ)) (side : Side) (n m : ℕ) (of_a of_b : List ℕ) (new : Outlet × Outlet) → of_a ≡ head_a format wire_begun →
@@ -103,9 +104,9 @@ module _ (format : Format) (text left : Option (List ℕ)) (old : Held) (state :
         subst (AppendsBeginning old.b new.1.held) (sym (append-nil (head_b format wire_begun))) f.1.some,
       )
 
-  side_begun : (head : List ℕ) (was now : Option (List ℕ)) (tap : SideTap) → IsNew tap → HandsOver head [] was now →
-      IsUnderWay [] head (units_in []) was now (side_state tap)
-  side_begun head was now tap new over = record {
+  side_begun : (of : Side) (head : List ℕ) (was now : Option (List ℕ)) (tap : SideTap) → IsNew tap → HandsOver head [] was now →
+      IsUnderWay of [] [] head (units_in []) was now (side_state tap)
+  side_begun of head was now tap new over = record {
     records = [];
     found = nothing;
     framed = subst (IsFramedSoFar [] nothing) (sym new.held) start;
@@ -117,6 +118,7 @@ module _ (format : Format) (text left : Option (List ℕ)) (old : Held) (state :
     named = tt;
     passed = subst (λ (w : Waiting). HavePassed (units_in []) w.units) (sym new.waiting)
         (subst (λ (units : List (List ℕ)). HavePassed units placed.nothing.units) (sym (ap (λ (f : Framing). messages f.units) framing-nil)) none_passed);
+    time = subst (λ (w : Waiting). AreInTime of [] [] w.units) (sym new.waiting) (none_in_time of []);
   }
 
   -- both heads are written
@@ -127,6 +129,6 @@ module _ (format : Format) (text left : Option (List ℕ)) (old : Held) (state :
     wire = wire_begun;
     read = read_begun;
     count = sym opens.2;
-    a = side_begun (head_a format wire_begun) old.a now.a a new_a (subst (λ (x : List ℕ). HandsOver x [] old.a now.a) is_a over_a);
-    b = side_begun (head_b format wire_begun) old.b now.b b new_b (subst (λ (x : List ℕ). HandsOver x [] old.b now.b) is_b over_b);
+    a = side_begun A (head_a format wire_begun) old.a now.a a new_a (subst (λ (x : List ℕ). HandsOver x [] old.a now.a) is_a over_a);
+    b = side_begun B (head_b format wire_begun) old.b now.b b new_b (subst (λ (x : List ℕ). HandsOver x [] old.b now.b) is_b over_b);
   }

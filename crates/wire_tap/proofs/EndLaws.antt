@@ -32,6 +32,7 @@ use Rattle.capture.proofs.OverLaws.{all_over, beginning_over, begun_over, on_ove
 use Rattle.wire_tap.specs.inner.Moving.{EndsOver, IsAllOver, PutsAll, StopsAs, fault_of, head_a, head_b}
 use Rattle.wire_tap.specs.inner.Side.{EndsAt, IsUnitAt, aim, counted}
 use Rattle.wire_tap.proofs.SideLaws.{over_put, same_units}
+use Rattle.wire_tap.proofs.TimeLaws.{all_rise}
 
 -- a count of few units is their number
 few_counted : {count many fewer : ℕ} → count ≡ counted 0 many → many ≡ fewer → fewer < 2 ^ 64 → count ≡ fewer
@@ -44,7 +45,16 @@ module _ (last : Option (Side × ℕ)) (format : Format) (text : Option (List �
   reached = record { wire = h.wire; come = h.come; a = h.a.records; b = h.b.records }
 
   read : IsReached text reached
-  read = (h.read, record { a = h.a.named; b = h.b.named })
+  read = (
+    h.read,
+    record { a = h.a.named; b = h.b.named },
+    record {
+      a = h.a.time.come;
+      b = h.b.time.come;
+      rise_a = all_rise (units_of B h.wire) line.a.units.waiting h.a.records h.a.passed h.a.time.rise;
+      rise_b = all_rise (units_of A h.wire) line.b.units.waiting h.b.records h.b.passed h.b.time.rise;
+    },
+  )
 
   have_first : HaveFirst reached
   have_first = record {
@@ -180,14 +190,14 @@ module _ (last : Option (Side × ℕ)) (format : Format) (text : Option (List �
     wire = h.wire;
     come = h.come;
     read = h.read;
-    a = over_put _ _ _ _ _ line.a.units a h.a put_a.moves;
-    b = over_put _ _ _ _ _ line.b.units b h.b put_b.moves;
+    a = over_put _ _ _ _ _ _ _ line.a.units a h.a put_a.moves;
+    b = over_put _ _ _ _ _ _ _ line.b.units b h.b put_b.moves;
   }
 
   number_put : (side : Side) → units_at side h ≡ units_at side put_over
   unfolding put_over over_put
-  number_put A = ap length (sym (same_units _ _ _ _ _ line.a.units a h.a put_a.moves))
-  number_put B = ap length (sym (same_units _ _ _ _ _ line.b.units b h.b put_b.moves))
+  number_put A = ap length (sym (same_units _ _ _ _ _ _ _ line.a.units a h.a put_a.moves))
+  number_put B = ap length (sym (same_units _ _ _ _ _ _ _ line.b.units b h.b put_b.moves))
 
   others_put : (side : Side) → others_at side put_over ≡ others_at side h
   unfolding put_over over_put

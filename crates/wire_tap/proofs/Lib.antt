@@ -1,6 +1,7 @@
 pub mod CountLaws
 pub mod NameLaws
 pub mod MoveLaws
+pub mod TimeLaws
 pub mod TellLaws
 pub mod PassLaws
 pub mod SideLaws

@@ -1,5 +1,5 @@
 -- Both sides of what a tap wrote, from one piece to the next.
-use Rattle.std.proofs.Common.{◌≡◌, ℕ, ◌+◌, ◌<◌, ◌^◌, List, [], ◌∷◌, ◌++◌, length, Option, Some, None, Result, Ok, refl, sym, ap, subst}
+use Rattle.std.proofs.Common.{◌≡◌, ℕ, ◌+◌, ◌≤◌, ◌<◌, ◌^◌, List, [], ◌∷◌, ◌++◌, length, Option, Some, None, Result, Ok, refl, sym, ap, subst}
 use Rattle.std.proofs.Common.{◌∙◌, arith, append-nil, length-append}
 use Rattle.std.specs.Prelude.{IfOk}
 use Rattle.std.specs.Io.KnownBytes.{IsAtEnd}
@@ -16,7 +16,9 @@ use Rattle.capture.specs.Listed.{IsListSoFar, with_item}
 use Rattle.wire_text.specs.WireText.{Piece, PieceDeparts, Wire, piece, wire_form}
 use Rattle.wire_text.specs.declared.limit.TheConstants.{MAX_PIECES}
 use Rattle.capture.proofs.ListedSoFar as read
-use Rattle.wire_tap.specs.Tapping.{Held}
+use Rattle.framer.specs.Framing.{Framing}
+use Rattle.framer.proofs.SoFarLaws.{whole}
+use Rattle.wire_tap.specs.Tapping.{HadPassed, Held}
 use Rattle.wire_tap.specs.Units.{bytes_of, messages, units_of}
 use Rattle.wire_tap.specs.declared.stop.Stop.TheVariants as stops
 use Rattle.wire_tap.specs.declared.tapped.Ending.{Ending}
@@ -28,13 +30,17 @@ use Rattle.wire_tap.proofs.MoveLaws.{if_ok_both}
 use Rattle.wire_tap.proofs.PassLaws.{ends_same}
 use Rattle.wire_tap.proofs.TellLaws.{units_more}
 use Rattle.wire_tap.proofs.SideLaws.{beside, bytes_more, over_all, over_beside, over_some, piece_on, units_same, written_on}
+use Rattle.wire_tap.proofs.TimeLaws.{grows, had_passed}
 use Rattle.wire_tap.proofs.EndLaws.{stop_from}
 
 -- ---- both sides, from one piece to the next
 
+same_few : (n m : ℕ) → n ≡ m → n ≤ m
+same_few n m e = omega (arith, e)
+
 module _ (format : Format) (text : Option (List ℕ)) (old : Held) (line : LineState) (h : IsLineUnderWay format text old line) where
   pub line_over : IsLineOver format text old line
-  line_over = record { spells = h.spells; wire = h.wire; come = line.come; read = h.read; a = over_all _ _ _ _ _ line.a h.a; b = over_all _ _ _ _ _ line.b h.b }
+  line_over = record { spells = h.spells; wire = h.wire; come = line.come; read = h.read; a = over_all _ _ _ _ _ _ _ line.a h.a; b = over_all _ _ _ _ _ _ _ line.b h.b }
 
   all_over_line : IsAllOver line_over
   unfolding line_over over_all
@@ -63,8 +69,8 @@ module _ (format : Format) (text : Option (List ℕ)) (old : Held) (line : LineS
     wire = h.wire;
     read = h.read;
     count = h.count;
-    a = written_on _ _ _ _ _ line.a h.a later.a a over_a same_a;
-    b = written_on _ _ _ _ _ line.b h.b later.b b over_b same_b;
+    a = written_on _ _ _ _ _ _ _ line.a h.a later.a a over_a same_a;
+    b = written_on _ _ _ _ _ _ _ line.b h.b later.b b over_b same_b;
   }
 
   module _ (side : Side) (was now : ListState) (same : line.pieces ≡ was.items) (after : Option (List ℕ)) (a b : SideState)
@@ -106,6 +112,27 @@ module _ (format : Format) (text : Option (List ℕ)) (old : Held) (line : LineS
   more_b bytes =
       ap units_in (bytes_more B h.wire.items (piece B bytes)) ∙ units_more (bytes_of B h.wire.items) line.b.held bytes h.b.found h.b.framed h.b.left
 
+  -- of the units of one side, and of those of a piece of it, all had passed after those of the other one
+  found_a : units_of A h.wire ≡ messages h.a.found.units
+  found_a = ap (λ (f : Framing). messages f.units) (whole (bytes_of A h.wire.items) line.a.held h.a.found h.a.framed h.a.left)
+
+  found_b : units_of B h.wire ≡ messages h.b.found.units
+  found_b = ap (λ (f : Framing). messages f.units) (whole (bytes_of B h.wire.items) line.b.held h.b.found h.b.framed h.b.left)
+
+  had_a : (bytes : List ℕ) (number : ℕ) → number < length (units_of B h.wire ++ units_in (line.b.held ++ bytes)) →
+      HadPassed A (h.wire.items ++ piece B bytes ∷ []) (length (messages h.a.found.units)) number
+  had_a bytes number less =
+      had_passed A (h.wire.items ++ piece B bytes ∷ []) (length (messages h.a.found.units)) number
+      (subst (λ (k : ℕ). number < k) (sym (ap length (more_b bytes))) less)
+      (same_few _ _ (ap length (same_a h.wire.items bytes ∙ found_a)))
+
+  had_b : (bytes : List ℕ) (number : ℕ) → number < length (units_of A h.wire ++ units_in (line.a.held ++ bytes)) →
+      HadPassed B (h.wire.items ++ piece A bytes ∷ []) (length (messages h.b.found.units)) number
+  had_b bytes number less =
+      had_passed B (h.wire.items ++ piece A bytes ∷ []) (length (messages h.b.found.units)) number
+      (subst (λ (k : ℕ). number < k) (sym (ap length (more_a bytes))) less)
+      (same_few _ _ (ap length (same_b h.wire.items bytes ∙ found_b)))
+
   -- the piece passed
   pub line_goes : (last : Option (Side × ℕ)) (side : Side) (was now : ListState) (same : line.pieces ≡ was.items)
       (after : Option (List ℕ)) (a b : SideState) (advances : Advances wire_form was now line.come after (Ok (Some (piece side now.bytes))))
@@ -115,16 +142,20 @@ module _ (format : Format) (text : Option (List ℕ)) (old : Held) (line : LineS
     wire = wire_on A was now same after a b advances;
     read = read_on A was now same after a b advances;
     count = count_on A was now same after a b advances;
-    a = piece_on _ _ _ _ _ line.a h.a now.bytes _ _ a (bytes_more A h.wire.items (piece A now.bytes)) (same_b h.wire.items now.bytes) p.0;
-    b = beside _ _ _ _ _ line.b h.b (units_in (line.a.held ++ now.bytes)) _ _ b (beside_b h.wire.items now.bytes) (more_a now.bytes) p.1;
+    a = piece_on _ _ _ _ _ _ _ line.a h.a _ now.bytes _ _ a (bytes_more A h.wire.items (piece A now.bytes)) (same_b h.wire.items now.bytes)
+        (grows A h.wire.items (piece A now.bytes)) p.0;
+    b = beside _ _ _ _ _ _ _ line.b h.b (units_in (line.a.held ++ now.bytes)) _ _ _ b (beside_b h.wire.items now.bytes) (more_a now.bytes)
+        (grows B h.wire.items (piece A now.bytes)) (had_b now.bytes) p.1;
   }
   line_goes last B was now same after a b advances p = record {
     spells = h.spells;
     wire = wire_on B was now same after a b advances;
     read = read_on B was now same after a b advances;
     count = count_on B was now same after a b advances;
-    a = beside _ _ _ _ _ line.a h.a (units_in (line.b.held ++ now.bytes)) _ _ a (beside_a h.wire.items now.bytes) (more_b now.bytes) p.0;
-    b = piece_on _ _ _ _ _ line.b h.b now.bytes _ _ b (bytes_more B h.wire.items (piece B now.bytes)) (same_a h.wire.items now.bytes) p.1;
+    a = beside _ _ _ _ _ _ _ line.a h.a (units_in (line.b.held ++ now.bytes)) _ _ _ a (beside_a h.wire.items now.bytes) (more_b now.bytes)
+        (grows A h.wire.items (piece B now.bytes)) (had_a now.bytes) p.0;
+    b = piece_on _ _ _ _ _ _ _ line.b h.b _ now.bytes _ _ b (bytes_more B h.wire.items (piece B now.bytes)) (same_a h.wire.items now.bytes)
+        (grows B h.wire.items (piece B now.bytes)) p.1;
   }
 
   -- the captures end with a unit of it
@@ -142,14 +173,14 @@ module _ (format : Format) (text : Option (List ℕ)) (old : Held) (line : LineS
         wire = wire_on A was now same after a b advances;
         come = after;
         read = read_on A was now same after a b advances;
-        a = over_some _ _ _ _ _ line.a h.a now.bytes p.0.come a p.0.some _ _ (bytes_more A h.wire.items (piece A now.bytes))
-            (same_b h.wire.items now.bytes);
-        b = over_beside _ _ _ _ _ line.b h.b (units_in (line.a.held ++ now.bytes)) _ _ b (beside_b h.wire.items now.bytes)
-            (more_a now.bytes) ending p.1;
+        a = over_some _ _ _ _ _ _ _ line.a h.a now.bytes p.0.come a p.0.some _ _ _ (bytes_more A h.wire.items (piece A now.bytes))
+            (same_b h.wire.items now.bytes) (grows A h.wire.items (piece A now.bytes));
+        b = over_beside _ _ _ _ _ _ _ line.b h.b (units_in (line.a.held ++ now.bytes)) _ _ _ b (beside_b h.wire.items now.bytes)
+            (more_a now.bytes) (grows B h.wire.items (piece A now.bytes)) (had_b now.bytes) ending p.1;
       }
 
       counts : units_at A over < 2 ^ 64 → units_at A over ≡ line.a.units.count + length (messages p.0.some.found.units)
-      counts = units_same _ _ _ _ _ line.a h.a now.bytes p.0.come a p.0.some
+      counts = units_same _ _ _ _ _ _ _ line.a h.a now.bytes p.0.come a p.0.some
   over_on last B was now same after a b advances ending p =
       (over, stop_from last format text old _ over B ending refl (ends_same _ _ _ ending counts p.1.ends))
     where
@@ -159,14 +190,14 @@ module _ (format : Format) (text : Option (List ℕ)) (old : Held) (line : LineS
         wire = wire_on B was now same after a b advances;
         come = after;
         read = read_on B was now same after a b advances;
-        a = over_beside _ _ _ _ _ line.a h.a (units_in (line.b.held ++ now.bytes)) _ _ a (beside_a h.wire.items now.bytes)
-            (more_b now.bytes) ending p.0;
-        b = over_some _ _ _ _ _ line.b h.b now.bytes p.1.come b p.1.some _ _ (bytes_more B h.wire.items (piece B now.bytes))
-            (same_a h.wire.items now.bytes);
+        a = over_beside _ _ _ _ _ _ _ line.a h.a (units_in (line.b.held ++ now.bytes)) _ _ _ a (beside_a h.wire.items now.bytes)
+            (more_b now.bytes) (grows A h.wire.items (piece B now.bytes)) (had_a now.bytes) ending p.0;
+        b = over_some _ _ _ _ _ _ _ line.b h.b now.bytes p.1.come b p.1.some _ _ _ (bytes_more B h.wire.items (piece B now.bytes))
+            (same_a h.wire.items now.bytes) (grows B h.wire.items (piece B now.bytes));
       }
 
       counts : units_at B over < 2 ^ 64 → units_at B over ≡ line.b.units.count + length (messages p.1.some.found.units)
-      counts = units_same _ _ _ _ _ line.b h.b now.bytes p.1.come b p.1.some
+      counts = units_same _ _ _ _ _ _ _ line.b h.b now.bytes p.1.come b p.1.some
 
 -- ---- one piece
 

@@ -6,14 +6,19 @@ use Rattle.capture.specs.declared.record.Record.TheVariants.{Sent, Received, Noi
 use Rattle.capture.specs.declared.hint.HintForm.TheVariants.{Number}
 use Rattle.capture.specs.Text.{record_line, record_lines}
 use Rattle.framer.specs.Framing.{kind_of}
-use Rattle.placing.specs.Placed.{HavePassed, NameUnits, Puts, Waiting, records_of, units_sent, with_other, with_own}
+use Rattle.placing.specs.Placed.{AllCome, HavePassed, NameUnits, Puts, Units, Waiting, other_count, records_of, units_sent, with_other, with_own}
+use Rattle.placing.specs.inner.Coming.{HoldsOn}
+use Rattle.placing.proofs.Coming.{come-append, other_holds, own_holds, puts_come, puts_count, puts_rise, rise-append}
 use Rattle.placing.proofs.Names.{other_passed, own_passed, puts_name, puts_passed}
 use Rattle.placing.proofs.Puts.{puts_units}
 use Rattle.std.specs.Prelude.{slice_index, Result, Ok, Err, IfOk, OnOk}
 use Rattle.wire_tap.specs.Units.{message_of, messages}
 use Rattle.wire_tap.specs.inner.Moving.{PutsAll}
-use Rattle.wire_tap.specs.inner.Side.{MovesOn, PassUnits, UnitsState, counted}
-use Rattle.wire_tap.proofs.NameLaws.{names-append, names_later}
+use Rattle.wire_base.specs.declared.side.Side.{Side}
+use Rattle.wire_text.specs.WireText.{Piece}
+use Rattle.wire_tap.specs.Tapping.{HadPassed}
+use Rattle.wire_tap.specs.inner.Side.{HoldsOfMore, MovesOn, PassUnits, UnitsState, counted}
+use Rattle.wire_tap.proofs.NameLaws.{lasts, names-append, names_later}
 
 -- ---- records
 
@@ -40,6 +45,11 @@ messages-append (unit ∷ units) more =
 
 -- ---- one side
 
+none_more : (side : Side) (pieces : List Piece) (sent : ℕ) (units : Units) → HoldsOn (HadPassed side pieces) sent units →
+    HoldsOn (HadPassed side pieces) (sent + 0) units
+none_more side pieces sent units h =
+    let none : sent ≡ sent + 0 = omega arith in subst (λ (k : ℕ). HoldsOn (HadPassed side pieces) k units) none h
+
 pub moves_nothing : (w : Waiting) → MovesOn [] [] w w
 moves_nothing w = record {
   records = [];
@@ -47,6 +57,9 @@ moves_nothing w = record {
   text = sym (append-nil w.text);
   named = λ all h. tt;
   passed = λ all h. subst (λ (units : List (List ℕ)). HavePassed units w.units) (sym (append-nil all)) h;
+  count = omega arith;
+  rise = omega arith;
+  come = λ side pieces sent h more. (tt, none_more side pieces sent w.units h);
 }
 
 pub moves_own : (unit : List ℕ) (w : Waiting) → MovesOn (unit ∷ []) [] w (with_own unit w)
@@ -56,6 +69,10 @@ moves_own unit w = record {
   text = sym (append-nil w.text);
   named = λ all h. tt;
   passed = λ all h. subst (λ (units : List (List ℕ)). HavePassed units (with_own unit w).units) (sym (append-nil all)) (own_passed all unit w h);
+  count = omega arith;
+  rise = omega arith;
+  come = λ side pieces sent h more.
+      (tt, none_more side pieces sent (with_own unit w).units (own_holds (HadPassed side pieces) (lasts side pieces) sent unit w h));
 }
 
 pub moves_other : (unit : List ℕ) (w : Waiting) → MovesOn [] (unit ∷ []) w (with_other unit w)
@@ -65,6 +82,10 @@ moves_other unit w = record {
   text = sym (append-nil w.text);
   named = λ all h. tt;
   passed = λ all h. other_passed all unit w h;
+  count = let more = length-append w.units.other (unit ∷ []) in omega (arith, more);
+  rise = omega arith;
+  come = λ side pieces sent h more.
+      (tt, none_more side pieces sent (with_other unit w).units (other_holds (HadPassed side pieces) sent unit w h more));
 }
 
 pub moves_put : (old new : Waiting) → Puts old new → MovesOn [] [] old new
@@ -74,6 +95,9 @@ moves_put old new p = record {
   text = p.text;
   named = λ all h. names_later all [] (records_of p.acts) (puts_name all old new p h);
   passed = λ all h. subst (λ (units : List (List ℕ)). HavePassed units new.units) (sym (append-nil all)) (puts_passed all old new p h);
+  count = let same = puts_count old new p in omega (arith, same);
+  rise = puts_rise old new p;
+  come = λ side pieces sent h more. puts_come (HadPassed side pieces) sent old new p h;
 }
 
 module _ (first second other later : List (List ℕ)) (a b c : Waiting) (p : MovesOn first other a b) (q : MovesOn second later b c) where
@@ -86,6 +110,38 @@ module _ (first second other later : List (List ℕ)) (a b c : Waiting) (p : Mov
   both_passed : (all : List (List ℕ)) → HavePassed all a.units → HavePassed (all ++ (other ++ later)) c.units
   both_passed all h =
       subst (λ (units : List (List ℕ)). HavePassed units c.units) (append_assoc all other later) (q.passed (all ++ other) (p.passed all h))
+
+  both_count : other_count c.units ≡ other_count a.units + length (other ++ later)
+  both_count =
+      let one = p.count in let two = q.count in let both = length-append other later in omega (arith, one, two, both)
+
+  both_come : (side : Side) (pieces : List Piece) (sent : ℕ) → HoldsOn (HadPassed side pieces) sent a.units →
+      HoldsOfMore side pieces sent (other ++ later) a.units → AllCome (HadPassed side pieces) sent (p.records ++ q.records)
+      × HoldsOn (HadPassed side pieces) (sent + length (units_sent (p.records ++ q.records))) c.units
+  both_come side pieces sent h more =
+      let both = length-append other later in
+      let one = p.come side pieces sent h (λ number less. more number (omega (arith, less, both))) in
+      let two = q.come side pieces (sent + length (units_sent p.records)) one.1 (more_mid side pieces sent more) in (
+        come-append (HadPassed side pieces) sent p.records q.records one.0 two.0,
+        subst (λ (k : ℕ). HoldsOn (HadPassed side pieces) k c.units) (sent_both sent) two.1,
+      )
+    where
+      more_mid : (side : Side) (pieces : List Piece) (sent : ℕ) → HoldsOfMore side pieces sent (other ++ later) a.units →
+          HoldsOfMore side pieces (sent + length (units_sent p.records)) later b.units
+      more_mid side pieces sent more number less =
+          let count = p.count in
+          let both = length-append other later in
+          let len = ap length p.sent in
+          let before = length-append (units_sent p.records) b.units.own in
+          let after = length-append a.units.own first in
+          lasts side pieces (sent + length a.units.own) (sent + length (units_sent p.records) + length b.units.own) number
+          (omega (arith, len, before, after)) (more number (omega (arith, less, count, both)))
+
+      sent_both : (sent : ℕ) → sent + length (units_sent p.records) + length (units_sent q.records) ≡ sent + length (units_sent (p.records ++ q.records))
+      sent_both sent =
+          let len = ap length (sent-append p.records q.records) in
+          let both = length-append (units_sent p.records) (units_sent q.records) in
+          omega (arith, len, both)
 
   pub moves_then : MovesOn (first ++ second) (other ++ later) a c
   moves_then = record {
@@ -101,6 +157,9 @@ module _ (first second other later : List (List ℕ)) (a b c : Waiting) (p : Mov
         ∙ ap (λ (text : List ℕ). a.text ++ text) (sym (lines-append p.records q.records));
     named = both_named;
     passed = both_passed;
+    count = both_count;
+    rise = rise-append a.units.gone b.units.gone c.units.gone p.records q.records p.rise q.rise;
+    come = both_come;
   }
 
 pub puts_all : (old new : Waiting) → Puts old new → new.units.own ≡ [] → PutsAll old new

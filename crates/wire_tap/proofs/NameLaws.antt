@@ -1,9 +1,23 @@
 -- Which units of the other side receipts are of, record by record.
-use Rattle.std.proofs.Common.{ℕ, List, [], ◌∷◌, ◌++◌, sym, ap, ◌∙◌, append_assoc, append-nil}
+use Rattle.std.proofs.Common.{ℕ, List, [], ◌∷◌, ◌++◌, sym, ap, ◌∙◌, arith, append_assoc, append-nil}
 use Rattle.capture.specs.declared.record.Record.{Record}
 use Rattle.capture.specs.declared.record.Record.TheVariants.{Sent, Received, Noise, User}
 use Rattle.placing.specs.Placed.{HavePassed, IsUnit, NameUnits, Waiting}
+use Rattle.placing.specs.inner.Coming.{Lasts}
+use Rattle.wire_base.specs.declared.side.Side.{Side}
+use Rattle.wire_text.specs.WireText.{Piece}
+use Rattle.wire_tap.specs.Tapping.{HadPassed}
 use Rattle.wire_tap.specs.inner.Moving.{FirstPassed}
+
+-- what had passed before a unit of the side, had passed before a later one
+pub lasts : (side : Side) (pieces : List Piece) → Lasts (HadPassed side pieces)
+lasts side pieces sent more number less h = record {
+  first = h.first;
+  rest = h.rest;
+  are = h.are;
+  whole = h.whole;
+  few = let few = h.few in omega (arith, few, less);
+}
 
 module _ (all : List (List ℕ)) where
   pub names-append : (rs more : List Record) → NameUnits all rs → NameUnits all more → NameUnits all (rs ++ more)

@@ -1,5 +1,5 @@
 -- What a tap reads and writes.
-use Rattle.std.specs.Prelude.{◌≡◌, ℕ, ◌+◌, ◌<◌, ◌^◌, ◌⊎◌, Bool, true, false, if◌then◌else◌, List, ◌++◌, length}
+use Rattle.std.specs.Prelude.{◌≡◌, ℕ, ◌+◌, ◌≤◌, ◌<◌, ◌^◌, ◌⊎◌, Bool, true, false, if◌then◌else◌, List, ◌++◌, length}
 use Rattle.std.specs.Prelude.{Option, Some, Result, Ok, Err, IfSome}
 use Rattle.std.specs.List.{list_all}
 use Rattle.std.specs.Io.KnownBytes.{Appends, IsAtEnd, Keeps}
@@ -14,12 +14,12 @@ use Rattle.capture.specs.declared.format.Format.TheVariants.{One, Three}
 use Rattle.capture.specs.declared.record.Record.{Record}
 use Rattle.capture.specs.Text.{capture_text}
 use Rattle.capture.specs.Listed.{IsListSoFar}
-use Rattle.wire_text.specs.WireText.{PieceDeparts, Wire, WireHeadDeparts, wire_form}
-use Rattle.placing.specs.Placed.{NameUnits, units_sent}
+use Rattle.wire_text.specs.WireText.{Piece, PieceDeparts, Wire, WireHeadDeparts, wire_form}
+use Rattle.placing.specs.Placed.{AllCome, HintsRise, NameUnits, units_sent}
 use Rattle.placing.specs.declared.turn.Assumed.{Assumed}
 use Rattle.placing.specs.declared.turn.Assumed.TheVariants as assumes
 use Rattle.placing.specs.declared.turn.Turn.{Turn}
-use Rattle.wire_tap.specs.Units.{units_of}
+use Rattle.wire_tap.specs.Units.{units_of, units_within}
 use Rattle.wire_tap.specs.declared.fault.TapFault.{TapFault}
 use Rattle.wire_tap.specs.declared.fault.TapFault.TheVariants as faults
 use Rattle.wire_tap.specs.declared.tapped.Ending.{Ending}
@@ -86,9 +86,26 @@ pub record HaveNamed (r : Reached) : Type 0 where
   pub a : NameUnits (units_of B r.wire) r.a
   pub b : NameUnits (units_of A r.wire) r.b
 
--- this was read of a text, and the receipts are of units in it
+-- ---- when these units had passed
+
+-- In some beginning of the pieces the other side's unit with this number is whole, and no more than so many units of the side are.
+pub record HadPassed (side : Side) (pieces : List Piece) (sent number : ℕ) : Type 0 where
+  pub first : List Piece
+  pub rest : List Piece
+  pub are : pieces ≡ first ++ rest
+  pub whole : number < length (units_within (other_side side) first)
+  pub few : length (units_within side first) ≤ sent
+
+-- The unit of each receipt had passed before the unit that the capture says was sent next passed; and hints rise.
+pub record HaveInTime (r : Reached) : Type 0 where
+  pub a : AllCome (HadPassed A r.wire.items) 0 r.a
+  pub b : AllCome (HadPassed B r.wire.items) 0 r.b
+  pub rise_a : HintsRise 0 (length (units_of B r.wire)) r.a
+  pub rise_b : HintsRise 0 (length (units_of A r.wire)) r.b
+
+-- this was read of a text, and the receipts are of units in it, each of one that had passed
 abbrev pub IsReached : Option (List ℕ) → Reached → Type 0
-IsReached text r = IsListSoFar wire_form text r.wire r.come × HaveNamed r
+IsReached text r = IsListSoFar wire_form text r.wire r.come × HaveNamed r × HaveInTime r
 
 -- ---- how many there are
 

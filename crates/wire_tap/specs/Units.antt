@@ -31,6 +31,10 @@ abbrev pub messages : List (List ℕ) → List (List ℕ)
 messages [] = []
 messages (unit ∷ units) = message_of (kind_of (slice_index unit 0)) unit ++ messages units
 
--- the units that a side sent, all that are whole and no maintenance messages, in their order
+-- the units that a side sent in these pieces, all that are whole and no maintenance messages, in their order
+abbrev pub units_within : Side → List Piece → List (List ℕ)
+units_within side pieces = messages (framing (bytes_of side pieces)).units
+
+-- those in all pieces
 abbrev pub units_of : Side → Wire → List (List ℕ)
-units_of side wire = messages (framing (bytes_of side wire.items)).units
+units_of side wire = units_within side wire.items

@@ -98,7 +98,7 @@ struct Accusers {
     packets: Option<PacketAccusers>,
 }
 
-// What accuses a side of what is in its data units: of each by itself, and of segments by those before.
+// What accuses a side of what is in its data units: of each by itself, and of segments by their length and by those before.
 #[derive(Drop)]
 struct PacketAccusers {
     links: LinkAccuser,
@@ -251,7 +251,7 @@ impl Accusers {
         let Some(packets) = &self.packets else {
             return Ok(false);
         };
-        Ok(packets.links.sends(unit).is_some())
+        Ok(packets.links.sends(unit).is_some() || packets.segments.is_too_long(unit))
     }
 
     // No right node that sends all it composed sent the segment in this unit; otherwise it is sent.

@@ -43,7 +43,8 @@ struct Sides {
 /// Each unit that was sent has passed here, and before the first of them neither side was started. Where a unit has no placing, or there are too
 /// many states to try, both captures end with it: the side's own has it as its last unit, and the other's what passed before it. Where each side is
 /// explained by itself, each capture is one of a node alone, and both need not go together. `turns` are what is assumed besides. Each receipt of a
-/// capture has the bytes of the unit of the other side that its hint numbers, among those that were read.
+/// capture has the bytes of the unit of the other side that its hint numbers, among those that were read, and that one had passed before the side's
+/// next unit in the capture passed; hints rise.
 ///
 /// Faults: `Departs` at the first line that departs from the format (`WireReader::open` and `advance` say how), and `Read` where a call of the text's
 /// reader failed: both writers then took the captures of all lines before, and nothing where there was no head. `Write`, a call of the writer of that

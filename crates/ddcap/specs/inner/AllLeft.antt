@@ -5,28 +5,31 @@ use Rattle.link_groups.specs.Groups.{AreGroupsOf, Binding}
 use Rattle.link_groups.specs.LeftOut as groups
 use Rattle.link_groups.specs.declared.own_address.OwnAddress.{OwnAddress}
 use Rattle.leaving_out.specs.Texts.{Binds}
+use Rattle.pair_judge.specs.Reason.{reason_matter}
 use Rattle.pair_judge.specs.declared.reason.Reason.{Reason}
-use Rattle.pair_judge.specs.declared.reason.Reason.TheVariants as reason
+use Rattle.pair_judge.specs.declared.reason_kind.Matter.{Matter}
+use Rattle.pair_judge.specs.declared.reason_kind.Matter.TheVariants as matter
 use Rattle.ddcap.specs.declared.all_left.Beyond.{Beyond}
 use Rattle.ddcap.specs.declared.all_left.Beyond.TheVariants.{Ends, AnyPeriod, UnreadPackets, UnreadMessages, Links}
 use Rattle.ddcap.specs.declared.all_left.NotJudged.{NotJudged}
 
 -- Of a rule of the links these are left out; of a period, a packet or a message that can't be read, that is not asked any more; and any other ends it
+abbrev pub beyond : Matter → Beyond
+beyond matter.Soundness = Ends
+beyond matter.Hints = Ends
+beyond matter.Passage = Ends
+beyond matter.State = Ends
+beyond matter.Response = Ends
+beyond matter.Station = Ends
+beyond matter.Period = AnyPeriod
+beyond matter.Packet = UnreadPackets
+beyond matter.Nodes = Links
+beyond matter.Nsp = UnreadMessages
+beyond matter.LinkNow = Links
+beyond matter.Link = Links
+
 abbrev pub beyond_of : Reason → Beyond
-beyond_of reason.CrossedPeriod = AnyPeriod
-beyond_of reason.BadPacket = UnreadPackets
-beyond_of reason.BadNsp = UnreadMessages
-beyond_of reason.WrongNode = Links
-beyond_of reason.NoLink = Links
-beyond_of reason.LinkState = Links
-beyond_of reason.WrongSegment = Links
-beyond_of reason.WrongAck = Links
-beyond_of reason.SegmentTooLong = Links
-beyond_of reason.LinkWindowFull = Links
-beyond_of reason.WrongDelivery = Links
-beyond_of reason.AddressInUse = Links
-beyond_of reason.CrossedLink = Links
-beyond_of _ = Ends
+beyond_of reason = beyond (reason_matter reason)
 
 -- these labels are those of the groups that both texts bind
 abbrev pub AreBoundByBoth : (text_a text_b : Option (List ℕ)) → (labels : List ℕ) → Type 0

@@ -1,30 +1,24 @@
 -- What the rows of `Table` of `dna_links` come to at the links of a node, with queues or without, for private contracts and for proofs.
-use Rattle.std.specs.Prelude.{ℕ, Bool, true, false, ◌==◌, if◌then◌else◌, Option, Some, None, List, position, Result, Ok, Err}
-use Rattle.dna_packet.specs.declared.ack_word.AckWord.{AckWord}
-use Rattle.dna_packet.specs.Nsp.{SegmentValue, NspValue, DataSegment, LinkService, DataAck, OtherDataAck, ConnectAck, NoOperation, ConnectInitiate}
+use Rattle.std.specs.Prelude.{ℕ, Bool, true, false, Option, Some, None, List, position, Result, Ok, Err}
+use Rattle.dna_packet.specs.Nsp.{NspValue, DataSegment, LinkService, DataAck, OtherDataAck, ConnectInitiate}
 use Rattle.dna_packet.specs.Nsp.{ConnectConfirm, DisconnectInitiate, DisconnectConfirm}
 use Rattle.dna_station.specs.declared.link_refusal.LinkRefusal.{LinkRefusal}
 use Rattle.dna_station.specs.declared.link_refusal.LinkRefusal.TheVariants.{NoLink, LinkState, CrossedLink}
 use Rattle.dna_links.specs.declared.port.Phase.{Phase}
-use Rattle.dna_links.specs.declared.port.Phase.TheVariants.{Calling, Confirming, Running, Disconnecting}
+use Rattle.dna_links.specs.declared.port.Phase.TheVariants.{Confirming, Running, Disconnecting}
 use Rattle.dna_links.specs.declared.port.LinkTest.{LinkTest}
-use Rattle.dna_links.specs.declared.port.LinkTest.TheVariants.{HasAddress, LiveAt, TheLink, LiveTo, OpenedAt, CallingAt, CalledBy, BegunBy, ActedOn}
+use Rattle.dna_links.specs.declared.port.LinkTest.TheVariants.{HasAddress, LiveAt, TheLink, LiveTo, OpenedAt, CallingAt, CalledBy, ActedOn}
 use Rattle.dna_links.specs.declared.queue.Queues.{Queues}
 use Rattle.dna_links.specs.declared.queue.Queues.TheVariants.{Without, With}
-use Rattle.dna_links.specs.declared.queue.Said.{Said}
-use Rattle.dna_links.specs.declared.queue.Said.TheVariants.{OfRun, Disconnect}
 use Rattle.dna_links.specs.declared.tag.LinkTag.{LinkTag}
 use Rattle.dna_links.specs.LookUps.{is_calling, is_connected, takes_messages, passes}
-use Rattle.dna_links.specs.SegmentBook.{Late, wider}
-use Rattle.dna_links.specs.Links.{LinkOf, check, number_of, with_link, with_seen, at_number, begun, changed, with_segments}
-use Rattle.dna_links.specs.LinkBook.{on_ok}
-use Rattle.dna_links.specs.Queues.{in_use, may_send, goes_to, ends_by_message, drops, freed, booted, shows, settled}
-use Rattle.dna_links.specs.Sending.{Sent}
+use Rattle.dna_links.specs.Links.{LinkOf, check, number_of, with_link, at_number, begun, changed, with_segments}
+use Rattle.dna_links.specs.Queues.{in_use, goes_to, ends_by_message, drops, freed, booted}
 use Rattle.dna_links.specs.Arriving.{PartnerRule, is_for, is_of_pair, of_partner}
 use Rattle.dna_links.specs.User.{LinkEventValue, Open, Accept, Reject, In, Up, Close, Abort, Boot}
 use Rattle.dna_links.specs.inner.Forms as forms
 use Rattle.dna_links.specs.inner.Forms.{called, delivered, of_no_link, opened, segment_of, truth_of, unchanged}
-use Rattle.dna_links.specs.WireSegments.{WireSegments, wire_segments, delivers, hands_in, is_new, sends_acks, sends_late, takes_acks, takes_segment, went_on}
+use Rattle.dna_links.specs.WireSegments.{WireSegments, wire_segments, delivers, hands_in, takes_acks, takes_segment}
 use Rattle.dna_links.specs.WireLinks.{WireLinks}
 
 -- ---- which link
@@ -49,50 +43,6 @@ is_of_own (ActedOn own far) = true
 is_of_own test = false
 
 -- ---- what a message makes of its link
-
--- what is sent of its numbers
-abbrev pub numbers_of : WireSegments → (gap : ℕ) → LinkOf WireSegments → LinkOf WireSegments
-numbers_of segments gap link = record link { segments = segments; queue = record link.queue { gap = gap } }
-
-abbrev pub numbered_late : SegmentValue → LinkOf WireSegments → Result (Late WireSegments (Unit {0})) LinkRefusal
-numbered_late segment link = sends_late link.queue.gap link.segsize segment link.segments
-
-module _ {R : Type 0} where
-  -- a segment; then what the link has become
-  abbrev pub numbered : Queues → SegmentValue → LinkOf WireSegments → (LinkOf WireSegments → Result R LinkRefusal) → Result R LinkRefusal
-  numbered Without segment link next = on_ok (segment_of wire_segments segment link) (λ sent. next (with_segments sent.segments link))
-  numbered With segment link next =
-      on_ok (numbered_late segment link) (λ sent. next (shows wire_segments OfRun (numbers_of sent.sent.segments sent.gap link)))
-
-  -- acknowledgement words alone; likewise
-  abbrev pub acked : Queues → List AckWord → LinkOf WireSegments → (LinkOf WireSegments → Result R LinkRefusal) → Result R LinkRefusal
-  acked Without words link next = on_ok (sends_acks words link.segments) (λ sent. next (with_segments sent.segments link))
-  acked With words link next =
-      on_ok (sends_acks words link.segments) (λ sent. next (shows wire_segments OfRun
-      (numbers_of sent.segments (wider link.queue.gap (went_on link.segments sent.segments)) link)))
-
--- the message makes this of the link
-abbrev pub sent_by : WireLinks → ℕ → LinkOf WireSegments → LinkOf WireSegments → Sent WireSegments (Unit {0})
-sent_by s number link after = record { links = changed number after s; truth = truth_of wire_segments number link tt }
-
--- how far the link has come
-abbrev pub said_as : Queues → Said → WireLinks → ℕ → LinkOf WireSegments → Sent WireSegments (Unit {0})
-said_as Without said s number link = unchanged wire_segments s number link
-said_as With said s number link =
-    record { links = changed number (shows wire_segments said link) s; truth = truth_of wire_segments number link tt }
-
--- a connect acknowledgement where no live link is found: with queues one may have ended
-abbrev pub known_waiting : Queues → LinkTest → WireLinks → Result (Sent WireSegments (Unit {0})) LinkRefusal
-known_waiting Without test s = Err NoLink
-known_waiting With test s = with_seen (in_use With) test s (Err NoLink) (λ number link. Ok (of_no_link wire_segments s))
-
--- a DC with this own address
-abbrev pub settles : Queues → (own : ℕ) → WireLinks → Sent WireSegments (Unit {0})
-settles Without own s = of_no_link wire_segments s
-settles With own s = record {
-  links = with_link (HasAddress own) s s (λ number link. changed number (settled wire_segments link.queue.waits link) s);
-  truth = record { tag = record { link = None; partner = None }; known = tt };
-}
 
 -- a CC: the sender is its partner
 abbrev pub connected : (far segsize : ℕ) → LinkTag → LinkOf WireSegments → LinkOf WireSegments
@@ -145,52 +95,6 @@ module _ (queues : Queues) where
   acts s (Close own) = closes own s
   acts s (Abort own) = aborts own s
   acts s Boot = boots s
-
-  -- ---- what is sent
-
-  abbrev pub in_turn : LinkTest → Phase → (ℕ → LinkOf WireSegments → Result (Sent WireSegments (Unit {0})) LinkRefusal) → WireLinks →
-      Result (Sent WireSegments (Unit {0})) LinkRefusal
-  in_turn test phase next s = found_in_use test s (Err NoLink) (λ number link. check (may_send queues phase link) LinkState (next number link))
-
-  abbrev pub in_its_turn : LinkTest → Phase → WireLinks → Result (Sent WireSegments (Unit {0})) LinkRefusal
-  in_its_turn test phase s = in_turn test phase (λ number link. Ok (unchanged wire_segments s number link)) s
-
-  -- one that shows how far the link has come, and nothing else
-  abbrev pub says : LinkTest → Phase → Said → WireLinks → Result (Sent WireSegments (Unit {0})) LinkRefusal
-  says test phase said s = in_turn test phase (λ number link. Ok (said_as queues said s number link)) s
-
-  abbrev pub knows : LinkTest → WireLinks → Result (Sent WireSegments (Unit {0})) LinkRefusal
-  knows test s = with_link test s (known_waiting queues test s) (λ number link. Ok (unchanged wire_segments s number link))
-
-  abbrev pub confirms_end : (src dst : ℕ) → WireLinks → Result (Sent WireSegments (Unit {0})) LinkRefusal
-  confirms_end src dst s =
-      with_link (TheLink src dst) s
-      (if src == 0 then with_link (CalledBy dst) s (Ok (of_no_link wire_segments s)) (λ number link.
-      Ok (sent_by s number link (drops wire_segments queues link))) else Ok (settles queues src s))
-      (λ number link. Err LinkState)
-
-  abbrev pub sends : WireLinks → NspValue → Result (Sent WireSegments (Unit {0})) LinkRefusal
-  sends s (ConnectInitiate retransmitted src services info segsize user_data) = in_its_turn (OpenedAt src) Calling s
-  sends s (ConnectAck dst) = knows (BegunBy dst) s
-  sends s (ConnectConfirm dst src services info segsize user_data) = in_its_turn (TheLink src dst) Confirming s
-  sends s (DisconnectInitiate dst src reason user_data) = says (TheLink src dst) Disconnecting Disconnect s
-  sends s (DisconnectConfirm dst src reason) = confirms_end src dst s
-  sends s (DataSegment segment) =
-      in_turn (TheLink segment.srcaddr segment.dstaddr) Running (λ number link. numbered queues segment link (λ after. Ok (sent_by s number link after))) s
-  sends s (DataAck dst src acks) =
-      in_turn (TheLink src dst) Running (λ number link. acked queues acks link (λ after. Ok (sent_by s number link after))) s
-  sends s (LinkService interrupt dst src rest) = says (TheLink src dst) Running OfRun s
-  sends s (OtherDataAck dst src rest) = says (TheLink src dst) Running OfRun s
-  sends s (NoOperation rest) = Ok (of_no_link wire_segments s)
-
-  -- a segment takes memory if it is new
-  abbrev pub gives : WireLinks → SegmentValue → Bool
-  gives s segment = found_in_use (TheLink segment.srcaddr segment.dstaddr) s false (λ number link. is_new segment link.segments.variables)
-
-  -- so does no other message
-  abbrev pub takes_memory : WireLinks → NspValue → Bool
-  takes_memory s (DataSegment segment) = gives s segment
-  takes_memory s m = false
 
   -- ---- what comes
 

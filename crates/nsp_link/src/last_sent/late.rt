@@ -4,10 +4,12 @@ ghost use Rattle.std.specs.Prelude.{◌≡◌, ◌<◌, option_map};
 ghost use Rattle.std.specs.List.{AllByRecursion};
 ghost use Rattle.dna_packet.specs.AckWord.{IsAckWord};
 ghost use Rattle.dna_links.specs.SegmentBook as book;
-ghost use Rattle.dna_links.specs.WireSegments.{all_named_late, gap_at, last_named_late};
+ghost use Rattle.dna_links.specs.WireSegments.{gap_at, last_named_late};
+ghost use Rattle.nsp_link.specs.FailedSending.{asked_late};
 ghost use Rattle.nsp_link.specs.inner.Late.{after_late};
 
 use super::LastSent;
+use crate::failed::FailedLinkSending;
 use dna_packet::AckWord;
 use link_segments::{REACH, is_of_data};
 use std::marker::Model;
@@ -31,28 +33,31 @@ impl Model for LateSent {
 }
 
 impl LastSent {
-    /// The last one after these words of a new segment, where each may be sent: besides what [`LastSent::behind_all`] allows it names an earlier
-    /// number that lies at most so far below the last one sent.
-    #[tactic(auto, using(crate::proofs::LateWords::words))]
-    pub fn behind_all_late(
+    /// The last one after these words of a new segment, as by [`LastSent::ask_words`]: each may besides name an earlier number that lies at most so
+    /// far below the last one sent.
+    #[tactic(auto, using(crate::proofs::LateWords::word_by_word))]
+    pub fn ask_late(
         self,
         gap: u16,
         received: Seq<4096>,
         words: &[AckWord],
-    ) -> Option<LateSent>
+    ) -> Result<LateSent, FailedLinkSending>
         requires { AllByRecursion IsAckWord words.now }
-        ensures { result ≡ all_named_late received words.now (record { sent = self; gap = gap }) }
+        ensures { result ≡ asked_late received words.now (record { sent = self; gap = gap }) }
     {
         let mut late = LateSent { sent: self, gap };
         for word in words {
             if is_of_data(word.qualifier) {
                 let Some(next) = late.sent.behind_late(late.gap, received, word.number) else {
-                    return None;
+                    return Err(FailedLinkSending::Acknowledgement {
+                        seen: word.number,
+                        allowed: late.numbers(received),
+                    });
                 };
                 late = next;
             }
         }
-        Some(late)
+        Ok(late)
     }
 
     /// The last one after such a word with this number, where it may be sent.

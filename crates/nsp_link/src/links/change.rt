@@ -10,20 +10,23 @@ ghost use Rattle.dna_links.specs.Queues.{drops, ends_by_message, goes_to, settle
 ghost use Rattle.dna_links.specs.declared.queue.Queues.TheVariants.{With};
 ghost use Rattle.dna_links.specs.Links.{LinkOf, changed, with_segments};
 ghost use Rattle.dna_links.specs.LookUps.{is_calling, is_at};
-ghost use Rattle.dna_links.specs.inner.Forms.{delivered, truth_of};
-ghost use Rattle.dna_links.specs.WireSegments.{WireSegments, wire_segments, hands_in, delivers, is_new, takes_acks, takes_segment};
-ghost use Rattle.nsp_link.specs.Fault.{IsFault};
+ghost use Rattle.dna_links.specs.Segmentation.{piece_of};
+ghost use Rattle.dna_links.specs.inner.Forms.{delivered};
+ghost use Rattle.dna_links.specs.WireSegments.{WireSegments, wire_segments, hands_in, delivers, takes_acks, takes_segment};
 ghost use Rattle.nsp_link.specs.Segments.{is_held};
 ghost use Rattle.nsp_link.specs.inner.Index.{times};
 ghost use Rattle.nsp_link.specs.Kinds.{queues_of};
 ghost use Rattle.nsp_link.specs.inner.Indexing.{CallsAt, KeepsAt, LivesAt, UsesAt};
-ghost use Rattle.nsp_link.specs.inner.Rows.{acked, confirmed, numbered, runs, sent_by};
+ghost use Rattle.nsp_link.specs.inner.Permitted.{IsNextAt, gave, went_on};
+ghost use Rattle.nsp_link.specs.inner.Rows.{confirmed, runs};
 
 use super::Links;
 use super::begin::{count_only_with, end_use};
 use crate::index::Index;
+use crate::last_sent::LastSent;
+use crate::last_sent::late::LateSent;
 use crate::phase::is_phase;
-use crate::{LinkFault, LinkRefusal, LinkTag, Piece};
+use crate::{LinkRefusal, LinkTag, Piece};
 use dna_links::{Phase, Port, Said};
 use dna_packet::{AckWord, Segment};
 use std::alloc::AllocError;
@@ -63,46 +66,31 @@ impl<W: Window<Piece, 4096> + Drop> Links<W> {
         self.links[number].deliver(message)
     }
 
-    // A segment is sent on the link with this number.
-    pub(super) fn send_segment_at<const QUEUES: u8>(
+    // A new segment is sent on the link with this number. Where memory is refused, nothing changes.
+    pub(super) fn give_at<const QUEUES: u8>(
         &mut self,
         number: usize,
         segment: &Segment,
-    ) -> Result<(), LinkFault>
+        late: LateSent,
+    ) -> Result<(), AllocError>
         requires within { number < length self.old.links }
         requires kept { KeepsAt number self.old }
-        requires acks { AllByRecursion IsAckWord segment.now.acks.items }
-        requires segnum { segment.now.number < 4096 }
+        requires next { IsNextAt (Some (segment_view segment.now)) number self.old }
         ensures ok { (link : LinkOf WireSegments) → slice_get self.old.links number ≡ Some link
-            → OnOk result (numbered (queues_of QUEUES) (segment_view segment.now) link (λ after. Ok (sent_by self.old number link after))
-            ≡ Ok (record { links = self.new; truth = truth_of wire_segments number link tt })) }
-        ensures refused { (link : LinkOf WireSegments) → slice_get self.old.links number ≡ Some link
-            → IfErr result (λ fault. IsFault
-            (numbered (queues_of QUEUES) (segment_view segment.now) link (λ after. Ok (sent_by self.old number link after)))
-            (is_new (segment_view segment.now) link.segments.variables) fault) }
+            → OnOk result (self.new ≡ changed number (gave (queues_of QUEUES) (piece_of (segment_view segment.now)) late link) self.old) }
         ensures err { OnErr result (self.new ≡ self.old) }
     {
-        self.links[number].send_segment::<QUEUES>(self.alloc, segment)
+        self.links[number].give::<QUEUES>(self.alloc, segment, late)
     }
 
-    // Acknowledgement words are sent alone on the link with this number.
-    pub(super) fn send_acks_at<const QUEUES: u8>(
-        &mut self,
-        number: usize,
-        words: &[AckWord],
-    ) -> Result<(), LinkRefusal>
+    // Words are sent on the link with this number that leave this as the last acknowledgement.
+    pub(super) fn go_on_at<const QUEUES: u8>(&mut self, number: usize, sent: LastSent)
         requires within { number < length self.old.links }
         requires kept { KeepsAt number self.old }
-        requires acks { AllByRecursion IsAckWord words.now }
-        ensures ok { (link : LinkOf WireSegments) → slice_get self.old.links number ≡ Some link
-            → OnOk result (acked (queues_of QUEUES) words.now link (λ after. Ok (sent_by self.old number link after))
-            ≡ Ok (record { links = self.new; truth = truth_of wire_segments number link tt })) }
-        ensures refused { (link : LinkOf WireSegments) → slice_get self.old.links number ≡ Some link
-            → IfErr result (λ refusal. acked (queues_of QUEUES) words.now link (λ after. Ok (sent_by self.old number link after))
-            ≡ Err refusal) }
-        ensures err { OnErr result (self.new ≡ self.old) }
+        ensures { (link : LinkOf WireSegments) → slice_get self.old.links number ≡ Some link
+            → self.new ≡ changed number (went_on (queues_of QUEUES) sent link) self.old }
     {
-        self.links[number].send_acks::<QUEUES>(self.alloc, words)
+        self.links[number].go_on::<QUEUES>(self.alloc, sent);
     }
 
     // With queues: a message shows that the link with this number has come so far in what it sends.

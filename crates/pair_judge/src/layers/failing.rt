@@ -69,10 +69,10 @@ impl Layers {
         match &read_nsp(carried.message) {
             Ok(message) => match self
                 .links
-                .failed_sending::<QUEUES>(carried.dst, carried.src, message)
+                .ask_sending::<QUEUES>(carried.dst, carried.src, message)
             {
-                Some(failed) => Some(FailedCheck::LinkSending(failed)),
-                None => None,
+                Ok(_permit) => None,
+                Err(failed) => Some(FailedCheck::LinkSending(failed)),
             },
             Err(fault) => Some(FailedCheck::Nsp(*fault)),
         }

@@ -1,7 +1,7 @@
 //! The units of the other side.
 
 ghost use Rattle.std.specs.Prelude.{◌≡◌, OnOk};
-ghost use Rattle.placing.specs.Placed.{Puts};
+ghost use Rattle.placing.specs.Placed.{IsInTime, Puts};
 
 use super::Waiting;
 use capture::{Entry, Fate};
@@ -9,11 +9,15 @@ use std::alloc::AllocError;
 
 impl Waiting {
     /// Puts the line of the next unit of the other side, which came, after that of a call that was given up before. `AllocError` where there is no
-    /// memory for them.
+    /// memory for them. If it had not passed before the side's next unit, it gets no line; no search names such a one.
     #[tactic(auto, using(crate::proofs::Puts::puts_then))]
     pub(super) fn put_other(&mut self, kept: bool) -> Result<(), AllocError>
         ensures { OnOk result (Puts self.old self.new) }
     {
+        if !self.has_passed() {
+            self.lose();
+            return Ok(());
+        }
         if kept {
             self.put_abort()?;
             self.keep_packet()?;
@@ -24,7 +28,8 @@ impl Waiting {
 
     // A call that was given up before the packet of the next unit of the other side, which answers it.
     fn put_abort(&mut self) -> Result<(), AllocError>
-        ensures { OnOk result (Puts self.old self.new) }
+        ensures puts { OnOk result (Puts self.old self.new) }
+        ensures same { self.new.units ≡ self.old.units }
     {
         match self.next_given_up() {
             Some(link) => self.put_aside(Entry::Abort { link }, &[]),
@@ -43,6 +48,7 @@ impl Waiting {
 
     #[tactic(auto, using(crate::proofs::Puts::puts_nothing))]
     fn put_came(&mut self, fate: Fate) -> Result<(), AllocError>
+        requires { IsInTime self.old.units.gone self.old.units.seen }
         ensures { OnOk result (Puts self.old self.new) }
     {
         let hint = self.next_hint();

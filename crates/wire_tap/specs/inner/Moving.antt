@@ -15,10 +15,11 @@ use Rattle.capture.specs.Reader.{FaultShows}
 use Rattle.capture.specs.Text.{first_form, head_line, record_lines}
 use Rattle.framer.specs.Framing.{Framing, framing, only_left}
 use Rattle.framer.specs.SoFar.{IsFramedSoFar}
-use Rattle.placing.specs.Placed.{HavePassed, NameUnits, Waiting, units_sent}
+use Rattle.placing.specs.Placed.{AllCome, HavePassed, HintsRise, NameUnits, Units, Waiting, units_sent}
+use Rattle.placing.specs.inner.Coming.{HoldsOn}
 use Rattle.capture.specs.Listed.{IsListSoFar}
-use Rattle.wire_text.specs.WireText.{PieceDeparts, Wire, wire_form}
-use Rattle.wire_tap.specs.Tapping.{Held, Taps}
+use Rattle.wire_text.specs.WireText.{Piece, PieceDeparts, Wire, wire_form}
+use Rattle.wire_tap.specs.Tapping.{HadPassed, Held, Taps}
 use Rattle.wire_tap.specs.Units.{bytes_of, messages, units_of}
 use Rattle.wire_tap.specs.inner.Side.{MovesOn, PassesBytes, SideState, Tells, UnitsState, aim, counted, side_state, units_in}
 use Rattle.wire_tap.specs.declared.fault.TapFault.{TapFault}
@@ -44,9 +45,16 @@ pub record PutsAll (old new : Waiting) : Type 0 where
 
 -- ---- one side under way
 
+-- The units of its receipts had passed in time, in these pieces, and so had whatever may come next.
+pub record AreInTime (of : Side) (pieces : List Piece) (records : List Record) (units : Units) : Type 0 where
+  pub come : AllCome (HadPassed of pieces) 0 records
+  pub holds : HoldsOn (HadPassed of pieces) (length (units_sent records)) units
+  pub rise : HintsRise 0 units.gone records
+
 -- Of the bytes that it sent these units were found; the first of them are in these records, and the others wait. A part of the text after the
 -- head was written, and the rest waits. These units of the other side passed, and the receipts in the records are of such.
-pub record IsUnderWay (bytes head : List ℕ) (other : List (List ℕ)) (old now : Option (List ℕ)) (side : SideState) : Type 0 where
+pub record IsUnderWay (of : Side) (pieces : List Piece) (bytes head : List ℕ) (other : List (List ℕ)) (old now : Option (List ℕ))
+    (side : SideState) : Type 0 where
   pub records : List Record
   pub found : Framing
   pub framed : IsFramedSoFar bytes found side.held
@@ -56,6 +64,7 @@ pub record IsUnderWay (bytes head : List ℕ) (other : List (List ℕ)) (old now
   pub over : HandsOver (head ++ record_lines Number records) side.units.waiting.text old now
   pub named : NameUnits other records
   pub passed : HavePassed other side.units.waiting.units
+  pub time : AreInTime of pieces records side.units.waiting.units
 
 -- The side was told of the first of these units of the other one.
 pub record FirstPassed (other : List (List ℕ)) (waiting : Waiting) : Type 0 where
@@ -65,7 +74,8 @@ pub record FirstPassed (other : List (List ℕ)) (waiting : Waiting) : Type 0 wh
   pub passed : HavePassed told waiting.units
 
 -- The same where no more is read: these units have no record, and don't wait.
-pub record IsOver (bytes head : List ℕ) (other : List (List ℕ)) (old now : Option (List ℕ)) (units : UnitsState) : Type 0 where
+pub record IsOver (of : Side) (pieces : List Piece) (bytes head : List ℕ) (other : List (List ℕ)) (old now : Option (List ℕ))
+    (units : UnitsState) : Type 0 where
   pub records : List Record
   pub others : List (List ℕ)
   pub sent : (units_sent records ++ units.waiting.units.own) ++ others ≡ messages (framing bytes).units
@@ -73,6 +83,7 @@ pub record IsOver (bytes head : List ℕ) (other : List (List ℕ)) (old now : O
   pub over : HandsOver (head ++ record_lines Number records) units.waiting.text old now
   pub named : NameUnits other records
   pub passed : FirstPassed other units.waiting
+  pub time : AreInTime of pieces records units.waiting.units
 
 -- ---- both sides
 
@@ -102,8 +113,8 @@ pub record IsLineUnderWay (format : Format) (text : Option (List ℕ)) (old : He
   pub wire : Wire
   pub read : IsListSoFar wire_form text wire line.come
   pub count : length wire.items ≡ line.pieces
-  pub a : IsUnderWay (bytes_of A wire.items) (head_a format wire) (units_of B wire) old.a line.now.a line.a
-  pub b : IsUnderWay (bytes_of B wire.items) (head_b format wire) (units_of A wire) old.b line.now.b line.b
+  pub a : IsUnderWay A wire.items (bytes_of A wire.items) (head_a format wire) (units_of B wire) old.a line.now.a line.a
+  pub b : IsUnderWay B wire.items (bytes_of B wire.items) (head_b format wire) (units_of A wire) old.b line.now.b line.b
 
 -- where no more is read, and this is to come
 pub record IsLineOver (format : Format) (text : Option (List ℕ)) (old : Held) (line : LineState) : Type 0 where
@@ -111,8 +122,8 @@ pub record IsLineOver (format : Format) (text : Option (List ℕ)) (old : Held) 
   pub wire : Wire
   pub come : Option (List ℕ)
   pub read : IsListSoFar wire_form text wire come
-  pub a : IsOver (bytes_of A wire.items) (head_a format wire) (units_of B wire) old.a line.now.a line.a.units
-  pub b : IsOver (bytes_of B wire.items) (head_b format wire) (units_of A wire) old.b line.now.b line.b.units
+  pub a : IsOver A wire.items (bytes_of A wire.items) (head_a format wire) (units_of B wire) old.a line.now.a line.a.units
+  pub b : IsOver B wire.items (bytes_of B wire.items) (head_b format wire) (units_of A wire) old.b line.now.b line.b.units
 
 -- the units of a side that have no record and don't wait
 abbrev pub others_at : {format : Format} → {text : Option (List ℕ)} → {old : Held} → {line : LineState} → Side → IsLineOver format text old line → List (List ℕ)

@@ -8,7 +8,10 @@ use Rattle.framer.specs.declared.kind.Kind.{Kind}
 use Rattle.framer.specs.Framing.{Framing, framing, only_left}
 use Rattle.framer.specs.Given.{IsUnitFound, NoneFound}
 use Rattle.framer.specs.SoFar.{IsFramedSoFar}
-use Rattle.placing.specs.Placed.{HavePassed, NameUnits, Waiting, nothing, units_sent}
+use Rattle.placing.specs.Placed.{AllCome, HavePassed, HintsRise, NameUnits, Units, Waiting, nothing, other_count, units_sent}
+use Rattle.placing.specs.inner.Coming.{HoldsOn}
+use Rattle.wire_text.specs.WireText.{Piece}
+use Rattle.wire_tap.specs.Tapping.{HadPassed}
 use Rattle.wire_tap.specs.Units.{message_of, messages}
 use Rattle.wire_tap.specs.declared.side_tap.SideTap.{SideTap}
 use Rattle.wire_tap.specs.declared.side_tap.SideUnits.{SideUnits}
@@ -40,14 +43,23 @@ pub record IsNew (tap : SideTap) : Type 0 where
   pub waiting : tap.units.placing ≡ nothing
   pub count : tap.units.count ≡ 0
 
+-- After so many units in lines and those that wait, the units of the other side had passed, these too.
+abbrev pub HoldsOfMore : Side → List Piece → ℕ → List (List ℕ) → Units → Type 0
+HoldsOfMore side pieces sent other units =
+    (number : ℕ) → number < other_count units + length other → HadPassed side pieces (sent + length units.own) number
+
 -- These units passed too, and these of the other side, and lines were put: each receipt in them is of a unit of the other side that passed, whichever
--- had passed before.
+-- had passed before, and had passed in time, in whichever pieces those before had.
 pub record MovesOn (units other : List (List ℕ)) (old new : Waiting) : Type 0 where
   pub records : List Record
   pub sent : units_sent records ++ new.units.own ≡ old.units.own ++ units
   pub text : new.text ≡ old.text ++ record_lines Number records
   pub named : (all : List (List ℕ)) → HavePassed all old.units → NameUnits (all ++ other) records
   pub passed : (all : List (List ℕ)) → HavePassed all old.units → HavePassed (all ++ other) new.units
+  pub count : other_count new.units ≡ other_count old.units + length other
+  pub rise : HintsRise old.units.gone new.units.gone records
+  pub come : (side : Side) (pieces : List Piece) (sent : ℕ) → HoldsOn (HadPassed side pieces) sent old.units → HoldsOfMore side pieces sent other old.units →
+      AllCome (HadPassed side pieces) sent records × HoldsOn (HadPassed side pieces) (sent + length (units_sent records)) new.units
 
 -- so many more, up to the last number of a u64
 abbrev pub counted : ℕ → ℕ → ℕ

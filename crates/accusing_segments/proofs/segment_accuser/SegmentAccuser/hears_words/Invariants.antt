@@ -5,5 +5,6 @@ use Rattle.accusing_segments.proofs.segment_accuser.SegmentAccuser.hears_words.G
 abbrev pub invariant-loop-word : goal.invariant-loop-word
 invariant-loop-word l = record {
   ends : l.self.ends ≡ l.fn.self.ends;
+  rooms : l.self.rooms ≡ l.fn.self.rooms;
   words : (o f n w : ℕ) → has l.self.words o f n w ≡ (words_name l.own l.far (take l.word-index l.words) o f n w || has l.fn.self.words o f n w);
 }

@@ -1,0 +1,11 @@
+use Rattle.std.proofs.Common.{sym, ◌∙◌}
+use Rattle.accusing_segments.proofs.Final.{long_own}
+use Rattle.accusing_segments.proofs.Known.{long_same}
+use Rattle.accusing_segments.proofs.segment_accuser.SegmentAccuser.is_too_long.Goals as goal
+
+pub returns-clause-known : goal.returns-clause-known
+returns-clause-known c = λ passed is. c.is_long.ensures ∙ long_same c.args.self.now passed is c.args.unit.now
+
+pub returns-clause-wrong : goal.returns-clause-wrong
+returns-clause-wrong c = λ passed is so.
+    long_own passed c.args.unit.now (sym (c.is_long.ensures ∙ long_same c.args.self.now passed is c.args.unit.now) ∙ so)
