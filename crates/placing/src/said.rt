@@ -1,5 +1,10 @@
 //! What a unit says, as far as a station goes by it.
 
+ghost use Rattle.std.specs.Prelude.{◌≡◌, option_map};
+ghost use Rattle.ddcmp_msg.specs.Message.{view};
+ghost use Rattle.ddcmp_msg.specs.Reading.{reading};
+ghost use Rattle.placing.specs.inner.Says.{message_of, said_in};
+
 use ddcmp_msg::{Flags, Message, NakReason, Reading, read_unit};
 
 /// What a unit says without its packet (DDCMP 4.1, message formats).
@@ -17,7 +22,9 @@ pub(crate) enum Said {
 
 impl Said {
     /// What this unit says. Takes no memory.
-    pub(crate) fn of(unit: &[u8]) -> Said {
+    pub(crate) fn of(unit: &[u8]) -> Said
+        ensures { result ≡ said_in (reading unit.now) }
+    {
         match read_unit(unit) {
             Reading::Sound(message) => match message {
                 Message::Strt { flags: _ } => Said::Strt,
@@ -41,7 +48,9 @@ impl Said {
     }
 
     /// A message that says the same, as far as a station goes by it.
-    pub(crate) fn message<'a>(self) -> Option<Message<'a>> {
+    pub(crate) fn message<'a>(self) -> Option<Message<'a>>
+        ensures { option_map view result ≡ message_of self }
+    {
         let flags = Flags::from_byte(0);
         match self {
             Said::Strt => Some(Message::Strt { flags }),

@@ -3,6 +3,11 @@
 mod arriving;
 mod sending;
 
+ghost use Rattle.std.specs.Prelude.{◌≡◌};
+ghost use Rattle.dna_station.specs.declared.state.State.TheVariants.{Halted};
+ghost use Rattle.dna_station.specs.declared.state.StationEvent.TheVariants as user;
+ghost use Rattle.placing.specs.inner.Counted.{after_event, fresh, own_tag};
+
 use dna_station::{State, Tag};
 pub(crate) use sending::But;
 
@@ -28,7 +33,9 @@ pub(crate) struct Station {
 
 impl Station {
     /// One that nobody has started.
-    pub(crate) fn new() -> Station {
+    pub(crate) fn new() -> Station
+        ensures { result ≡ fresh Halted 0 }
+    {
         Station {
             state: State::Halted,
             period: 0,
@@ -43,7 +50,9 @@ impl Station {
     }
 
     /// The tag that it sends with.
-    pub(crate) fn tag(self) -> Tag {
+    pub(crate) fn tag(self) -> Tag
+        ensures { result ≡ own_tag self }
+    {
         Tag {
             period: self.period,
             partner: self.partner,
@@ -61,7 +70,9 @@ impl Station {
     }
 
     /// The user starts it, and so this period begins.
-    pub(crate) fn started(self, period: u64) -> Station {
+    pub(crate) fn started(self, period: u64) -> Station
+        ensures { result ≡ record (after_event self user.Start) { period = period } }
+    {
         let new = Station::new();
         Station {
             state: State::Istrt,
@@ -71,7 +82,9 @@ impl Station {
     }
 
     /// The user halts it.
-    pub(crate) fn halted(self) -> Station {
+    pub(crate) fn halted(self) -> Station
+        ensures { result ≡ after_event self user.Halt }
+    {
         Station {
             state: State::Halted,
             ..self
