@@ -3,7 +3,7 @@
 ghost use Rattle.std.specs.Prelude.{◌≡◌, option_map};
 ghost use Rattle.ddcmp_msg.specs.Message.{view};
 ghost use Rattle.ddcmp_msg.specs.Reading.{reading};
-ghost use Rattle.placing.specs.inner.Says.{message_of, said_in};
+ghost use Rattle.placing.specs.inner.Says.{message_of, resp_in, said_in, with_resp};
 
 use ddcmp_msg::{Flags, Message, NakReason, Reading, read_unit};
 
@@ -73,7 +73,9 @@ impl Said {
     }
 
     /// The response that it carries, if it carries one.
-    pub(crate) fn resp(self) -> Option<u8> {
+    pub(crate) fn resp(self) -> Option<u8>
+        ensures { result ≡ resp_in self }
+    {
         match self {
             Said::Ack { resp } | Said::Nak { reason: _, resp } | Said::Data { resp, num: _ } => {
                 Some(resp)
@@ -83,7 +85,9 @@ impl Said {
     }
 
     /// The same with this response in the place of its own, if it carries one.
-    pub(crate) fn with_resp(self, resp: u8) -> Said {
+    pub(crate) fn with_resp(self, resp: u8) -> Said
+        ensures { result ≡ with_resp self resp }
+    {
         match self {
             Said::Ack { resp: _ } => Said::Ack { resp },
             Said::Nak { reason, resp: _ } => Said::Nak { reason, resp },
@@ -96,14 +100,6 @@ impl Said {
     pub(crate) fn is_of_no_buffer(self) -> bool {
         match self {
             Said::Nak { reason, resp: _ } => reason == NakReason::NoBuffer,
-            _ => false,
-        }
-    }
-
-    /// Whether it is data.
-    pub(crate) fn is_data(self) -> bool {
-        match self {
-            Said::Data { resp: _, num: _ } => true,
             _ => false,
         }
     }

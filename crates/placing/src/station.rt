@@ -3,7 +3,8 @@
 mod arriving;
 mod sending;
 
-ghost use Rattle.std.specs.Prelude.{◌≡◌};
+ghost use Rattle.std.specs.Prelude.{◌≡◌, ◌+◌, ◌==◌, not};
+ghost use Rattle.dna_station.specs.Station.{wire};
 ghost use Rattle.dna_station.specs.declared.state.State.TheVariants.{Halted};
 ghost use Rattle.dna_station.specs.declared.state.StationEvent.TheVariants as user;
 ghost use Rattle.placing.specs.inner.Counted.{after_event, fresh, own_tag};
@@ -65,7 +66,9 @@ impl Station {
     }
 
     /// Whether a packet is not acknowledged.
-    pub(crate) fn is_waiting(self) -> bool {
+    pub(crate) fn is_waiting(self) -> bool
+        ensures { result ≡ not (self.outstanding == 0) }
+    {
         self.outstanding > 0
     }
 
@@ -112,7 +115,9 @@ impl Station {
     }
 
     // The last number that it gave a packet.
-    fn last_given(&self) -> u8 {
+    fn last_given(&self) -> u8
+        ensures { result ≡ wire (self.now.acknowledged + self.now.outstanding) }
+    {
         self.acknowledged.wrapping_add(self.outstanding)
     }
 }

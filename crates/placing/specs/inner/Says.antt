@@ -1,5 +1,5 @@
 -- What a unit says, as far as a station goes by it: all but its flags and its packet.
-use Rattle.std.specs.Prelude.{Option, Some, None, []}
+use Rattle.std.specs.Prelude.{ℕ, Option, Some, None, []}
 use Rattle.ddcmp_msg.specs.Message as message
 use Rattle.ddcmp_msg.specs.Message.{MessageValue, flags_of}
 use Rattle.ddcmp_msg.specs.Reading.{ReadingValue, Sound}
@@ -29,3 +29,17 @@ said_of (message.Data flags resp num body) = Data resp num
 abbrev pub said_in : ReadingValue → Said
 said_in (Sound m) = said_of m
 said_in reading = Nothing
+
+-- the response that this has, if it has one
+abbrev pub resp_in : Said → Option ℕ
+resp_in (Ack resp) = Some resp
+resp_in (Nak reason resp) = Some resp
+resp_in (Data resp num) = Some resp
+resp_in said = None
+
+-- the same with this response in the place of its own, if it has one
+abbrev pub with_resp : Said → ℕ → Said
+with_resp (Ack own) resp = Ack resp
+with_resp (Nak reason own) resp = Nak reason resp
+with_resp (Data own num) resp = Data resp num
+with_resp said resp = said

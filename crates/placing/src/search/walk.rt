@@ -79,19 +79,10 @@ impl View<'_> {
     pub(crate) fn is_ready(&self, standing: &Standing) -> bool {
         match self.unit.but {
             Some(but) => standing.station.may_send_but(self.unit.said, but),
-            None => self.may_be_sent(standing.station),
+            None => standing
+                .station
+                .may_send(self.unit.said, self.unit.is_again),
         }
-    }
-
-    // Data that are sent again have the same packet.
-    fn may_be_sent(&self, station: Station) -> bool {
-        if !station.may_send(self.unit.said) {
-            return false;
-        }
-        if self.unit.is_again {
-            return true;
-        }
-        station.is_new(self.unit.said)
     }
 
     /// Adds where it is after the unit; or, where something is not asked, before it.

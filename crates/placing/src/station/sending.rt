@@ -1,5 +1,11 @@
 //! What a station may send, and what that changes.
 
+ghost use Rattle.std.specs.Prelude.{◌≡◌, ◌+◌, ◌==◌, ◌&&◌, not, nat_lt, if◌then◌else◌};
+ghost use Rattle.dna_station.specs.Station.{wire};
+ghost use Rattle.dna_station.specs.Table.{WINDOW};
+ghost use Rattle.placing.specs.inner.Counted.{is_new, with_packet};
+ghost use Rattle.placing.specs.inner.Counted as book;
+
 use super::Station;
 use crate::said::Said;
 use ddcmp_msg::NakReason;
@@ -19,8 +25,10 @@ pub(crate) enum But {
 }
 
 impl Station {
-    /// Whether it may send this, where data are not judged by their packet.
-    pub(crate) fn may_send(self, said: Said) -> bool {
+    /// Whether it may send this. Of data that are sent again it is told whether they have the packet of the first sending.
+    pub(crate) fn may_send(self, said: Said, is_again: bool) -> bool
+        ensures { result ≡ book.may_send is_again self said }
+    {
         match self.state {
             State::Halted => false,
             State::Istrt => match said {
@@ -31,59 +39,84 @@ impl Station {
                 Said::Stack => true,
                 _ => false,
             },
-            State::Running => self.may_send_running(said),
+            State::Running => self.may_send_running(said, is_again),
         }
     }
 
-    fn may_send_running(self, said: Said) -> bool {
+    fn may_send_running(self, said: Said, is_again: bool) -> bool
+        requires { self.state ≡ State.Running }
+        ensures { result ≡ book.may_send is_again self said }
+    {
         match said {
             Said::Ack { resp } => resp == self.received,
             Said::Nak { reason, resp } => {
-                if resp != self.received {
-                    return false;
+                if resp == self.received {
+                    return self.has_cause(reason);
                 }
-                match reason {
-                    NakReason::RepResponse => self.answers > 0,
-                    NakReason::NoBuffer => self.refused > 0,
-                    _ => true,
-                }
+                false
             }
             Said::Rep { num } => {
-                if !self.is_waiting() {
-                    return false;
+                if self.is_waiting() {
+                    return num == self.last_given();
                 }
-                num == self.acknowledged.wrapping_add(self.outstanding)
+                false
             }
-            Said::Data { resp, num } => self.may_send_data(resp, num),
+            Said::Data { resp, num } => self.may_send_data(resp, num, is_again),
             Said::Strt | Said::Stack | Said::Nothing => false,
         }
     }
 
-    fn may_send_data(self, resp: u8, num: u8) -> bool {
-        if resp != self.received {
-            return false;
+    // Whether a NAK of this reason needs no cause, or has one.
+    fn has_cause(self, reason: NakReason) -> bool
+        ensures { result ≡ book.has_cause reason self }
+    {
+        match reason {
+            NakReason::RepResponse => self.answers > 0,
+            NakReason::NoBuffer => self.refused > 0,
+            _ => true,
         }
+    }
+
+    fn may_send_data(self, resp: u8, num: u8, is_again: bool) -> bool
+        requires { self.state ≡ State.Running }
+        ensures { result ≡ book.may_send is_again self (Said.Data resp num) }
+    {
         if num != self.next_to_send() {
             return false;
         }
-        if self.ahead == self.outstanding {
+        if resp != self.received {
+            return false;
+        }
+        if self.is_at_new() {
             return self.outstanding < 255;
         }
-        true
+        is_again
     }
 
-    pub(super) fn next_to_send(self) -> u8 {
+    // Whether the next data to send are new.
+    fn is_at_new(self) -> bool
+        ensures { result ≡ is_new self }
+    {
+        self.ahead == self.outstanding
+    }
+
+    // The number of the next data to send.
+    pub(super) fn next_to_send(self) -> u8
+        ensures { result ≡ wire (self.acknowledged + 1 + self.ahead) }
+    {
         self.acknowledged.wrapping_add(self.ahead).wrapping_add(1)
     }
 
     /// Whether it may send this, one thing aside.
-    pub(crate) fn may_send_but(self, said: Said, but: But) -> bool {
+    pub(crate) fn may_send_but(self, said: Said, but: But) -> bool
+        ensures { result ≡ book.may_send_but but self said }
+    {
         if self.state != State::Running {
             return false;
         }
         match but {
-            But::Packet => self.may_send_running(said),
-            But::Response => self.may_send_running(said.with_resp(self.received)),
+            But::Packet => self.may_send_running(said, true),
+            But::Response => self.may_send_running(said.with_resp(self.received), true),
             But::Number => match said.resp() {
                 Some(resp) => resp == self.received,
                 None => true,
@@ -93,32 +126,48 @@ impl Station {
     }
 
     /// Whether the data that it sends next are of a new packet.
-    pub(crate) fn is_new(self, said: Said) -> bool {
-        said.is_data() && self.ahead == self.outstanding
+    pub(crate) fn is_new(self, said: Said) -> bool
+        ensures { result ≡ book.gives_new self said }
+    {
+        match said {
+            Said::Data { resp: _, num: _ } => self.is_at_new(),
+            _ => false,
+        }
     }
 
     /// It sent this, which it might send.
-    pub(crate) fn sent(self, said: Said) -> Station {
+    pub(crate) fn sent(self, said: Said) -> Station
+        ensures { result ≡ book.after_sending self said }
+    {
         match said {
-            Said::Nak { reason, resp: _ } => match reason {
-                NakReason::RepResponse => Station {
-                    answers: self.answers.saturating_sub(1),
-                    ..self
-                },
-                NakReason::NoBuffer => Station {
-                    refused: self.refused.saturating_sub(1),
-                    ..self
-                },
-                _ => self,
-            },
+            Said::Nak { reason, resp: _ } => self.without_cause(reason),
             Said::Data { resp: _, num: _ } => self.sent_data(),
             _ => self,
         }
     }
 
-    fn sent_data(self) -> Station {
+    // A NAK uses up a cause of its reason.
+    fn without_cause(self, reason: NakReason) -> Station
+        ensures { result ≡ book.without_cause reason self }
+    {
+        match reason {
+            NakReason::RepResponse => Station {
+                answers: self.answers.saturating_sub(1),
+                ..self
+            },
+            NakReason::NoBuffer => Station {
+                refused: self.refused.saturating_sub(1),
+                ..self
+            },
+            _ => self,
+        }
+    }
+
+    fn sent_data(self) -> Station
+        ensures { result ≡ with_packet (is_new self) self }
+    {
         let ahead = self.ahead.saturating_add(1);
-        if self.ahead == self.outstanding {
+        if self.is_at_new() {
             return Station {
                 ahead,
                 outstanding: ahead,
