@@ -25,7 +25,9 @@ mod waiting;
 
 pub use carried::{own_address, turns_a_link};
 pub use explained::Explained;
-pub use laws::{put_receipts_name_units, put_units_were_sent};
+pub use laws::{
+    counts_ask_no_packet, counts_go_along, put_receipts_name_units, put_units_were_sent,
+};
 pub use limit::MOST_STATES;
 pub use placing::Placing;
 pub use search::{Reached, Search};

@@ -3,7 +3,7 @@
 ghost use Rattle.std.specs.Prelude.{◌≡◌, option_map};
 ghost use Rattle.ddcmp_msg.specs.Message.{view};
 ghost use Rattle.ddcmp_msg.specs.Reading.{reading};
-ghost use Rattle.placing.specs.inner.Says.{message_of, resp_in, said_in, with_resp};
+ghost use Rattle.placing.specs.inner.Says.{bare_in, message_of, resp_in, with_resp};
 
 use ddcmp_msg::{Flags, Message, NakReason, Reading, read_unit};
 
@@ -23,7 +23,7 @@ pub(crate) enum Said {
 impl Said {
     /// What this unit says. Takes no memory.
     pub(crate) fn of(unit: &[u8]) -> Said
-        ensures { result ≡ said_in (reading unit.now) }
+        ensures { message_of result ≡ bare_in (reading unit.now) }
     {
         match read_unit(unit) {
             Reading::Sound(message) => match message {

@@ -7,7 +7,7 @@ ghost use Rattle.std.specs.Prelude.{◌≡◌, ◌+◌, ◌==◌, not};
 ghost use Rattle.dna_station.specs.Station.{wire};
 ghost use Rattle.dna_station.specs.declared.state.State.TheVariants.{Halted};
 ghost use Rattle.dna_station.specs.declared.state.StationEvent.TheVariants as user;
-ghost use Rattle.placing.specs.inner.Counted.{after_event, fresh, own_tag};
+ghost use Rattle.placing.specs.Counted.{after_event, fresh, own_tag};
 
 use dna_station::{State, Tag};
 pub(crate) use sending::But;

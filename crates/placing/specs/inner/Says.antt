@@ -3,6 +3,7 @@ use Rattle.std.specs.Prelude.{ℕ, Option, Some, None, []}
 use Rattle.ddcmp_msg.specs.Message as message
 use Rattle.ddcmp_msg.specs.Message.{MessageValue, flags_of}
 use Rattle.ddcmp_msg.specs.Reading.{ReadingValue, Sound}
+use Rattle.placing.specs.Counted.{bare}
 use Rattle.placing.specs.declared.said.Said.{Said}
 use Rattle.placing.specs.declared.said.Said.TheVariants.{Strt, Stack, Ack, Nak, Rep, Data, Nothing}
 
@@ -16,19 +17,10 @@ message_of (Rep num) = Some (message.Rep (flags_of 0) num)
 message_of (Data resp num) = Some (message.Data (flags_of 0) resp num [])
 message_of Nothing = None
 
--- what a message says
-abbrev pub said_of : MessageValue → Said
-said_of (message.Strt flags) = Strt
-said_of (message.Stack flags) = Stack
-said_of (message.Ack flags resp) = Ack resp
-said_of (message.Nak flags reason resp) = Nak reason resp
-said_of (message.Rep flags num) = Rep num
-said_of (message.Data flags resp num body) = Data resp num
-
--- and what a unit says; one that is no message, or is damaged, says nothing
-abbrev pub said_in : ReadingValue → Said
-said_in (Sound m) = said_of m
-said_in reading = Nothing
+-- the message of a unit, without them; none of one that is no message, or is damaged
+abbrev pub bare_in : ReadingValue → Option MessageValue
+bare_in (Sound m) = Some (bare m)
+bare_in reading = None
 
 -- the response that this has, if it has one
 abbrev pub resp_in : Said → Option ℕ

@@ -1,13 +1,15 @@
 //! What arrives at a station.
 
 ghost use Rattle.std.specs.Prelude.{◌≡◌, ◌&&◌, ◌==◌, fold, Some};
+ghost use Rattle.ddcmp_msg.specs.Message.{view};
 ghost use Rattle.dna_station.specs.ArrivalRows.{need_view, row_view};
 ghost use Rattle.dna_station.specs.Book.{has_packet};
 ghost use Rattle.dna_station.specs.PeriodRule.{meets};
 ghost use Rattle.dna_station.specs.PeriodRule as rules;
-ghost use Rattle.placing.specs.inner.Counted.{asked, does, own_tag, received_data, responded};
-ghost use Rattle.placing.specs.inner.Counted as book;
-ghost use Rattle.ddcmp_msg.specs.Message.{view};
+ghost use Rattle.placing.specs.Counted.{asked, does, own_tag, responded};
+ghost use Rattle.placing.specs.Counted as book;
+ghost use Rattle.placing.specs.inner.BySaid.{received_data};
+ghost use Rattle.placing.specs.inner.BySaid as by_said;
 
 use super::Station;
 use crate::said::Said;
@@ -17,7 +19,7 @@ use dna_station::{ArrivalRow, PeriodNeed, State, Tag, num_of, resp_of};
 impl Station {
     /// Whether the periods of what came are those that it acts on (the rule on periods).
     pub(crate) fn meets(self, said: Said, tag: Tag) -> bool
-        ensures { result ≡ book.meets_said self said tag }
+        ensures { result ≡ by_said.meets_said self said tag }
     {
         match said.message() {
             Some(message) => self.meets_need(ArrivalRow::of(self.state, &message).needs(), tag),
@@ -51,7 +53,7 @@ impl Station {
 
     /// Whether it can take the packet in this.
     pub(crate) fn can_take(self, said: Said) -> bool
-        ensures { (tag : _) → result ≡ book.takes_said self said tag }
+        ensures { (tag : _) → result ≡ by_said.takes_said self said tag }
     {
         match said.message() {
             Some(message) => self.can_take_packet(
@@ -81,7 +83,7 @@ impl Station {
 
     /// This came, and its packet was kept or not.
     pub(crate) fn arrived(self, said: Said, tag: Tag, kept: bool) -> Station
-        ensures { result ≡ book.after_arrival self said tag kept }
+        ensures { result ≡ by_said.after_arrival self said tag kept }
     {
         match said.message() {
             Some(message) => self.stepped(

@@ -1,10 +1,10 @@
 //! What a station may send, and what that changes.
 
-ghost use Rattle.std.specs.Prelude.{◌≡◌, ◌+◌, ◌==◌, ◌&&◌, not, nat_lt, if◌then◌else◌};
+ghost use Rattle.std.specs.Prelude.{◌≡◌, ◌+◌};
 ghost use Rattle.dna_station.specs.Station.{wire};
-ghost use Rattle.dna_station.specs.Table.{WINDOW};
-ghost use Rattle.placing.specs.inner.Counted.{is_new, with_packet};
-ghost use Rattle.placing.specs.inner.Counted as book;
+ghost use Rattle.placing.specs.Counted.{is_new, with_packet};
+ghost use Rattle.placing.specs.Counted as book;
+ghost use Rattle.placing.specs.inner.BySaid as by_said;
 
 use super::Station;
 use crate::said::Said;
@@ -27,7 +27,7 @@ pub(crate) enum But {
 impl Station {
     /// Whether it may send this. Of data that are sent again it is told whether they have the packet of the first sending.
     pub(crate) fn may_send(self, said: Said, is_again: bool) -> bool
-        ensures { result ≡ book.may_send is_again self said }
+        ensures { result ≡ by_said.may_send is_again self said }
     {
         match self.state {
             State::Halted => false,
@@ -43,9 +43,10 @@ impl Station {
         }
     }
 
+    // The same in RUNNING.
     fn may_send_running(self, said: Said, is_again: bool) -> bool
         requires { self.state ≡ State.Running }
-        ensures { result ≡ book.may_send is_again self said }
+        ensures { result ≡ by_said.may_send is_again self said }
     {
         match said {
             Said::Ack { resp } => resp == self.received,
@@ -77,9 +78,10 @@ impl Station {
         }
     }
 
+    // The same of data.
     fn may_send_data(self, resp: u8, num: u8, is_again: bool) -> bool
         requires { self.state ≡ State.Running }
-        ensures { result ≡ book.may_send is_again self (Said.Data resp num) }
+        ensures { result ≡ by_said.may_send is_again self (Said.Data resp num) }
     {
         if num != self.next_to_send() {
             return false;
@@ -87,14 +89,14 @@ impl Station {
         if resp != self.received {
             return false;
         }
-        if self.is_at_new() {
+        if self.next_is_new() {
             return self.outstanding < 255;
         }
         is_again
     }
 
     // Whether the next data to send are new.
-    fn is_at_new(self) -> bool
+    fn next_is_new(self) -> bool
         ensures { result ≡ is_new self }
     {
         self.ahead == self.outstanding
@@ -109,7 +111,7 @@ impl Station {
 
     /// Whether it may send this, one thing aside.
     pub(crate) fn may_send_but(self, said: Said, but: But) -> bool
-        ensures { result ≡ book.may_send_but but self said }
+        ensures { result ≡ by_said.may_send_but but self said }
     {
         if self.state != State::Running {
             return false;
@@ -127,17 +129,17 @@ impl Station {
 
     /// Whether the data that it sends next are of a new packet.
     pub(crate) fn is_new(self, said: Said) -> bool
-        ensures { result ≡ book.gives_new self said }
+        ensures { result ≡ by_said.gives_new self said }
     {
         match said {
-            Said::Data { resp: _, num: _ } => self.is_at_new(),
+            Said::Data { resp: _, num: _ } => self.next_is_new(),
             _ => false,
         }
     }
 
     /// It sent this, which it might send.
     pub(crate) fn sent(self, said: Said) -> Station
-        ensures { result ≡ book.after_sending self said }
+        ensures { result ≡ by_said.after_sending self said }
     {
         match said {
             Said::Nak { reason, resp: _ } => self.without_cause(reason),
@@ -167,7 +169,7 @@ impl Station {
         ensures { result ≡ with_packet (is_new self) self }
     {
         let ahead = self.ahead.saturating_add(1);
-        if self.is_at_new() {
+        if self.next_is_new() {
             return Station {
                 ahead,
                 outstanding: ahead,

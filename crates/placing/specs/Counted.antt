@@ -1,27 +1,24 @@
--- What the words of the station's tables mean for the numbers that the search keeps of a side's station: a further book over them, which keeps
--- of the packets how many there are, and of the open causes those of reasons 3 and 8.
-use Rattle.std.specs.Prelude.{ℕ, ◌+◌, ◌-◌, Bool, true, false, ◌&&◌, not, ◌==◌, nat_lt, nat_le, if◌then◌else◌, min, Option, Some, None, is_none, List}
+-- What the words of the station's tables mean for the numbers that the search keeps of a side's station: a further book over them. Of the
+-- packets it keeps how many there are, and of the open causes those of reasons 3 and 8. That it says what `WireBook` says is a law.
+use Rattle.std.specs.Prelude.{ℕ, ◌+◌, ◌-◌, ◌<◌, ◌≤◌, Bool, true, false, ◌&&◌, not, ◌==◌, nat_lt, nat_le, if◌then◌else◌, min, Some, None}
+use Rattle.std.specs.Prelude.{[], length, slice_get}
 use Rattle.wire_base.specs.Seq.{wire_distance}
-use Rattle.ddcmp_msg.specs.Message.{MessageValue, Nak}
+use Rattle.ddcmp_msg.specs.Message.{MessageValue, Data, Ack, Nak, Rep, Strt, Stack, flags_of}
 use Rattle.ddcmp_msg.specs.declared.nak_reason.NakReason.{NakReason}
-use Rattle.ddcmp_msg.specs.declared.nak_reason.NakReason.TheVariants.{RepResponse, NoBuffer}
+use Rattle.ddcmp_msg.specs.declared.nak_reason.NakReason.TheVariants.{HeaderCheck, DataCheck, RepResponse, NoBuffer}
 use Rattle.dna_station.specs.declared.state.State.{State}
-use Rattle.dna_station.specs.declared.state.State.TheVariants.{Running}
 use Rattle.dna_station.specs.declared.state.StationEvent.{StationEvent}
 use Rattle.dna_station.specs.declared.state.StationEvent.TheVariants.{Start, Halt}
 use Rattle.dna_station.specs.declared.tag.Tag.{Tag}
+use Rattle.dna_station.specs.NakCauses.{Causes}
 use Rattle.dna_station.specs.Table.{WINDOW, Check, RespIsLast, CauseIsOpen, SomeOutstanding, NumIsHighest, NumIsNext, RoomIfNew, AsFirstGiven}
 use Rattle.dna_station.specs.Table.{Change, Nothing, UseCause, SendPacket, Effect, GoTo, TakePartner, Respond, SetBack, TakePacket, AnswerRep}
-use Rattle.dna_station.specs.Table.{state_after, checks, change_of}
-use Rattle.dna_station.specs.PeriodRule.{of_period}
+use Rattle.dna_station.specs.Table.{state_after}
 use Rattle.dna_station.specs.Station.{wire}
-use Rattle.dna_station.specs.Book.{Book, ArrivalValue, Sound, HeaderBad, resp_of, num_of, meets_by, takes_by, after_arrival_by}
-use Rattle.dna_station.specs.Book.{first_failed, sending_refusal_by, after_sending_by}
-use Rattle.placing.specs.declared.said.Said.{Said}
+use Rattle.dna_station.specs.Book.{Book, resp_of, num_of, body_of}
+use Rattle.dna_station.specs.WireStation.{WireStation}
+use Rattle.dna_station.specs.WireBook.{is_held_packet}
 use Rattle.placing.specs.declared.station.Station.{Station}
-use Rattle.placing.specs.declared.station.sending.But.{But}
-use Rattle.placing.specs.declared.station.sending.But.TheVariants.{Packet, Response, Number, All}
-use Rattle.placing.specs.inner.Says.{message_of}
 
 -- in this state and period, with no partner, and no number received, given or acknowledged
 abbrev pub fresh : State → ℕ → Station
@@ -49,8 +46,11 @@ after_event s Halt = record s { state = state_after Halt }
 -- ---- causes
 
 -- counts of causes stop at the highest number of 32 bits
+abbrev pub MOST_CAUSES : ℕ
+MOST_CAUSES = 4294967295
+
 abbrev pub next_cause : ℕ → ℕ
-next_cause count = min (count + 1) 4294967295
+next_cause count = min (count + 1) MOST_CAUSES
 
 -- One cause more. Those of damage are not counted: noise may come at any time, and give one.
 abbrev pub with_cause : NakReason → Station → Station
@@ -138,10 +138,6 @@ does m tag kept s SetBack = record s { ahead = 0 }
 does m tag kept s TakePacket = with_data (is_next s (num_of m)) kept s
 does m tag kept s AnswerRep = asked (num_of m == s.received) s
 
--- data in RUNNING: its RESP, and then its packet
-abbrev pub received_data : Station → (resp num : ℕ) → Bool → Station
-received_data s resp num kept = with_data (is_next (responded s resp) num) kept (responded s resp)
-
 -- ---- the station
 
 -- where data that are sent again are those of the first sending, or not
@@ -159,94 +155,44 @@ counted_book again = record {
   counts = with_cause;
 }
 
--- ---- a unit that comes, by what it says
+-- ---- what it is kept of
 
--- damage, and what is no message, gives a cause that is not counted
-abbrev pub arrival_by : Option MessageValue → Tag → ArrivalValue Tag
-arrival_by None tag = HeaderBad
-arrival_by (Some m) tag = Sound m tag
+-- of a station as a node keeps it
+abbrev pub counted : {L : Type 0} → WireStation L → Station
+counted w = record {
+  state = w.variables.state;
+  period = w.period;
+  partner = w.partner;
+  received = w.variables.received;
+  acknowledged = w.variables.acknowledged;
+  outstanding = length w.variables.held;
+  ahead = w.variables.ahead;
+  answers = min w.causes.rep_response MOST_CAUSES;
+  refused = min w.causes.no_buffer MOST_CAUSES;
+}
 
-abbrev pub meets_unit : Station → Option MessageValue → Tag → Bool
-meets_unit s None tag = true
-meets_unit s (Some m) tag = meets_by (counted_book true) of_period s m tag
+-- whether the data of this message are those of the first sending of the packet that is next to send
+abbrev pub is_again : {L : Type 0} → WireStation L → MessageValue → Bool
+is_again w m = is_held_packet (slice_get w.variables.held w.variables.ahead) (body_of m)
 
-abbrev pub takes_unit : Station → Option MessageValue → Tag → Bool
-takes_unit s None tag = false
-takes_unit s (Some m) tag = takes_by (counted_book true) s m tag
+-- if this is a NAK for damage, a cause of its reason is open
+abbrev pub DamageIsOpen : MessageValue → Causes → Type 0
+DamageIsOpen (Nak flags HeaderCheck resp) c = 0 < c.header_check
+DamageIsOpen (Nak flags DataCheck resp) c = 0 < c.data_check
+DamageIsOpen m c = Unit {0}
 
--- whether its periods are what its row needs; whether its packet can be taken; and what comes of it
-abbrev pub meets_said : Station → Said → Tag → Bool
-meets_said s said tag = meets_unit s (message_of said) tag
+-- the numbers that a station keeps in a run, with no more open causes than are counted
+pub record IsCounted {L : Type 0} (w : WireStation L) : Type 0 where
+  pub outstanding : length w.variables.held ≤ 255
+  pub ahead : w.variables.ahead ≤ length w.variables.held
+  pub answers : w.causes.rep_response ≤ MOST_CAUSES
+  pub refused : w.causes.no_buffer ≤ MOST_CAUSES
 
-abbrev pub takes_said : Station → Said → Tag → Bool
-takes_said s said tag = takes_unit s (message_of said) tag
-
-abbrev pub after_arrival : Station → Said → Tag → Bool → Station
-after_arrival s said tag kept = after_arrival_by (counted_book true) s (arrival_by (message_of said) tag) kept
-
--- ---- a unit that is sent, by what it says
-
--- what is no message is sent by no station
-abbrev pub may_send_unit : Bool → Station → Option MessageValue → Bool
-may_send_unit again s None = false
-may_send_unit again s (Some m) = is_none (sending_refusal_by (counted_book again) s m)
-
-abbrev pub after_sending_unit : Station → Option MessageValue → Station
-after_sending_unit s None = s
-after_sending_unit s (Some m) = after_sending_by (counted_book true) s m
-
-abbrev pub gives_by : Change → Station → Bool
-gives_by SendPacket s = is_new s
-gives_by change s = false
-
-abbrev pub gives_new_unit : Station → Option MessageValue → Bool
-gives_new_unit s None = false
-gives_new_unit s (Some m) = gives_by (change_of m) s
-
--- whether it may be sent; what comes of that; and whether it gives a packet its number
-abbrev pub may_send : Bool → Station → Said → Bool
-may_send again s said = may_send_unit again s (message_of said)
-
-abbrev pub after_sending : Station → Said → Station
-after_sending s said = after_sending_unit s (message_of said)
-
-abbrev pub gives_new : Station → Said → Bool
-gives_new s said = gives_new_unit s (message_of said)
-
--- ---- a unit that can't be sent, one thing aside
-
--- the checks that are left
-abbrev pub is_asked : But → Check → Bool
-is_asked Packet AsFirstGiven = false
-is_asked Packet check = true
-is_asked Response AsFirstGiven = false
-is_asked Response RespIsLast = false
-is_asked Response check = true
-is_asked Number RespIsLast = true
-is_asked Number check = false
-is_asked All check = false
-
-abbrev pub passes_but : But → Station → MessageValue → Check → Bool
-passes_but but s m check = if is_asked but check then passes false s m check else true
-
--- Where the table has nothing, all that is asked is that the station runs, if the number is not asked either.
-abbrev pub may_be_no_row : But → Bool
-may_be_no_row Packet = false
-may_be_no_row Response = false
-may_be_no_row Number = true
-may_be_no_row All = true
-
-abbrev pub passes_list : But → Station → MessageValue → Option (List Check) → Bool
-passes_list but s m None = may_be_no_row but
-passes_list but s m (Some list) = is_none (first_failed (passes_but but s m) list)
-
-abbrev pub may_send_unit_but : But → Station → Option MessageValue → Bool
-may_send_unit_but but s None = may_be_no_row but
-may_send_unit_but but s (Some m) = passes_list but s m (checks s.state m)
-
-abbrev pub is_running : State → Bool
-is_running Running = true
-is_running state = false
-
-abbrev pub may_send_but : But → Station → Said → Bool
-may_send_but but s said = is_running s.state && may_send_unit_but but s (message_of said)
+-- a message without its flags and its packet
+abbrev pub bare : MessageValue → MessageValue
+bare (Data flags resp num body) = Data (flags_of 0) resp num []
+bare (Ack flags resp) = Ack (flags_of 0) resp
+bare (Nak flags reason resp) = Nak (flags_of 0) reason resp
+bare (Rep flags num) = Rep (flags_of 0) num
+bare (Strt flags) = Strt (flags_of 0)
+bare (Stack flags) = Stack (flags_of 0)
