@@ -4,12 +4,10 @@ use Rattle.std.proofs.Common.{length, get_or, set, refl}
 use Rattle.std.proofs.Common.{sym, subst, ap, ◌∙◌}
 use Rattle.std.specs.Prelude.{slice_get}
 use Rattle.std.proofs.lemmas.List.{set-get_or}
-use Rattle.dna_station.specs.declared.link_refusal.LinkRefusal.TheVariants.{WrongDelivery}
-use Rattle.dna_links.specs.inner.Forms.{delivered}
 use Rattle.std.proofs.lemmas.Option.{slice_get_read}
 use Rattle.dna_links.specs.LookUps.{is_live, is_at}
 use Rattle.dna_links.specs.Links.{LinkOf, changed, with_segments}
-use Rattle.dna_links.specs.WireSegments.{WireSegments, wire_segments, delivers}
+use Rattle.dna_links.specs.WireSegments.{WireSegments}
 use Rattle.dna_links.specs.WireLinks.{WireLinks}
 use Rattle.dna_links.specs.declared.port.Phase.TheVariants.{Running, Ended}
 use Rattle.dna_links.specs.declared.port.Port.{Port}
@@ -75,20 +73,6 @@ module _ {node peer : ℕ} {items : List (LinkOf WireSegments)} {s : WireLinks} 
   pub change_none : {m : LinkOf WireSegments} → m ≡ l → record { node = node; peer = peer; links = set items n m } ≡ s
   change_none e = ap (λ (xs : List (LinkOf WireSegments)). record { node = node; peer = peer; links = xs })
       (ap (λ (k : LinkOf WireSegments). set items n k) (e ∙ at.there) ∙ set-get_or items n l) ∙ at.is
-
-  -- a message that is delivered, or not
-  pub told_made : (message : List ℕ) (r : Bool) {m : LinkOf WireSegments} → m ≡ with_segments m.segments l →
-      (r ≡ true → delivers message l.segments ≡ Some m.segments) →
-      (r ≡ false → (delivers message l.segments ≡ None) × (m ≡ l)) → (link : LinkOf WireSegments) → slice_get s.links n ≡ Some link →
-      delivered wire_segments n link s (delivers message link.segments) ≡ cond r (Ok (record { node = node; peer = peer; links = set items n m }))
-      (Err WrongDelivery)
-  told_made message true {m} rest told none link found =
-      ap (λ (o : Option WireSegments). delivered wire_segments n link s o)
-      (ap (λ (k : LinkOf WireSegments). delivers message k.segments) (sym (same_link link found)) ∙ told refl)
-      ∙ ap Ok (sym (change_made (with_segments m.segments) rest link found))
-  told_made message false rest told none link found =
-      ap (λ (o : Option WireSegments). delivered wire_segments n link s o)
-      (ap (λ (k : LinkOf WireSegments). delivers message k.segments) (sym (same_link link found)) ∙ (none refl).0)
 
   -- ---- how it is found
 

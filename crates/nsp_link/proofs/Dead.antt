@@ -9,7 +9,8 @@ use Rattle.dna_links.specs.declared.queue.Said.{Said}
 use Rattle.dna_links.specs.LookUps.{is_called, is_live}
 use Rattle.dna_links.specs.Links.{LinkOf}
 use Rattle.dna_links.specs.Queues.{has_waiting, lets_go, settled, shows, shows_by}
-use Rattle.dna_links.specs.WireSegments.{WireSegments, wire_segments, delivers}
+use Rattle.dna_links.specs.WireSegments.{WireSegments, wire_segments}
+use Rattle.dna_links.specs.Segmentation.{in_order}
 use Rattle.dna_links.specs.WireLinks.{WireLinks}
 use Rattle.nsp_link.specs.inner.Index.{forgotten_at, forgotten_found}
 use Rattle.nsp_link.specs.inner.Indexing.{AreDead, IsDead, KeepsAt, LivesAt}
@@ -119,12 +120,11 @@ settled_by l dead =
 pub settled_dead : (l m : LinkOf WireSegments) → m ≡ settled wire_segments l.queue.waits l → IsDead l → IsDead m
 settled_dead l m is dead = subst IsDead (settled_by l dead ∙ sym is) dead
 
-pub delivered_dead : (message : List ℕ) (r : Bool) (l m : LinkOf WireSegments) →
-    (r ≡ true → delivers message l.segments ≡ Some m.segments) → (r ≡ false → (delivers message l.segments ≡ None) × (m ≡ l)) → IsDead l → IsDead m
-delivered_dead message true l m told stays dead =
-    let none : None ≡ Some m.segments = sym (ap (delivers message) dead.bare) ∙ told refl in
-    absurd (cc)
-delivered_dead message false l m told stays dead = subst IsDead (sym (stays refl).1) dead
+-- it has no piece that may be delivered
+pub delivered_dead : {A : Type 0} (count : ℕ) (l : LinkOf WireSegments) → 1 ≤ count → count ≤ in_order l.segments.variables.pieces → IsDead l → A
+delivered_dead count l some few dead =
+    let none : in_order l.segments.variables.pieces ≡ 0 = ap (λ (f : WireSegments). in_order f.variables.pieces) dead.bare in
+    absurd (omega arith)
 
 -- ---- links that begin or are answered
 

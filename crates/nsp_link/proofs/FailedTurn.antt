@@ -9,13 +9,15 @@ use Rattle.dna_links.specs.Links.{LinkOf, at_number, on_link}
 use Rattle.dna_links.specs.Queues.{may_send}
 use Rattle.dna_links.specs.WireSegments.{WireSegments}
 use Rattle.dna_links.specs.WireLinks.{WireLinks}
-use Rattle.nsp_link.specs.FailedEvent.{failed_abort, failed_close, failed_handing_in}
+use Rattle.nsp_link.specs.FailedEvent.{on_link_in_use}
 use Rattle.nsp_link.specs.FailedSending.{asked_in_turn, out_of_turn, unless}
 use Rattle.nsp_link.specs.Missing.{missing}
+use Rattle.nsp_link.specs.declared.failed.FailedLinkEvent.{FailedLinkEvent}
 use Rattle.nsp_link.specs.declared.failed.FailedLinkSending.{FailedLinkSending}
 use Rattle.nsp_link.specs.declared.failed.FailedLinkSending.TheVariants.{NoLink}
 use Rattle.nsp_link.specs.declared.permit.LinkSendPermit.{LinkSendPermit}
-use Rattle.nsp_link.specs.inner.Failed.{asks_in_turn, fails_to_abort, fails_to_close, fails_to_hand_in}
+use Rattle.nsp_link.specs.declared.permit.LinkUserPermit.{LinkUserPermit}
+use Rattle.nsp_link.specs.inner.Failed.{asks_in_turn, asks_in_use}
 use Rattle.nsp_link.specs.inner.Rows.{found_in_use, number_in_use}
 use Rattle.nsp_link.proofs.InUse.{running_keeps, seen_waiting, unseen_waiting}
 use Rattle.nsp_link.proofs.Rows.{in_use_same}
@@ -61,15 +63,10 @@ pub ruleset turns = (turn_none, turn_passed, turn_failed, running_keeps, seen_wa
 
 -- ---- an event
 
-pub close_same : (queues : Queues) (own : ℕ) (s : WireLinks) → fails_to_close queues own s ≡ failed_close queues own s
-close_same queues own s = in_use_same (LiveAt own) s _ _ queues
+pub use_same : (queues : Queues) (own : ℕ) (s : WireLinks) (next : ℕ → LinkOf WireSegments → Result LinkUserPermit FailedLinkEvent) →
+    asks_in_use queues own s next ≡ on_link_in_use queues own s next
+use_same queues own s next = in_use_same (LiveAt own) s _ next queues
 
-pub hand_same : (queues : Queues) (own : ℕ) (s : WireLinks) → fails_to_hand_in queues own s ≡ failed_handing_in queues own s
-hand_same queues own s = in_use_same (LiveAt own) s _ _ queues
-
-pub abort_same : (queues : Queues) (own : ℕ) (s : WireLinks) → fails_to_abort queues own s ≡ failed_abort queues own s
-abort_same queues own s = in_use_same (LiveAt own) s _ _ queues
-
-pub ruleset event_in_use = (close_same, hand_same, abort_same)
+pub ruleset event_in_use = (use_same)
 
 pub ruleset uses_found = (use_found, use_none)

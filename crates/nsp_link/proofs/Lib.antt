@@ -1,5 +1,7 @@
 mod Words
 mod FailedTurn
+mod Agreeing
+mod Acted
 pub mod FailedSending
 pub mod FailedEvent
 pub mod FailedArrival

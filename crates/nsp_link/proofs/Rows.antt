@@ -16,7 +16,7 @@ use Rattle.dna_links.specs.Arriving.{PartnerRule, message_arrived}
 use Rattle.dna_links.specs.User.{LinkEventValue, Open, Accept, Reject, In, Up, Close, Abort, Boot}
 use Rattle.dna_links.specs.WireSegments.{WireSegments, wire_segments}
 use Rattle.dna_links.specs.WireLinks.{WireLinks, wire_links_user}
-use Rattle.nsp_link.specs.inner.Rows.{acts, first_of, found_in_use, takes}
+use Rattle.nsp_link.specs.inner.Rows.{first_of, found_in_use, takes}
 use Rattle.nsp_link.proofs.Found.{number_within, some_there}
 
 -- ---- a link in use
@@ -38,26 +38,6 @@ module _ {R : Type 0} (test : LinkTest) (s : WireLinks) (otherwise : R) (next : 
   pub in_use_same : (queues : Queues) → found_in_use queues test s otherwise next ≡ with_in_use queues test s otherwise next
   in_use_same Without = refl
   in_use_same With = first_same (number_of test s) refl
-
--- ---- the user
-
-pub acts_same : (queues : Queues) (s : WireLinks) (event : LinkEventValue) → acts queues s event ≡ wire_links_user queues s event
-acts_same Without s (Open own) = refl
-acts_same Without s (Accept far own) = refl
-acts_same Without s (Reject far own) = refl
-acts_same Without s (In own message) = refl
-acts_same Without s (Up own message) = refl
-acts_same Without s (Close own) = refl
-acts_same Without s (Abort own) = refl
-acts_same Without s Boot = refl
-acts_same With s (Open own) = refl
-acts_same With s (Accept far own) = refl
-acts_same With s (Reject far own) = refl
-acts_same With s (In own message) = in_use_same (LiveAt own) s (Err NoLink) _ With
-acts_same With s (Up own message) = refl
-acts_same With s (Close own) = in_use_same (LiveAt own) s (Err NoLink) _ With
-acts_same With s (Abort own) = in_use_same (LiveAt own) s (Err NoLink) _ With
-acts_same With s Boot = refl
 
 -- ---- what comes
 

@@ -7,3 +7,4 @@ pub mod Late
 pub mod Rows
 pub mod Failed
 pub mod Permitted
+pub mod Acted

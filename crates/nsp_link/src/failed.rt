@@ -1,6 +1,7 @@
 //! Which check a message or an event does not pass, with what is seen and what is allowed.
 
 ghost use Rattle.std.specs.Prelude.{◌≡◌};
+ghost use Rattle.nsp_link.specs.FailedEvent.{refusal_of_event};
 ghost use Rattle.nsp_link.specs.FailedSending.{refusal_of_sending};
 
 use crate::{LinkRefusal, LinkTag};
@@ -146,6 +147,22 @@ pub enum FailedLinkEvent {
         seen: usize,
         allowed: Option<usize>,
     },
+}
+
+impl FailedLinkEvent {
+    /// The refusal that this check gives.
+    pub fn refusal(self) -> LinkRefusal
+        ensures { result ≡ refusal_of_event self }
+    {
+        match self {
+            FailedLinkEvent::NoLink(_) => LinkRefusal::NoLink,
+            FailedLinkEvent::AddressInUse { .. } => LinkRefusal::AddressInUse,
+            FailedLinkEvent::TakesMessages { .. } => LinkRefusal::LinkState,
+            FailedLinkEvent::IsConnected { .. } => LinkRefusal::LinkState,
+            FailedLinkEvent::IsCalling { .. } => LinkRefusal::LinkState,
+            FailedLinkEvent::Delivery { .. } => LinkRefusal::WrongDelivery,
+        }
+    }
 }
 
 /// Between which nodes a packet goes.

@@ -14,8 +14,8 @@ ghost use Rattle.nsp_link.specs.inner.Index.{begins_use, use_that_ends};
 
 mod arriving;
 mod asking;
+mod delivering;
 mod due;
-mod failing;
 mod queue;
 mod sending;
 mod shown;

@@ -8,13 +8,13 @@ ghost use Rattle.nsp_link.specs.Given.{given_at};
 ghost use Rattle.nsp_link.specs.inner.Index.{is_of_one};
 ghost use Rattle.nsp_link.specs.inner.Index as words;
 
+mod acting;
 mod arriving;
 mod begin;
 mod boot;
 mod change;
 mod due;
 mod failing_arrival;
-mod failing_event;
 mod in_use;
 mod missing;
 mod partner;

@@ -1,8 +1,28 @@
-//! That the links allow a message, with what was found when they were asked.
+//! That the links allow an event or a message, with what was found when they were asked.
 
 use crate::last_sent::LastSent;
 use crate::last_sent::late::LateSent;
-use dna_links::Said;
+use dna_links::{Phase, Said};
+
+/// That the user may do something with the links now, and what it then makes of them. Of the links that gave it, and of that event, until the
+/// links change.
+#[derive(Clone, Copy)]
+pub enum LinkUserPermit {
+    /// A link is opened with this own address, which no live link has.
+    Opens { own: u16 },
+    /// The call that began the link with this number is answered: it gets this own address, which no live link has, and goes to this phase.
+    Answers { link: usize, own: u16, phase: Phase },
+    /// A message is handed in at this link.
+    HandsIn { link: usize },
+    /// The message that this link delivers came in so many segments.
+    Delivers { link: usize, pieces: usize },
+    /// This link is closed.
+    Closes { link: usize },
+    /// The call of this link is given up.
+    GivesUp { link: usize },
+    /// The node starts anew.
+    Boots,
+}
 
 /// That a message may be sent now, and what it then makes of its link. Of the links that gave it, and of that message, until the links change.
 #[derive(Clone, Copy)]

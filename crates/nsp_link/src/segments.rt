@@ -1,13 +1,12 @@
 //! The segments of one link, both ways.
 
-ghost use Rattle.std.specs.Prelude.{◌≡◌, ◌<◌, ◌==◌, None, Some, false, length, OnOk, OnErr};
-ghost use Rattle.std.specs.Prelude.{if◌then◌else◌};
-ghost use Rattle.dna_links.specs.WireSegments.{empty, hands_in, delivers, ends};
+ghost use Rattle.std.specs.Prelude.{◌≡◌, ◌<◌, ◌==◌, length, OnOk, OnErr};
+ghost use Rattle.dna_links.specs.WireSegments.{empty, hands_in, ends};
 ghost use Rattle.nsp_link.specs.Given.{given_of};
 
 mod asking;
+mod delivering;
 mod due;
-mod failing;
 mod receiving;
 mod sending;
 mod shown;
@@ -97,19 +96,6 @@ impl<W: Window<Piece, 4096> + Drop> Segments<W> {
         ensures err { OnErr result (self.new ≡ self.old) }
     {
         self.unsent.hand_in(alloc, message)
-    }
-
-    /// A message is delivered, if it is the next whole one; the answer is whether it is. Takes no memory.
-    #[tactic(auto, using(crate::proofs::Delivery::delivery))]
-    pub fn deliver(&mut self, message: &[u8]) -> bool
-        ensures told { delivers message.now self.old ≡ (if result then Some self.new else None) }
-        ensures no { result ≡ false → self.new ≡ self.old }
-    {
-        let Some(count) = self.pieces.pieces_of(message) else {
-            return false;
-        };
-        self.pieces.deliver(count);
-        true
     }
 
     /// The link ends: what is received in whole messages is kept, and nothing else. The answer is whether that is nothing.

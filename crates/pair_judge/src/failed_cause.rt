@@ -2,7 +2,6 @@
 
 ghost use Rattle.std.specs.Prelude.{◌≡◌, List, ◌∷◌, Option};
 ghost use Rattle.nsp_link.specs.FailedArrival as arrives;
-ghost use Rattle.nsp_link.specs.FailedEvent as events;
 ghost use Rattle.pair_judge.specs.FailedCheck.{cause_of, reason_of_failed};
 ghost use Rattle.pair_judge.specs.FailedIn as spec;
 ghost use Rattle.pair_judge.specs.declared.failed_check.FailedCheck.{FailedCheck as Check};
@@ -11,7 +10,7 @@ use crate::failed_check::FailedCheck;
 use crate::reason::Reason;
 use dna_node::Cause;
 use dna_station::{LinkRefusal, StationRefusal, StepRefusal};
-use nsp_link::{FailedLinkArrival, FailedLinkEvent};
+use nsp_link::FailedLinkArrival;
 
 impl FailedCheck {
     /// The reason that is printed for it.
@@ -37,7 +36,7 @@ impl FailedCheck {
             FailedCheck::Nsp(_) => Cause::Step(StepRefusal::BadNsp),
             FailedCheck::LinkSending(failed) => of_links(failed.refusal()),
             FailedCheck::LinkArrival(failed) => of_links(link_arrival(failed)),
-            FailedCheck::LinkEvent(failed) => of_links(link_event(failed)),
+            FailedCheck::LinkEvent(failed) => of_links(failed.refusal()),
             FailedCheck::Noise => Cause::Step(StepRefusal::NotNoise),
         }
     }
@@ -79,18 +78,5 @@ fn link_arrival(failed: FailedLinkArrival) -> LinkRefusal
         FailedLinkArrival::Nodes { .. } => LinkRefusal::WrongNode,
         FailedLinkArrival::OtherCall { .. } => LinkRefusal::CrossedLink,
         FailedLinkArrival::OtherPair { .. } => LinkRefusal::CrossedLink,
-    }
-}
-
-fn link_event(failed: FailedLinkEvent) -> LinkRefusal
-    ensures { result ≡ events.refusal_of_event failed }
-{
-    match failed {
-        FailedLinkEvent::NoLink(_) => LinkRefusal::NoLink,
-        FailedLinkEvent::AddressInUse { .. } => LinkRefusal::AddressInUse,
-        FailedLinkEvent::TakesMessages { .. } => LinkRefusal::LinkState,
-        FailedLinkEvent::IsConnected { .. } => LinkRefusal::LinkState,
-        FailedLinkEvent::IsCalling { .. } => LinkRefusal::LinkState,
-        FailedLinkEvent::Delivery { .. } => LinkRefusal::WrongDelivery,
     }
 }

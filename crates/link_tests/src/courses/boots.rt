@@ -55,7 +55,7 @@ fn comes<const QUEUES: u8>(node: &mut Node, message: &Nsp) -> Result<(), LinkFau
 // The number of the first event of this course whose answer is another one, or of which the check that it does not pass tells another.
 fn differs<const QUEUES: u8>(node: &mut Node, course: &[(LinkEvent, Answer)]) -> Option<usize> {
     for (number, (event, answer)) in course.iter().enumerate() {
-        let passes = node.failed_event::<QUEUES>(*event).is_none();
+        let passes = node.ask_user::<QUEUES>(*event).is_ok();
         if node.user::<QUEUES>(*event) != *answer {
             return Some(number);
         }

@@ -1,24 +1,22 @@
 -- What the rows of `Table` of `dna_links` come to at the links of a node, with queues or without, for private contracts and for proofs.
-use Rattle.std.specs.Prelude.{ℕ, Bool, true, false, Option, Some, None, List, position, Result, Ok, Err}
+use Rattle.std.specs.Prelude.{ℕ, Bool, true, false, Option, Some, None, position, Result, Ok}
 use Rattle.dna_packet.specs.Nsp.{NspValue, DataSegment, LinkService, DataAck, OtherDataAck, ConnectInitiate}
 use Rattle.dna_packet.specs.Nsp.{ConnectConfirm, DisconnectInitiate, DisconnectConfirm}
 use Rattle.dna_station.specs.declared.link_refusal.LinkRefusal.{LinkRefusal}
-use Rattle.dna_station.specs.declared.link_refusal.LinkRefusal.TheVariants.{NoLink, LinkState, CrossedLink}
+use Rattle.dna_station.specs.declared.link_refusal.LinkRefusal.TheVariants.{CrossedLink}
 use Rattle.dna_links.specs.declared.port.Phase.{Phase}
-use Rattle.dna_links.specs.declared.port.Phase.TheVariants.{Confirming, Running, Disconnecting}
+use Rattle.dna_links.specs.declared.port.Phase.TheVariants.{Running}
 use Rattle.dna_links.specs.declared.port.LinkTest.{LinkTest}
-use Rattle.dna_links.specs.declared.port.LinkTest.TheVariants.{HasAddress, LiveAt, TheLink, LiveTo, OpenedAt, CallingAt, CalledBy, ActedOn}
+use Rattle.dna_links.specs.declared.port.LinkTest.TheVariants.{HasAddress, LiveAt, TheLink, LiveTo, OpenedAt, CallingAt, ActedOn}
 use Rattle.dna_links.specs.declared.queue.Queues.{Queues}
 use Rattle.dna_links.specs.declared.queue.Queues.TheVariants.{Without, With}
 use Rattle.dna_links.specs.declared.tag.LinkTag.{LinkTag}
-use Rattle.dna_links.specs.LookUps.{is_calling, is_connected, takes_messages, passes}
+use Rattle.dna_links.specs.LookUps.{passes}
 use Rattle.dna_links.specs.Links.{LinkOf, check, number_of, with_link, at_number, begun, changed, with_segments}
-use Rattle.dna_links.specs.Queues.{in_use, goes_to, ends_by_message, drops, freed, booted}
+use Rattle.dna_links.specs.Queues.{in_use, goes_to, ends_by_message}
 use Rattle.dna_links.specs.Arriving.{PartnerRule, is_for, is_of_pair, of_partner}
-use Rattle.dna_links.specs.User.{LinkEventValue, Open, Accept, Reject, In, Up, Close, Abort, Boot}
-use Rattle.dna_links.specs.inner.Forms as forms
-use Rattle.dna_links.specs.inner.Forms.{called, delivered, of_no_link, opened, segment_of, truth_of, unchanged}
-use Rattle.dna_links.specs.WireSegments.{WireSegments, wire_segments, delivers, hands_in, takes_acks, takes_segment}
+use Rattle.dna_links.specs.inner.Forms.{called}
+use Rattle.dna_links.specs.WireSegments.{WireSegments, wire_segments, takes_acks, takes_segment}
 use Rattle.dna_links.specs.WireLinks.{WireLinks}
 
 -- ---- which link
@@ -59,42 +57,6 @@ module _ (queues : Queues) where
 
   abbrev pub answered : Phase → (own : ℕ) → LinkOf WireSegments → LinkOf WireSegments
   answered phase own link = goes_to wire_segments queues phase (record link { port = record link.port { own = Some own } })
-
-  abbrev pub answers : Phase → (far own : ℕ) → WireLinks → Result WireLinks LinkRefusal
-  answers phase far own s = with_link (CalledBy far) s (Err NoLink) (λ number link.
-      forms.gives wire_segments own s (changed number (answered phase own link) (freed wire_segments queues own s)))
-
-  abbrev pub opens : (own : ℕ) → WireLinks → Result WireLinks LinkRefusal
-  opens own s = forms.gives wire_segments own s (begun (opened wire_segments own) (freed wire_segments queues own s))
-
-  abbrev pub hands : (own : ℕ) → List ℕ → WireLinks → Result WireLinks LinkRefusal
-  hands own message s = found_in_use (LiveAt own) s (Err NoLink) (λ number link.
-      check (takes_messages (in_use queues link).phase) LinkState (Ok (changed number (with_segments (hands_in message link.segments) link) s)))
-
-  abbrev pub closes : (own : ℕ) → WireLinks → Result WireLinks LinkRefusal
-  closes own s = found_in_use (LiveAt own) s (Err NoLink) (λ number link.
-      check (is_connected (in_use queues link).phase) LinkState (Ok (changed number (goes_to wire_segments queues Disconnecting link) s)))
-
-  abbrev pub aborts : (own : ℕ) → WireLinks → Result WireLinks LinkRefusal
-  aborts own s = found_in_use (LiveAt own) s (Err NoLink) (λ number link.
-      check (is_calling (in_use queues link).phase) LinkState (Ok (changed number (drops wire_segments queues link) s)))
-
-  abbrev pub boots : WireLinks → Result WireLinks LinkRefusal
-  boots s = Ok (booted wire_segments queues s)
-
-  abbrev pub delivers_up : (own : ℕ) → List ℕ → WireLinks → Result WireLinks LinkRefusal
-  delivers_up own message s = with_link (HasAddress own) s (Err NoLink) (λ number link.
-      delivered wire_segments number link s (delivers message link.segments))
-
-  abbrev pub acts : WireLinks → LinkEventValue → Result WireLinks LinkRefusal
-  acts s (Open own) = opens own s
-  acts s (Accept far own) = answers Confirming far own s
-  acts s (Reject far own) = answers Disconnecting far own s
-  acts s (In own message) = hands own message s
-  acts s (Up own message) = delivers_up own message s
-  acts s (Close own) = closes own s
-  acts s (Abort own) = aborts own s
-  acts s Boot = boots s
 
   -- ---- what comes
 

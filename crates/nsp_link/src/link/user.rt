@@ -1,10 +1,10 @@
 //! What the user of a link does.
 
-ghost use Rattle.std.specs.Prelude.{◌≡◌, Some, None, true, false, OnOk, OnErr};
+ghost use Rattle.std.specs.Prelude.{◌≡◌, None, true, false, OnOk, OnErr};
 ghost use Rattle.dna_links.specs.LookUps.{is_live, is_called, is_calling};
 ghost use Rattle.dna_links.specs.Links.{with_segments};
 ghost use Rattle.dna_links.specs.Queues.{booted_link, goes_to, in_use};
-ghost use Rattle.dna_links.specs.WireSegments.{wire_segments, hands_in, delivers};
+ghost use Rattle.dna_links.specs.WireSegments.{wire_segments, hands_in};
 ghost use Rattle.nsp_link.specs.Kinds.{queues_of};
 ghost use Rattle.nsp_link.specs.inner.Index.{Stays, begins_use};
 ghost use Rattle.nsp_link.specs.inner.Queue.{answered_link, forgotten_link, keeps};
@@ -28,18 +28,6 @@ impl<W: Window<Piece, 4096> + Drop> Link<W> {
         match &mut self.segments {
             Some(segments) => segments.hand_in(alloc, message),
             None => unreachable!(),
-        }
-    }
-
-    /// A message is delivered, if it is the next whole one; the answer is whether it is.
-    pub fn deliver(&mut self, message: &[u8]) -> bool
-        ensures yes { result ≡ true → delivers message.now self.old.segments ≡ Some self.new.segments }
-        ensures rest { self.new ≡ with_segments self.new.segments self.old }
-        ensures no { result ≡ false → (delivers message.now self.old.segments ≡ None) × (self.new ≡ self.old) }
-    {
-        match &mut self.segments {
-            Some(segments) => segments.deliver(message),
-            None => false,
         }
     }
 

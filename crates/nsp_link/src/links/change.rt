@@ -1,6 +1,6 @@
 //! How one of the links changes in its place.
 
-ghost use Rattle.std.specs.Prelude.{◌≡◌, ◌<◌, Ok, Err, None, Some, true, false, length, slice_get, OnOk, OnErr, IfOk, IfErr};
+ghost use Rattle.std.specs.Prelude.{◌≡◌, ◌<◌, ◌≤◌, Some, true, length, slice_get, OnOk, OnErr, IfErr};
 ghost use Rattle.std.specs.Prelude.{if◌then◌else◌, ℕ, suc, nat_eq};
 ghost use Rattle.std.specs.HashMap as hashed;
 ghost use Rattle.std.specs.List.{AllByRecursion};
@@ -11,11 +11,11 @@ ghost use Rattle.dna_links.specs.declared.queue.Queues.TheVariants.{With};
 ghost use Rattle.dna_links.specs.Links.{LinkOf, changed, with_segments};
 ghost use Rattle.dna_links.specs.LookUps.{is_calling, is_at};
 ghost use Rattle.dna_links.specs.Segmentation.{piece_of};
-ghost use Rattle.dna_links.specs.inner.Forms.{delivered};
-ghost use Rattle.dna_links.specs.WireSegments.{WireSegments, wire_segments, hands_in, delivers, takes_acks, takes_segment};
+ghost use Rattle.dna_links.specs.WireSegments.{WireSegments, wire_segments, hands_in, takes_acks, takes_segment};
 ghost use Rattle.nsp_link.specs.Segments.{is_held};
 ghost use Rattle.nsp_link.specs.inner.Index.{times};
 ghost use Rattle.nsp_link.specs.Kinds.{queues_of};
+ghost use Rattle.nsp_link.specs.inner.Acted.{HasPieces, without_pieces};
 ghost use Rattle.nsp_link.specs.inner.Indexing.{CallsAt, KeepsAt, LivesAt, UsesAt};
 ghost use Rattle.nsp_link.specs.inner.Permitted.{IsNextAt, gave, went_on};
 ghost use Rattle.nsp_link.specs.inner.Rows.{confirmed, runs};
@@ -26,7 +26,7 @@ use crate::index::Index;
 use crate::last_sent::LastSent;
 use crate::last_sent::late::LateSent;
 use crate::phase::is_phase;
-use crate::{LinkRefusal, LinkTag, Piece};
+use crate::{LinkTag, Piece};
 use dna_links::{Phase, Port, Said};
 use dna_packet::{AckWord, Segment};
 use std::alloc::AllocError;
@@ -55,15 +55,15 @@ impl<W: Window<Piece, 4096> + Drop> Links<W> {
         self.links[number].hand_in(self.alloc, message)
     }
 
-    // A message is delivered on the link with this number, if it is the next whole one; the answer is whether it is.
-    pub(super) fn deliver_at(&mut self, number: usize, message: &[u8]) -> bool
+    // So many pieces of whole messages are delivered on the link with this number.
+    pub(super) fn deliver_at(&mut self, number: usize, pieces: usize)
         requires within { number < length self.old.links }
-        ensures told { (link : LinkOf WireSegments) → slice_get self.old.links number ≡ Some link
-            → delivered wire_segments number link self.old (delivers message.now link.segments)
-            ≡ (if result then Ok self.new else Err LinkRefusal.WrongDelivery) }
-        ensures no { result ≡ false → self.new ≡ self.old }
+        requires some { 1 ≤ pieces }
+        requires few { HasPieces pieces number self.old }
+        ensures { (link : LinkOf WireSegments) → slice_get self.old.links number ≡ Some link
+            → self.new ≡ changed number (with_segments (without_pieces pieces link.segments) link) self.old }
     {
-        self.links[number].deliver(message)
+        self.links[number].deliver(pieces);
     }
 
     // A new segment is sent on the link with this number. Where memory is refused, nothing changes.

@@ -147,9 +147,9 @@ impl Layers {
     pub fn failed_link_event<const QUEUES: u8>(&self, event: LinkEvent) -> Option<FailedCheck>
         ensures { result ≡ option_map FailedCheck.LinkEvent (link_event.failed_event (queues_of QUEUES) self.now.links (links.view event.entry)) }
     {
-        match self.links.failed_event::<QUEUES>(event) {
-            Some(failed) => Some(FailedCheck::LinkEvent(failed)),
-            None => None,
+        match self.links.ask_user::<QUEUES>(event) {
+            Ok(_permit) => None,
+            Err(failed) => Some(FailedCheck::LinkEvent(failed)),
         }
     }
 }
