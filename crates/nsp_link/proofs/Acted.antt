@@ -1,10 +1,13 @@
 -- What is made of a link by its number is what becomes of the links.
-use Rattle.std.proofs.Common.{◌≡◌, ℕ, ◌<◌, Option, Some, None, Result, Ok, Err, OnOk, length, refl, sym, ap, ◌∙◌}
+use Rattle.std.proofs.Common.{◌≡◌, ℕ, ◌<◌, Bool, true, Option, Some, None, Result, Ok, Err, OnOk, OnErr, IfErr, length, refl, sym, ap, ◌∙◌}
 use Rattle.std.specs.Prelude.{slice_get}
+use Rattle.dna_packet.specs.Nsp.{SegmentValue}
 use Rattle.dna_links.specs.Links.{LinkOf, on_link}
 use Rattle.dna_links.specs.WireSegments.{WireSegments}
 use Rattle.dna_links.specs.WireLinks.{WireLinks}
+use Rattle.nsp_link.specs.Segments.{is_held}
 use Rattle.nsp_link.specs.inner.Acted.{at_its_link}
+use Rattle.nsp_link.specs.inner.Taken.{HoldsAs}
 use Rattle.nsp_link.proofs.Found.{some_there}
 
 module _ (n : ℕ) (s : WireLinks) (made : LinkOf WireSegments → WireLinks) where
@@ -23,4 +26,14 @@ module _ (n : ℕ) (s : WireLinks) (made : LinkOf WireSegments → WireLinks) wh
     becomes_if_ok (Ok x) new each = becomes_there new each
     becomes_if_ok (Err e) new each = tt
 
-pub ruleset made_there = (becomes_there, becomes_if_ok)
+-- memory that a segment wants is taken where the segment is held
+pub held_memory : {A E : Type 0} (n : ℕ) (s : WireLinks) → n < length s.links → (segment : SegmentValue) (memory : Bool) → HoldsAs segment memory n s →
+    (r : Result A E) → ((l : LinkOf WireSegments) → slice_get s.links n ≡ Some l → IfErr r (λ e. is_held segment l.segments.variables ≡ true)) →
+    OnErr r (memory ≡ true)
+held_memory n s within segment memory holds (Ok x) held = tt
+held_memory n s within segment memory holds (Err e) held = by_link (slice_get s.links n) refl where
+  by_link : (k : Option (LinkOf WireSegments)) → slice_get s.links n ≡ k → memory ≡ true
+  by_link None is = absurd (some_there s.links n within is)
+  by_link (Some l) is = sym (holds l is) ∙ held l is
+
+pub ruleset made_there = (becomes_there, becomes_if_ok, held_memory)

@@ -1,6 +1,6 @@
 -- A permit is given where the tables allow an event or a message, with what holds of its link then, and a check is named where they refuse it.
 use Rattle.std.proofs.Common.{◌≡◌, ℕ, Bool, true, false, Option, Some, None, refl, sym, subst, ap, option_map}
-use Rattle.std.specs.Prelude.{slice_get, Result, Ok, Err, IsOk, OnOk, IfErr}
+use Rattle.std.specs.Prelude.{slice_get, Result, Ok, Err, IsOk, OnOk, IfOk, IfErr}
 use Rattle.dna_station.specs.declared.link_refusal.LinkRefusal.{LinkRefusal}
 use Rattle.dna_links.specs.declared.port.LinkTest.{LinkTest}
 use Rattle.dna_links.specs.declared.queue.Queues.{Queues}
@@ -63,3 +63,30 @@ module _ {P F M : Type 0} (fits : P → Type 0) (makes : P → M) (refusal_of : 
   pub permit_by : (answer : Result P F) (made : Result M LinkRefusal) (permit : P) → answer ≡ Ok permit → Agrees answer made →
       fits permit × (made ≡ Ok (makes permit))
   permit_by answer made permit e h = subst (λ (r : Result P F). Agrees r made) e h
+
+  module _ (answer asked : Result P F) (made : Result M LinkRefusal) (is : answer ≡ asked) (agrees : Agrees asked made) where
+    pub answer_refuses : IfErr answer (λ failed. made ≡ Err (refusal_of failed))
+    answer_refuses = subst (λ (r : Result P F). IfErr r (λ failed. made ≡ Err (refusal_of failed))) (sym is) (refused_by asked made agrees)
+
+    pub answer_allows : OnOk answer (IsOk made)
+    answer_allows = subst (λ (r : Result P F). OnOk r (IsOk made)) (sym is) (allowed_by asked made agrees)
+
+-- ---- after a first check
+
+permit_after : {P F : Type 0} (b : Bool) (failed : F) (r : Result P F) → IfOk (unless b failed r) (λ permit. r ≡ Ok permit)
+permit_after true failed (Ok permit) = refl
+permit_after true failed (Err e) = tt
+permit_after false failed r = tt
+
+made_after : {P F M : Type 0} (b : Bool) (failed : F) (r : Result P F) (refusal : LinkRefusal) (made : Result M LinkRefusal) →
+    OnOk (unless b failed r) (check b refusal made ≡ made)
+made_after true failed (Ok permit) refusal made = refl
+made_after true failed (Err e) refusal made = tt
+made_after false failed r refusal made = tt
+
+module _ {P F : Type 0} (b : Bool) (failed : F) (answer r : Result P F) (is : answer ≡ unless b failed r) where
+  pub permits : IfOk answer (λ permit. r ≡ Ok permit)
+  permits = subst (λ (x : Result P F). IfOk x (λ permit. r ≡ Ok permit)) (sym is) (permit_after b failed r)
+
+  pub goes_on : {M : Type 0} (refusal : LinkRefusal) (made : Result M LinkRefusal) → OnOk answer (check b refusal made ≡ made)
+  goes_on refusal made = subst (λ (x : Result P F). OnOk x (check b refusal made ≡ made)) (sym is) (made_after b failed r refusal made)

@@ -22,17 +22,17 @@ use Rattle.link_segments.specs.Received.{next_length}
 use Rattle.nsp_link.specs.FailedEvent.{asked_address, asked_answer, asked_event, is_whole, may_close, may_give_up, may_hand_in, on_link_in_use}
 use Rattle.nsp_link.specs.FailedEvent.{failed_event, refusal_of_event, whole_pieces}
 use Rattle.nsp_link.specs.FailedSending.{unless}
-use Rattle.nsp_link.specs.Missing.{missing, refusal_in}
+use Rattle.nsp_link.specs.Missing.{refusal_in}
 use Rattle.nsp_link.specs.Phases.{event_takes_memory}
 use Rattle.nsp_link.specs.declared.failed.FailedLinkEvent.{FailedLinkEvent}
-use Rattle.nsp_link.specs.declared.failed.FailedLinkEvent.TheVariants.{TakesMessages, IsConnected, IsCalling, Delivery}
-use Rattle.nsp_link.specs.declared.failed.FailedLinkEvent.TheVariants.{AddressInUse as InUse, NoLink as Unfound}
+use Rattle.nsp_link.specs.declared.failed.FailedLinkEvent.TheVariants.{Delivery}
+use Rattle.nsp_link.specs.declared.failed.FailedLinkEvent.TheVariants.{AddressInUse as InUse}
 use Rattle.nsp_link.specs.declared.permit.LinkUserPermit.{LinkUserPermit}
-use Rattle.nsp_link.specs.declared.permit.LinkUserPermit.TheVariants.{Opens, Answers, HandsIn, Delivers, Closes, GivesUp, Boots}
+use Rattle.nsp_link.specs.declared.permit.LinkUserPermit.TheVariants.{Opens, Answers, Delivers}
 use Rattle.nsp_link.specs.inner.Acted.{FitsEvent, IsAnswer, acted, message_in, without_pieces}
-use Rattle.nsp_link.specs.inner.Rows.{answered, number_in_use}
+use Rattle.nsp_link.specs.inner.Rows.{answered}
 use Rattle.nsp_link.proofs.Acted.{made_of}
-use Rattle.nsp_link.proofs.Agreeing.{Agrees, at_agrees, allowed_by, permit_by, refused_by, same_by, unless_agrees, use_agrees}
+use Rattle.nsp_link.proofs.Agreeing.{Agrees, answer_allows, answer_refuses, at_agrees, permit_by, same_by, unless_agrees, use_agrees}
 use Rattle.nsp_link.proofs.Delivery.{pieces_within}
 use Rattle.nsp_link.proofs.Found.{called_found, number_within, some_there}
 use Rattle.nsp_link.proofs.InUse.{calls_at, connected_keeps_at, connected_used_at, messages_keep_at}
@@ -186,14 +186,10 @@ module _ (queues : Queues) (s : WireLinks) (event : LinkEventValue) where
 
   module _ (answer : Answer) (is : answer ≡ asked_event queues s event) where
     pub event_refused : IfErr answer (λ failed. wire_links_user queues s event ≡ Err (refusal_of_event failed))
-    event_refused =
-        subst (λ (r : Answer). IfErr r (λ failed. wire_links_user queues s event ≡ Err (refusal_of_event failed))) (sym is)
-        (refused_by fits makes refusal_of_event (asked_event queues s event) (wire_links_user queues s event) (event_agrees queues s event))
+    event_refused = answer_refuses fits makes refusal_of_event answer _ _ is (event_agrees queues s event)
 
     pub event_allowed : OnOk answer (IsOk (wire_links_user queues s event))
-    event_allowed =
-        subst (λ (r : Answer). OnOk r (IsOk (wire_links_user queues s event))) (sym is)
-        (allowed_by fits makes refusal_of_event (asked_event queues s event) (wire_links_user queues s event) (event_agrees queues s event))
+    event_allowed = answer_allows fits makes refusal_of_event answer _ _ is (event_agrees queues s event)
 
   module _ (permit : LinkUserPermit) (is : asked_event queues s event ≡ Ok permit) where
     both : fits permit × (wire_links_user queues s event ≡ Ok (makes permit))

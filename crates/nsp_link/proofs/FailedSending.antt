@@ -1,5 +1,4 @@
--- A check that a message, an event or what came does not pass is the one for which the tables refuse it, and a permit is given where they allow the
--- message.
+-- A check that a message does not pass is the one for which the tables refuse it, and a permit is given where they allow the message.
 use Rattle.std.proofs.Common.{◌≡◌, ℕ, ◌-◌, ◌<◌, Bool, true, false, ◌&&◌, ◌||◌, cond, not, Option, Some, None, List, [], ◌∷◌, length}
 use Rattle.std.proofs.Common.{refl, sym, subst, ap, ◌∙◌, arith, option_map, ltb, leb, eqb}
 use Rattle.std.proofs.lemmas.Bool.{leb-false, ltb-true}
@@ -20,7 +19,7 @@ use Rattle.dna_links.specs.declared.port.Phase.{Phase}
 use Rattle.dna_links.specs.declared.port.Phase.TheVariants.{Calling, Confirming, Running, Disconnecting}
 use Rattle.dna_links.specs.LookUps.{passes}
 use Rattle.dna_links.specs.SegmentBook.{REACH, distance, is_of_data, Sending, Late, with_gap, wider}
-use Rattle.dna_links.specs.Links.{LinkOf, Carried, check, with_link, with_seen, at_number, on_link, number_of}
+use Rattle.dna_links.specs.Links.{LinkOf, Carried, check, with_link, at_number, on_link, number_of}
 use Rattle.dna_links.specs.LinkBook.{on_ok}
 use Rattle.dna_links.specs.Queues.{drops, in_use, with_in_use, may_send, shows}
 use Rattle.dna_links.specs.Segmentation.{Piece, piece_of, same_piece, is_next_piece}
@@ -33,7 +32,7 @@ use Rattle.dna_links.specs.WireLinks.{WireLinks, wire_links_sent}
 use Rattle.dna_links.specs.inner.Forms.{of_no_link}
 use Rattle.nsp_link.specs.Missing.{missing, refusal_in}
 use Rattle.nsp_link.specs.Phases.{sending_takes_memory}
-use Rattle.nsp_link.specs.FailedSending.{named, unless, then_asked, asked_words, failed_behind, asked_late, late_numbers, word_numbers}
+use Rattle.nsp_link.specs.FailedSending.{unless, then_asked, asked_words, failed_behind, asked_late, late_numbers, word_numbers}
 use Rattle.nsp_link.specs.FailedSending.{asked_acks, asked_new, asked_given, asked_repeat, asked_below, asked_again, asked_segment, asked_segment_late}
 use Rattle.nsp_link.specs.FailedSending.{asked_to_settle, asked_in_turn, asked_message, asked_sending}
 use Rattle.nsp_link.specs.FailedSending.{failed_sending, refusal_of_sending, shape_of, next_in, segment_numbers, nodes_of, out_of_turn}
@@ -46,47 +45,14 @@ use Rattle.nsp_link.specs.declared.permit.LinkSendPermit.TheVariants.{OfNoLink, 
 use Rattle.nsp_link.specs.inner.Indexing.{KeepsAt}
 use Rattle.nsp_link.specs.inner.Permitted.{Fits, at_link, gave, of_link, permitted, segment_in, sent_by, settling}
 use Rattle.nsp_link.specs.inner.Permitted.{went_on as went_on_by}
-use Rattle.nsp_link.specs.inner.Rows.{found_in_use, number_in_use}
+use Rattle.nsp_link.specs.inner.Rows.{number_in_use}
+use Rattle.nsp_link.proofs.Agreeing.{Agrees as AgreesBy, answer_allows, answer_refuses, at_agrees as at_by, goes_on, permit_by, permits, same_by}
+use Rattle.nsp_link.proofs.Agreeing.{unless_agrees as unless_by, use_agrees as use_by}
 use Rattle.nsp_link.proofs.Found.{called_found, some_there}
 use Rattle.nsp_link.proofs.FailedTurn.{use_found}
 use Rattle.nsp_link.proofs.InUse.{running_keeps_at}
 use Rattle.nsp_link.proofs.LookUps.{called_lives}
 use Rattle.nsp_link.proofs.Rows.{in_use_same}
-
--- ---- one check, and one look-up
-
-pub check_same : {F R : Type 0} (refusal_of : F → LinkRefusal) (passes : Bool) (failed : F) (o : Option F) (next : Result R LinkRefusal) →
-    option_map refusal_of o ≡ refusal_in next →
-    option_map refusal_of (named passes failed o) ≡ refusal_in (check passes (refusal_of failed) next)
-check_same refusal_of true failed o next same = same
-check_same refusal_of false failed o next same = refl
-
--- what holds of both where no link is found, and where one is, holds of both
-module _ {R S P : Type 0} (f : R → P) (g : S → P) (s : WireLinks) (on_r : ℕ → LinkOf WireSegments → R)
-    (on_t : ℕ → LinkOf WireSegments → S) (some_same : (number : ℕ) (link : LinkOf WireSegments) → f (on_r number link) ≡ g (on_t number link)) where
-  on_same : (number : ℕ) (o : Option (LinkOf WireSegments)) (r : R) (t : S) → f r ≡ g t → f (on_link number o r on_r) ≡ g (on_link number o t on_t)
-  on_same number None r t none_same = none_same
-  on_same number (Some link) r t none_same = some_same number link
-
-  at_same : (o : Option ℕ) (r : R) (t : S) → f r ≡ g t → f (at_number s.links o r on_r) ≡ g (at_number s.links o t on_t)
-  at_same None r t none_same = none_same
-  at_same (Some number) r t none_same = on_same number (slice_get s.links number) r t none_same
-
-  pub found_same : (test : LinkTest) (r : R) (t : S) → f r ≡ g t → f (with_link test s r on_r) ≡ g (with_link test s t on_t)
-  found_same test r t none_same = at_same (number_of test s) r t none_same
-
-  pub seen_same : (test : LinkTest) (r : R) (t : S) → f r ≡ g t → f (with_seen (in_use With) test s r on_r) ≡ g (with_seen (in_use With) test s t on_t)
-  seen_same test r t none_same = at_same (position (λ (l : LinkOf WireSegments). passes test (in_use With l)) s.links) r t none_same
-
-  pub used_same : (queues : Queues) (test : LinkTest) (r : R) (t : S) → f r ≡ g t →
-      f (with_in_use queues test s r on_r) ≡ g (with_in_use queues test s t on_t)
-  used_same Without test r t none_same = found_same test r t none_same
-  used_same With test r t none_same = found_same test _ _ (seen_same test r t none_same)
-
-pub linked_same : {R S P : Type 0} (f : R → P) (g : S → P) (test : LinkTest) (s : WireLinks) (r : R) (t : S) (on_r : ℕ → LinkOf WireSegments → R)
-    (on_t : ℕ → LinkOf WireSegments → S) → f r ≡ g t → ((number : ℕ) (link : LinkOf WireSegments) → f (on_r number link) ≡ g (on_t number link)) →
-    f (with_link test s r on_r) ≡ g (with_link test s t on_t)
-linked_same f g test s r t on_r on_t none_same some_same = found_same f g s on_r on_t some_same test r t none_same
 
 -- ---- acknowledgement words
 
@@ -177,18 +143,6 @@ gap_ok : {R : Type 0} (gap : Sending WireSegments (Unit {0}) → ℕ) (r : Numbe
 gap_ok gap (Ok sent) next = refl
 gap_ok gap (Err refusal) next = refl
 
--- where neither the one nor the other is refused
-pub never_on : {R : Type 0} (test : LinkTest) (s : WireLinks) (r : Result R LinkRefusal) (next : ℕ → LinkOf WireSegments → Result R LinkRefusal) →
-    refusal_in r ≡ None → ((number : ℕ) (link : LinkOf WireSegments) → refusal_in (next number link) ≡ None) → refusal_in (with_link test s r next) ≡ None
-never_on test s r next none some = by_number (number_of test s) where
-  by_link : (number : ℕ) (o : Option (LinkOf WireSegments)) → refusal_in (on_link number o r next) ≡ None
-  by_link number None = none
-  by_link number (Some link) = some number link
-
-  by_number : (o : Option ℕ) → refusal_in (at_number s.links o r next) ≡ None
-  by_number None = none
-  by_number (Some number) = by_link number (slice_get s.links number)
-
 -- ---- a permit is given where the table allows it, and a check is named where it refuses
 
 abbrev Made : Type 0
@@ -202,35 +156,19 @@ Answer = Result LinkSendPermit FailedLinkSending
 
 module _ (queues : Queues) (o : Option SegmentValue) (memory : Bool) (s : WireLinks) where
   abbrev pub Agrees : Answer → Made → Type 0
-  Agrees (Ok permit) made = Fits o memory s permit × (made ≡ Ok (permitted queues o s permit))
-  Agrees (Err failed) made = made ≡ Err (refusal_of_sending failed)
+  Agrees = AgreesBy (Fits o memory s) (permitted queues o s) refusal_of_sending
 
   abbrev AgreeAt : ℕ → (ℕ → LinkOf WireSegments → Answer) → (ℕ → LinkOf WireSegments → Made) → Type 0
   AgreeAt n answer made = (l : LinkOf WireSegments) → slice_get s.links n ≡ Some l → Agrees (answer n l) (made n l)
 
   unless_agrees : (b : Bool) (failed : FailedLinkSending) (refusal : LinkRefusal) (answer : Answer) (made : Made) →
       refusal_of_sending failed ≡ refusal → (b ≡ true → Agrees answer made) → Agrees (unless b failed answer) (check b refusal made)
-  unless_agrees true failed refusal answer made is rest = rest refl
-  unless_agrees false failed refusal answer made is rest = ap Err (sym is)
+  unless_agrees = unless_by (Fits o memory s) (permitted queues o s) refusal_of_sending
 
   module _ (answer : ℕ → LinkOf WireSegments → Answer) (made : ℕ → LinkOf WireSegments → Made) where
-    on_agrees : (n : ℕ) (k : Option (LinkOf WireSegments)) → slice_get s.links n ≡ k → (none : Answer) (refuses : Made) → Agrees none refuses →
-        AgreeAt n answer made → Agrees (on_link n k none answer) (on_link n k refuses made)
-    on_agrees n None is none refuses without there = without
-    on_agrees n (Some l) is none refuses without there = there l is
-
     at_agrees : (r : Option ℕ) (none : Answer) (refuses : Made) → Agrees none refuses → ((n : ℕ) → r ≡ Some n → AgreeAt n answer made) →
         Agrees (at_number s.links r none answer) (at_number s.links r refuses made)
-    at_agrees None none refuses without there = without
-    at_agrees (Some n) none refuses without there = on_agrees n (slice_get s.links n) refl none refuses without (there n refl)
-
-    use_agrees : (test : LinkTest) (none : Answer) (refuses : Made) → Agrees none refuses →
-        ((n : ℕ) → number_in_use queues test s ≡ Some n → AgreeAt n answer made) →
-        Agrees (with_in_use queues test s none answer) (with_in_use queues test s refuses made)
-    use_agrees test none refuses without there =
-        subst (λ (made_so : Made). Agrees (with_in_use queues test s none answer) made_so) (in_use_same test s refuses made queues)
-        (subst (λ (answered : Answer). Agrees answered (found_in_use queues test s refuses made)) (in_use_same test s none answer queues)
-        (at_agrees (number_in_use queues test s) none refuses without there))
+    at_agrees = at_by (Fits o memory s) (permitted queues o s) refusal_of_sending s answer made
 
   turn_refused : (wanted : Phase) (number : ℕ) (link : LinkOf WireSegments) (kind : Queues) →
       refusal_of_sending (out_of_turn kind wanted number link) ≡ LinkState
@@ -243,8 +181,9 @@ module _ (queues : Queues) (o : Option SegmentValue) (memory : Bool) (s : WireLi
       Agrees (asked_in_turn queues test wanted answer s)
       (with_in_use queues test s (Err NoLink) (λ number link. check (may_send queues wanted link) LinkState (made number link)))
   turn_agrees test wanted answer made there =
-      use_agrees (λ number link. unless (may_send queues wanted link) (out_of_turn queues wanted number link) (answer number link))
-      (λ number link. check (may_send queues wanted link) LinkState (made number link)) test (Err (Unfound (missing test s))) (Err NoLink) refl
+      use_by (Fits o memory s) (permitted queues o s) refusal_of_sending s
+      (λ number link. unless (may_send queues wanted link) (out_of_turn queues wanted number link) (answer number link))
+      (λ number link. check (may_send queues wanted link) LinkState (made number link)) queues test (Err (Unfound (missing test s))) (Err NoLink) refl
       (λ n e l is. unless_agrees (may_send queues wanted l) (out_of_turn queues wanted n l) LinkState (answer n l) (made n l)
       (turn_refused wanted n l queues) (there n l e is))
 
@@ -569,65 +508,44 @@ packet_agrees queues s packet =
 
 -- ---- what follows
 
-module _ (queues : Queues) (o : Option SegmentValue) (memory : Bool) (s : WireLinks) where
-  same_by : (answer : Answer) (made : Made) → Agrees queues o memory s answer made →
-      option_map refusal_of_sending (refusal_in answer) ≡ refusal_in made
-  same_by (Ok permit) made h = sym (ap (λ (r : Made). refusal_in r) h.1)
-  same_by (Err failed) made h = sym (ap (λ (r : Made). refusal_in r) h)
+module _ (queues : Queues) (s : WireLinks) (m : NspValue) where
+  abbrev fits : LinkSendPermit → Type 0
+  fits = Fits (segment_in m) (sending_takes_memory queues s m) s
 
-  refused_by : (answer : Answer) (made : Made) → Agrees queues o memory s answer made →
-      IfErr answer (λ failed. made ≡ Err (refusal_of_sending failed))
-  refused_by (Ok permit) made h = tt
-  refused_by (Err failed) made h = h
+  abbrev makes : LinkSendPermit → Sent WireSegments (Unit {0})
+  makes = permitted queues (segment_in m) s
 
-  allowed_by : (answer : Answer) (made : Made) → Agrees queues o memory s answer made → OnOk answer (IsOk made)
-  allowed_by (Ok permit) made h = subst (λ (r : Made). IsOk r) (sym h.1) refl
-  allowed_by (Err failed) made h = tt
+module _ (queues : Queues) (s : WireLinks) (packet : Carried) where
+  pub sending_same : option_map refusal_of_sending (failed_sending queues s packet) ≡ refusal_in (wire_links_sent queues s packet)
+  sending_same =
+      same_by (fits queues s packet.message) (makes queues s packet.message) refusal_of_sending (asked_sending queues s packet)
+      (wire_links_sent queues s packet) (packet_agrees queues s packet)
 
-  permit_by : (answer : Answer) (made : Made) (permit : LinkSendPermit) → answer ≡ Ok permit → Agrees queues o memory s answer made →
-      Fits o memory s permit × (made ≡ Ok (permitted queues o s permit))
-  permit_by answer made permit e h = subst (λ (r : Answer). Agrees queues o memory s r made) e h
+  module _ (answer : Answer) (is : answer ≡ asked_sending queues s packet) where
+    pub asked_refuses : IfErr answer (λ failed. wire_links_sent queues s packet ≡ Err (refusal_of_sending failed))
+    asked_refuses =
+        answer_refuses (fits queues s packet.message) (makes queues s packet.message) refusal_of_sending answer _ _ is (packet_agrees queues s packet)
 
-pub sending_same : (queues : Queues) (s : WireLinks) (packet : Carried) →
-    option_map refusal_of_sending (failed_sending queues s packet) ≡ refusal_in (wire_links_sent queues s packet)
-sending_same queues s packet = same_by queues _ _ s (asked_sending queues s packet) (wire_links_sent queues s packet) (packet_agrees queues s packet)
+    pub asked_allows : OnOk answer (IsOk (wire_links_sent queues s packet))
+    asked_allows =
+        answer_allows (fits queues s packet.message) (makes queues s packet.message) refusal_of_sending answer _ _ is (packet_agrees queues s packet)
 
-module _ (queues : Queues) (s : WireLinks) (packet : Carried) (answer : Answer) (is : answer ≡ asked_sending queues s packet) where
-  pub asked_refuses : IfErr answer (λ failed. wire_links_sent queues s packet ≡ Err (refusal_of_sending failed))
-  asked_refuses =
-      subst (λ (r : Answer). IfErr r (λ failed. wire_links_sent queues s packet ≡ Err (refusal_of_sending failed))) (sym is)
-      (refused_by queues _ _ s (asked_sending queues s packet) (wire_links_sent queues s packet) (packet_agrees queues s packet))
+    pub asked_permits : IfOk answer (λ permit. asked_message queues s packet.message ≡ Ok permit)
+    asked_permits = permits (eqb packet.src s.node && eqb packet.dst s.peer) _ answer (asked_message queues s packet.message) is
 
-  pub asked_allows : OnOk answer (IsOk (wire_links_sent queues s packet))
-  asked_allows =
-      subst (λ (r : Answer). OnOk r (IsOk (wire_links_sent queues s packet))) (sym is)
-      (allowed_by queues _ _ s (asked_sending queues s packet) (wire_links_sent queues s packet) (packet_agrees queues s packet))
-
-  goes_by : (b : Bool) (failed : FailedLinkSending) (r : Answer) → IfOk (unless b failed r) (λ permit. r ≡ Ok permit)
-  goes_by true failed (Ok permit) = refl
-  goes_by true failed (Err e) = tt
-  goes_by false failed r = tt
-
-  same_goes : (b : Bool) (failed : FailedLinkSending) (r : Answer) (made : Made) → OnOk (unless b failed r) (check b WrongNode made ≡ made)
-  same_goes true failed (Ok permit) made = refl
-  same_goes true failed (Err e) made = tt
-  same_goes false failed r made = tt
-
-  pub asked_permits : IfOk answer (λ permit. asked_message queues s packet.message ≡ Ok permit)
-  asked_permits =
-      subst (λ (r : Answer). IfOk r (λ permit. asked_message queues s packet.message ≡ Ok permit)) (sym is)
-      (goes_by (eqb packet.src s.node && eqb packet.dst s.peer) _ (asked_message queues s packet.message))
-
-  pub asked_goes : OnOk answer (wire_links_sent queues s packet ≡ message_sent queues wire_segments s packet.message)
-  asked_goes =
-      subst (λ (r : Answer). OnOk r (wire_links_sent queues s packet ≡ message_sent queues wire_segments s packet.message)) (sym is)
-      (same_goes (eqb packet.src s.node && eqb packet.dst s.peer) _ (asked_message queues s packet.message)
-      (message_sent queues wire_segments s packet.message))
+    pub asked_goes : OnOk answer (wire_links_sent queues s packet ≡ message_sent queues wire_segments s packet.message)
+    asked_goes =
+        goes_on (eqb packet.src s.node && eqb packet.dst s.peer) _ answer (asked_message queues s packet.message) is WrongNode
+        (message_sent queues wire_segments s packet.message)
 
 -- by the permit alone
 module _ (queues : Queues) (s : WireLinks) (m : NspValue) (permit : LinkSendPermit) (is : asked_message queues s m ≡ Ok permit) where
+  both : Fits (segment_in m) (sending_takes_memory queues s m) s permit × (message_sent queues wire_segments s m ≡
+      Ok (permitted queues (segment_in m) s permit))
+  both = permit_by (fits queues s m) (makes queues s m) refusal_of_sending _ _ permit is (message_agrees queues s m)
+
   pub permit_fits : Fits (segment_in m) (sending_takes_memory queues s m) s permit
-  permit_fits = (permit_by queues (segment_in m) (sending_takes_memory queues s m) s _ _ permit is (message_agrees queues s m)).0
+  permit_fits = both.0
 
   pub permit_makes : message_sent queues wire_segments s m ≡ Ok (permitted queues (segment_in m) s permit)
-  permit_makes = (permit_by queues (segment_in m) (sending_takes_memory queues s m) s _ _ permit is (message_agrees queues s m)).1
+  permit_makes = both.1

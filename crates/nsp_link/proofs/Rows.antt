@@ -1,22 +1,15 @@
 -- The rows of `Table` come to what `Rows` of `specs/inner` says.
-use Rattle.std.proofs.Common.{◌≡◌, ℕ, Option, Some, None, Err, refl}
+use Rattle.std.proofs.Common.{◌≡◌, ℕ, Option, Some, None, refl}
 use Rattle.std.specs.Prelude.{slice_get, position}
-use Rattle.dna_packet.specs.Nsp.{NspValue, DataSegment, LinkService, DataAck, OtherDataAck, ConnectAck, NoOperation, ConnectInitiate}
-use Rattle.dna_packet.specs.Nsp.{ConnectConfirm, DisconnectInitiate, DisconnectConfirm}
-use Rattle.dna_station.specs.declared.link_refusal.LinkRefusal.TheVariants.{NoLink}
 use Rattle.dna_links.specs.declared.port.LinkTest.{LinkTest}
-use Rattle.dna_links.specs.declared.port.LinkTest.TheVariants.{LiveAt}
 use Rattle.dna_links.specs.declared.queue.Queues.{Queues}
 use Rattle.dna_links.specs.declared.queue.Queues.TheVariants.{Without, With}
-use Rattle.dna_links.specs.declared.tag.LinkTag.{LinkTag}
 use Rattle.dna_links.specs.LookUps.{passes}
 use Rattle.dna_links.specs.Links.{LinkOf, number_of, at_number, on_link}
 use Rattle.dna_links.specs.Queues.{in_use, with_in_use}
-use Rattle.dna_links.specs.Arriving.{PartnerRule, message_arrived}
-use Rattle.dna_links.specs.User.{LinkEventValue, Open, Accept, Reject, In, Up, Close, Abort, Boot}
-use Rattle.dna_links.specs.WireSegments.{WireSegments, wire_segments}
-use Rattle.dna_links.specs.WireLinks.{WireLinks, wire_links_user}
-use Rattle.nsp_link.specs.inner.Rows.{first_of, found_in_use, takes}
+use Rattle.dna_links.specs.WireSegments.{WireSegments}
+use Rattle.dna_links.specs.WireLinks.{WireLinks}
+use Rattle.nsp_link.specs.inner.Rows.{first_of, found_in_use}
 use Rattle.nsp_link.proofs.Found.{number_within, some_there}
 
 -- ---- a link in use
@@ -38,28 +31,3 @@ module _ {R : Type 0} (test : LinkTest) (s : WireLinks) (otherwise : R) (next : 
   pub in_use_same : (queues : Queues) → found_in_use queues test s otherwise next ≡ with_in_use queues test s otherwise next
   in_use_same Without = refl
   in_use_same With = first_same (number_of test s) refl
-
--- ---- what comes
-
-pub takes_same : (queues : Queues) (rule : PartnerRule) (s : WireLinks) (m : NspValue) (tag : LinkTag) →
-    takes queues rule s m tag ≡ message_arrived queues wire_segments rule s m (record { tag = tag; known = tt })
-takes_same Without rule s (ConnectInitiate retransmitted src services info segsize user_data) tag = refl
-takes_same Without rule s (ConnectConfirm dst src services info segsize user_data) tag = refl
-takes_same Without rule s (DisconnectInitiate dst src reason user_data) tag = refl
-takes_same Without rule s (DisconnectConfirm dst src reason) tag = refl
-takes_same Without rule s (DataSegment segment) tag = refl
-takes_same Without rule s (DataAck dst src acks) tag = refl
-takes_same Without rule s (LinkService interrupt dst src rest) tag = refl
-takes_same Without rule s (OtherDataAck dst src rest) tag = refl
-takes_same Without rule s (ConnectAck dst) tag = refl
-takes_same Without rule s (NoOperation rest) tag = refl
-takes_same With rule s (ConnectInitiate retransmitted src services info segsize user_data) tag = refl
-takes_same With rule s (ConnectConfirm dst src services info segsize user_data) tag = refl
-takes_same With rule s (DisconnectInitiate dst src reason user_data) tag = refl
-takes_same With rule s (DisconnectConfirm dst src reason) tag = refl
-takes_same With rule s (DataSegment segment) tag = refl
-takes_same With rule s (DataAck dst src acks) tag = refl
-takes_same With rule s (LinkService interrupt dst src rest) tag = refl
-takes_same With rule s (OtherDataAck dst src rest) tag = refl
-takes_same With rule s (ConnectAck dst) tag = refl
-takes_same With rule s (NoOperation rest) tag = refl

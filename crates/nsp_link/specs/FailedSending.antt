@@ -32,16 +32,12 @@ use Rattle.nsp_link.specs.declared.failed.PieceShape.{PieceShape}
 use Rattle.nsp_link.specs.declared.permit.LinkSendPermit.{LinkSendPermit}
 use Rattle.nsp_link.specs.declared.permit.LinkSendPermit.TheVariants.{OfNoLink, OfLink, Shows, GoesOn, Gives, Drops, Settles}
 
--- a check that is not passed is named; after one that is passed come the next ones
-abbrev pub named : {F : Type 0} → Bool → F → Option F → Option F
-named true failed next = next
-named false failed next = Some failed
-
+-- after a check that is passed comes the next one
 abbrev pub or_next : {F : Type 0} → Option F → Option F → Option F
 or_next None next = next
 or_next (Some failed) next = Some failed
 
--- the same where an answer follows that is not a check
+-- a check that is not passed is named; after one that is passed comes the answer to the next ones
 abbrev pub unless : {P F : Type 0} → Bool → F → Result P F → Result P F
 unless true failed next = next
 unless false failed next = Err failed

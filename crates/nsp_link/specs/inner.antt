@@ -8,3 +8,4 @@ pub mod Rows
 pub mod Failed
 pub mod Permitted
 pub mod Acted
+pub mod Taken

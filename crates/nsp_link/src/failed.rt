@@ -1,6 +1,7 @@
 //! Which check a message or an event does not pass, with what is seen and what is allowed.
 
 ghost use Rattle.std.specs.Prelude.{◌≡◌};
+ghost use Rattle.nsp_link.specs.FailedArrival.{refusal_of_arrival};
 ghost use Rattle.nsp_link.specs.FailedEvent.{refusal_of_event};
 ghost use Rattle.nsp_link.specs.FailedSending.{refusal_of_sending};
 
@@ -112,6 +113,19 @@ pub enum FailedLinkArrival {
         partner: Option<u64>,
         seen: LinkTag,
     },
+}
+
+impl FailedLinkArrival {
+    /// The refusal that this check gives.
+    pub fn refusal(self) -> LinkRefusal
+        ensures { result ≡ refusal_of_arrival self }
+    {
+        match self {
+            FailedLinkArrival::Nodes { .. } => LinkRefusal::WrongNode,
+            FailedLinkArrival::OtherCall { .. } => LinkRefusal::CrossedLink,
+            FailedLinkArrival::OtherPair { .. } => LinkRefusal::CrossedLink,
+        }
+    }
 }
 
 /// The first check that an event of the links' user does not pass (NSP 4.0, session control interface), with what is seen there and what is

@@ -29,5 +29,5 @@ pub use kind::{WITH_QUEUES, WITHOUT_QUEUES};
 pub use laws::{allowed_at_links, failed_as_refused, link_view_shows_truth};
 pub use link_segments::Piece;
 pub use links::Links;
-pub use permit::{LinkSendPermit, LinkUserPermit};
+pub use permit::{LinkArrivalPermit, LinkSendPermit, LinkUserPermit};
 pub use view::{LinkNumbers, LinkView};

@@ -14,26 +14,27 @@ mod begin;
 mod boot;
 mod change;
 mod due;
-mod failing_arrival;
 mod in_use;
 mod missing;
 mod partner;
 mod permitted;
 mod sending;
 mod shown;
+mod taking;
 mod user;
 
 use crate::index::Index;
 use crate::link::Link;
-use crate::{Given, LinkFault, LinkRefusal, Piece};
+use crate::{Given, Piece};
 use dna_links::LinkTest;
 use link_segments::passes;
 use std::alloc::Global;
 use std::marker::Model;
 use wire_base::Window;
 
-/// The links of one node, with three verbs: [`Links::user`], what their user does; [`Links::sent`], their node sent this;
-/// [`Links::arrived`], this came.
+/// The links of one node, with three verbs. Each is asked first, which changes nothing, and then made by the permit: [`Links::ask_user`] and
+/// [`Links::act`], what their user does; [`Links::ask_sending`] and [`Links::send`], their node sent this; [`Links::ask_arrival`] and
+/// [`Links::arrive`], this came. [`Links::user`], [`Links::sent`] and [`Links::arrived`] are both in a row.
 ///
 /// A link goes through the phases of `Phase` (NSP 4.0, port states):
 ///

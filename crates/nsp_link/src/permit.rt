@@ -42,3 +42,15 @@ pub enum LinkSendPermit {
     /// With queues: a DC with the address of this link, for which all that came was acted on.
     Settles { link: usize },
 }
+
+/// That a message which came may be taken now, and what it is then to the links. Of the links that gave it, and of that message, until the links
+/// change.
+#[derive(Clone, Copy)]
+pub enum LinkArrivalPermit {
+    /// It changes nothing.
+    Ignored,
+    /// A CI that begins a link: no live one knows its SRCADDR.
+    Begins,
+    /// It is acted on by the link with this number.
+    OfLink { link: usize },
+}

@@ -1,7 +1,6 @@
 //! The reason that goes with a failed check.
 
 ghost use Rattle.std.specs.Prelude.{◌≡◌, List, ◌∷◌, Option};
-ghost use Rattle.nsp_link.specs.FailedArrival as arrives;
 ghost use Rattle.pair_judge.specs.FailedCheck.{cause_of, reason_of_failed};
 ghost use Rattle.pair_judge.specs.FailedIn as spec;
 ghost use Rattle.pair_judge.specs.declared.failed_check.FailedCheck.{FailedCheck as Check};
@@ -10,7 +9,6 @@ use crate::failed_check::FailedCheck;
 use crate::reason::Reason;
 use dna_node::Cause;
 use dna_station::{LinkRefusal, StationRefusal, StepRefusal};
-use nsp_link::FailedLinkArrival;
 
 impl FailedCheck {
     /// The reason that is printed for it.
@@ -35,7 +33,7 @@ impl FailedCheck {
             FailedCheck::Packet(_) => Cause::Step(StepRefusal::BadPacket),
             FailedCheck::Nsp(_) => Cause::Step(StepRefusal::BadNsp),
             FailedCheck::LinkSending(failed) => of_links(failed.refusal()),
-            FailedCheck::LinkArrival(failed) => of_links(link_arrival(failed)),
+            FailedCheck::LinkArrival(failed) => of_links(failed.refusal()),
             FailedCheck::LinkEvent(failed) => of_links(failed.refusal()),
             FailedCheck::Noise => Cause::Step(StepRefusal::NotNoise),
         }
@@ -69,14 +67,4 @@ fn of_links(refusal: LinkRefusal) -> Cause
     ensures { result ≡ Cause.Step (StepRefusal.Links refusal) }
 {
     Cause::Step(StepRefusal::Links(refusal))
-}
-
-fn link_arrival(failed: FailedLinkArrival) -> LinkRefusal
-    ensures { result ≡ arrives.refusal_of_arrival failed }
-{
-    match failed {
-        FailedLinkArrival::Nodes { .. } => LinkRefusal::WrongNode,
-        FailedLinkArrival::OtherCall { .. } => LinkRefusal::CrossedLink,
-        FailedLinkArrival::OtherPair { .. } => LinkRefusal::CrossedLink,
-    }
 }

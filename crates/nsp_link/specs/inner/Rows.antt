@@ -1,22 +1,16 @@
 -- What the rows of `Table` of `dna_links` come to at the links of a node, with queues or without, for private contracts and for proofs.
-use Rattle.std.specs.Prelude.{ℕ, Bool, true, false, Option, Some, None, position, Result, Ok}
-use Rattle.dna_packet.specs.Nsp.{NspValue, DataSegment, LinkService, DataAck, OtherDataAck, ConnectInitiate}
-use Rattle.dna_packet.specs.Nsp.{ConnectConfirm, DisconnectInitiate, DisconnectConfirm}
-use Rattle.dna_station.specs.declared.link_refusal.LinkRefusal.{LinkRefusal}
-use Rattle.dna_station.specs.declared.link_refusal.LinkRefusal.TheVariants.{CrossedLink}
+use Rattle.std.specs.Prelude.{ℕ, Bool, true, false, Option, Some, None, position}
 use Rattle.dna_links.specs.declared.port.Phase.{Phase}
 use Rattle.dna_links.specs.declared.port.Phase.TheVariants.{Running}
 use Rattle.dna_links.specs.declared.port.LinkTest.{LinkTest}
-use Rattle.dna_links.specs.declared.port.LinkTest.TheVariants.{HasAddress, LiveAt, TheLink, LiveTo, OpenedAt, CallingAt, ActedOn}
+use Rattle.dna_links.specs.declared.port.LinkTest.TheVariants.{HasAddress, LiveAt, TheLink, OpenedAt, CallingAt, ActedOn}
 use Rattle.dna_links.specs.declared.queue.Queues.{Queues}
 use Rattle.dna_links.specs.declared.queue.Queues.TheVariants.{Without, With}
 use Rattle.dna_links.specs.declared.tag.LinkTag.{LinkTag}
 use Rattle.dna_links.specs.LookUps.{passes}
-use Rattle.dna_links.specs.Links.{LinkOf, check, number_of, with_link, at_number, begun, changed, with_segments}
-use Rattle.dna_links.specs.Queues.{in_use, goes_to, ends_by_message}
-use Rattle.dna_links.specs.Arriving.{PartnerRule, is_for, is_of_pair, of_partner}
-use Rattle.dna_links.specs.inner.Forms.{called}
-use Rattle.dna_links.specs.WireSegments.{WireSegments, wire_segments, takes_acks, takes_segment}
+use Rattle.dna_links.specs.Links.{LinkOf, number_of, at_number, with_segments}
+use Rattle.dna_links.specs.Queues.{in_use, goes_to}
+use Rattle.dna_links.specs.WireSegments.{WireSegments, wire_segments}
 use Rattle.dna_links.specs.WireLinks.{WireLinks}
 
 -- ---- which link
@@ -65,32 +59,3 @@ module _ (queues : Queues) where
 
   abbrev pub confirmed : (far segsize : ℕ) → LinkTag → LinkOf WireSegments → LinkOf WireSegments
   confirmed far segsize tag link = goes_to wire_segments queues Running (connected far segsize tag link)
-
-  abbrev pub calls : (far segsize : ℕ) → LinkTag → WireLinks → Result WireLinks LinkRefusal
-  calls far segsize tag s = with_link (LiveTo far) s (Ok (begun (called wire_segments of_partner far segsize tag) s)) (λ number link. Ok s)
-
-  abbrev pub ends_by : (own far : ℕ) → WireLinks → Result WireLinks LinkRefusal
-  ends_by own far s =
-      with_link (TheLink own far) s
-      (with_link (CallingAt own) s (Ok s) (λ number link. Ok (changed number (ends_by_message wire_segments queues link) s)))
-      (λ number link. Ok (changed number (ends_by_message wire_segments queues link) s))
-
-module _ (queues : Queues) (rule : PartnerRule) where
-  abbrev pub acted_on : (own far : ℕ) → LinkTag → (WireSegments → WireSegments) → WireLinks → Result WireLinks LinkRefusal
-  acted_on own far tag takes s = with_link (ActedOn own far) s (Ok s) (λ number link.
-      check (rule (is_of_pair number link.partner tag)) CrossedLink (Ok (changed number (runs queues takes link) s)))
-
-  abbrev pub confirms : (own far segsize : ℕ) → LinkTag → WireLinks → Result WireLinks LinkRefusal
-  confirms own far segsize tag s = with_link (CallingAt own) s (Ok s) (λ number link.
-      check (rule (is_for number tag)) CrossedLink (Ok (changed number (confirmed queues far segsize tag link) s)))
-
-  abbrev pub takes : WireLinks → NspValue → LinkTag → Result WireLinks LinkRefusal
-  takes s (ConnectInitiate retransmitted src services info segsize user_data) tag = calls queues src segsize tag s
-  takes s (ConnectConfirm dst src services info segsize user_data) tag = confirms dst src segsize tag s
-  takes s (DisconnectInitiate dst src reason user_data) tag = ends_by queues dst src s
-  takes s (DisconnectConfirm dst src reason) tag = ends_by queues dst src s
-  takes s (DataSegment segment) tag = acted_on segment.dstaddr segment.srcaddr tag (takes_segment segment tt) s
-  takes s (DataAck dst src acks) tag = acted_on dst src tag (takes_acks acks tt) s
-  takes s (LinkService interrupt dst src rest) tag = acted_on dst src tag (λ segments. segments) s
-  takes s (OtherDataAck dst src rest) tag = acted_on dst src tag (λ segments. segments) s
-  takes s m tag = Ok s

@@ -121,10 +121,10 @@ impl Layers {
         match &read_nsp(carried.message) {
             Ok(message) => match self
                 .links
-                .failed_arrival(carried.dst, carried.src, message, tag_of(link))
+                .ask_arrival::<true>(carried.dst, carried.src, message, tag_of(link))
             {
-                Some(failed) => Some(FailedCheck::LinkArrival(failed)),
-                None => None,
+                Ok(_permit) => None,
+                Err(failed) => Some(FailedCheck::LinkArrival(failed)),
             },
             Err(fault) => Some(FailedCheck::Nsp(*fault)),
         }
