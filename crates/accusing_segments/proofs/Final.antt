@@ -34,7 +34,7 @@ use Rattle.accusing_segments.proofs.Nodes.{Of, In, MayCome, MayAct, IsRight, sen
 use Rattle.accusing_segments.proofs.Passing.{other_more, other_stays, Unless, AsLinks, passed_more, gone_now, gone_any, Came, come_now, fine_is_right}
 use Rattle.accusing_segments.proofs.Passing.{fine_fits}
 
-rest_sent : (drops : Bool) (before : List Passed) (event : Event) (records : List Record) → Unless drops (SendsAll (User event ∷ records)) →
+pub rest_sent : (drops : Bool) (before : List Passed) (event : Event) (records : List Record) → Unless drops (SendsAll (User event ∷ records)) →
     MayAct (AsLinks drops before) event × Unless drops (SendsAll records)
 rest_sent true before (events.Composed packet) records all = (λ carried read. gone_any before carried.message, tt)
 rest_sent true before event records all = (tt, tt)
@@ -59,7 +59,7 @@ module _ (drops : Bool) (queues : Queues) where
   may_come before unit sound read came (Ok (Some packet)) is = come_now drops before unit sound packet read is came
   may_come before unit sound read came (Err refusal) is = tt
 
-  damage_right : (before : List Passed) (s after : WireLayers) (tag : LayersTag) (fate : Fate) (r : ReadingValue) → IsDamage r →
+  pub damage_right : (before : List Passed) (s after : WireLayers) (tag : LayersTag) (fate : Fate) (r : ReadingValue) → IsDamage r →
       comes (node_machine queues) s tag fate r ≡ Ok after → Right before s → Right before after
   damage_right before s after tag fate HeaderBad damage e is = arrives_right queues (AsLinks drops before) s after arrival.HeaderBad fate e tt is
   damage_right before s after tag fate DataBad damage e is = arrives_right queues (AsLinks drops before) s after arrival.DataBad fate e tt is
@@ -75,7 +75,7 @@ module _ (drops : Bool) (queues : Queues) where
   unit_right before s after tag fate unit DataBad read came e is = damage_right before s after tag fate DataBad tt e is
   unit_right before s after tag fate unit (Malformed departure) read came e is = let same : s ≡ after = cc in subst (Right before) same is
 
-  comes_right : (before : List Passed) (s after : WireLayers) (tag : LayersTag) (fate : Fate) (unit bytes : List ℕ) →
+  pub comes_right : (before : List Passed) (s after : WireLayers) (tag : LayersTag) (fate : Fate) (unit bytes : List ℕ) →
       (bytes ≡ unit) ⊎ IsDamage (reading bytes) → Came before unit → comes (node_machine queues) s tag fate (reading bytes) ≡ Ok after →
       Right before s → Right before after
   comes_right before s after tag fate unit bytes (inl same) came e is =
@@ -103,11 +103,11 @@ module _ (drops : Bool) (queues : Queues) where
 
   -- ---- the units that are coming
 
-  abbrev AllCame : List Passed → List (List ℕ) → Type 0
+  abbrev pub AllCame : List Passed → List (List ℕ) → Type 0
   AllCame before [] = Unit {0}
   AllCame before (unit ∷ units) = Came before unit × AllCame before units
 
-  all_later : (before : List Passed) (one : Passed) (units : List (List ℕ)) → AllCame before units → AllCame (before ++ one ∷ []) units
+  pub all_later : (before : List Passed) (one : Passed) (units : List (List ℕ)) → AllCame before units → AllCame (before ++ one ∷ []) units
   all_later before one [] all = tt
   all_later before one (unit ∷ units) all =
       (came_later, all_later before one units all.1)
@@ -118,18 +118,18 @@ module _ (drops : Bool) (queues : Queues) where
         rooms = λ own far bytes e. other_stays has_room own far bytes 0 before one (all.0.rooms own far bytes e);
       }
 
-  one_came : (before : List Passed) (unit : List ℕ) → Came (before ++ Other unit ∷ []) unit
+  pub one_came : (before : List Passed) (unit : List ℕ) → Came (before ++ Other unit ∷ []) unit
   one_came before unit = record {
     words = λ own far number e. other_more acknowledges own far number 0 before unit ∙ or_left _ _ e;
     rooms = λ own far bytes e. other_more has_room own far bytes 0 before unit ∙ or_left _ _ e;
   }
 
-  all_pushed : (before : List Passed) (units : List (List ℕ)) (unit : List ℕ) → AllCame before units → Came before unit →
+  pub all_pushed : (before : List Passed) (units : List (List ℕ)) (unit : List ℕ) → AllCame before units → Came before unit →
       AllCame before (units ++ unit ∷ [])
   all_pushed before [] unit all this = (this, tt)
   all_pushed before (first ∷ units) unit all this = (all.0, all_pushed before units unit all.1 this)
 
-  all_behind : (before : List Passed) (lost : List (List ℕ)) (unit : List ℕ) (later : List (List ℕ)) → AllCame before (lost ++ unit ∷ later) →
+  pub all_behind : (before : List Passed) (lost : List (List ℕ)) (unit : List ℕ) (later : List (List ℕ)) → AllCame before (lost ++ unit ∷ later) →
       Came before unit × AllCame before later
   all_behind before [] unit later all = (all.0, all.1)
   all_behind before (first ∷ lost) unit later all = all_behind before lost unit later all.1
@@ -175,7 +175,7 @@ module _ (drops : Bool) (queues : Queues) where
       subst (λ (x : List Passed). OfMessage (Fine x) (message_in unit)) (append_assoc start (Other first ∷ []) before)
       (one_fine (start ++ Other first ∷ []) before unit later all)
 
-  first_right : (head : Head) → Right [] (new_wire_layers_node head).station
+  pub first_right : (head : Head) → Right [] (new_wire_layers_node head).station
   first_right head = record { links = tt; held = tt }
 
   fine_placed : (head : Head) (before later : List Passed) (unit : List ℕ) (records : List Record) →

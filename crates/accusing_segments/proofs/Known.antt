@@ -1,9 +1,10 @@
 -- A set of what is known has one more after it was put in; and histories that answer alike accuse alike.
 use Rattle.std.proofs.Common.{◌≡◌, ℕ, zero, suc, ◌+◌, Bool, true, false, ◌&&◌, ◌||◌, not, eqb, Option, Some, None, List, [], ◌∷◌, ◌++◌}
 use Rattle.std.proofs.Common.{refl, sym, subst, ap, ap₂, ◌∙◌, arith}
-use Rattle.std.proofs.Common.{Ordering, Less, Equal, Greater, nat_cmp, Result, Ok, Err, OnOk, option_map, length}
+use Rattle.std.proofs.Common.{Ordering, Less, Equal, Greater, nat_cmp, Result, Ok, Err, OnOk, option_map, length, take, get_or, ◌<◌}
 use Rattle.std.specs.List.{list_any}
 use Rattle.std.proofs.lemmas.Map.Lookups.{exact_unsigned}
+use Rattle.std.proofs.lemmas.List.{take_more}
 use Rattle.std.specs.Ordering.{ordering_then}
 use Rattle.dna_packet.specs.declared.ack_word.AckWord.{AckWord}
 use Rattle.dna_packet.specs.Nsp.{SegmentValue, NspValue, DataSegment, LinkService, DataAck, OtherDataAck, ConnectAck, NoOperation, ConnectInitiate}
@@ -12,16 +13,20 @@ use Rattle.dna_packet.specs.declared.nsp.Nsp.{Nsp}
 use Rattle.dna_packet.specs.declared.nsp.Nsp.TheVariants as rust
 use Rattle.dna_packet.specs.declared.nsp.Segment.{Segment}
 use Rattle.dna_packet.specs.declared.nsp.DataAck.{DataAck as DataAckOf}
+use Rattle.dna_links.specs.Segmentation.{Piece}
 use Rattle.dna_links.specs.SegmentBook.{REACH, wire}
 use Rattle.accusing.specs.Placing.{Passed, Own, Other}
 use Rattle.accusing_segments.specs.Fits.{fits}
-use Rattle.accusing_segments.specs.History.{has, bit, message_in, end_sent, is_named, words_name, acknowledges, has_room, in_unit, said, History}
+use Rattle.accusing_segments.specs.History.{has, bit, message_in, end_sent, is_named, words_name, acknowledges, has_room, in_unit, said, by_other, History}
 use Rattle.accusing_segments.specs.History.{history}
 use Rattle.accusing_segments.specs.Wrong.{before, is_covered, is_acknowledged, is_first, is_next, is_right}
 use Rattle.accusing_segments.specs.Wrong.{is_wrong_message, is_wrong_in, is_wrong_unit, is_in_room, is_long_message, is_long_in, is_long_unit}
+use Rattle.accusing_segments.specs.Repeats.{first_of, piece_in, calls}
+use Rattle.accusing_segments.specs.Noted.{first_noted}
 use Rattle.accusing_segments.specs.Answers.{Sight, IsAfter}
 use Rattle.accusing_segments.specs.inner.Seen.{seen}
-use Rattle.accusing_segments.proofs.Passing.{own_more, own_same, other_more, other_same}
+use Rattle.accusing_segments.proofs.Passing.{own_more, own_same, other_more, other_same, other_stays}
+use Rattle.accusing_segments.proofs.NotedAfter.{covered_same, covered_less, first_more, first_same, twice_more, twice_same}
 
 -- ---- by the order of four numbers
 
@@ -175,29 +180,54 @@ module _ {X Y : Type 0} where
       new.ends ≡ old.ends →
       ((o f n w : ℕ) → OnOk result (has new.words o f n w ≡ (in_unit acknowledges unit o f n w || has old.words o f n w))) →
       ((o f b w : ℕ) → OnOk result (fits new.rooms o f b w ≡ (in_unit has_room unit o f b w || fits old.rooms o f b w))) →
+      ((o f n w : ℕ) → OnOk result (has new.noted.called o f n w ≡ (in_unit calls unit o f n w || has old.noted.called o f n w))) →
+      ((o f n w : ℕ) → OnOk result (has new.noted.again o f n w
+      ≡ ((in_unit calls unit o f n w && has old.noted.called o f n w) || has old.noted.again o f n w))) →
+      ((o f n : ℕ) → OnOk result (is_covered (λ m. has new.words o f m 0) n REACH ≡ false →
+      first_noted new.noted.firsts o f n ≡ first_noted old.noted.firsts o f n)) →
       OnOk result (IsAfter new (passed ++ Other unit ∷ []))
-  other_noted passed unit old new (Ok x) is ends words rooms = record {
+  other_noted passed unit old new (Ok x) is ends words rooms called again firsts = record {
     ends = λ o f n w. ap (λ (ids : List Four). has ids o f n w) ends ∙ is.ends o f n w ∙ sym (own_same end_sent o f n w passed unit);
-    words = λ o f n w.
-        words o f n w ∙ ap (λ (b : Bool). in_unit acknowledges unit o f n w || b) (is.words o f n w)
-        ∙ sym (other_more acknowledges o f n w passed unit);
+    words = words_now;
     rooms = λ o f b w.
         rooms o f b w ∙ ap (λ (x : Bool). in_unit has_room unit o f b w || x) (is.rooms o f b w) ∙ sym (other_more has_room o f b w passed unit);
+    firsts = λ o f n none.
+        firsts o f n (covered_same (λ m. has new.words o f m 0) _ (λ m. words_now o f m 0) n REACH ∙ none)
+        ∙ (is.firsts o f n (covered_less (λ m. by_other acknowledges passed o f m 0) (λ m. by_other acknowledges (passed ++ Other unit ∷ []) o f m 0)
+        (λ m e. other_stays acknowledges o f m 0 passed (Other unit) e) n REACH none) ∙ sym (first_same o f n passed unit));
+    called = λ o f n w.
+        called o f n w ∙ (ap (λ (b : Bool). in_unit calls unit o f n w || b) (is.called o f n w) ∙ sym (other_more calls o f n w passed unit));
+    again = λ o f n w.
+        again o f n w ∙ (ap₂ (λ (a b : Bool). (in_unit calls unit o f n w && a) || b) (is.called o f n w) (is.again o f n w)
+        ∙ sym (twice_more o f n w passed unit));
   }
-  other_noted passed unit old new (Err y) is ends words rooms = tt
+    where
+      words_now : (o f n w : ℕ) → has new.words o f n w ≡ by_other acknowledges (passed ++ Other unit ∷ []) o f n w
+      words_now o f n w =
+          words o f n w ∙ ap (λ (b : Bool). in_unit acknowledges unit o f n w || b) (is.words o f n w)
+          ∙ sym (other_more acknowledges o f n w passed unit)
+  other_noted passed unit old new (Err y) is ends words rooms called again firsts = tt
 
   pub own_noted : (passed : List Passed) (unit : List ℕ) (old new : Sight) (result : Result X Y) → IsAfter old passed →
-      new.words ≡ old.words → new.rooms ≡ old.rooms →
+      new.words ≡ old.words → new.rooms ≡ old.rooms → new.noted.called ≡ old.noted.called → new.noted.again ≡ old.noted.again →
       ((o f n w : ℕ) → OnOk result (has new.ends o f n w ≡ (in_unit end_sent unit o f n w || has old.ends o f n w))) →
+      ((o f n : ℕ) → OnOk result (first_noted new.noted.firsts o f n
+      ≡ first_of (first_noted old.noted.firsts o f n) (piece_in (message_in unit) o f n))) →
       OnOk result (IsAfter new (passed ++ Own unit ∷ []))
-  own_noted passed unit old new (Ok x) is words rooms ends = record {
+  own_noted passed unit old new (Ok x) is words rooms called again ends firsts = record {
     ends = λ o f n w.
         ends o f n w ∙ ap (λ (b : Bool). in_unit end_sent unit o f n w || b) (is.ends o f n w) ∙ sym (own_more end_sent o f n w passed unit);
     words = λ o f n w. ap (λ (ids : List Four). has ids o f n w) words ∙ is.words o f n w ∙ sym (other_same acknowledges o f n w passed unit);
     rooms = λ o f b w.
         ap (λ (sizes : List ((ℕ × ℕ) × ℕ)). fits sizes o f b w) rooms ∙ is.rooms o f b w ∙ sym (other_same has_room o f b w passed unit);
+    firsts = λ o f n none.
+        firsts o f n ∙ (ap (λ (p : Option Piece). first_of p (piece_in (message_in unit) o f n))
+        (is.firsts o f n (covered_same (λ m. by_other acknowledges passed o f m 0) _ (λ m. sym (other_same acknowledges o f m 0 passed unit)) n REACH
+        ∙ none)) ∙ sym (first_more o f n passed unit));
+    called = λ o f n w. ap (λ (ids : List Four). has ids o f n w) called ∙ is.called o f n w ∙ sym (other_same calls o f n w passed unit);
+    again = λ o f n w. ap (λ (ids : List Four). has ids o f n w) again ∙ is.again o f n w ∙ sym (twice_same o f n w passed unit);
   }
-  own_noted passed unit old new (Err y) is words rooms ends = tt
+  own_noted passed unit old new (Err y) is words rooms called again ends firsts = tt
 
 -- ---- the message that was found
 
@@ -223,3 +253,18 @@ pub room_told : {X Y : Type 0} (result : Result X Y) (before old new : List ((�
 room_told {X} {Y} (Ok x) before old new unit m is same o f b w e =
     e ∙ ap₂ (λ (message : Option NspValue) (sizes : List ((ℕ × ℕ) × ℕ)). said has_room message o f b w || fits sizes o f b w) (sym is) same
 room_told {X} {Y} (Err y) before old new unit m is same o f b w e = tt
+
+-- ---- one word more of a list
+
+pub next_word : (own far : ℕ) (words : List AckWord) (i : ℕ) (d : AckWord) → i < length words → (now before b : Bool) (o f n w : ℕ) →
+    now ≡ (words_name own far (get_or words i d ∷ []) o f n w || before) → before ≡ (words_name own far (take i words) o f n w || b) →
+    now ≡ (words_name own far (take (i + 1) words) o f n w || b)
+next_word own far words i d less now before b o f n w this were =
+    this ∙ (ap (λ (x : Bool). words_name own far (get_or words i d ∷ []) o f n w || x) were
+    ∙ (go (words_name own far (get_or words i d ∷ []) o f n w) (words_name own far (take i words) o f n w)
+    ∙ ap (λ (x : Bool). x || b) (sym (one_word_more own far (take i words) (get_or words i d) o f n w)
+    ∙ ap (λ (xs : List AckWord). words_name own far xs o f n w) (sym (take_more words i d less)))))
+  where
+    go : (x y : Bool) → (x || (y || b)) ≡ ((x || y) || b)
+    go true y = refl
+    go false y = refl

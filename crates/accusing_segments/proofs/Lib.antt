@@ -7,10 +7,22 @@ pub mod LinkRows
 pub mod LinkSteps
 pub mod LinkSends
 pub mod Nodes
+-- what was sent under a number is outstanding as it was
+pub mod SentPieces
+pub mod EachLink
+pub mod OneCall
+pub mod OneCallSteps
+pub mod OneCallSends
+pub mod OneCallNodes
 -- what passed stays so
 pub mod Passing
 -- so what no right node sends has no placing
 pub mod Final
+pub mod SentUnits
+pub mod OneCallSo
+pub mod OneCallFinal
 -- what the accuser keeps of what passed
 pub mod Known
 pub mod Sizes
+pub mod Notes
+pub mod NotedAfter

@@ -55,7 +55,7 @@ waiting_far : (waits : Option Phase) (port : Port) → (port_of_waiting waits po
 waiting_far None port = refl
 waiting_far (Some phase) port = refl
 
-running_late : (phase : Phase) → is_in Running phase ≡ true → is_early phase ≡ false
+pub running_late : (phase : Phase) → is_in Running phase ≡ true → is_early phase ≡ false
 running_late Running e = refl
 running_late Calling e = absurd cc
 running_late Called e = absurd cc
@@ -63,7 +63,7 @@ running_late Confirming e = absurd cc
 running_late Disconnecting e = absurd cc
 running_late Ended e = absurd cc
 
-late_of : (b : Bool) → (b ≡ true → ⊥) → b ≡ false
+pub late_of : (b : Bool) → (b ≡ true → ⊥) → b ≡ false
 late_of true never = absurd (never refl)
 late_of false never = refl
 

@@ -34,7 +34,7 @@ use Rattle.accusing_segments.proofs.LinkRows.{IsCalmRow, after_right, calm_row}
 
 -- ---- ports
 
-calling_early : (phase : Phase) → is_in Calling phase ≡ true → is_early phase ≡ true
+pub calling_early : (phase : Phase) → is_in Calling phase ≡ true → is_early phase ≡ true
 calling_early Calling e = refl
 calling_early Called e = refl
 calling_early Confirming e = absurd cc
@@ -42,7 +42,7 @@ calling_early Running e = absurd cc
 calling_early Disconnecting e = absurd cc
 calling_early Ended e = absurd cc
 
-called_early : (phase : Phase) → is_in Called phase ≡ true → is_early phase ≡ true
+pub called_early : (phase : Phase) → is_in Called phase ≡ true → is_early phase ≡ true
 called_early Calling e = refl
 called_early Called e = refl
 called_early Confirming e = absurd cc
@@ -50,7 +50,7 @@ called_early Running e = absurd cc
 called_early Disconnecting e = absurd cc
 called_early Ended e = absurd cc
 
-connected_live : (phase : Phase) → is_connected phase ≡ true → is_live phase ≡ true
+pub connected_live : (phase : Phase) → is_connected phase ≡ true → is_live phase ≡ true
 connected_live Confirming e = refl
 connected_live Running e = refl
 connected_live Calling e = absurd cc
@@ -72,31 +72,31 @@ in_run With l connected = go (is_live l.port.phase) (connected_live l.port.phase
     go true e = record { late = refl; own = refl; far = refl }
     go false e = absurd cc
 
-kept_open : (q : Queues) (own : ℕ) → kept q (GiveAddress own ∷ OpenHere ∷ []) ≡ GiveAddress own ∷ OpenHere ∷ []
+pub kept_open : (q : Queues) (own : ℕ) → kept q (GiveAddress own ∷ OpenHere ∷ []) ≡ GiveAddress own ∷ OpenHere ∷ []
 kept_open Without own = refl
 kept_open With own = refl
 
-kept_answer : (q : Queues) (own : ℕ) (phase : Phase) → kept q (GiveAddress own ∷ GoTo phase ∷ []) ≡ GiveAddress own ∷ GoTo phase ∷ []
+pub kept_answer : (q : Queues) (own : ℕ) (phase : Phase) → kept q (GiveAddress own ∷ GoTo phase ∷ []) ≡ GiveAddress own ∷ GoTo phase ∷ []
 kept_answer Without own phase = refl
 kept_answer With own phase = refl
 
-kept_connect : (q : Queues) (far segsize : ℕ) → kept q (Connect far segsize ∷ []) ≡ Connect far segsize ∷ []
+pub kept_connect : (q : Queues) (far segsize : ℕ) → kept q (Connect far segsize ∷ []) ≡ Connect far segsize ∷ []
 kept_connect Without far segsize = refl
 kept_connect With far segsize = refl
 
-kept_confirm : (q : Queues) (far segsize : ℕ) → kept q (Connect far segsize ∷ GoTo Running ∷ []) ≡ Connect far segsize ∷ GoTo Running ∷ []
+pub kept_confirm : (q : Queues) (far segsize : ℕ) → kept q (Connect far segsize ∷ GoTo Running ∷ []) ≡ Connect far segsize ∷ GoTo Running ∷ []
 kept_confirm Without far segsize = refl
 kept_confirm With far segsize = refl
 
-kept_run : (q : Queues) (effect : Effect) → kept q (effect ∷ []) ≡ effect ∷ [] → kept q (GoTo Running ∷ effect ∷ []) ≡ GoTo Running ∷ effect ∷ []
+pub kept_run : (q : Queues) (effect : Effect) → kept q (effect ∷ []) ≡ effect ∷ [] → kept q (GoTo Running ∷ effect ∷ []) ≡ GoTo Running ∷ effect ∷ []
 kept_run Without effect e = ap (λ (effects : List Effect). GoTo Running ∷ effects) e
 kept_run With effect e = refl
 
-kept_segment : (q : Queues) (segment : SegmentValue) → kept q (TakeSegment segment ∷ []) ≡ TakeSegment segment ∷ []
+pub kept_segment : (q : Queues) (segment : SegmentValue) → kept q (TakeSegment segment ∷ []) ≡ TakeSegment segment ∷ []
 kept_segment Without segment = refl
 kept_segment With segment = refl
 
-kept_acks : (q : Queues) (acks : List AckWord) → kept q (TakeAcks acks ∷ []) ≡ TakeAcks acks ∷ []
+pub kept_acks : (q : Queues) (acks : List AckWord) → kept q (TakeAcks acks ∷ []) ≡ TakeAcks acks ∷ []
 kept_acks Without acks = refl
 kept_acks With acks = refl
 

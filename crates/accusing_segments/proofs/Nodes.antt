@@ -37,10 +37,10 @@ use Rattle.accusing_segments.proofs.RightLinks.{Links, AreRight, right_more}
 use Rattle.accusing_segments.proofs.LinkSteps.{HasCome, user_right, arrived_right}
 use Rattle.accusing_segments.proofs.LinkSends.{HasGone, SendsFine, sent_good}
 
-ok_first : {X Y Z : Type 0} (made : X × Y) (x : X) (y : Y) → ◌≡◌ {A = Result (X × Y) Z} (Ok made) (Ok (x, y)) → made.0 ≡ x
+pub ok_first : {X Y Z : Type 0} (made : X × Y) (x : X) (y : Y) → ◌≡◌ {A = Result (X × Y) Z} (Ok made) (Ok (x, y)) → made.0 ≡ x
 ok_first {X} {Y} made x y e = let same : made ≡ (x, y) = cc in ap (λ (p : X × Y). p.0) same
 
-ok_is : {X Z : Type 0} (made x : X) → ◌≡◌ {A = Result X Z} (Ok made) (Ok x) → made ≡ x
+pub ok_is : {X Z : Type 0} (made x : X) → ◌≡◌ {A = Result X Z} (Ok made) (Ok x) → made ≡ x
 ok_is made x e = cc
 
 -- what is in a packet is nothing of the links, or this holds of its message

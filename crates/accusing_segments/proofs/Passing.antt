@@ -108,7 +108,7 @@ passed_more drops passed one own far = record {
 -- ---- what is in a unit
 
 -- of a packet with a message of the links
-in_unit_is : (says : NspValue → Known) (unit : List ℕ) (m : MessageValue) (packet : Carried) → reading unit ≡ Sound m →
+pub in_unit_is : (says : NspValue → Known) (unit : List ℕ) (m : MessageValue) (packet : Carried) → reading unit ≡ Sound m →
     content (body_of m) ≡ Ok (Some packet) → (own far number what : ℕ) →
     in_unit says unit own far number what ≡ says packet.message own far number what
 in_unit_is says unit (Data flags resp num body) packet read is own far number what =
@@ -120,7 +120,7 @@ in_unit_is says unit (Rep flags num) packet read is own far number what = absurd
 in_unit_is says unit (Strt flags) packet read is own far number what = absurd cc
 in_unit_is says unit (Stack flags) packet read is own far number what = absurd cc
 
-this_is : (a b c d : ℕ) → is_this (a, b, c, d) a b c d ≡ true
+pub this_is : (a b c d : ℕ) → is_this (a, b, c, d) a b c d ≡ true
 this_is a b c d =
     and_from (eqb a a) _ (eq-eqb a a refl)
     (and_from (eqb b b) _ (eq-eqb b b refl) (and_from (eqb c c) (eqb d d) (eq-eqb c c refl) (eq-eqb d d refl)))

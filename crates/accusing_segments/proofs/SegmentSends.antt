@@ -50,7 +50,7 @@ alike_is true b e = sym e
 alike_is false true e = absurd cc
 alike_is false false e = refl
 
-same_is : (p q : Piece) → same_piece p q ≡ true → q ≡ p
+pub same_is : (p q : Piece) → same_piece p q ≡ true → q ≡ p
 same_is p q e =
     let a = and_parts (alike p.begins q.begins) (alike p.ends q.ends && bytes_eq p.body q.body) e in
     let b = and_parts (alike p.ends q.ends) (bytes_eq p.body q.body) a.1 in
@@ -188,10 +188,10 @@ module _ (Q R : Passings) (more : More Q R) (f : WireSegments) (is : Gave Q f) (
   below = distance s.number (highest_given f.variables)
 
   module _ (reach : ltb below REACH ≡ true) (some : (f.gave_many || ltb below (highest_given f.variables)) ≡ true) where
-    near : below < REACH
+    pub near : below < REACH
     near = ltb-true below REACH reach
 
-    within : below < highest
+    pub within : below < highest
     within = go f.gave_many refl some
       where
         go : (b : Bool) → f.gave_many ≡ b → (b || ltb below (highest_given f.variables)) ≡ true → below < highest
@@ -201,7 +201,7 @@ module _ (Q R : Passings) (more : More Q R) (f : WireSegments) (is : Gave Q f) (
             let m : below < wire highest = subst (λ (x : ℕ). below < x) given l in
             omega (arith, m)
 
-    stands : s.number ≡ wire (highest - below)
+    pub stands : s.number ≡ wire (highest - below)
     stands =
         subst (λ (x : ℕ). s.number ≡ wire (highest - distance s.number x)) (sym given)
         (distance_back highest s.number small (subst (λ (x : ℕ). distance s.number x ≤ highest) given (omega (arith, within))))

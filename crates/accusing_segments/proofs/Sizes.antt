@@ -11,7 +11,7 @@ use Rattle.accusing_segments.specs.Fits.{two_compared, within, fits}
 
 -- ---- by the order of two numbers
 
-is_same : (x y : ℕ) → is_eq (nat_cmp x y) ≡ eqb x y
+pub is_same : (x y : ℕ) → is_eq (nat_cmp x y) ≡ eqb x y
 is_same x y = go (ltb x y) (eqb x y) refl refl
   where
     go : (a b : Bool) → ltb x y ≡ a → eqb x y ≡ b → is_eq (cond a Less (cond b Equal Greater)) ≡ b
@@ -20,7 +20,7 @@ is_same x y = go (ltb x y) (eqb x y) refl refl
     go false true l e = refl
     go false false l e = refl
 
-is_then : (a b : Ordering) → is_eq (ordering_then a b) ≡ (is_eq a && is_eq b)
+pub is_then : (a b : Ordering) → is_eq (ordering_then a b) ≡ (is_eq a && is_eq b)
 is_then Less b = refl
 is_then Equal b = refl
 is_then Greater b = refl

@@ -2,6 +2,9 @@
 pub mod History
 pub mod Fits
 pub mod Wrong
+-- what no right node sends again
+pub mod Repeats
+pub mod Noted
 -- what is said of a unit, and what it means
 pub mod Answers
 pub mod inner

@@ -7,6 +7,7 @@ ghost use Rattle.dna_links.specs.declared.queue.Queues.{Queues};
 ghost use Rattle.accusing.specs.Placing.{Passed, Own};
 ghost use Rattle.accusing_links.specs.Placing.{IsNodePlacing};
 ghost use Rattle.accusing_segments.specs.History.{history};
+ghost use Rattle.accusing_segments.specs.Repeats.{is_changed_unit, repeats};
 ghost use Rattle.accusing_segments.specs.Wrong.{is_long_unit, is_wrong_unit};
 ghost use Rattle.accusing_segments.specs.Answers.{SendsAll};
 
@@ -23,4 +24,13 @@ pub fn wrong_segments_have_no_placing()
 pub fn long_segments_have_no_placing()
     ensures { (queues : Queues) (head : Head) (before later : List Passed) (unit : List ℕ) (records : List Record)
         → is_long_unit (history before) unit ≡ true → IsNodePlacing queues head (before ++ Own unit ∷ later) records → ⊥ }
+{}
+
+/// Units of which an own one has a data segment that carries something else than the first one under its number from its link to the other, have no
+/// placing where at most one CI or CC passed by which a link gets these two addresses, and none that was sent under the number can be acknowledged:
+/// no right node sent the side's units among them, with queues or without, whether it sends all that it composes or not.
+pub fn changed_segments_have_no_placing()
+    ensures { (queues : Queues) (head : Head) (before later : List Passed) (unit : List ℕ) (records : List Record)
+        → is_changed_unit (history before) (repeats before) unit ≡ true
+        → IsNodePlacing queues head (before ++ Own unit ∷ later) records → ⊥ }
 {}
