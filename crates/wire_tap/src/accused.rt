@@ -98,7 +98,8 @@ struct Accusers {
     packets: Option<PacketAccusers>,
 }
 
-// What accuses a side of what is in its data units: of each by itself, and of segments by their length and by those before.
+// What accuses a side of what is in its data units: of each by itself, and of segments by their length, by what went before under their numbers, and
+// by their order.
 #[derive(Drop)]
 struct PacketAccusers {
     links: LinkAccuser,
@@ -213,14 +214,23 @@ impl Told {
             unit: self.count,
             line,
         };
-        if self.first.is_none() && self.accusers.accuse(unit)? {
-            self.first = Some(passed);
-        }
-        if self.segment.is_none() && self.accusers.find_segment(unit)? {
-            self.segment = Some(passed);
+        if self.first.is_none() {
+            self.ask(unit, passed)?;
         }
         self.count = self.count.saturating_add(1);
         Ok(())
+    }
+
+    // Whether the side, which is not accused yet, can have sent this unit.
+    fn ask(&mut self, unit: &[u8], passed: Passed) -> Result<(), AllocError> {
+        if self.accusers.accuse(unit)? {
+            self.first = Some(passed);
+            return Ok(());
+        }
+        if self.segment.is_none() && self.accusers.doubt_segment(unit) {
+            self.segment = Some(passed);
+        }
+        self.accusers.own_passed(unit)
     }
 
     // The segment, where the side is not accused.
@@ -251,18 +261,25 @@ impl Accusers {
         let Some(packets) = &self.packets else {
             return Ok(false);
         };
-        Ok(packets.links.sends(unit).is_some() || packets.segments.is_too_long(unit))
-    }
-
-    // No right node that sends all it composed sent the segment in this unit; otherwise it is sent.
-    fn find_segment(&mut self, unit: &[u8]) -> Result<bool, AllocError> {
-        let Some(packets) = &mut self.packets else {
-            return Ok(false);
-        };
-        if packets.segments.accuses(unit) {
+        if packets.links.sends(unit).is_some() {
             return Ok(true);
         }
-        packets.segments.own_passed(unit)?;
-        Ok(false)
+        Ok(packets.segments.is_too_long(unit) || packets.segments.is_changed(unit))
+    }
+
+    // No right node that sends all it composed sent the segment in this unit.
+    fn doubt_segment(&self, unit: &[u8]) -> bool {
+        match &self.packets {
+            Some(packets) => packets.segments.accuses(unit),
+            None => false,
+        }
+    }
+
+    // This side sent this unit.
+    fn own_passed(&mut self, unit: &[u8]) -> Result<(), AllocError> {
+        match &mut self.packets {
+            Some(packets) => packets.segments.own_passed(unit),
+            None => Ok(()),
+        }
     }
 }
