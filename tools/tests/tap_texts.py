@@ -22,6 +22,9 @@ ANSWERS = (
     # a link sends segments 1, 2 and 4
     ('skipped_segment', 'unexplained a unit 4 line 8: 20 WrongSegment\nno consistent explanation was found; this alone accuses neither node\n'
      'a right node sends a unit 4 line 8 only if it dropped packets that it had composed\n'),
+    # segment 1 goes again with another byte: as it can't be acknowledged, and as it may be
+    ('changed_segment', 'unexplained a unit 3 line 7: 20 WrongSegment\nwhatever came to it, no right node sends a unit 3 line 7\n'),
+    ('changed_segment_acknowledged', 'accepted\n'),
     ('unread_message', 'unexplained a unit 1 line 4: 17 BadNsp\nwhatever came to it, no right node sends a unit 1 line 4\n'),
     # 255 packets are outstanding
     ('full_window', 'accepted\na records 259 sent 257 received 1 damaged 0 kept 0'),
