@@ -27,3 +27,5 @@ pub mod Inserted
 pub mod Passing
 -- so what no node sends has no placing
 pub mod Final
+-- a link's last acknowledgement sent goes on
+pub mod Follows

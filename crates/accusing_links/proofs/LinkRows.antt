@@ -63,31 +63,31 @@ module _ (Q : Numbers) (queues : Queues) where
   pub delivered_right : (message : List ℕ) (l : LinkOf WireSegments) (d : WireSegments) → delivers message l.segments ≡ Some d → Is l →
       Is (with_segments d l)
   delivered_right message l d made is = record {
-    early = λ e. delivers_received Never message l.segments d made (is.early e);
-    both = λ own far e f. delivers_received (Q own far) message l.segments d made (is.both own far e f);
+    early = λ e. delivers_received 0 Never message l.segments d made (is.early e);
+    both = λ own far e f. delivers_received 0 (Q own far) message l.segments d made (is.both own far e f);
   }
 
   module _ (l : LinkOf WireSegments) (is : Is l) where
     segment_right : (segment : SegmentValue) (sent : Sending WireSegments (Unit {0})) → AllByRecursion IsAckWord segment.acks →
         wire.sends_segment l.segsize segment l.segments ≡ Ok sent → Is (with_segments sent.segments l)
     segment_right segment sent small made = record {
-      early = λ e. (sends_segment_good Never l.segments (is.early e) l.segsize segment small sent made).1;
-      both = λ own far e f. (sends_segment_good (Q own far) l.segments (is.both own far e f) l.segsize segment small sent made).1;
+      early = λ e. (sends_segment_good 0 Never l.segments (is.early e) l.segsize segment small sent made).1;
+      both = λ own far e f. (sends_segment_good 0 (Q own far) l.segments (is.both own far e f) l.segsize segment small sent made).1;
     }
 
     late_right : (segment : SegmentValue) (late : Late WireSegments (Unit {0})) → AllByRecursion IsAckWord segment.acks →
         wire.sends_late l.queue.gap l.segsize segment l.segments ≡ Ok late →
         Is (with_queue (record l.queue { gap = late.gap }) (with_segments late.sent.segments l))
     late_right segment late small made = record {
-      early = λ e. (sends_late_good Never l.segments (is.early e) l.queue.gap l.segsize segment small late made).1;
-      both = λ own far e f. (sends_late_good (Q own far) l.segments (is.both own far e f) l.queue.gap l.segsize segment small late made).1;
+      early = λ e. (sends_late_good 0 Never l.segments (is.early e) l.queue.gap l.segsize segment small late made).1;
+      both = λ own far e f. (sends_late_good 0 (Q own far) l.segments (is.both own far e f) l.queue.gap l.segsize segment small late made).1;
     }
 
     acks_right : (acks : List AckWord) (sent : Sending WireSegments (Unit {0})) → AllByRecursion IsAckWord acks →
         wire.sends_acks acks l.segments ≡ Ok sent → Is (with_segments sent.segments l)
     acks_right acks sent small made = record {
-      early = λ e. (sends_acks_good Never l.segments (is.early e) acks small sent made).1;
-      both = λ own far e f. (sends_acks_good (Q own far) l.segments (is.both own far e f) acks small sent made).1;
+      early = λ e. (sends_acks_good 0 Never l.segments (is.early e) acks small sent made).1;
+      both = λ own far e f. (sends_acks_good 0 (Q own far) l.segments (is.both own far e f) acks small sent made).1;
     }
 
   -- ---- what is left of all links

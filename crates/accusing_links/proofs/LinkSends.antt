@@ -90,7 +90,7 @@ module _ (Q : Numbers) (queues : Queues) (s : WireLinks) (are : AreRight Q queue
 
   -- the link with these addresses, by its port or its port in use
   received_by : (own far n : ℕ) (l : LinkOf WireSegments) (port : Port) → slice_get s.links n ≡ Some l → port.own ≡ l.port.own →
-      port.far ≡ l.port.far → passes (TheLink own far) port ≡ true → Received (Q own far) l.segments
+      port.far ≡ l.port.far → passes (TheLink own far) port ≡ true → Received 0 (Q own far) l.segments
   received_by own far n l port at same_own same_far passed =
       let parts = and_parts (is_live port.phase) (has_both port own far) passed in
       let both = and_parts (is_at port.own own) (is_at port.far far) parts.1 in
@@ -110,28 +110,28 @@ module _ (Q : Numbers) (queues : Queues) (s : WireLinks) (are : AreRight Q queue
   module _ (X : Type 0) (es : List Effect) where
     segment_fine : (q : Queues) (segment : SegmentValue) (l : LinkOf WireSegments)
         (next : LinkOf WireSegments → Unit {0} → Result (Sent WireSegments (Unit {0})) LinkRefusal) →
-        AllByRecursion IsAckWord segment.acks → Received (Q segment.srcaddr segment.dstaddr) l.segments →
+        AllByRecursion IsAckWord segment.acks → Received 0 (Q segment.srcaddr segment.dstaddr) l.segments →
         (AreFine (Q segment.srcaddr segment.dstaddr) segment.acks → X) →
         Good (Any X) (sends_segment queues wire_segments (λ test. test) (of_none queues wire_segments) s (sent_as queues wire_segments s) es q
         segment l next)
     segment_fine Without segment l next small is then =
         good_on (Any X) (wire.sends_segment l.segsize segment l.segments) _ (λ sent made.
-        good_always X (then (sends_segment_good (Q segment.srcaddr segment.dstaddr) l.segments is l.segsize segment small sent made).0) _)
+        good_always X (then (sends_segment_good 0 (Q segment.srcaddr segment.dstaddr) l.segments is l.segsize segment small sent made).0) _)
     segment_fine With segment l next small is then =
         good_on (Any X) (wire.sends_late l.queue.gap l.segsize segment l.segments) _ (λ late made.
-        good_always X (then (sends_late_good (Q segment.srcaddr segment.dstaddr) l.segments is l.queue.gap l.segsize segment small late made).0) _)
+        good_always X (then (sends_late_good 0 (Q segment.srcaddr segment.dstaddr) l.segments is l.queue.gap l.segsize segment small late made).0) _)
 
     acks_fine : (q : Queues) (own far : ℕ) (acks : List AckWord) (l : LinkOf WireSegments)
         (next : LinkOf WireSegments → Unit {0} → Result (Sent WireSegments (Unit {0})) LinkRefusal) →
-        AllByRecursion IsAckWord acks → Received (Q own far) l.segments → (AreFine (Q own far) acks → X) →
+        AllByRecursion IsAckWord acks → Received 0 (Q own far) l.segments → (AreFine (Q own far) acks → X) →
         Good (Any X) (sends_acks queues wire_segments (λ test. test) (of_none queues wire_segments) s (sent_as queues wire_segments s) es q
         acks l next)
     acks_fine Without own far acks l next small is then =
         good_on (Any X) (wire.sends_acks acks l.segments) _ (λ sent made.
-        good_always X (then (sends_acks_good (Q own far) l.segments is acks small sent made).0) _)
+        good_always X (then (sends_acks_good 0 (Q own far) l.segments is acks small sent made).0) _)
     acks_fine With own far acks l next small is then =
         good_on (Any X) (wire.sends_acks acks l.segments) _ (λ sent made.
-        good_always X (then (sends_acks_good (Q own far) l.segments is acks small sent made).0) _)
+        good_always X (then (sends_acks_good 0 (Q own far) l.segments is acks small sent made).0) _)
 
   message_fine : (m : NspValue) → IsInRange m →
       Good (Any (AcksFine Q m)) (by_row queues wire_segments (λ test. test) (of_none queues wire_segments) s (sent_as queues wire_segments s)
@@ -143,7 +143,7 @@ module _ (Q : Numbers) (queues : Queues) (s : WireLinks) (are : AreRight Q queue
       (λ n l found. by n l (received_by segment.srcaddr segment.dstaddr n l (in_use With l) found.there
       (waiting_own l.queue.waits l.port) (waiting_far l.queue.waits l.port) found.passes))
     where
-      by : (n : ℕ) (l : LinkOf WireSegments) → Received (Q segment.srcaddr segment.dstaddr) l.segments →
+      by : (n : ℕ) (l : LinkOf WireSegments) → Received 0 (Q segment.srcaddr segment.dstaddr) l.segments →
           Good (Any (AcksFine Q (DataSegment segment)))
           (asked queues wire_segments (λ test. test) (of_none queues wire_segments) s (sent_as queues wire_segments s) said
           (InTurn Running LinkState ∷ SendsSegment segment ∷ []) (Some n) l tt)
@@ -157,7 +157,7 @@ module _ (Q : Numbers) (queues : Queues) (s : WireLinks) (are : AreRight Q queue
       (λ n l found. by n l (received_by src dst n l (in_use With l) found.there
       (waiting_own l.queue.waits l.port) (waiting_far l.queue.waits l.port) found.passes))
     where
-      by : (n : ℕ) (l : LinkOf WireSegments) → Received (Q src dst) l.segments →
+      by : (n : ℕ) (l : LinkOf WireSegments) → Received 0 (Q src dst) l.segments →
           Good (Any (AcksFine Q (DataAck dst src acks)))
           (asked queues wire_segments (λ test. test) (of_none queues wire_segments) s (sent_as queues wire_segments s) said
           (InTurn Running LinkState ∷ SendsAcks acks ∷ []) (Some n) l tt)

@@ -170,7 +170,7 @@ module _ (Q : Numbers) (queues : Queues) (s : WireLinks) (are : AreRight Q queue
       both = λ o f e g.
           let same_own : segment.dstaddr ≡ o = cc in
           let same_far : segment.srcaddr ≡ f = cc in
-          segment_received (Q o f) segment m.segments small
+          segment_received 0 (Q o f) segment m.segments small
           (subst (λ (x : ℕ). Q x f segment.number) same_own (subst (λ (x : ℕ). Q segment.dstaddr x segment.number) same_far came)) (is.both o f e g);
     }
 

@@ -29,40 +29,40 @@ abbrev pub Numbers : Type 1
 Numbers = (own far number : ℕ) → Type 0
 
 pub record IsLinkRight (Q : Numbers) (l : LinkOf WireSegments) : Type 0 where
-  pub early : is_early l.port.phase ≡ true → Received Never l.segments
-  pub both : (own far : ℕ) → l.port.own ≡ Some own → l.port.far ≡ Some far → Received (Q own far) l.segments
+  pub early : is_early l.port.phase ≡ true → Received 0 Never l.segments
+  pub both : (own far : ℕ) → l.port.own ≡ Some own → l.port.far ≡ Some far → Received 0 (Q own far) l.segments
 
 -- what received nothing may be for any link
-pub from_never : (Q : ℕ → Type 0) (f : WireSegments) → Received Never f → Received Q f
-from_never Q f is = weaker Never Q _ _ _ (λ n none. absurd none) is
+pub from_never : (Q : ℕ → Type 0) (f : WireSegments) → Received 0 Never f → Received 0 Q f
+from_never Q f is = weaker 0 Never Q _ _ _ (λ n none. absurd none) is
 
 -- ---- effects on segments
 
 module _ (Q : ℕ → Type 0) where
-  let_go : (before now : Bool) (f : WireSegments) → Received Q f → Received Q (lets_go wire_segments before now f)
+  let_go : (before now : Bool) (f : WireSegments) → Received 0 Q f → Received 0 Q (lets_go wire_segments before now f)
   let_go true false f is = ends_received Q f
   let_go true true f is = is
   let_go false now f is = is
 
-  pub requeued_received : (waits : Option Phase) (said : Said) (l : LinkOf WireSegments) → Received Q l.segments →
-      Received Q (requeued wire_segments waits said l).segments
+  pub requeued_received : (waits : Option Phase) (said : Said) (l : LinkOf WireSegments) → Received 0 Q l.segments →
+      Received 0 Q (requeued wire_segments waits said l).segments
   requeued_received waits said l is = let_go (keeps_numbers l) _ l.segments is
 
-  pub goes_to_received : (queues : Queues) (phase : Phase) (l : LinkOf WireSegments) → Received Q l.segments →
-      Received Q (goes_to wire_segments queues phase l).segments
+  pub goes_to_received : (queues : Queues) (phase : Phase) (l : LinkOf WireSegments) → Received 0 Q l.segments →
+      Received 0 Q (goes_to wire_segments queues phase l).segments
   goes_to_received Without phase l is = is
   goes_to_received With phase l is = go (is_live l.port.phase)
     where
-      go : (b : Bool) → Received Q (goes_on wire_segments b phase l).segments
+      go : (b : Bool) → Received 0 Q (goes_on wire_segments b phase l).segments
       go true = is
       go false = requeued_received (Some phase) l.queue.said l is
 
-  pub ends_by_received : (queues : Queues) (l : LinkOf WireSegments) → Received Q l.segments →
-      Received Q (ends_by_message wire_segments queues l).segments
+  pub ends_by_received : (queues : Queues) (l : LinkOf WireSegments) → Received 0 Q l.segments →
+      Received 0 Q (ends_by_message wire_segments queues l).segments
   ends_by_received Without l is = ends_received Q l.segments
   ends_by_received With l is = let_go (keeps_numbers l) _ l.segments is
 
-  pub drops_received : (queues : Queues) (l : LinkOf WireSegments) → Received Q l.segments → Received Q (drops wire_segments queues l).segments
+  pub drops_received : (queues : Queues) (l : LinkOf WireSegments) → Received 0 Q l.segments → Received 0 Q (drops wire_segments queues l).segments
   drops_received Without l is = ends_received Q l.segments
   drops_received With l is = ends_received Q l.segments
 
@@ -73,7 +73,7 @@ module _ (Q : Numbers) (queues : Queues) where
   Is l = IsLinkRight Q l
 
   -- a link that received nothing is right whatever addresses it gets
-  pub none_received : (l : LinkOf WireSegments) → Received Never l.segments → Is l
+  pub none_received : (l : LinkOf WireSegments) → Received 0 Never l.segments → Is l
   none_received l none = record { early = λ e. none; both = λ own far e f. from_never (Q own far) l.segments none }
 
   pub blank_right : Is (blank queues wire_segments)
@@ -128,8 +128,8 @@ module _ (Q : Numbers) (queues : Queues) where
   does_right truth l Keep calm is = is
   does_right truth l (HandIn message) calm is = record { early = is.early; both = is.both }
   does_right truth l (TakeAcks acks) calm is = record {
-    early = λ e. acks_received Never acks l.segments (is.early e);
-    both = λ own far e f. acks_received (Q own far) acks l.segments (is.both own far e f);
+    early = λ e. acks_received 0 Never acks l.segments (is.early e);
+    both = λ own far e f. acks_received 0 (Q own far) acks l.segments (is.both own far e f);
   }
   does_right truth l OpenHere calm is = absurd calm
   does_right truth l (GiveAddress own) calm is = absurd calm
@@ -176,6 +176,6 @@ module _ (Q R : Numbers) (queues : Queues) (more : (own far number : ℕ) → Q 
   pub right_more : (links : List (LinkOf WireSegments)) → AreRight Q queues links → AreRight R queues links
   right_more [] are = tt
   right_more (l ∷ links) are = (
-    record { early = are.0.early; both = λ own far e f. weaker (Q own far) (R own far) _ _ _ (more own far) (are.0.both own far e f) },
+    record { early = are.0.early; both = λ own far e f. weaker 0 (Q own far) (R own far) _ _ _ (more own far) (are.0.both own far e f) },
     right_more links are.1,
   )

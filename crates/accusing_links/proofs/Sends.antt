@@ -1,6 +1,6 @@
 -- What the words of a link acknowledge, where it may send them, passed; and what it received stays so.
 use Rattle.std.proofs.Common.{◌≡◌, ℕ, Bool, true, false, ◌&&◌, ◌||◌, cond, leb, ltb, Option, Some, None, Result, Ok, Err, List, [], ◌∷◌, length}
-use Rattle.std.proofs.Common.{refl, sym, subst, arith, ◌⊎◌, inl, inr, not}
+use Rattle.std.proofs.Common.{refl, sym, subst, arith, ◌⊎◌, inl, inr, not, ◌+◌, ◌-◌, ◌<◌, ◌≤◌}
 use Rattle.std.specs.List.{AllByRecursion}
 use Rattle.std.proofs.lemmas.Bool.{leb-true, leb-false}
 use Rattle.dna_packet.specs.declared.ack_word.AckWord.{AckWord}
@@ -9,7 +9,7 @@ use Rattle.dna_packet.specs.Nsp.{SegmentValue}
 use Rattle.dna_station.specs.declared.link_refusal.LinkRefusal.{LinkRefusal}
 use Rattle.dna_station.specs.declared.link_refusal.LinkRefusal.TheVariants.{WrongSegment, WrongAck, SegmentTooLong, LinkWindowFull}
 use Rattle.dna_links.specs.Segmentation.{Piece, piece_of, is_next_piece}
-use Rattle.dna_links.specs.SegmentBook.{Sending, Late, with_gap, wider, REACH, distance}
+use Rattle.dna_links.specs.SegmentBook.{Sending, Late, with_gap, wider, REACH, distance, wire, is_of_data}
 use Rattle.dna_links.specs.WireSegments.{WireSegments, LastSent, LateSent, last_of, all_named, with_last, sending, acks_named, sends_acks, with_new}
 use Rattle.dna_links.specs.WireSegments.{sends_new, is_repeat, sends_again, is_new, segment_named, sends_segment, all_named_late, went_on, new_late}
 use Rattle.dna_links.specs.WireSegments.{sends_late, highest_given}
@@ -17,52 +17,118 @@ use Rattle.accusing_links.proofs.Answered.{Good, good_ok, good_err, good_check}
 use Rattle.accusing_links.proofs.Words.{IsLast, Stands, AllStand, all_named_is, all_late_is}
 use Rattle.accusing_links.proofs.Received.{Holds, Received, AreFine}
 
+-- ---- what a word that was sent tells of the last one sent
+
+-- it is at least the number of this word
+pub record IsSaid (Q : ℕ → Type 0) (received : ℕ) (pieces : List (Option Piece)) (next : LastSent) (number : ℕ) : Type 0 where
+  pub for : ℕ
+  pub same : number ≡ wire for
+  pub held : Holds for Q received pieces next
+
+module _ (Q : ℕ → Type 0) (received : ℕ) (pieces : List (Option Piece)) (next : LastSent) where
+  abbrev pub AreSaid : List AckWord → Type 0
+  AreSaid [] = Unit {0}
+  AreSaid (word ∷ words) = (is_of_data word.qualifier ≡ true → IsSaid Q received pieces next word.number) × AreSaid words
+
+abbrev pub SaidIn : (ℕ → Type 0) → WireSegments → List AckWord → Type 0
+SaidIn Q f words = AreSaid Q f.variables.received f.variables.pieces (last_of f) words
+
+-- Of a word that lies a little below the least number that the last one sent may have been, segments passed almost all around
+module _ (least : ℕ) (Q : ℕ → Type 0) where
+  abbrev pub IsOnward : ℕ → Type 0
+  IsOnward number = 1 ≤ distance number (wire least) → distance number (wire least) ≤ REACH → Q (wire (number + 2048))
+
+  abbrev pub AreOnward : List AckWord → Type 0
+  AreOnward [] = Unit {0}
+  AreOnward (word ∷ words) = (is_of_data word.qualifier ≡ true → IsOnward word.number) × AreOnward words
+
 -- a word acknowledges nothing yet, or what passed
-module _ (Q : ℕ → Type 0) where
-  module _ (received : ℕ) (pieces : List (Option Piece)) (sent : LastSent) (is : Holds Q received pieces sent) where
-    fine_word : (number : ℕ) → Stands is.highest number → (number ≡ 0) ⊎ Q number
-    fine_word number stands = go (leb 1 stands.for) refl
+module _ (least : ℕ) (Q : ℕ → Type 0) where
+  module _ (received : ℕ) (pieces : List (Option Piece)) (sent : LastSent) (is : Holds least Q received pieces sent) where
+    fine_word : (again : Bool) (next : LastSent) (number : ℕ) → Stands least is.highest number again next → (number ≡ 0) ⊎ Q number
+    fine_word again next number stands = go (leb 1 stands.for) refl
       where
         go : (b : Bool) → leb 1 stands.for ≡ b → (number ≡ 0) ⊎ Q number
         go true e = inr (subst Q (sym stands.same) (is.all stands.for (leb-true 1 stands.for e) stands.within))
         go false e = let l = leb-false 1 stands.for e in let s = stands.same in inl (omega (arith, l, s))
 
-    fine_words : (words : List AckWord) → AllStand is.highest received is.here words → AreFine Q words
-    fine_words [] all = tt
-    fine_words (word ∷ words) all = (λ e. fine_word word.number (all.0 e), fine_words words all.1)
+    relast : (low : ℕ) (next : LastSent) → IsLast low is.highest next → Holds low Q received pieces next
+    relast low next last = record { highest = is.highest; here = is.here; last = last; all = is.all; beyond = is.beyond }
 
-    relast : (next : LastSent) → IsLast is.highest next → Holds Q received pieces next
-    relast next last = record { highest = is.highest; here = is.here; last = last; all = is.all; beyond = is.beyond }
+    onward_word : (next : LastSent) (number : ℕ) → number < 4096 → Stands least is.highest number false next → IsOnward least Q number
+    onward_word next number small stands near far =
+        let from = stands.from refl in
+        let same = stands.same in
+        let within = stands.within in
+        let turn : wire (number + 2048) ≡ wire (least + 2048 - distance number (wire least)) = omega (arith, far) in
+        let first : 1 ≤ least + 2048 - distance number (wire least) = omega (arith, far) in
+        let most : least + 2048 - distance number (wire least) ≤ is.highest = omega (arith, from, same, within, near, far, small) in
+        subst Q (sym turn) (is.all (least + 2048 - distance number (wire least)) first most)
+
+    fine_words : (again : Bool) (next : LastSent) (words : List AckWord) → AllStand is.highest received is.here least again next words → AreFine Q words
+    fine_words again next [] all = tt
+    fine_words again next (word ∷ words) all =
+        (λ e. fine_word again next word.number (all.0 e), fine_words again next words all.1)
+
+    said_words : (again : Bool) (next : LastSent) (words : List AckWord) → AllStand is.highest received is.here least again next words →
+        AreSaid Q received pieces next words
+    said_words again next [] all = tt
+    said_words again next (word ∷ words) all = (
+      λ e. let stands = all.0 e in record { for = stands.for; same = stands.same; held = relast stands.for next stands.last },
+      said_words again next words all.1,
+    )
+
+    onward_words : (next : LastSent) (words : List AckWord) → AllByRecursion IsAckWord words →
+        AllStand is.highest received is.here least false next words → AreOnward least Q words
+    onward_words next [] small all = tt
+    onward_words next (word ∷ words) small all =
+        (λ e. onward_word next word.number small.0 (all.0 e), onward_words next words small.1 all.1)
+
+    abbrev All : List AckWord → LastSent → Type 0
+    All words next = AreFine Q words × Holds least Q received pieces next × AreSaid Q received pieces next words
 
     named_fine : (again : Bool) (words : List AckWord) (next : LastSent) → AllByRecursion IsAckWord words →
-        all_named again received words sent ≡ Some next → AreFine Q words × Holds Q received pieces next
+        all_named again received words sent ≡ Some next → All words next
     named_fine again words next small e =
-        let all = all_named_is is.highest received is.here again words sent next small is.last e in (fine_words words all.0, relast next all.1)
+        let all = all_named_is is.highest received is.here least again words sent next small is.last e in
+        (fine_words again next words all.0, relast least next all.1, said_words again next words all.0)
+
+    named_onward : (words : List AckWord) (next : LastSent) → AllByRecursion IsAckWord words →
+        all_named false received words sent ≡ Some next → AreOnward least Q words
+    named_onward words next small e =
+        onward_words next words small (all_named_is is.highest received is.here least false words sent next small is.last e).0
 
     late_fine : (gap : ℕ) (words : List AckWord) (next : LateSent) → AllByRecursion IsAckWord words →
-        all_named_late received words (record { sent = sent; gap = gap }) ≡ Some next → AreFine Q words × Holds Q received pieces next.sent
+        all_named_late received words (record { sent = sent; gap = gap }) ≡ Some next → All words next.sent
     late_fine gap words next small e =
-        let all = all_late_is is.highest received is.here words (record { sent = sent; gap = gap }) next small is.last e in
-        (fine_words words all.0, relast next.sent all.1)
+        let all = all_late_is is.highest received is.here least words (record { sent = sent; gap = gap }) next small is.last e in
+        (fine_words true next.sent words all.0, relast least next.sent all.1, said_words true next.sent words all.0)
 
   abbrev pub IsSent : List AckWord → Sending WireSegments (Unit {0}) → Type 0
-  IsSent words sent = AreFine Q words × Received Q sent.segments
+  IsSent words sent = AreFine Q words × Received least Q sent.segments × SaidIn Q sent.segments words
+
+  -- of words alone
+  abbrev pub IsAcked : List AckWord → Sending WireSegments (Unit {0}) → Type 0
+  IsAcked words sent = AreFine Q words × Received least Q sent.segments × SaidIn Q sent.segments words × AreOnward least Q words
 
   abbrev pub IsLate : List AckWord → Late WireSegments (Unit {0}) → Type 0
   IsLate words late = IsSent words late.sent
 
-  module _ (f : WireSegments) (is : Received Q f) where
-    pub sends_acks_good : (words : List AckWord) → AllByRecursion IsAckWord words → Good (IsSent words) (sends_acks words f)
+  module _ (f : WireSegments) (is : Received least Q f) where
+    pub sends_acks_good : (words : List AckWord) → AllByRecursion IsAckWord words → Good (IsAcked words) (sends_acks words f)
     sends_acks_good words small = go (all_named false f.variables.received words (last_of f)) refl
       where
-        go : (o : Option LastSent) → all_named false f.variables.received words (last_of f) ≡ o → Good (IsSent words) (acks_named o f)
-        go None e = good_err (IsSent words) WrongAck
+        go : (o : Option LastSent) → all_named false f.variables.received words (last_of f) ≡ o → Good (IsAcked words) (acks_named o f)
+        go None e = good_err (IsAcked words) WrongAck
         go (Some next) e =
-            good_ok (IsSent words) (sending (with_last next f))
-            (named_fine f.variables.received f.variables.pieces (last_of f) is false words next small e)
+            let all = named_fine f.variables.received f.variables.pieces (last_of f) is false words next small e in
+            let on = named_onward f.variables.received f.variables.pieces (last_of f) is words next small e in
+            good_ok (IsAcked words) (sending (with_last next f)) (all.0, all.1, all.2, on)
 
     abbrev Next : List AckWord → LastSent → Type 0
-    Next words next = AreFine Q words × Holds Q f.variables.received f.variables.pieces next
+    Next words next =
+        AreFine Q words × Holds least Q f.variables.received f.variables.pieces next ×
+        AreSaid Q f.variables.received f.variables.pieces next words
 
     new_good : (segsize : ℕ) (p : Piece) (words : List AckWord) (next : LastSent) → Next words next → Good (IsSent words) (sends_new segsize p next f)
     new_good segsize p words next fine =

@@ -23,22 +23,31 @@ distance_back n number l m = omega (arith, l, m)
 
 -- ---- the last acknowledgement sent
 
--- it stands for a number up to the highest received
-pub record IsLast (highest : ℕ) (sent : LastSent) : Type 0 where
+-- it stands for a number from this least one up to the highest received
+pub record IsLast (least highest : ℕ) (sent : LastSent) : Type 0 where
   pub number : ℕ
+  pub from : least ≤ number
   pub within : number ≤ highest
   pub same : sent.last ≡ wire number
   pub high : sent.is_high ≡ true → REACH ≤ number
   pub low : sent.is_high ≡ false → sent.last ≡ number
 
--- a number modulo 4,096 stands for one up to the highest received
-pub record Stands (highest number : ℕ) : Type 0 where
+-- from a lower one all the more
+pub lower : (low least highest : ℕ) (sent : LastSent) → low ≤ least → IsLast least highest sent → IsLast low highest sent
+lower low least highest sent l is =
+    record { number = is.number; from = let f = is.from in omega (arith, l, f); within = is.within; same = is.same; high = is.high; low = is.low }
+
+-- A number modulo 4,096 stands for one up to the highest received and up to the last acknowledgement sent then; in what is not sent again, from the
+-- least on that the last one sent may have been
+pub record Stands (least highest number : ℕ) (again : Bool) (next : LastSent) : Type 0 where
   pub for : ℕ
+  pub from : again ≡ false → least ≤ for
   pub within : for ≤ highest
   pub same : number ≡ wire for
+  pub last : IsLast for highest next
 
 module _ (highest received : ℕ) (here : received ≡ wire highest) where
-  module _ (number : ℕ) (sent : LastSent) (small : number < 4096) (is : IsLast highest sent) where
+  module _ (least number : ℕ) (sent : LastSent) (small : number < 4096) (is : IsLast least highest sent) where
     abbrev on : ℕ
     on = distance (wire is.number) number
 
@@ -71,9 +80,10 @@ module _ (highest received : ℕ) (here : received ≡ wire highest) where
         (subst (λ (x : ℕ). x + distance sent.last number < REACH) low m) in
         omega (arith, less, goes_on, small)
 
-    ahead_last : is_ahead received number sent ≡ true → IsLast highest (moved_to number sent)
+    ahead_last : is_ahead received number sent ≡ true → IsLast (is.number + on) highest (moved_to number sent)
     ahead_last e = record {
       number = is.number + on;
+      from = omega arith;
       within = ahead_within e;
       same = omega (arith, goes_on, small);
       high = high_on sent.is_high refl;
@@ -92,88 +102,127 @@ module _ (highest received : ℕ) (here : received ≡ wire highest) where
         let low = is.low e in
         subst (λ (x : ℕ). distance number x ≤ is.number) is.same (subst (λ (x : ℕ). distance number sent.last ≤ x) low m)
 
-    behind_stands : is_behind number sent ≡ true → Stands highest number
+    behind_stands : is_behind number sent ≡ true → Stands least highest number true sent
     behind_stands e =
         let parts = and_parts (leb (distance number sent.last) REACH) (sent.is_high || leb (distance number sent.last) sent.last) e in
         let within = behind_within sent.is_high refl parts.0 parts.1 in
         record {
           for = is.number - distance number (wire is.number);
-          within = omega (arith, is.within);
+          from = λ n. absurd cc;
+          within = let w = is.within in omega (arith, w);
           same = distance_back is.number number small within;
+          last = record {
+            number = is.number;
+            from = omega arith;
+            within = is.within;
+            same = is.same;
+            high = is.high;
+            low = is.low;
+          };
         }
 
+    ahead_stands : (again : Bool) → is_ahead received number sent ≡ true → Stands least highest number again (moved_to number sent)
+    ahead_stands again e = record {
+      for = is.number + on;
+      from = λ n. let f = is.from in omega (arith, f);
+      within = ahead_within e;
+      same = goes_on;
+      last = ahead_last e;
+    }
+
     -- a word that may be sent
-    pub named_is : (again : Bool) (next : LastSent) → last_named again received number sent ≡ Some next → Stands highest number × IsLast highest next
+    pub named_is : (again : Bool) (next : LastSent) → last_named again received number sent ≡ Some next →
+        Stands least highest number again next × IsLast least highest next
     named_is again next e = go (is_ahead received number sent) refl e
       where
-        back : (b : Bool) → (again && is_behind number sent) ≡ b → cond b (Some sent) None ≡ Some next → Stands highest number × IsLast highest next
-        back true f g =
+        back : (a : Bool) → again ≡ a → (b : Bool) → (a && is_behind number sent) ≡ b → cond b (Some sent) None ≡ Some next →
+            Stands least highest number a next × IsLast least highest next
+        back true at true f g =
             let same : sent ≡ next = cc in
-            (behind_stands (and_parts again (is_behind number sent) f).1, subst (IsLast highest) same is)
-        back false f g = absurd cc
+            (subst (Stands least highest number true) same (behind_stands f), subst (IsLast least highest) same is)
+        back false at true f g = absurd cc
+        back a at false f g = absurd cc
 
         go : (b : Bool) → is_ahead received number sent ≡ b →
             cond b (Some (moved_to number sent)) (cond (again && is_behind number sent) (Some sent) None) ≡ Some next →
-            Stands highest number × IsLast highest next
+            Stands least highest number again next × IsLast least highest next
         go true f g =
-            let same : moved_to number sent ≡ next = cc in (
-              record { for = is.number + on; within = ahead_within f; same = goes_on },
-              subst (IsLast highest) same (ahead_last f),
+            let same : moved_to number sent ≡ next = cc in
+            let up : least ≤ is.number + on = let l = is.from in omega (arith, l) in (
+              subst (Stands least highest number again) same (ahead_stands again f),
+              subst (IsLast least highest) same (lower least (is.number + on) highest (moved_to number sent) up (ahead_last f)),
             )
-        go false f g = back (again && is_behind number sent) refl g
+        go false f g = back again refl (again && is_behind number sent) refl g
 
   -- ---- all words
 
-  abbrev pub AllStand : List AckWord → Type 0
-  AllStand [] = Unit {0}
-  AllStand (word ∷ words) = (is_of_data word.qualifier ≡ true → Stands highest word.number) × AllStand words
+  module _ (least : ℕ) (again : Bool) (next : LastSent) where
+    abbrev pub AllStand : List AckWord → Type 0
+    AllStand [] = Unit {0}
+    AllStand (word ∷ words) = (is_of_data word.qualifier ≡ true → Stands least highest word.number again next) × AllStand words
 
-  pub all_named_is : (again : Bool) (words : List AckWord) (sent next : LastSent) → AllByRecursion IsAckWord words → IsLast highest sent →
-      all_named again received words sent ≡ Some next → AllStand words × IsLast highest next
-  all_named_is again [] sent next small is e = let same : sent ≡ next = cc in (tt, subst (IsLast highest) same is)
-  all_named_is again (word ∷ words) sent next small is e =
-      go (is_of_data word.qualifier) refl e (λ n last made. all_named_is again words n next small.1 last made)
+  -- by what was sent later
+  later_stands : (least number : ℕ) (again : Bool) (sent next : LastSent) (is : Stands least highest number again sent) →
+      IsLast is.for highest next → Stands least highest number again next
+  later_stands least number again sent next is last =
+      record { for = is.for; from = is.from; within = is.within; same = is.same; last = last }
+
+  pub all_named_is : (least : ℕ) (again : Bool) (words : List AckWord) (sent next : LastSent) → AllByRecursion IsAckWord words →
+      IsLast least highest sent → all_named again received words sent ≡ Some next → AllStand least again next words × IsLast least highest next
+  all_named_is least again [] sent next small is e = let same : sent ≡ next = cc in (tt, subst (IsLast least highest) same is)
+  all_named_is least again (word ∷ words) sent next small is e =
+      go (is_of_data word.qualifier) refl e (λ low n last made. all_named_is low again words n next small.1 last made)
     where
       one : (o : Option LastSent) → last_named again received word.number sent ≡ o →
           after_first o (λ n. all_named again received words n) ≡ Some next →
-          Stands highest word.number × (n : LastSent) × IsLast highest n × (all_named again received words n ≡ Some next)
+          (n : LastSent) × Stands least highest word.number again n × IsLast least highest n × (all_named again received words n ≡ Some next)
       one None f g = absurd cc
-      one (Some n) f g = let this = named_is word.number sent small.0 is again n f in (this.0, n, this.1, g)
+      one (Some n) f g = let this = named_is least word.number sent small.0 is again n f in (n, this.0, this.1, g)
 
       go : (b : Bool) → is_of_data word.qualifier ≡ b →
           cond b (after_first (last_named again received word.number sent) (λ n. all_named again received words n))
           (all_named again received words sent) ≡ Some next →
-          ((n : LastSent) → IsLast highest n → all_named again received words n ≡ Some next → AllStand words × IsLast highest next) →
-          AllStand (word ∷ words) × IsLast highest next
+          ((low : ℕ) (n : LastSent) → IsLast low highest n → all_named again received words n ≡ Some next →
+          AllStand low again next words × IsLast low highest next) →
+          AllStand least again next (word ∷ words) × IsLast least highest next
       go true f g later =
           let this = one (last_named again received word.number sent) refl g in
-          let rest = later this.1 this.2 this.3 in
-          ((λ h. this.0, rest.0), rest.1)
-      go false f g later = let rest = later sent is g in ((λ h. absurd cc, rest.0), rest.1)
+          let rest = later least this.0 this.2 this.3 in
+          let on = later this.1.for this.0 this.1.last this.3 in
+          ((λ h. later_stands least word.number again this.0 next this.1 on.1, rest.0), rest.1)
+      go false f g later = let rest = later least sent is g in ((λ h. absurd cc, rest.0), rest.1)
 
   -- with queues
-  pub all_late_is : (words : List AckWord) (late next : LateSent) → AllByRecursion IsAckWord words → IsLast highest late.sent →
-      all_named_late received words late ≡ Some next → AllStand words × IsLast highest next.sent
-  all_late_is [] late next small is e = let same : late ≡ next = cc in (tt, subst (λ (x : LateSent). IsLast highest x.sent) same is)
-  all_late_is (word ∷ words) late next small is e =
-      go (is_of_data word.qualifier) refl e (λ n last made. all_late_is words n next small.1 last made)
+  pub all_late_is : (least : ℕ) (words : List AckWord) (late next : LateSent) → AllByRecursion IsAckWord words → IsLast least highest late.sent →
+      all_named_late received words late ≡ Some next → AllStand least true next.sent words × IsLast least highest next.sent
+  all_late_is least [] late next small is e =
+      let same : late ≡ next = cc in (tt, subst (λ (x : LateSent). IsLast least highest x.sent) same is)
+  all_late_is least (word ∷ words) late next small is e =
+      go (is_of_data word.qualifier) refl e (λ low n last made. all_late_is low words n next small.1 last made)
     where
+      any : (again : Bool) (n : LastSent) → Stands least highest word.number again n → Stands least highest word.number true n
+      any again n is = record { for = is.for; from = λ e. absurd cc; within = is.within; same = is.same; last = is.last }
+
       one : (o : Option LastSent) → last_named_late received word.number late ≡ o →
           after_first_late o (λ n. all_named_late received words (record { sent = n; gap = gap_at received word.number late.sent })) ≡ Some next →
-          Stands highest word.number × (n : LastSent) × IsLast highest n ×
+          (n : LastSent) × Stands least highest word.number true n × IsLast least highest n ×
           (all_named_late received words (record { sent = n; gap = gap_at received word.number late.sent }) ≡ Some next)
       one None f g = absurd cc
       one (Some n) f g =
-          let this = named_is word.number late.sent small.0 is (leb (distance word.number late.sent.last) late.gap) n f in (this.0, n, this.1, g)
+          let again = leb (distance word.number late.sent.last) late.gap in
+          let this = named_is least word.number late.sent small.0 is again n f in (n, any again n this.0, this.1, g)
 
       go : (b : Bool) → is_of_data word.qualifier ≡ b →
           cond b (after_first_late (last_named_late received word.number late)
           (λ n. all_named_late received words (record { sent = n; gap = gap_at received word.number late.sent })))
           (all_named_late received words late) ≡ Some next →
-          ((n : LateSent) → IsLast highest n.sent → all_named_late received words n ≡ Some next → AllStand words × IsLast highest next.sent) →
-          AllStand (word ∷ words) × IsLast highest next.sent
+          ((low : ℕ) (n : LateSent) → IsLast low highest n.sent → all_named_late received words n ≡ Some next →
+          AllStand low true next.sent words × IsLast low highest next.sent) →
+          AllStand least true next.sent (word ∷ words) × IsLast least highest next.sent
       go true f g later =
           let this = one (last_named_late received word.number late) refl g in
-          let rest = later (record { sent = this.1; gap = gap_at received word.number late.sent }) this.2 this.3 in
-          ((λ h. this.0, rest.0), rest.1)
-      go false f g later = let rest = later late is g in ((λ h. absurd cc, rest.0), rest.1)
+          let n : LateSent = record { sent = this.0; gap = gap_at received word.number late.sent } in
+          let rest = later least n this.2 this.3 in
+          let on = later this.1.for n this.1.last this.3 in
+          ((λ h. later_stands least word.number true this.0 next.sent this.1 on.1, rest.0), rest.1)
+      go false f g later = let rest = later least late is g in ((λ h. absurd cc, rest.0), rest.1)

@@ -1,0 +1,375 @@
+-- What becomes of a link of which it is known that its last acknowledgement sent is at least a number: it gets the far address that is asked of by no
+-- effect of a row, and what is known stays so as long as it may yet send what has numbers.
+use Rattle.std.proofs.Common.{◌≡◌, ℕ, Bool, true, false, ◌&&◌, ◌||◌, not, Option, Some, None, List, [], ◌∷◌, ◌++◌, map, zero, suc, fold}
+use Rattle.std.proofs.Common.{refl, sym, subst, ap, ◌∙◌}
+use Rattle.std.specs.Prelude.{slice_get, slice_set}
+use Rattle.dna_links.specs.declared.port.Phase.{Phase}
+use Rattle.dna_links.specs.declared.port.Phase.TheVariants.{Called, Disconnecting, Ended}
+use Rattle.dna_links.specs.declared.port.Port.{Port}
+use Rattle.dna_links.specs.declared.queue.Queues.{Queues}
+use Rattle.dna_links.specs.declared.queue.Queues.TheVariants.{Without, With}
+use Rattle.dna_links.specs.declared.queue.Said.{Said}
+use Rattle.dna_links.specs.declared.queue.Said.TheVariants.{Nothing, OfRun, Disconnect}
+use Rattle.dna_links.specs.LookUps.{is_live, is_in}
+use Rattle.dna_links.specs.Links.{LinkOf, LinkTruth}
+use Rattle.dna_links.specs.Queues.{keeps_numbers, has_waiting, is_over, further, goes_on, goes_to, ends_by_message, drops, requeued, lets_go}
+use Rattle.dna_links.specs.Queues.{booted_link, forgotten}
+use Rattle.dna_links.specs.Table.{Effect, OpenHere, GiveAddress, Connect, GoTo, End, Drop, EndAll, Say, Settle, Keep, HandIn, TakeSegment, TakeAcks}
+use Rattle.dna_links.specs.WireSegments.{WireSegments, wire_segments}
+use Rattle.dna_links.specs.LinkBook.{does}
+use Rattle.accusing_links.proofs.Received.{Received, weaker, acks_received}
+
+-- a link may yet send what has numbers
+abbrev pub keeps : Queues → LinkOf WireSegments → Bool
+keeps Without l = is_live l.port.phase
+keeps With l = keeps_numbers l
+
+pub or_first : (a b : Bool) → a ≡ true → (a || b) ≡ true
+or_first true b e = refl
+or_first false b e = absurd cc
+
+or_none : (a : Bool) → (a || false) ≡ true → a ≡ true
+or_none true e = refl
+or_none false e = absurd cc
+
+or_more : (a b c : Bool) → (b ≡ true → c ≡ true) → (a || b) ≡ true → (a || c) ≡ true
+or_more true b c more e = refl
+or_more false b c more e = more e
+
+pub live_keeps : (q : Queues) (l : LinkOf WireSegments) → is_live l.port.phase ≡ true → keeps q l ≡ true
+live_keeps Without l e = e
+live_keeps With l e = or_first (is_live l.port.phase) (has_waiting l.queue.waits l.queue.said) e
+
+-- the links with this far address; one of them is known that has this own address
+module _ (queues : Queues) (own far least : ℕ) (Q : ℕ → Type 0) where
+  pub record IsPast (l : LinkOf WireSegments) : Type 0 where
+    pub begun : is_in Called l.port.phase ≡ false
+    pub received : l.port.own ≡ Some own → Received least Q l.segments
+
+  abbrev pub IsKnown : LinkOf WireSegments → Type 0
+  IsKnown l = l.port.far ≡ Some far → keeps queues l ≡ true → IsPast l
+
+  pub record Follows (before after : LinkOf WireSegments) : Type 0 where
+    pub to : after.port.far ≡ Some far → before.port.far ≡ Some far
+    pub known : IsKnown before → IsKnown after
+
+  pub follows_itself : (l : LinkOf WireSegments) → Follows l l
+  follows_itself l = record { to = λ e. e; known = λ k. k }
+
+  pub follows_on : (l m n : LinkOf WireSegments) → Follows l m → Follows m n → Follows l n
+  follows_on l m n one two = record { to = λ e. one.to (two.to e); known = λ k. two.known (one.known k) }
+
+  -- its segments change
+  let_go : (before now : Bool) (f : WireSegments) → now ≡ true → Received least Q f → Received least Q (lets_go wire_segments before now f)
+  let_go true false f e is = absurd cc
+  let_go true true f e is = is
+  let_go false now f e is = is
+
+  -- ---- phases
+
+  pub goes_follows : (q : Queues) → q ≡ queues → (phase : Phase) (l : LinkOf WireSegments) → is_in Called phase ≡ false →
+      is_live l.port.phase ≡ true → Follows l (goes_to wire_segments q phase l)
+  goes_follows Without at phase l late live = record {
+    to = λ e. e;
+    known = λ k e g.
+        let was = k e (subst (λ (x : Queues). keeps x l ≡ true) at (live_keeps Without l live)) in
+        record { begun = late; received = was.received };
+  }
+  goes_follows With at phase l late live = go (is_live l.port.phase) live
+    where
+      go : (b : Bool) → b ≡ true → Follows l (goes_on wire_segments b phase l)
+      go true e = record {
+        to = λ e. e;
+        known = λ k e g.
+            let was = k e (subst (λ (x : Queues). keeps x l ≡ true) at (live_keeps With l live)) in
+            record { begun = late; received = was.received };
+      }
+      go false e = absurd cc
+
+  -- a live link ends
+  pub ends_follows : (q : Queues) → q ≡ queues → (l : LinkOf WireSegments) → is_live l.port.phase ≡ true →
+      Follows l (ends_by_message wire_segments q l)
+  ends_follows Without at l live = record {
+    to = λ e. e;
+    known = λ k e g.
+        let no : keeps Without (ends_by_message wire_segments Without l) ≡ true =
+        subst (λ (x : Queues). keeps x (ends_by_message wire_segments Without l) ≡ true) (sym at) g in
+        absurd cc;
+  }
+  ends_follows With at l live = record {
+    to = λ e. e;
+    known = λ k e g.
+        let was = k e (subst (λ (x : Queues). keeps x l ≡ true) at (live_keeps With l live)) in
+        let may : keeps With (ends_by_message wire_segments With l) ≡ true =
+        subst (λ (x : Queues). keeps x (ends_by_message wire_segments With l) ≡ true) (sym at) g in
+        record { begun = refl; received = λ o. let_go (keeps_numbers l) _ l.segments may (was.received o) };
+  }
+
+  dropped_keeps : (q : Queues) (l : LinkOf WireSegments) → keeps q (drops wire_segments q l) ≡ false
+  dropped_keeps Without l = refl
+  dropped_keeps With l = refl
+
+  dropped_far : (q : Queues) (l : LinkOf WireSegments) → (drops wire_segments q l).port.far ≡ l.port.far
+  dropped_far Without l = refl
+  dropped_far With l = refl
+
+  never : {X : Type 0} → true ≡ false → X
+  never e = absurd cc
+
+  pub drops_follows : (q : Queues) → q ≡ queues → (l : LinkOf WireSegments) → Follows l (drops wire_segments q l)
+  drops_follows q at l = record {
+    to = λ e. sym (dropped_far q l) ∙ e;
+    known = λ k e g.
+        let may : keeps q (drops wire_segments q l) ≡ true = subst (λ (x : Queues). keeps x (drops wire_segments q l) ≡ true) (sym at) g in
+        never (sym may ∙ dropped_keeps q l);
+  }
+
+  -- ---- what it has said, and what waits
+
+  requeued_keeps : (q : Queues) (waits : Option Phase) (said : Said) (l : LinkOf WireSegments) →
+      (has_waiting waits said ≡ true → has_waiting l.queue.waits l.queue.said ≡ true) →
+      keeps q (requeued wire_segments waits said l) ≡ true →
+      (keeps q l ≡ true) × ((is_live l.port.phase || has_waiting waits said) ≡ true)
+  requeued_keeps Without waits said l more e = (e, or_first (is_live l.port.phase) (has_waiting waits said) e)
+  requeued_keeps With waits said l more e =
+      (or_more (is_live l.port.phase) (has_waiting waits said) (has_waiting l.queue.waits l.queue.said) more e, e)
+
+  requeued_follows : (waits : Option Phase) (said : Said) (l : LinkOf WireSegments) →
+      (has_waiting waits said ≡ true → has_waiting l.queue.waits l.queue.said ≡ true) → Follows l (requeued wire_segments waits said l)
+  requeued_follows waits said l more = record {
+    to = λ e. e;
+    known = λ k e g.
+        let both = requeued_keeps queues waits said l more g in
+        let was = k e both.0 in
+        record { begun = was.begun; received = λ o. let_go (keeps_numbers l) _ l.segments both.1 (was.received o) };
+  }
+
+  none_waiting : (said : Said) (b : Bool) → has_waiting None said ≡ true → b ≡ true
+  none_waiting said b e = absurd cc
+
+  pub settles_follows : (l : LinkOf WireSegments) → Follows l (requeued wire_segments None l.queue.said l)
+  settles_follows l = requeued_follows None l.queue.said l (none_waiting l.queue.said _)
+
+  -- a DI that was sent stays so
+  still_over : (said before : Said) (phase : Phase) → not (is_over (further said before) && is_in Disconnecting phase) ≡ true →
+      not (is_over before && is_in Disconnecting phase) ≡ true
+  still_over said Nothing phase e = refl
+  still_over said OfRun phase e = refl
+  still_over Nothing Disconnect phase e = e
+  still_over OfRun Disconnect phase e = e
+  still_over Disconnect Disconnect phase e = e
+
+  still_waiting : (waits : Option Phase) (said before : Said) → has_waiting waits (further said before) ≡ true → has_waiting waits before ≡ true
+  still_waiting None said before e = absurd cc
+  still_waiting (Some phase) said before e = still_over said before phase e
+
+  pub says_follows : (said : Said) (l : LinkOf WireSegments) →
+      Follows l (requeued wire_segments l.queue.waits (further said l.queue.said) l)
+  says_follows said l = requeued_follows l.queue.waits (further said l.queue.said) l (still_waiting l.queue.waits said l.queue.said)
+
+  -- ---- an address that is given again, or is nobody's
+
+  forgotten_keeps : (q : Queues) (l : LinkOf WireSegments) → keeps q (forgotten wire_segments q l) ≡ true → keeps q l ≡ true
+  forgotten_keeps Without l e = e
+  forgotten_keeps With l e =
+      or_first (is_live l.port.phase) (has_waiting l.queue.waits l.queue.said) (or_none (is_live l.port.phase) e)
+
+  forgotten_port : (q : Queues) (l : LinkOf WireSegments) → (forgotten wire_segments q l).port ≡ record l.port { own = None }
+  forgotten_port Without l = refl
+  forgotten_port With l = refl
+
+  not_given : {X : Type 0} → ◌≡◌ {A = Option ℕ} None (Some own) → X
+  not_given e = absurd cc
+
+  pub forgotten_follows : (q : Queues) → q ≡ queues → (l : LinkOf WireSegments) → Follows l (forgotten wire_segments q l)
+  forgotten_follows q at l = record {
+    to = λ e. sym (ap (λ (p : Port). p.far) (forgotten_port q l)) ∙ e;
+    known = λ k e g.
+        let far_was = sym (ap (λ (p : Port). p.far) (forgotten_port q l)) ∙ e in
+        let may : keeps q (forgotten wire_segments q l) ≡ true =
+        subst (λ (x : Queues). keeps x (forgotten wire_segments q l) ≡ true) (sym at) g in
+        let was = k far_was (subst (λ (x : Queues). keeps x l ≡ true) at (forgotten_keeps q l may)) in
+        record {
+          begun = ap (λ (p : Port). is_in Called p.phase) (forgotten_port q l) ∙ was.begun;
+          received = λ o. not_given (sym (ap (λ (p : Port). p.own) (forgotten_port q l)) ∙ o);
+        };
+  }
+
+  pub booted_follows : (l : LinkOf WireSegments) → Follows l (booted_link wire_segments queues l)
+  booted_follows l =
+      follows_on l (drops wire_segments queues l) (booted_link wire_segments queues l) (drops_follows queues refl l)
+      (forgotten_follows queues refl (drops wire_segments queues l))
+
+  -- ---- effects
+
+  -- after which it follows, whatever it was
+  abbrev pub IsCalm : Effect → Type 0
+  IsCalm OpenHere = ⊥
+  IsCalm (GiveAddress given) = ⊥
+  IsCalm (Connect other segsize) = ⊥
+  IsCalm (GoTo phase) = ⊥
+  IsCalm End = ⊥
+  IsCalm (TakeSegment segment) = ⊥
+  IsCalm effect = Unit {0}
+
+  abbrev pub AreCalm : List Effect → Type 0
+  AreCalm [] = Unit {0}
+  AreCalm (effect ∷ effects) = IsCalm effect × AreCalm effects
+
+  does_follows : (truth : LinkTruth (Unit {0})) (l : LinkOf WireSegments) (effect : Effect) → IsCalm effect →
+      Follows l (does queues wire_segments truth l effect)
+  does_follows truth l Drop calm = drops_follows queues refl l
+  does_follows truth l EndAll calm = follows_itself l
+  does_follows truth l (Say said) calm = says_follows said l
+  does_follows truth l (Settle given) calm = follows_itself l
+  does_follows truth l Keep calm = follows_itself l
+  does_follows truth l (HandIn message) calm = record {
+    to = λ e. e;
+    known = λ k e g. let was = k e (same_keeps queues g) in record { begun = was.begun; received = was.received };
+  }
+    where
+      same_keeps : (q : Queues) → keeps q (does queues wire_segments truth l (HandIn message)) ≡ true → keeps q l ≡ true
+      same_keeps Without e = e
+      same_keeps With e = e
+  does_follows truth l (TakeAcks acks) calm = record {
+    to = λ e. e;
+    known = λ k e g.
+        let was = k e (same_keeps queues g) in
+        record { begun = was.begun; received = λ o. acks_received least Q acks l.segments (was.received o) };
+  }
+    where
+      same_keeps : (q : Queues) → keeps q (does queues wire_segments truth l (TakeAcks acks)) ≡ true → keeps q l ≡ true
+      same_keeps Without e = e
+      same_keeps With e = e
+  does_follows truth l OpenHere calm = absurd calm
+  does_follows truth l (GiveAddress given) calm = absurd calm
+  does_follows truth l (Connect other segsize) calm = absurd calm
+  does_follows truth l (GoTo phase) calm = absurd calm
+  does_follows truth l End calm = absurd calm
+  does_follows truth l (TakeSegment segment) calm = absurd calm
+
+  pub all_follow : (truth : LinkTruth (Unit {0})) (l : LinkOf WireSegments) (effects : List Effect) → AreCalm effects →
+      Follows l (fold (does queues wire_segments truth) l effects)
+  all_follow truth l [] calm = follows_itself l
+  all_follow truth l (effect ∷ effects) calm =
+      follows_on l (does queues wire_segments truth l effect) (fold (does queues wire_segments truth) l (effect ∷ effects))
+      (does_follows truth l effect calm.0) (all_follow truth (does queues wire_segments truth l effect) effects calm.1)
+
+  -- ---- all links of a node
+
+  -- none has the far address
+  abbrev pub NoneTo : List (LinkOf WireSegments) → Type 0
+  NoneTo [] = Unit {0}
+  NoneTo (l ∷ links) = (l.port.far ≡ Some far → ⊥) × NoneTo links
+
+  -- at most one has it
+  abbrev pub OneTo : List (LinkOf WireSegments) → Type 0
+  OneTo [] = Unit {0}
+  OneTo (l ∷ links) = (l.port.far ≡ Some far → NoneTo links) × OneTo links
+
+  abbrev pub AreKnown : List (LinkOf WireSegments) → Type 0
+  AreKnown [] = Unit {0}
+  AreKnown (l ∷ links) = IsKnown l × AreKnown links
+
+  -- each follows, and new ones have not the far address
+  abbrev pub AreFollowed : List (LinkOf WireSegments) → List (LinkOf WireSegments) → Type 0
+  AreFollowed [] later = NoneTo later
+  AreFollowed (l ∷ links) [] = ⊥
+  AreFollowed (l ∷ links) (m ∷ later) = Follows l m × AreFollowed links later
+
+  pub none_followed : (links later : List (LinkOf WireSegments)) → AreFollowed links later → NoneTo links → NoneTo later
+  none_followed [] later are none = are
+  none_followed (l ∷ links) [] are none = absurd are
+  none_followed (l ∷ links) (m ∷ later) are none = (λ e. none.0 (are.0.to e), none_followed links later are.1 none.1)
+
+  one_of_none : (links : List (LinkOf WireSegments)) → NoneTo links → OneTo links
+  one_of_none [] none = tt
+  one_of_none (l ∷ links) none = (λ e. none.1, one_of_none links none.1)
+
+  pub one_followed : (links later : List (LinkOf WireSegments)) → AreFollowed links later → OneTo links → OneTo later
+  one_followed [] later are one = one_of_none later are
+  one_followed (l ∷ links) [] are one = absurd are
+  one_followed (l ∷ links) (m ∷ later) are one =
+      (λ e. none_followed links later are.1 (one.0 (are.0.to e)), one_followed links later are.1 one.1)
+
+  known_of_none : (links : List (LinkOf WireSegments)) → NoneTo links → AreKnown links
+  known_of_none [] none = tt
+  known_of_none (l ∷ links) none = (λ e. absurd (none.0 e), known_of_none links none.1)
+
+  pub known_followed : (links later : List (LinkOf WireSegments)) → AreFollowed links later → AreKnown links → AreKnown later
+  known_followed [] later are known = known_of_none later are
+  known_followed (l ∷ links) [] are known = absurd are
+  known_followed (l ∷ links) (m ∷ later) are known = (are.0.known known.0, known_followed links later are.1 known.1)
+
+  pub all_same : (links : List (LinkOf WireSegments)) → AreFollowed links links
+  all_same [] = tt
+  all_same (l ∷ links) = (follows_itself l, all_same links)
+
+  pub followed_changed : (links later : List (LinkOf WireSegments)) (n : ℕ) (l m : LinkOf WireSegments) → AreFollowed links later →
+      slice_get links n ≡ Some l → Follows l m → AreFollowed links (slice_set later n m)
+  followed_changed [] later n l m are at is = absurd cc
+  followed_changed (first ∷ links) [] n l m are at is = absurd are
+  followed_changed (first ∷ links) (next ∷ later) zero l m are at is =
+      let same : first ≡ l = cc in (subst (λ (x : LinkOf WireSegments). Follows x m) (sym same) is, are.1)
+  followed_changed (first ∷ links) (next ∷ later) (suc n) l m are at is = (are.0, followed_changed links later n l m are.1 at is)
+
+  none_pushed : (later : List (LinkOf WireSegments)) (m : LinkOf WireSegments) → NoneTo later → (m.port.far ≡ Some far → ⊥) → NoneTo (later ++ m ∷ [])
+  none_pushed [] m none this = (this, tt)
+  none_pushed (first ∷ later) m none this = (none.0, none_pushed later m none.1 this)
+
+  pub followed_pushed : (links later : List (LinkOf WireSegments)) (m : LinkOf WireSegments) → AreFollowed links later →
+      (m.port.far ≡ Some far → ⊥) → AreFollowed links (later ++ m ∷ [])
+  followed_pushed [] later m are this = none_pushed later m are this
+  followed_pushed (first ∷ links) [] m are this = absurd are
+  followed_pushed (first ∷ links) (next ∷ later) m are this = (are.0, followed_pushed links later m are.1 this)
+
+  pub all_booted : (links : List (LinkOf WireSegments)) → AreFollowed links (map (booted_link wire_segments queues) links)
+  all_booted [] = tt
+  all_booted (l ∷ links) = (booted_follows l, all_booted links)
+
+  -- the first to which the far address is given
+  pub one_pushed : (links : List (LinkOf WireSegments)) (l : LinkOf WireSegments) → NoneTo links → OneTo (links ++ l ∷ [])
+  one_pushed [] l none = (λ e. tt, tt)
+  one_pushed (first ∷ links) l none = (λ e. absurd (none.0 e), one_pushed links l none.1)
+
+  pub one_changed : (links : List (LinkOf WireSegments)) (n : ℕ) (l : LinkOf WireSegments) → NoneTo links → OneTo (slice_set links n l)
+  one_changed [] n l none = tt
+  one_changed (first ∷ links) zero l none = (λ e. none.1, one_of_none links none.1)
+  one_changed (first ∷ links) (suc n) l none = (λ e. absurd (none.0 e), one_changed links n l none.1)
+
+  pub one_itself : (links : List (LinkOf WireSegments)) → NoneTo links → OneTo links
+  one_itself links none = one_of_none links none
+
+  pub none_at : (links : List (LinkOf WireSegments)) (n : ℕ) (l : LinkOf WireSegments) → NoneTo links → slice_get links n ≡ Some l →
+      l.port.far ≡ Some far → ⊥
+  none_at [] n l none at e = absurd cc
+  none_at (first ∷ links) zero l none at e =
+      let same : first ≡ l = cc in none.0 (subst (λ (x : LinkOf WireSegments). x.port.far ≡ Some far) (sym same) e)
+  none_at (first ∷ links) (suc n) l none at e = none_at links n l none.1 at e
+
+  pub known_at : (links : List (LinkOf WireSegments)) (n : ℕ) (l : LinkOf WireSegments) → AreKnown links → slice_get links n ≡ Some l → IsKnown l
+  known_at [] n l known at = absurd cc
+  known_at (first ∷ links) zero l known at = let same : first ≡ l = cc in subst IsKnown same known.0
+  known_at (first ∷ links) (suc n) l known at = known_at links n l known.1 at
+
+  -- of the one that has it this is known
+  pub all_by_one : (links : List (LinkOf WireSegments)) (n : ℕ) (l m : LinkOf WireSegments) → OneTo links → slice_get links n ≡ Some l →
+      l.port.far ≡ Some far → IsKnown m → AreKnown (slice_set links n m)
+  all_by_one [] n l m one at to is = absurd cc
+  all_by_one (first ∷ links) zero l m one at to is =
+      let same : first ≡ l = cc in
+      (is, known_of_none links (one.0 (subst (λ (x : LinkOf WireSegments). x.port.far ≡ Some far) (sym same) to)))
+  all_by_one (first ∷ links) (suc n) l m one at to is =
+      (λ e. absurd (none_at links n l (one.0 e) at to), all_by_one links n l m one.1 at to is)
+
+-- where more passed
+module _ (queues : Queues) (own far least : ℕ) (Q R : ℕ → Type 0) (more : (number : ℕ) → Q number → R number) where
+  pub known_more : (links : List (LinkOf WireSegments)) → AreKnown queues own far least Q links → AreKnown queues own far least R links
+  known_more [] known = tt
+  known_more (l ∷ links) known = (
+    λ e g. let was = known.0 e g in record {
+      begun = was.begun;
+      received = λ o. weaker least Q R _ _ _ more (was.received o);
+    },
+    known_more links known.1,
+  )
