@@ -29,3 +29,4 @@ pub mod Passing
 pub mod Final
 -- a link's last acknowledgement sent goes on
 pub mod Follows
+pub mod FollowRows
