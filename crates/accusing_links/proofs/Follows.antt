@@ -134,7 +134,7 @@ module _ (queues : Queues) (own far least : ℕ) (Q : ℕ → Type 0) where
   requeued_keeps With waits said l more e =
       (or_more (is_live l.port.phase) (has_waiting waits said) (has_waiting l.queue.waits l.queue.said) more e, e)
 
-  requeued_follows : (waits : Option Phase) (said : Said) (l : LinkOf WireSegments) →
+  pub requeued_follows : (waits : Option Phase) (said : Said) (l : LinkOf WireSegments) →
       (has_waiting waits said ≡ true → has_waiting l.queue.waits l.queue.said ≡ true) → Follows l (requeued wire_segments waits said l)
   requeued_follows waits said l more = record {
     to = λ e. e;

@@ -30,3 +30,4 @@ pub mod Final
 -- a link's last acknowledgement sent goes on
 pub mod Follows
 pub mod FollowRows
+pub mod FollowSteps

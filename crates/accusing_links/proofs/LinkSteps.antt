@@ -49,7 +49,7 @@ called_early Running e = absurd cc
 called_early Disconnecting e = absurd cc
 called_early Ended e = absurd cc
 
-connected_live : (phase : Phase) → is_connected phase ≡ true → is_live phase ≡ true
+pub connected_live : (phase : Phase) → is_connected phase ≡ true → is_live phase ≡ true
 connected_live Confirming e = refl
 connected_live Running e = refl
 connected_live Calling e = absurd cc
@@ -63,7 +63,7 @@ pub record IsInRun (before after : LinkOf WireSegments) : Type 0 where
   pub own : after.port.own ≡ before.port.own
   pub far : after.port.far ≡ before.port.far
 
-in_run : (q : Queues) (l : LinkOf WireSegments) → is_connected l.port.phase ≡ true → IsInRun l (goes_to wire_segments q Running l)
+pub in_run : (q : Queues) (l : LinkOf WireSegments) → is_connected l.port.phase ≡ true → IsInRun l (goes_to wire_segments q Running l)
 in_run Without l connected = record { late = refl; own = refl; far = refl }
 in_run With l connected = go (is_live l.port.phase) (connected_live l.port.phase connected)
   where
@@ -87,7 +87,7 @@ pub kept_confirm : (q : Queues) (far segsize : ℕ) → kept q (Connect far segs
 kept_confirm Without far segsize = refl
 kept_confirm With far segsize = refl
 
-kept_take : (q : Queues) (segment : SegmentValue) → kept q (GoTo Running ∷ TakeSegment segment ∷ []) ≡ GoTo Running ∷ TakeSegment segment ∷ []
+pub kept_take : (q : Queues) (segment : SegmentValue) → kept q (GoTo Running ∷ TakeSegment segment ∷ []) ≡ GoTo Running ∷ TakeSegment segment ∷ []
 kept_take Without segment = refl
 kept_take With segment = refl
 

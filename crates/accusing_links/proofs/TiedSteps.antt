@@ -79,7 +79,7 @@ kept_taken Without (TakeAcks acks ∷ effects) taken = ap (λ (x : List Effect).
 kept_taken Without (effect ∷ effects) taken = absurd taken.0
 kept_taken With effects taken = refl
 
-kept_runs : (q : Queues) (effects : List Effect) → AreTaken effects → kept q (GoTo Running ∷ effects) ≡ GoTo Running ∷ effects
+pub kept_runs : (q : Queues) (effects : List Effect) → AreTaken effects → kept q (GoTo Running ∷ effects) ≡ GoTo Running ∷ effects
 kept_runs Without effects taken = ap (λ (x : List Effect). GoTo Running ∷ x) (kept_taken Without effects taken)
 kept_runs With effects taken = refl
 
