@@ -31,7 +31,7 @@ use Rattle.accusing_links.proofs.RightLinks.{Numbers}
 use Rattle.accusing_links.proofs.LinkSteps.{HasPassed, at_is, connected_live, in_run, kept_open, kept_answer, kept_connect, kept_confirm}
 use Rattle.accusing_links.proofs.TiedSteps.{kept_runs}
 use Rattle.accusing_links.proofs.Follows.{keeps, live_keeps, IsPast, Follows, follows_itself, follows_on, goes_follows, ends_follows, requeued_follows}
-use Rattle.accusing_links.proofs.Follows.{all_follow, NoneTo, OneTo, all_same, one_pushed, one_changed, one_itself}
+use Rattle.accusing_links.proofs.Follows.{all_follow, NoneTo, OneTo, all_same, one_pushed, one_changed, one_of_none}
 use Rattle.accusing_links.proofs.FollowRows.{Are, IsNow, now_at, now_on, after_follows, IsCalmRow, calm_row}
 
 pub in_live : (wanted phase : Phase) → is_in wanted phase ≡ true → is_live wanted ≡ true → is_live phase ≡ true
@@ -59,7 +59,7 @@ goes_far With phase l = go (is_live l.port.phase)
     go true = refl
     go false = refl
 
-not_both : {X : Type 0} (b : Bool) → b ≡ true → b ≡ false → X
+pub not_both : {X : Type 0} (b : Bool) → b ≡ true → b ≡ false → X
 not_both b e f = absurd cc
 
 same_number : (a b : ℕ) → ◌≡◌ {A = Option ℕ} (Some a) (Some b) → a ≡ b
@@ -102,7 +102,7 @@ module _ (N : Numbers) (queues : Queues) (own far least : ℕ) (s : WireLinks) w
   AreNow x = Are queues own far least Q s x
 
   abbrev pub One : WireLinks → Type 0
-  One x = OneTo queues own far least Q x.links
+  One x = OneTo far x.links
 
   abbrev to_links : List Effect → Option ℕ → LinkOf WireSegments → Unit {0} → WireLinks
   to_links es n l k = after queues wire_segments s es n l k
@@ -251,23 +251,23 @@ module _ (N : Numbers) (queues : Queues) (own far least : ℕ) (s : WireLinks) w
 
     -- ---- this one, where none had it
 
-    module _ (none : NoneTo queues own far least Q s.links) where
+    module _ (none : NoneTo far s.links) where
       connect_one : (src segsize : ℕ) (es : List Effect) → es ≡ Connect src segsize ∷ [] → Good One (asks_by es (FindsNone (LiveTo src) None ∷ []))
       connect_one src segsize es same =
           subst (λ (x : List Effect). Good One (asks_by x (FindsNone (LiveTo src) None ∷ []))) (sym same)
           (link_good One (LiveTo src) s _ _
-          (good_ok One _ (one_pushed queues own far least Q s.links _ none))
-          (λ n l found. good_ok One s (one_itself queues own far least Q s.links none)))
+          (good_ok One _ (one_pushed far s.links _ none))
+          (λ n l found. good_ok One s (one_of_none far s.links none)))
 
       confirm_one : (dst src segsize : ℕ) (es : List Effect) → es ≡ Connect src segsize ∷ GoTo Running ∷ [] →
           Good One (asks_by es (Finds (CallingAt dst) None ∷ ForThisLink CrossedLink ∷ []))
       confirm_one dst src segsize es same =
           subst (λ (x : List Effect). Good One (asks_by x (Finds (CallingAt dst) None ∷ ForThisLink CrossedLink ∷ []))) (sym same)
-          (link_good One (CallingAt dst) s _ _ (good_ok One s (one_itself queues own far least Q s.links none)) (λ n l found.
+          (link_good One (CallingAt dst) s _ _ (good_ok One s (one_of_none far s.links none)) (λ n l found.
           let left = fold (does queues wire_segments truth) l (Connect src segsize ∷ GoTo Running ∷ []) in
           let made = to_links (Connect src segsize ∷ GoTo Running ∷ []) (Some n) left tt in
           good_check One (rule (is_some truth.tag.link && are_same (Some n) truth.tag.partner)) CrossedLink (Ok made) (λ e.
-          good_ok One made (one_changed queues own far least Q s.links n left none))))
+          good_ok One made (one_changed far s.links n left none))))
 
   -- ---- all that may happen
 
@@ -322,7 +322,7 @@ module _ (N : Numbers) (queues : Queues) (own far least : ℕ) (s : WireLinks) w
     message_follows (DisconnectInitiate dst src reason user_data) small came plain = end_good rule truth dst src _ (kept_end queues)
     message_follows (DisconnectConfirm dst src reason) small came plain = end_good rule truth dst src _ (kept_end queues)
 
-    message_one : NoneTo queues own far least Q s.links → (m : NspValue) → IsConnect m →
+    message_one : NoneTo far s.links → (m : NspValue) → IsConnect m →
         Good One (by_row queues wire_segments rule truth s to_links (arrival_row m))
     message_one none (ConnectInitiate retransmitted src services info segsize user_data) is =
         connect_one rule truth none src segsize _ (kept_connect queues src segsize)
@@ -335,7 +335,7 @@ module _ (N : Numbers) (queues : Queues) (own far least : ℕ) (s : WireLinks) w
   arrived_follows rule packet tag small came plain =
       good_check AreNow (eqb packet.src s.peer && eqb packet.dst s.node) WrongNode _ (λ e. message_follows rule tag packet.message small came plain)
 
-  pub arrived_one : (rule : PartnerRule) (packet : Carried) (tag : LinkTag) → NoneTo queues own far least Q s.links → IsConnect packet.message →
+  pub arrived_one : (rule : PartnerRule) (packet : Carried) (tag : LinkTag) → NoneTo far s.links → IsConnect packet.message →
       Good One (wire_links_arrived queues rule s packet tag)
   arrived_one rule packet tag none is =
       good_check One (eqb packet.src s.peer && eqb packet.dst s.node) WrongNode _ (λ e.

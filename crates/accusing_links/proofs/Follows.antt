@@ -40,6 +40,44 @@ pub live_keeps : (q : Queues) (l : LinkOf WireSegments) → is_live l.port.phase
 live_keeps Without l e = e
 live_keeps With l e = or_first (is_live l.port.phase) (has_waiting l.queue.waits l.queue.said) e
 
+-- ---- how many links have a far address
+
+module _ (far : ℕ) where
+  -- none has the far address
+  abbrev pub NoneTo : List (LinkOf WireSegments) → Type 0
+  NoneTo [] = Unit {0}
+  NoneTo (l ∷ links) = (l.port.far ≡ Some far → ⊥) × NoneTo links
+
+  -- at most one has it
+  abbrev pub OneTo : List (LinkOf WireSegments) → Type 0
+  OneTo [] = Unit {0}
+  OneTo (l ∷ links) = (l.port.far ≡ Some far → NoneTo links) × OneTo links
+
+  pub one_of_none : (links : List (LinkOf WireSegments)) → NoneTo links → OneTo links
+  one_of_none [] none = tt
+  one_of_none (l ∷ links) none = (λ e. none.1, one_of_none links none.1)
+
+  pub none_pushed : (later : List (LinkOf WireSegments)) (m : LinkOf WireSegments) → NoneTo later → (m.port.far ≡ Some far → ⊥) → NoneTo (later ++ m ∷ [])
+  none_pushed [] m none this = (this, tt)
+  none_pushed (first ∷ later) m none this = (none.0, none_pushed later m none.1 this)
+
+  -- the first to which the far address is given
+  pub one_pushed : (links : List (LinkOf WireSegments)) (l : LinkOf WireSegments) → NoneTo links → OneTo (links ++ l ∷ [])
+  one_pushed [] l none = (λ e. tt, tt)
+  one_pushed (first ∷ links) l none = (λ e. absurd (none.0 e), one_pushed links l none.1)
+
+  pub one_changed : (links : List (LinkOf WireSegments)) (n : ℕ) (l : LinkOf WireSegments) → NoneTo links → OneTo (slice_set links n l)
+  one_changed [] n l none = tt
+  one_changed (first ∷ links) zero l none = (λ e. none.1, one_of_none links none.1)
+  one_changed (first ∷ links) (suc n) l none = (λ e. absurd (none.0 e), one_changed links n l none.1)
+
+  pub none_at : (links : List (LinkOf WireSegments)) (n : ℕ) (l : LinkOf WireSegments) → NoneTo links → slice_get links n ≡ Some l →
+      l.port.far ≡ Some far → ⊥
+  none_at [] n l none at e = absurd cc
+  none_at (first ∷ links) zero l none at e =
+      let same : first ≡ l = cc in none.0 (subst (λ (x : LinkOf WireSegments). x.port.far ≡ Some far) (sym same) e)
+  none_at (first ∷ links) (suc n) l none at e = none_at links n l none.1 at e
+
 -- the links with this far address; one of them is known that has this own address
 module _ (queues : Queues) (own far least : ℕ) (Q : ℕ → Type 0) where
   pub record IsPast (l : LinkOf WireSegments) : Type 0 where
@@ -257,42 +295,28 @@ module _ (queues : Queues) (own far least : ℕ) (Q : ℕ → Type 0) where
 
   -- ---- all links of a node
 
-  -- none has the far address
-  abbrev pub NoneTo : List (LinkOf WireSegments) → Type 0
-  NoneTo [] = Unit {0}
-  NoneTo (l ∷ links) = (l.port.far ≡ Some far → ⊥) × NoneTo links
-
-  -- at most one has it
-  abbrev pub OneTo : List (LinkOf WireSegments) → Type 0
-  OneTo [] = Unit {0}
-  OneTo (l ∷ links) = (l.port.far ≡ Some far → NoneTo links) × OneTo links
-
   abbrev pub AreKnown : List (LinkOf WireSegments) → Type 0
   AreKnown [] = Unit {0}
   AreKnown (l ∷ links) = IsKnown l × AreKnown links
 
   -- each follows, and new ones have not the far address
   abbrev pub AreFollowed : List (LinkOf WireSegments) → List (LinkOf WireSegments) → Type 0
-  AreFollowed [] later = NoneTo later
+  AreFollowed [] later = NoneTo far later
   AreFollowed (l ∷ links) [] = ⊥
   AreFollowed (l ∷ links) (m ∷ later) = Follows l m × AreFollowed links later
 
-  pub none_followed : (links later : List (LinkOf WireSegments)) → AreFollowed links later → NoneTo links → NoneTo later
+  pub none_followed : (links later : List (LinkOf WireSegments)) → AreFollowed links later → NoneTo far links → NoneTo far later
   none_followed [] later are none = are
   none_followed (l ∷ links) [] are none = absurd are
   none_followed (l ∷ links) (m ∷ later) are none = (λ e. none.0 (are.0.to e), none_followed links later are.1 none.1)
 
-  one_of_none : (links : List (LinkOf WireSegments)) → NoneTo links → OneTo links
-  one_of_none [] none = tt
-  one_of_none (l ∷ links) none = (λ e. none.1, one_of_none links none.1)
-
-  pub one_followed : (links later : List (LinkOf WireSegments)) → AreFollowed links later → OneTo links → OneTo later
-  one_followed [] later are one = one_of_none later are
+  pub one_followed : (links later : List (LinkOf WireSegments)) → AreFollowed links later → OneTo far links → OneTo far later
+  one_followed [] later are one = one_of_none far later are
   one_followed (l ∷ links) [] are one = absurd are
   one_followed (l ∷ links) (m ∷ later) are one =
       (λ e. none_followed links later are.1 (one.0 (are.0.to e)), one_followed links later are.1 one.1)
 
-  known_of_none : (links : List (LinkOf WireSegments)) → NoneTo links → AreKnown links
+  known_of_none : (links : List (LinkOf WireSegments)) → NoneTo far links → AreKnown links
   known_of_none [] none = tt
   known_of_none (l ∷ links) none = (λ e. absurd (none.0 e), known_of_none links none.1)
 
@@ -313,13 +337,9 @@ module _ (queues : Queues) (own far least : ℕ) (Q : ℕ → Type 0) where
       let same : first ≡ l = cc in (subst (λ (x : LinkOf WireSegments). Follows x m) (sym same) is, are.1)
   followed_changed (first ∷ links) (next ∷ later) (suc n) l m are at is = (are.0, followed_changed links later n l m are.1 at is)
 
-  none_pushed : (later : List (LinkOf WireSegments)) (m : LinkOf WireSegments) → NoneTo later → (m.port.far ≡ Some far → ⊥) → NoneTo (later ++ m ∷ [])
-  none_pushed [] m none this = (this, tt)
-  none_pushed (first ∷ later) m none this = (none.0, none_pushed later m none.1 this)
-
   pub followed_pushed : (links later : List (LinkOf WireSegments)) (m : LinkOf WireSegments) → AreFollowed links later →
       (m.port.far ≡ Some far → ⊥) → AreFollowed links (later ++ m ∷ [])
-  followed_pushed [] later m are this = none_pushed later m are this
+  followed_pushed [] later m are this = none_pushed far later m are this
   followed_pushed (first ∷ links) [] m are this = absurd are
   followed_pushed (first ∷ links) (next ∷ later) m are this = (are.0, followed_pushed links later m are.1 this)
 
@@ -327,40 +347,20 @@ module _ (queues : Queues) (own far least : ℕ) (Q : ℕ → Type 0) where
   all_booted [] = tt
   all_booted (l ∷ links) = (booted_follows l, all_booted links)
 
-  -- the first to which the far address is given
-  pub one_pushed : (links : List (LinkOf WireSegments)) (l : LinkOf WireSegments) → NoneTo links → OneTo (links ++ l ∷ [])
-  one_pushed [] l none = (λ e. tt, tt)
-  one_pushed (first ∷ links) l none = (λ e. absurd (none.0 e), one_pushed links l none.1)
-
-  pub one_changed : (links : List (LinkOf WireSegments)) (n : ℕ) (l : LinkOf WireSegments) → NoneTo links → OneTo (slice_set links n l)
-  one_changed [] n l none = tt
-  one_changed (first ∷ links) zero l none = (λ e. none.1, one_of_none links none.1)
-  one_changed (first ∷ links) (suc n) l none = (λ e. absurd (none.0 e), one_changed links n l none.1)
-
-  pub one_itself : (links : List (LinkOf WireSegments)) → NoneTo links → OneTo links
-  one_itself links none = one_of_none links none
-
-  pub none_at : (links : List (LinkOf WireSegments)) (n : ℕ) (l : LinkOf WireSegments) → NoneTo links → slice_get links n ≡ Some l →
-      l.port.far ≡ Some far → ⊥
-  none_at [] n l none at e = absurd cc
-  none_at (first ∷ links) zero l none at e =
-      let same : first ≡ l = cc in none.0 (subst (λ (x : LinkOf WireSegments). x.port.far ≡ Some far) (sym same) e)
-  none_at (first ∷ links) (suc n) l none at e = none_at links n l none.1 at e
-
   pub known_at : (links : List (LinkOf WireSegments)) (n : ℕ) (l : LinkOf WireSegments) → AreKnown links → slice_get links n ≡ Some l → IsKnown l
   known_at [] n l known at = absurd cc
   known_at (first ∷ links) zero l known at = let same : first ≡ l = cc in subst IsKnown same known.0
   known_at (first ∷ links) (suc n) l known at = known_at links n l known.1 at
 
   -- of the one that has it this is known
-  pub all_by_one : (links : List (LinkOf WireSegments)) (n : ℕ) (l m : LinkOf WireSegments) → OneTo links → slice_get links n ≡ Some l →
+  pub all_by_one : (links : List (LinkOf WireSegments)) (n : ℕ) (l m : LinkOf WireSegments) → OneTo far links → slice_get links n ≡ Some l →
       l.port.far ≡ Some far → IsKnown m → AreKnown (slice_set links n m)
   all_by_one [] n l m one at to is = absurd cc
   all_by_one (first ∷ links) zero l m one at to is =
       let same : first ≡ l = cc in
       (is, known_of_none links (one.0 (subst (λ (x : LinkOf WireSegments). x.port.far ≡ Some far) (sym same) to)))
   all_by_one (first ∷ links) (suc n) l m one at to is =
-      (λ e. absurd (none_at links n l (one.0 e) at to), all_by_one links n l m one.1 at to is)
+      (λ e. absurd (none_at far links n l (one.0 e) at to), all_by_one links n l m one.1 at to is)
 
 -- where more passed
 module _ (queues : Queues) (own far least : ℕ) (Q R : ℕ → Type 0) (more : (number : ℕ) → Q number → R number) where

@@ -31,3 +31,4 @@ pub mod Final
 pub mod Follows
 pub mod FollowRows
 pub mod FollowSteps
+pub mod FollowSends
