@@ -49,10 +49,10 @@ use Rattle.accusing_links.proofs.Passing.{AsNumbers, other_passed, passed_more, 
 
 module _ (queues : Queues) (head : Head) where
   module _ (before : List Passed) where
-    abbrev N : Numbers
+    abbrev pub N : Numbers
     N = AsNumbers (passed_of segment_of before)
 
-    abbrev P : Numbers
+    abbrev pub P : Numbers
     P = AsNumbers (passed_of connect_of before)
 
     pub record Is (s : WireLinks) : Type 0 where
@@ -148,7 +148,7 @@ module _ (queues : Queues) (head : Head) where
         record { segment = segment_passed packet.message segments; connect = connect_passed packet.message connects }
     may_come (Err refusal) segments connects = tt
 
-    message_may : (m : MessageValue) → Came (packet_in (Sound m)) → MayCome Comes (content (body_of m))
+    pub message_may : (m : MessageValue) → Came (packet_in (Sound m)) → MayCome Comes (content (body_of m))
     message_may (Data flags resp num body) came = may_come (content body) came.segments came.connects
     message_may (Ack flags resp) came = tt
     message_may (Nak flags reason resp) came = tt
@@ -156,7 +156,7 @@ module _ (queues : Queues) (head : Head) where
     message_may (Strt flags) came = tt
     message_may (Stack flags) came = tt
 
-    damage_right : (s after : WireLayers) (tag : LayersTag) (fate : Fate) (r : ReadingValue) → IsDamage r →
+    pub damage_right : (s after : WireLayers) (tag : LayersTag) (fate : Fate) (r : ReadingValue) → IsDamage r →
         comes (node_machine queues) s tag fate r ≡ Ok after → Right s → Right after
     damage_right s after tag fate HeaderBad damage e is = arrives_right queues Is Fine Comes kept s after arrival.HeaderBad fate e tt is
     damage_right s after tag fate DataBad damage e is = arrives_right queues Is Fine Comes kept s after arrival.DataBad fate e tt is
@@ -252,7 +252,7 @@ module _ (queues : Queues) (head : Head) where
     held_more [] are = tt
     held_more (packet ∷ held) are = (content_more (content packet.body) are.0, held_more held are.1)
 
-    right_later : (s : WireLayers) → Right before s → Right after s
+    pub right_later : (s : WireLayers) → Right before s → Right after s
     right_later s is = record {
       links = record {
         addresses = is.links.addresses;
@@ -262,7 +262,7 @@ module _ (queues : Queues) (head : Head) where
       held = held_more s.station.variables.held is.held;
     }
 
-    came_later : (packet : Option (List ℕ)) → Came before packet → Came after packet
+    pub came_later : (packet : Option (List ℕ)) → Came before packet → Came after packet
     came_later packet came = record {
       segments = λ a b c e. passed_more segment_of before one a b c (came.segments a b c e);
       connects = λ a b c e. passed_more connect_of before one a b c (came.connects a b c e);
@@ -270,14 +270,14 @@ module _ (queues : Queues) (head : Head) where
 
   -- ---- the units that are coming
 
-  abbrev UnitCame : List Passed → List ℕ → Type 0
+  abbrev pub UnitCame : List Passed → List ℕ → Type 0
   UnitCame before unit = Came before (packet_in (reading unit))
 
-  abbrev AllCame : List Passed → List (List ℕ) → Type 0
+  abbrev pub AllCame : List Passed → List (List ℕ) → Type 0
   AllCame before [] = Unit {0}
   AllCame before (unit ∷ units) = UnitCame before unit × AllCame before units
 
-  all_later : (before : List Passed) (one : Passed) (units : List (List ℕ)) → AllCame before units → AllCame (before ++ one ∷ []) units
+  pub all_later : (before : List Passed) (one : Passed) (units : List (List ℕ)) → AllCame before units → AllCame (before ++ one ∷ []) units
   all_later before one [] all = tt
   all_later before one (unit ∷ units) all = (came_later before one (packet_in (reading unit)) all.0, all_later before one units all.1)
 
@@ -285,15 +285,15 @@ module _ (queues : Queues) (head : Head) where
       passed_of of (before ++ Other unit ∷ []) a b c ≡ true
   this_came of before unit a b c e = other_passed of before unit a b c ∙ ap (λ (x : Bool). x || passed_of of before a b c) e
 
-  one_came : (before : List Passed) (unit : List ℕ) → UnitCame (before ++ Other unit ∷ []) unit
+  pub one_came : (before : List Passed) (unit : List ℕ) → UnitCame (before ++ Other unit ∷ []) unit
   one_came before unit = record { segments = this_came segment_of before unit; connects = this_came connect_of before unit }
 
-  all_pushed : (before : List Passed) (units : List (List ℕ)) (unit : List ℕ) → AllCame before units → UnitCame before unit →
+  pub all_pushed : (before : List Passed) (units : List (List ℕ)) (unit : List ℕ) → AllCame before units → UnitCame before unit →
       AllCame before (units ++ unit ∷ [])
   all_pushed before [] unit all this = (this, tt)
   all_pushed before (first ∷ units) unit all this = (all.0, all_pushed before units unit all.1 this)
 
-  all_behind : (before : List Passed) (lost : List (List ℕ)) (unit : List ℕ) (later : List (List ℕ)) → AllCame before (lost ++ unit ∷ later) →
+  pub all_behind : (before : List Passed) (lost : List (List ℕ)) (unit : List ℕ) (later : List (List ℕ)) → AllCame before (lost ++ unit ∷ later) →
       UnitCame before unit × AllCame before later
   all_behind before [] unit later all = (all.0, all.1)
   all_behind before (first ∷ lost) unit later all = all_behind before lost unit later all.1
@@ -336,7 +336,7 @@ module _ (queues : Queues) (head : Head) where
       subst (λ (x : List Passed). wrong_unit head (heard x) unit ≡ None) (append_assoc start (Other first ∷ []) before)
       (one_fine (start ++ Other first ∷ []) before unit later all)
 
-  first_right : Right [] (new_wire_layers_node head).station
+  pub first_right : Right [] (new_wire_layers_node head).station
   first_right = record { links = record { addresses = record { own = refl; other = refl }; right = tt; tied = tt }; held = tt }
 
   pub never_placed : (before later : List Passed) (unit : List ℕ) (records : List Record) (wrong : Wrong) →

@@ -22,7 +22,7 @@ use Rattle.dna_station.specs.WireBook.{wire_is_next, with_next, wire_does, gives
 use Rattle.dna_station.proofs.Steps.Checks.{checks_passed}
 use Rattle.accusing.specs.Placing.{machine}
 
-not_refused : {X : Type 0} (o : Option StationRefusal) (x y : X) → unless_refused o x ≡ Ok y → (o ≡ None) × (x ≡ y)
+pub not_refused : {X : Type 0} (o : Option StationRefusal) (x y : X) → unless_refused o x ≡ Ok y → (o ≡ None) × (x ≡ y)
 not_refused None x y e = (refl, cc)
 not_refused (Some refusal) x y e = absurd cc
 

@@ -32,3 +32,6 @@ pub mod Follows
 pub mod FollowRows
 pub mod FollowSteps
 pub mod FollowSends
+pub mod Inverted
+pub mod Numbered
+pub mod Phases

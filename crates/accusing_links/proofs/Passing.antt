@@ -29,11 +29,11 @@ use Rattle.accusing_links.proofs.TiedSends.{Joined, CanRun, LinkFine}
 
 -- ---- what passed
 
-or_later : (a b : Bool) → b ≡ true → (a || b) ≡ true
+pub or_later : (a b : Bool) → b ≡ true → (a || b) ≡ true
 or_later true b e = refl
 or_later false b e = e
 
-or_same : (a b c d : Bool) → b ≡ (c || d) → (a || b) ≡ (c || (a || d))
+pub or_same : (a b c d : Bool) → b ≡ (c || d) → (a || b) ≡ (c || (a || d))
 or_same true b true d e = refl
 or_same true b false d e = refl
 or_same false b c d e = e

@@ -5,6 +5,8 @@ pub mod Segments
 pub mod Connects
 pub mod Heard
 pub mod Wrong
+-- which acknowledgement goes back
+pub mod Back
 -- what is said of a unit, and what it means
 pub mod Answers
 pub mod inner
