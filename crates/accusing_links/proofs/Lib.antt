@@ -35,3 +35,4 @@ pub mod FollowSends
 pub mod Inverted
 pub mod Numbered
 pub mod Phases
+pub mod Onwards
