@@ -36,3 +36,4 @@ pub mod Inverted
 pub mod Numbered
 pub mod Phases
 pub mod Onwards
+pub mod NoneBack

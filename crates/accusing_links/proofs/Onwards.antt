@@ -55,19 +55,19 @@ use Rattle.accusing_links.proofs.FollowSends.{Says, SaysAlone, IsAtLeast, AreAtL
 use Rattle.accusing_links.proofs.Phases.{sent_own, sent_other, calls_own, calls_other, calls_in, calls_pushed, calls_behind, words_of, one_of_words}
 use Rattle.accusing_links.proofs.Phases.{call_plain, call_connect, IsBefore, IsAfterCall, IsPhase, Follow, said_follows, phase_follows}
 
-or_cases : (a b : Bool) → (a || b) ≡ true → (a ≡ true) ⊎ (b ≡ true)
+pub or_cases : (a b : Bool) → (a || b) ≡ true → (a ≡ true) ⊎ (b ≡ true)
 or_cases true b e = inl refl
 or_cases false b e = inr e
 
-or_second : (a b : Bool) → b ≡ true → (a || b) ≡ true
+pub or_second : (a b : Bool) → b ≡ true → (a || b) ≡ true
 or_second true b e = refl
 or_second false b e = e
 
-or_one : (a b : Bool) → a ≡ true → (a || b) ≡ true
+pub or_one : (a b : Bool) → a ≡ true → (a || b) ≡ true
 or_one true b e = refl
 or_one false b e = absurd cc
 
-not_false : (b : Bool) → not b ≡ true → b ≡ false
+pub not_false : (b : Bool) → not b ≡ true → b ≡ false
 not_false true e = absurd cc
 not_false false e = refl
 
@@ -91,32 +91,33 @@ said_above said number (suc count) e =
         let is = rest later in
         let m = is.most in record { above = is.above; first = is.first; most = omega (arith, m); there = is.there }
 
-module _ (queues : Queues) (own far : ℕ) where
-  abbrev Q : List Passed → ℕ → Type 0
+module _ (own far : ℕ) where
+  abbrev pub Q : List Passed → ℕ → Type 0
   Q before = AsNumbers (passed_of segment_of before) own far
 
-  abbrev said : List Passed → ℕ → Bool
+  abbrev pub said : List Passed → ℕ → Bool
   said before number = sent_of (λ num. said_in) before own far number
 
-  -- a data unit with this number and this packet was sent
-  abbrev Gone : List Passed → ℕ → List ℕ → Type 0
-  Gone before num body =
-      (of : ℕ → NspValue → Shown) (a b c : ℕ) → shown_in (of num) (content body) a b c ≡ true → sent_of of before a b c ≡ true
+-- a data unit with this number and this packet was sent
+abbrev pub Gone : List Passed → ℕ → List ℕ → Type 0
+Gone before num body =
+    (of : ℕ → NspValue → Shown) (a b c : ℕ) → shown_in (of num) (content body) a b c ≡ true → sent_of of before a b c ≡ true
 
+module _ (queues : Queues) (own far : ℕ) where
   -- ---- no word of a message alone goes back
 
   module _ (before : List Passed) (num : ℕ) (links : WireLinks) where
-    abbrev Onward : List AckWord → Type 0
-    Onward acks = (least : ℕ) → AreKnown queues own far least (Q before) links.links → AreOnward least (Q before) acks
+    abbrev pub Onward : List AckWord → Type 0
+    Onward acks = (least : ℕ) → AreKnown queues own far least (Q own far before) links.links → AreOnward least (Q own far before) acks
 
-    word_back : (word : AckWord) → word.number < 4096 → ((number : ℕ) → said before number ≡ true → IsAtLeast queues own far (Q before) links.links number) →
-        ((least : ℕ) → AreKnown queues own far least (Q before) links.links → is_of_data word.qualifier ≡ true → IsOnward least (Q before) word.number) →
+    word_back : (word : AckWord) → word.number < 4096 → ((number : ℕ) → said own far before number ≡ true → IsAtLeast queues own far (Q own far before) links.links number) →
+        ((least : ℕ) → AreKnown queues own far least (Q own far before) links.links → is_of_data word.qualifier ≡ true → IsOnward least (Q own far before) word.number) →
         is_back (told before) num own far word ≡ true → ⊥
     word_back word small all onward e =
         let one = and_parts (is_of_data word.qualifier) _ e in
         let two = and_parts (not (sent_of alone_in before num own word.number)) _ one.1 in
-        let three = and_parts (not (passed_of segment_of before own far (wire (word.number + 2048)))) (was_said (said before) word.number REACH) two.1 in
-        let above = said_above (said before) word.number REACH three.1 in
+        let three = and_parts (not (passed_of segment_of before own far (wire (word.number + 2048)))) (was_said (said own far before) word.number REACH) two.1 in
+        let above = said_above (said own far before) word.number REACH three.1 in
         let is = all (wire (word.number + above.above)) above.there in
         let same : wire (word.number + above.above) ≡ wire is.for = is.same in
         let first = above.first in
@@ -127,8 +128,8 @@ module _ (queues : Queues) (own far : ℕ) where
         not_both (passed_of segment_of before own far (wire (word.number + 2048))) (onward is.for is.known one.0 low high)
         (not_false (passed_of segment_of before own far (wire (word.number + 2048))) three.0)
 
-    none_back : (acks : List AckWord) → AllByRecursion IsAckWord acks →
-        ((number : ℕ) → said before number ≡ true → IsAtLeast queues own far (Q before) links.links number) → Onward acks →
+    pub none_back : (acks : List AckWord) → AllByRecursion IsAckWord acks →
+        ((number : ℕ) → said own far before number ≡ true → IsAtLeast queues own far (Q own far before) links.links number) → Onward acks →
         list_any (is_back (told before) num own far) acks ≡ false
     none_back [] small all onward = refl
     none_back (word ∷ acks) small all onward =

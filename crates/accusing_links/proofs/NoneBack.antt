@@ -1,0 +1,437 @@
+-- A side for which records exist sends no acknowledgement alone that goes back.
+use Rattle.std.proofs.Common.{◌≡◌, ℕ, zero, suc, ◌+◌, ◌-◌, ◌<◌, ◌≤◌, Bool, true, false, ◌&&◌, ◌||◌, not, cond, leb, eqb, Option, Some, None, Result, Ok, Err, List, []}
+use Rattle.std.proofs.Common.{◌∷◌, ◌++◌, refl, sym, subst, ap, ◌∙◌, ◌⊎◌, inl, inr, arith}
+use Rattle.std.specs.List.{list_any, AllByRecursion}
+use Rattle.std.proofs.lemmas.Bool.{and_parts, and_from, eq-eqb, leb-true}
+use Rattle.ddcmp_msg.specs.Message.{MessageValue, Data, Ack, Nak, Rep, Strt, Stack, IsBytes}
+use Rattle.ddcmp_msg.specs.declared.flags.Flags.{Flags}
+use Rattle.ddcmp_msg.specs.Reading.{ReadingValue, reading, Sound, HeaderBad, DataBad, Malformed}
+use Rattle.capture.specs.declared.fate.Fate.{Fate}
+use Rattle.capture.specs.declared.fate.Fate.TheVariants.{NotKept}
+use Rattle.capture.specs.declared.record.Record.{Record}
+use Rattle.capture.specs.declared.event.Event.{Event}
+use Rattle.dna_packet.specs.declared.ack_word.AckWord.{AckWord}
+use Rattle.dna_packet.specs.AckWord.{IsAckWord}
+use Rattle.dna_packet.specs.Nsp.{NspValue, DataSegment, DataAck, LinkService, OtherDataAck, ConnectAck, NoOperation, ConnectInitiate, ConnectConfirm}
+use Rattle.dna_packet.specs.Nsp.{DisconnectInitiate, DisconnectConfirm, IsInRange}
+use Rattle.dna_station.specs.declared.head.Head.{Head}
+use Rattle.dna_station.specs.declared.tag.Tag.{Tag}
+use Rattle.dna_station.specs.declared.refusal.StepRefusal.{StepRefusal}
+use Rattle.dna_station.specs.Book.{body_of, resp_of}
+use Rattle.dna_station.specs.Book as arrival
+use Rattle.dna_station.specs.WireStation.{WireStation}
+use Rattle.dna_links.specs.declared.queue.Queues.{Queues}
+use Rattle.dna_links.specs.declared.tag.LinkTag.{LinkTag}
+use Rattle.dna_links.specs.Arriving.{of_anyone}
+use Rattle.dna_links.specs.SegmentBook.{REACH, wire, distance, is_of_data}
+use Rattle.dna_links.specs.Links.{Carried}
+use Rattle.dna_links.specs.Sending.{Sent}
+use Rattle.dna_links.specs.WireSegments.{WireSegments}
+use Rattle.dna_links.specs.WireLinks.{WireLinks, wire_links_sent, wire_links_arrived}
+use Rattle.dna_node.specs.Content.{content}
+use Rattle.dna_node.specs.WireLayers.{WireLayers, LayersTag, new_wire_layers_node, to_wire_station}
+use Rattle.dna_node.proofs.ReadInRange.{content_in_range}
+use Rattle.accusing.specs.Placing.{Passed, Own, Other, IsDamage, comes, IsPlacedFrom, Ends, Passes, Sends, Hears, HearsNoise, Acts, machine}
+use Rattle.accusing.proofs.Bytes.{byte_of}
+use Rattle.accusing_links.specs.Placing.{node_machine, IsNodePlacing}
+use Rattle.accusing_links.specs.Segments.{Shown, packet_in, shown_in, shown_by, passed_of, segment_of}
+use Rattle.accusing_links.specs.Back.{is_word, said_in, alone_in, sent_in, sent_of, call_of, bit, calls_of, told, was_said, is_back, is_back_message}
+use Rattle.accusing_links.proofs.Answered.{Good}
+use Rattle.accusing_links.proofs.Passing.{AsNumbers, own_passed, passed_more}
+use Rattle.accusing_links.proofs.Sends.{IsOnward, AreOnward}
+use Rattle.accusing_links.proofs.RightLinks.{Numbers}
+use Rattle.accusing_links.proofs.LinkSteps.{HasPassed}
+use Rattle.accusing_links.proofs.Nodes.{MayCome, sends_right, acts_right}
+use Rattle.accusing_links.proofs.Numbered.{Bears, IsNumbered, HasByte, label_numbered, arrives_numbered, user_numbered, sends_numbered, sends_again}
+use Rattle.accusing_links.proofs.Numbered.{numbered_more}
+use Rattle.accusing_links.proofs.Inverted.{LinksMade, Nothing, Did, Composed, IsSent, Again, NoMessage, First, is_sent, IsMet, is_met_as, HasActed}
+use Rattle.accusing_links.proofs.Inverted.{Alone, Both, has_acted}
+use Rattle.accusing_links.proofs.Inverted as met
+use Rattle.accusing_links.proofs.Final.{N, P, Is, Fine, Comes, kept, Right, Came, message_may, damage_right, comes_right, right_later, UnitCame, AllCame}
+use Rattle.accusing_links.proofs.Final.{all_later, one_came, all_pushed, all_behind, first_right}
+use Rattle.accusing_links.proofs.Follows.{NoneTo, OneTo, AreKnown, known_more, AreFollowed, all_same, one_followed, none_followed}
+use Rattle.accusing_links.proofs.FollowSteps.{IsPlain, user_follows, arrived_follows, arrived_one, not_both}
+use Rattle.accusing_links.proofs.FollowSends.{Says, SaysAlone, IsAtLeast, AreAtLeast, sent_follows, sent_none, sent_onward, sent_said}
+use Rattle.accusing_links.proofs.Phases.{sent_own, sent_other, calls_own, calls_other, calls_in, calls_pushed, calls_behind, words_of, one_of_words}
+use Rattle.accusing_links.proofs.Phases.{call_plain, call_connect, IsBefore, IsAfterCall, IsPhase, Follow, said_follows, phase_follows}
+use Rattle.accusing_links.proofs.Onwards.{Q, said, Gone, Onward, none_back, or_cases, or_one, or_second, not_false}
+
+-- ---- of one message
+
+module _ (of : ℕ → NspValue → Shown) where
+  -- what a data unit shows
+  shown_none : (m : MessageValue) (a b c : ℕ) → content (body_of m) ≡ Ok None → sent_in of (Sound m) a b c ≡ true → ⊥
+  shown_none (Data flags resp num body) a b c is e =
+      let f : shown_in (of num) (Ok None) a b c ≡ true = subst (λ (x : Result (Option Carried) StepRefusal). shown_in (of num) x a b c ≡ true) is e in
+      absurd cc
+  shown_none (Ack flags resp) a b c is e = absurd cc
+  shown_none (Nak flags reason resp) a b c is e = absurd cc
+  shown_none (Rep flags num) a b c is e = absurd cc
+  shown_none (Strt flags) a b c is e = absurd cc
+  shown_none (Stack flags) a b c is e = absurd cc
+
+  shown_gone : (before : List Passed) (m : MessageValue) (a b c : ℕ) → Bears (Gone before) m → sent_in of (Sound m) a b c ≡ true →
+      sent_of of before a b c ≡ true
+  shown_gone before (Data flags resp num body) a b c gone e = gone of a b c e
+  shown_gone before (Ack flags resp) a b c gone e = absurd cc
+  shown_gone before (Nak flags reason resp) a b c gone e = absurd cc
+  shown_gone before (Rep flags num) a b c gone e = absurd cc
+  shown_gone before (Strt flags) a b c gone e = absurd cc
+  shown_gone before (Stack flags) a b c gone e = absurd cc
+
+-- whatever its number
+shown_message : (of : NspValue → Shown) (m : MessageValue) (packet : Carried) (a b c : ℕ) → content (body_of m) ≡ Ok (Some packet) →
+    sent_in (λ num. of) (Sound m) a b c ≡ true → of packet.message a b c ≡ true
+shown_message of (Data flags resp num body) packet a b c is e =
+    subst (λ (x : Result (Option Carried) StepRefusal). shown_in of x a b c ≡ true) is e
+shown_message of (Ack flags resp) packet a b c is e = absurd cc
+shown_message of (Nak flags reason resp) packet a b c is e = absurd cc
+shown_message of (Rep flags num) packet a b c is e = absurd cc
+shown_message of (Strt flags) packet a b c is e = absurd cc
+shown_message of (Stack flags) packet a b c is e = absurd cc
+
+shown_call : (m : MessageValue) (packet : Carried) (a b c : ℕ) → content (body_of m) ≡ Ok (Some packet) →
+    shown_by call_of (packet_in (Sound m)) a b c ≡ call_of packet.message a b c
+shown_call (Data flags resp num body) packet a b c is = ap (λ (x : Result (Option Carried) StepRefusal). shown_in call_of x a b c) is
+shown_call (Ack flags resp) packet a b c is = absurd cc
+shown_call (Nak flags reason resp) packet a b c is = absurd cc
+shown_call (Rep flags num) packet a b c is = absurd cc
+shown_call (Strt flags) packet a b c is = absurd cc
+shown_call (Stack flags) packet a b c is = absurd cc
+
+-- the message was just sent
+gone_now : (before : List Passed) (unit : List ℕ) (m : MessageValue) → reading unit ≡ Sound m → Bears (Gone (before ++ Own unit ∷ [])) m
+gone_now before unit (Data flags resp num body) read = λ of a b c e.
+    sent_own of before unit a b c
+    ∙ or_one (sent_in of (reading unit) a b c) _ (subst (λ (r : ReadingValue). sent_in of r a b c ≡ true) (sym read) e)
+gone_now before unit (Ack flags resp) read = tt
+gone_now before unit (Nak flags reason resp) read = tt
+gone_now before unit (Rep flags num) read = tt
+gone_now before unit (Strt flags) read = tt
+gone_now before unit (Stack flags) read = tt
+
+module _ (queues : Queues) (head : Head) (own far : ℕ) where
+  abbrev Calls : List Passed → ℕ
+  Calls before = calls_of before far
+
+  pub record State (before : List Passed) (s : WireLayers) (coming : List (List ℕ)) : Type 0 where
+    pub right : Right queues head before s
+    pub came : AllCame queues head before coming
+    pub numbered : IsNumbered (Gone before) s.station
+    pub less : calls_in coming far ≤ calls_of before far
+    pub phase : calls_of before far ≤ 1 →
+        IsPhase queues own far (Q own far before) (calls_of before far) (calls_in coming far) (said own far before) s.links.links
+
+  -- where more passed, and nothing more was said
+  phase_more : (before later : List Passed) (calls coming more rest : ℕ) (links : WireLinks) → ((n : ℕ) → Q own far before n → Q own far later n) →
+      (1 ≤ calls → 1 ≤ more) → (1 ≤ calls → coming ≡ 0 → rest ≡ 0) → ((n : ℕ) → said own far later n ≡ true → said own far before n ≡ true) →
+      IsPhase queues own far (Q own far before) calls coming (said own far before) links.links →
+      IsPhase queues own far (Q own far later) more rest (said own far later) links.links
+  phase_more before later calls coming more rest links passed up none same (inl is) =
+      inl (record { none = is.none; silent = λ n e. is.silent n (same n e) })
+  phase_more before later calls coming more rest links passed up none same (inr is) = inr (record {
+    came = up is.came;
+    last = none is.came is.last;
+    one = is.one;
+    all = λ n e. let was = is.all n (same n e) in record {
+      for = was.for;
+      same = was.same;
+      known = known_more queues own far was.for (Q own far before) (Q own far later) passed links.links was.known;
+    };
+  })
+
+  -- ---- a unit of the other side passes
+
+  other_state : (before : List Passed) (unit : List ℕ) (s : WireLayers) (coming : List (List ℕ)) → State before s coming →
+      State (before ++ Other unit ∷ []) s (coming ++ unit ∷ [])
+  other_state before unit s coming is =
+      let pushed = calls_pushed coming unit far in
+      let more = calls_other before unit far in
+      let less = is.less in
+      record {
+        right = right_later queues head before (Other unit) s is.right;
+        came = all_pushed queues head (before ++ Other unit ∷ []) coming unit (all_later queues head before (Other unit) coming is.came)
+            (one_came queues head before unit);
+        numbered = numbered_more (Gone before) (Gone (before ++ Other unit ∷ []))
+            (λ num body gone of a b c e. sent_other of before unit a b c ∙ gone of a b c e) s.station is.numbered;
+        less = omega (arith, pushed, more, less);
+        phase = λ few.
+            let fewer : calls_of before far ≤ 1 = omega (arith, few, more) in
+            phase_more before (before ++ Other unit ∷ []) (calls_of before far) (calls_in coming far) (calls_of (before ++ Other unit ∷ []) far)
+            (calls_in (coming ++ unit ∷ []) far) s.links (λ n. passed_more segment_of before (Other unit) own far n)
+            (λ l. omega (arith, l, more)) (λ l e. omega (arith, l, e, pushed, more, few))
+            (λ n e. sym (sent_other (λ num. said_in) before unit own far n) ∙ e) (is.phase fewer);
+      }
+
+  -- ---- a unit of this side
+
+  -- no word of a message alone goes back
+  abbrev NoBack : List Passed → ℕ → List AckWord → Type 0
+  NoBack before num acks = calls_of before far ≤ 1 → list_any (is_back (told before) num own far) acks ≡ false
+
+  abbrev pub Claim : List Passed → MessageValue → Type 0
+  Claim before (Data flags resp num body) =
+      (packet : Carried) → content body ≡ Ok (Some packet) → SaysAlone own far (NoBack before num) packet.message
+  Claim before m = Unit {0}
+
+  -- a unit that goes again
+
+  record IsBackWord (before : List Passed) (num : ℕ) (acks : List AckWord) : Type 0 where
+    word : AckWord
+    among : list_any (is_word word.number) acks ≡ true
+    back : is_back (told before) num own far word ≡ true
+
+  back_word : (before : List Passed) (num : ℕ) (acks : List AckWord) → list_any (is_back (told before) num own far) acks ≡ true →
+      IsBackWord before num acks
+  back_word before num [] e = absurd cc
+  back_word before num (word ∷ acks) e = go (or_cases _ _ e) (back_word before num acks)
+    where
+      go : (is_back (told before) num own far word ≡ true) ⊎ (list_any (is_back (told before) num own far) acks ≡ true) →
+          (list_any (is_back (told before) num own far) acks ≡ true → IsBackWord before num acks) → IsBackWord before num (word ∷ acks)
+      go (inl this) rest = record {
+        word = word;
+        among = or_one (is_word word.number word) _
+            (and_from (is_of_data word.qualifier) (eqb word.number word.number) (and_parts (is_of_data word.qualifier) _ this).0
+            (eq-eqb word.number word.number refl));
+        back = this;
+      }
+      go (inr later) rest =
+          let is = rest later in
+          record { word = is.word; among = or_second (is_word is.word.number word) _ is.among; back = is.back }
+
+  none_again : (before : List Passed) (num : ℕ) (body : List ℕ) (dst src : ℕ) (acks : List AckWord) (packet_dst packet_src : ℕ) → Gone before num body →
+      content body ≡ Ok (Some (record { dst = packet_dst; src = packet_src; message = DataAck dst src acks })) → src ≡ own →
+      list_any (is_back (told before) num own far) acks ≡ false
+  none_again before num body dst src acks packet_dst packet_src gone is of_own = go (list_any (is_back (told before) num own far) acks) refl
+    where
+      never : list_any (is_back (told before) num own far) acks ≡ true → ⊥
+      never e =
+          let found = back_word before num acks e in
+          let parts = and_parts (is_of_data found.word.qualifier) _ found.back in
+          let alone = (and_parts (not (sent_of alone_in before num own found.word.number)) _ parts.1).0 in
+          let shown : alone_in num (DataAck dst src acks) num own found.word.number ≡ true =
+          and_from (eqb num num) _ (eq-eqb num num refl) (and_from (eqb src own) _ (eq-eqb src own of_own) found.among) in
+          let was = gone alone_in num own found.word.number
+          (subst (λ (x : Result (Option Carried) StepRefusal). shown_in (alone_in num) x num own found.word.number ≡ true) (sym is) shown) in
+          not_both (sent_of alone_in before num own found.word.number) was (not_false (sent_of alone_in before num own found.word.number) alone)
+
+      go : (b : Bool) → list_any (is_back (told before) num own far) acks ≡ b → b ≡ false
+      go true e = absurd (never e)
+      go false e = refl
+
+  again_alone : (before : List Passed) (num : ℕ) (body : List ℕ) (m : NspValue) (packet_dst packet_src : ℕ) → Gone before num body →
+      content body ≡ Ok (Some (record { dst = packet_dst; src = packet_src; message = m })) → SaysAlone own far (NoBack before num) m
+  again_alone before num body (DataAck dst src acks) packet_dst packet_src gone is =
+      λ e f few. none_again before num body dst src acks packet_dst packet_src gone is e
+  again_alone before num body (DataSegment s) packet_dst packet_src gone is = tt
+  again_alone before num body (LinkService interrupt dst src rest) packet_dst packet_src gone is = tt
+  again_alone before num body (OtherDataAck dst src rest) packet_dst packet_src gone is = tt
+  again_alone before num body (ConnectAck dst) packet_dst packet_src gone is = tt
+  again_alone before num body (NoOperation rest) packet_dst packet_src gone is = tt
+  again_alone before num body (ConnectInitiate retransmitted src services info segsize user_data) packet_dst packet_src gone is = tt
+  again_alone before num body (ConnectConfirm dst src services info segsize user_data) packet_dst packet_src gone is = tt
+  again_alone before num body (DisconnectInitiate dst src reason user_data) packet_dst packet_src gone is = tt
+  again_alone before num body (DisconnectConfirm dst src reason) packet_dst packet_src gone is = tt
+
+  again_claim : (before : List Passed) (m : MessageValue) → Bears (Gone before) m → Claim before m
+  again_claim before (Data flags resp num body) gone =
+      λ packet is. again_alone before num body packet.message packet.dst packet.src gone is
+  again_claim before (Ack flags resp) gone = tt
+  again_claim before (Nak flags reason resp) gone = tt
+  again_claim before (Rep flags num) gone = tt
+  again_claim before (Strt flags) gone = tt
+  again_claim before (Stack flags) gone = tt
+
+  -- a packet without a message of the links
+
+  nothing_claim : (before : List Passed) (m : MessageValue) → content (body_of m) ≡ Ok None → Claim before m
+  nothing_claim before (Data flags resp num body) none = λ packet is. absurd (never packet (sym none ∙ is))
+    where
+      never : (packet : Carried) → ◌≡◌ {A = Result (Option Carried) StepRefusal} (Ok None) (Ok (Some packet)) → ⊥
+      never packet e = absurd cc
+  nothing_claim before (Ack flags resp) none = tt
+  nothing_claim before (Nak flags reason resp) none = tt
+  nothing_claim before (Rep flags num) none = tt
+  nothing_claim before (Strt flags) none = tt
+  nothing_claim before (Stack flags) none = tt
+
+  -- a message that goes for the first time
+
+  module _ (before : List Passed) (links : WireLinks) where
+    abbrev Tells : NspValue → Type 0
+    Tells m =
+        Says own far (λ words. ⊥) m
+        ⊎ (((n : ℕ) → said own far before n ≡ true → IsAtLeast queues own far (Q own far before) links.links n)
+        × ((least : ℕ) → AreKnown queues own far least (Q own far before) links.links → SaysAlone own far (AreOnward least (Q own far before)) m))
+
+    first_alone : (num : ℕ) (m : NspValue) → IsInRange m → (calls_of before far ≤ 1 → Tells m) → SaysAlone own far (NoBack before num) m
+    first_alone num (DataAck dst src acks) small tells = λ e f few. go e f (tells few)
+      where
+        go : src ≡ own → dst ≡ far → Tells (DataAck dst src acks) → list_any (is_back (told before) num own far) acks ≡ false
+        go e f (inl never) = absurd (never e f)
+        go e f (inr is) = none_back queues own far before num links acks small.0 is.0 (λ least known. is.1 least known e f)
+    first_alone num (DataSegment s) small tells = tt
+    first_alone num (LinkService interrupt dst src rest) small tells = tt
+    first_alone num (OtherDataAck dst src rest) small tells = tt
+    first_alone num (ConnectAck dst) small tells = tt
+    first_alone num (NoOperation rest) small tells = tt
+    first_alone num (ConnectInitiate retransmitted src services info segsize user_data) small tells = tt
+    first_alone num (ConnectConfirm dst src services info segsize user_data) small tells = tt
+    first_alone num (DisconnectInitiate dst src reason user_data) small tells = tt
+    first_alone num (DisconnectConfirm dst src reason) small tells = tt
+
+    first_claim : (m : MessageValue) (packet : Carried) → content (body_of m) ≡ Ok (Some packet) → (calls_of before far ≤ 1 → Tells packet.message) →
+        Claim before m
+    first_claim (Data flags resp num body) packet is tells = λ other at.
+        let same : other ≡ packet = one_packet other packet (sym at ∙ is) in
+        subst (λ (x : Carried). SaysAlone own far (NoBack before num) x.message) (sym same)
+        (first_alone num packet.message (content_in_range body packet is) tells)
+      where
+        one_packet : (x y : Carried) → ◌≡◌ {A = Result (Option Carried) StepRefusal} (Ok (Some x)) (Ok (Some y)) → x ≡ y
+        one_packet x y e = cc
+    first_claim (Ack flags resp) packet is tells = tt
+    first_claim (Nak flags reason resp) packet is tells = tt
+    first_claim (Rep flags num) packet is tells = tt
+    first_claim (Strt flags) packet is tells = tt
+    first_claim (Stack flags) packet is tells = tt
+
+  -- ---- what is known after it
+
+  module _ (before : List Passed) (unit : List ℕ) (s : WireLayers) (coming : List (List ℕ)) (is : State before s coming) (m : MessageValue)
+      (read : reading unit ≡ Sound m) where
+    abbrev after : List Passed
+    after = before ++ Own unit ∷ []
+
+    gone_more : (num : ℕ) (body : List ℕ) → Gone before num body → Gone after num body
+    gone_more num body gone of a b c e = sent_own of before unit a b c ∙ or_second (sent_in of (reading unit) a b c) _ (gone of a b c e)
+
+    -- said before, or now
+    said_cases : (n : ℕ) → said own far after n ≡ true → (sent_in (λ num. said_in) (Sound m) own far n ≡ true) ⊎ (said own far before n ≡ true)
+    said_cases n e =
+        or_cases _ _ (ap (λ (r : ReadingValue). sent_in (λ num. said_in) r own far n || said own far before n) (sym read)
+        ∙ (sym (sent_own (λ num. said_in) before unit own far n) ∙ e))
+
+    same_calls : calls_of after far ≡ calls_of before far
+    same_calls = calls_own before unit far
+
+    -- the phase, by what it is before more is counted
+    phase_own : (links : WireLinks) → (more : ℕ → Bool) → ((n : ℕ) → said own far after n ≡ true → more n ≡ true) →
+        IsPhase queues own far (Q own far before) (calls_of before far) (calls_in coming far) more links.links →
+        IsPhase queues own far (Q own far after) (calls_of after far) (calls_in coming far) (said own far after) links.links
+    phase_own links more same (inl b) = inl (record { none = b.none; silent = λ n e. b.silent n (same n e) })
+    phase_own links more same (inr a) = inr (record {
+      came = let c = a.came in let e = same_calls in omega (arith, c, e);
+      last = a.last;
+      one = a.one;
+      all = λ n e. let was = a.all n (same n e) in record {
+        for = was.for;
+        same = was.same;
+        known = known_more queues own far was.for (Q own far before) (Q own far after) (λ k. passed_more segment_of before (Own unit) own far k)
+            links.links was.known;
+      };
+    })
+
+    own_state : (made : WireLayers) → Right queues head before made → IsNumbered (Gone after) made.station →
+        (calls_of before far ≤ 1 →
+        IsPhase queues own far (Q own far after) (calls_of after far) (calls_in coming far) (said own far after) made.links.links) →
+        State after made coming
+    own_state made right numbered phase = record {
+      right = right_later queues head before (Own unit) made right;
+      came = all_later queues head before (Own unit) coming is.came;
+      numbered = numbered;
+      less = let l = is.less in let e = same_calls in omega (arith, l, e);
+      phase = λ few. phase (let e = same_calls in omega (arith, few, e));
+    }
+
+    sent_numbered : (st : WireStation LinkTag × Tag) → machine.sends s.station m ≡ Ok st → IsNumbered (Gone after) st.0
+    sent_numbered st sent =
+        sends_numbered (Gone after) s.station st.0 m st.1 sent (gone_now before unit m read)
+        (numbered_more (Gone before) (Gone after) gone_more s.station is.numbered)
+
+    -- nothing is said by it that was not said before
+    quiet : (made : WireLayers) → made.links ≡ s.links → Right queues head before made → IsNumbered (Gone after) made.station →
+        ((n : ℕ) → said own far after n ≡ true → said own far before n ≡ true) → State after made coming
+    quiet made same right numbered more =
+        own_state made right numbered (λ few.
+        phase_own made.links (said own far before) more
+        (subst (λ (x : WireLinks).
+        IsPhase queues own far (Q own far before) (calls_of before far) (calls_in coming far) (said own far before) x.links) (sym same)
+        (is.phase few)))
+
+    sent_state : (made : WireLayers) → IsSent queues s m made → Right queues head before made → Claim before m × State after made coming
+    sent_state made (Again st sent old) right =
+        let gone = sends_again (Gone before) s.station st.0 m st.1 sent old is.numbered in (
+          again_claim before m gone,
+          quiet made refl right (sent_numbered st sent) (λ n e. again n gone (said_cases n e)),
+        )
+      where
+        again : (n : ℕ) → Bears (Gone before) m → (sent_in (λ num. said_in) (Sound m) own far n ≡ true) ⊎ (said own far before n ≡ true) →
+            said own far before n ≡ true
+        again n gone (inl now) = shown_gone (λ num. said_in) before m own far n gone now
+        again n gone (inr was) = was
+    sent_state made (NoMessage st sent new none) right = (
+      nothing_claim before m none,
+      quiet made refl right (label_numbered (Gone after) st.0 _ (sent_numbered st sent)) (λ n e. nothing n (said_cases n e)),
+    )
+      where
+        nothing : (n : ℕ) → (sent_in (λ num. said_in) (Sound m) own far n ≡ true) ⊎ (said own far before n ≡ true) → said own far before n ≡ true
+        nothing n (inl now) = absurd (shown_none (λ num. said_in) m own far n none now)
+        nothing n (inr was) = was
+    sent_state made (First st packet sent_links sent new at made_by) right = (
+      first_claim before s.links m packet at (λ few. tells (is.phase few)),
+      own_state made right (label_numbered (Gone after) st.0 _ (sent_numbered st sent)) (λ few. next (is.phase few)),
+    )
+      where
+        small : IsInRange packet.message
+        small = content_in_range (body_of m) packet at
+
+        none_of : NoneTo far s.links.links → Says own far (λ words. ⊥) packet.message
+        none_of none = sent_none (N queues head before) (P queues head before) queues own far s.links none packet sent_links made_by
+
+        follows : Follow queues own far (Q own far before) s.links.links sent_links.links.links
+        follows least = sent_follows (N queues head before) (P queues head before) queues own far s.links least packet small sent_links made_by
+
+        tells : IsPhase queues own far (Q own far before) (calls_of before far) (calls_in coming far) (said own far before) s.links.links →
+            Tells before s.links packet.message
+        tells (inl b) = inl (none_of b.none)
+        tells (inr a) = inr (
+          a.all,
+          λ least known.
+              sent_onward (N queues head before) (P queues head before) queues own far s.links least known packet small sent_links made_by,
+        )
+
+        now_none : NoneTo far s.links.links → (n : ℕ) → sent_in (λ num. said_in) (Sound m) own far n ≡ true → ⊥
+        now_none none n e =
+            (words_of own far (λ words. ⊥) packet.message n (shown_message said_in m packet own far n at e) (none_of none)).2
+
+        now_said : OneTo far s.links.links → (n : ℕ) → sent_in (λ num. said_in) (Sound m) own far n ≡ true →
+            IsAtLeast queues own far (Q own far before) sent_links.links.links n
+        now_said one n e =
+            let words = words_of own far (AreAtLeast queues own far (Q own far before) sent_links.links.links) packet.message n
+            (shown_message said_in m packet own far n at e)
+            (sent_said (N queues head before) (P queues head before) queues own far s.links is.right.links.right is.right.links.tied one packet small
+            sent_links made_by) in
+            one_of_words queues own far (Q own far before) sent_links.links.links words.0 n words.1 words.2
+
+        next : IsPhase queues own far (Q own far before) (calls_of before far) (calls_in coming far) (said own far before) s.links.links →
+            IsPhase queues own far (Q own far after) (calls_of after far) (calls_in coming far) (said own far after) made.links.links
+        next (inl b) = phase_own made.links (said own far after) (λ n e. e) (inl (record {
+          none = none_followed queues own far 0 (Q own far before) s.links.links sent_links.links.links (follows 0) b.none;
+          silent = λ n e. silent n (said_cases n e);
+        }))
+          where
+            silent : (n : ℕ) → (sent_in (λ num. said_in) (Sound m) own far n ≡ true) ⊎ (said own far before n ≡ true) → ⊥
+            silent n (inl now) = now_none b.none n now
+            silent n (inr was) = b.silent n was
+        next (inr a) = phase_own made.links (said own far after) (λ n e. e) (inr (record {
+          came = a.came;
+          last = a.last;
+          one = one_followed queues own far 0 (Q own far before) s.links.links sent_links.links.links (follows 0) a.one;
+          all = λ n e. all n (said_cases n e);
+        }))
+          where
+            all : (n : ℕ) → (sent_in (λ num. said_in) (Sound m) own far n ≡ true) ⊎ (said own far before n ≡ true) →
+                IsAtLeast queues own far (Q own far before) sent_links.links.links n
+            all n (inl now) = now_said a.one n now
+            all n (inr was) =
+                said_follows queues own far (Q own far before) s.links.links sent_links.links.links n follows (a.all n was)
