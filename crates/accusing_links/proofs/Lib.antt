@@ -37,3 +37,4 @@ pub mod Numbered
 pub mod Phases
 pub mod Onwards
 pub mod NoneBack
+pub mod Backward

@@ -90,7 +90,7 @@ shown_message of (Rep flags num) packet a b c is e = absurd cc
 shown_message of (Strt flags) packet a b c is e = absurd cc
 shown_message of (Stack flags) packet a b c is e = absurd cc
 
-shown_call : (m : MessageValue) (packet : Carried) (a b c : ℕ) → content (body_of m) ≡ Ok (Some packet) →
+pub shown_call : (m : MessageValue) (packet : Carried) (a b c : ℕ) → content (body_of m) ≡ Ok (Some packet) →
     shown_by call_of (packet_in (Sound m)) a b c ≡ call_of packet.message a b c
 shown_call (Data flags resp num body) packet a b c is = ap (λ (x : Result (Option Carried) StepRefusal). shown_in call_of x a b c) is
 shown_call (Ack flags resp) packet a b c is = absurd cc
@@ -142,7 +142,7 @@ module _ (queues : Queues) (head : Head) (own far : ℕ) where
 
   -- ---- a unit of the other side passes
 
-  other_state : (before : List Passed) (unit : List ℕ) (s : WireLayers) (coming : List (List ℕ)) → State before s coming →
+  pub other_state : (before : List Passed) (unit : List ℕ) (s : WireLayers) (coming : List (List ℕ)) → State before s coming →
       State (before ++ Other unit ∷ []) s (coming ++ unit ∷ [])
   other_state before unit s coming is =
       let pushed = calls_pushed coming unit far in
@@ -358,7 +358,7 @@ module _ (queues : Queues) (head : Head) (own far : ℕ) where
         IsPhase queues own far (Q own far before) (calls_of before far) (calls_in coming far) (said own far before) x.links) (sym same)
         (is.phase few)))
 
-    sent_state : (made : WireLayers) → IsSent queues s m made → Right queues head before made → Claim before m × State after made coming
+    pub sent_state : (made : WireLayers) → IsSent queues s m made → Right queues head before made → Claim before m × State after made coming
     sent_state made (Again st sent old) right =
         let gone = sends_again (Gone before) s.station st.0 m st.1 sent old is.numbered in (
           again_claim before m gone,
