@@ -1,5 +1,5 @@
 -- Every row that gives no address and no phase keeps it what is known of a link's last acknowledgement sent.
-use Rattle.std.proofs.Common.{◌≡◌, ℕ, Bool, true, false, ◌&&◌, Option, Some, None, Result, Ok, Err, List, [], ◌∷◌, refl, sym}
+use Rattle.std.proofs.Common.{◌≡◌, ℕ, Bool, true, false, ◌&&◌, Option, Some, None, Result, Err, List, [], ◌∷◌, refl, sym}
 use Rattle.std.specs.Prelude.{slice_get, ok_or, is_some}
 use Rattle.std.specs.List.{AllByRecursion}
 use Rattle.dna_packet.specs.declared.ack_word.AckWord.{AckWord}
@@ -13,9 +13,8 @@ use Rattle.dna_links.specs.declared.port.LinkTest.TheVariants.{HasAddress}
 use Rattle.dna_links.specs.declared.queue.Queues.{Queues}
 use Rattle.dna_links.specs.declared.queue.Queues.TheVariants.{Without, With}
 use Rattle.dna_links.specs.declared.queue.Said.TheVariants.{OfRun, Disconnect}
-use Rattle.dna_links.specs.SegmentBook.{Sending, Late}
-use Rattle.dna_links.specs.Links.{LinkOf, LinksOf, LinkTruth, at_number, on_link, number_of, with_link, with_segments}
-use Rattle.dna_links.specs.Queues.{in_use, may_send, with_queue, further, shows_by, settled}
+use Rattle.dna_links.specs.Links.{LinkOf, LinkTruth, at_number, on_link, number_of, with_link, with_segments}
+use Rattle.dna_links.specs.Queues.{in_use, may_send, with_queue, shows_by, settled}
 use Rattle.dna_links.specs.declared.queue.LinkQueue.{LinkQueue}
 use Rattle.dna_links.specs.Table.{Ask, Finds, FindsEither, FindsNone, FindsInUse, KnowsInUse, InPhase, InTurn, OrElse, ForThisLink, OfThisPair}
 use Rattle.dna_links.specs.Table.{Delivers}
@@ -24,12 +23,12 @@ use Rattle.dna_links.specs.Table.{TakeSegment, TakeAcks, Row, Asks}
 use Rattle.dna_links.specs.WireSegments.{WireSegments, wire_segments, delivers, went_on}
 use Rattle.dna_links.specs.WireSegments as wire
 use Rattle.dna_links.specs.WireLinks.{WireLinks}
-use Rattle.dna_links.specs.LinkBook.{on_ok, are_same, blank, kept, otherwise, waits, sends_segment, sends_acks, asked, by_row, others, after, does}
+use Rattle.dna_links.specs.LinkBook.{on_ok, are_same, blank, kept, otherwise, waits, sends_segment, sends_acks, asked, by_row, others, after}
 use Rattle.accusing_links.proofs.Answered.{Good, good_ok, good_err, good_check, good_on, link_good, in_use_good, seen_good}
 use Rattle.accusing_links.proofs.Received.{Received, delivers_received}
 use Rattle.accusing_links.proofs.Sends.{sends_acks_good, sends_segment_good, sends_late_good}
 use Rattle.accusing_links.proofs.LinkRows.{AreSmall}
-use Rattle.accusing_links.proofs.Follows.{keeps, IsPast, Follows, follows_itself, follows_on, settles_follows, says_follows, forgotten_follows, AreCalm}
+use Rattle.accusing_links.proofs.Follows.{keeps, Follows, follows_itself, follows_on, settles_follows, says_follows, forgotten_follows, AreCalm}
 use Rattle.accusing_links.proofs.Follows.{all_follow, AreFollowed, all_same, followed_changed, followed_pushed, all_booted}
 
 module _ (queues : Queues) (own far least : ℕ) (Q : ℕ → Type 0) where

@@ -1,6 +1,6 @@
 -- What is sent keeps it what is known of a link's last acknowledgement sent; a word that is sent tells that it is at least its number; and words alone
 -- then lie on from there.
-use Rattle.std.proofs.Common.{◌≡◌, ℕ, Bool, true, false, ◌&&◌, ◌||◌, ◌⊎◌, inl, inr, not, eqb, Option, Some, None, Result, Err, List, [], ◌∷◌, refl, sym, ap}
+use Rattle.std.proofs.Common.{◌≡◌, ℕ, Bool, true, false, ◌&&◌, ◌||◌, ◌⊎◌, inl, inr, not, eqb, Option, Some, None, Result, List, [], ◌∷◌, refl, sym, ap}
 use Rattle.std.proofs.Common.{subst, ◌∙◌, fold}
 use Rattle.std.specs.Prelude.{slice_get}
 use Rattle.std.specs.List.{AllByRecursion}
@@ -24,7 +24,7 @@ use Rattle.dna_links.specs.LookUps.{is_live, is_in, is_at, has_both, passes}
 use Rattle.dna_links.specs.SegmentBook.{wire, wider, is_of_data}
 use Rattle.dna_links.specs.Links.{LinkOf, Carried, changed, with_segments}
 use Rattle.dna_links.specs.Queues.{in_use, port_of_waiting, may_send, with_queue, is_over, has_waiting}
-use Rattle.dna_links.specs.Table.{Effect, Say, Keep, InTurn, SendsSegment, SendsAcks, sending_row}
+use Rattle.dna_links.specs.Table.{Effect, Say, Keep, sending_row}
 use Rattle.dna_links.specs.WireSegments.{WireSegments, wire_segments}
 use Rattle.dna_links.specs.WireSegments as made_by
 use Rattle.dna_links.specs.WireLinks.{WireLinks, wire_links_sent}
@@ -32,12 +32,12 @@ use Rattle.dna_links.specs.LinkBook.{kept, asked, by_row, after, of_none, does, 
 use Rattle.dna_links.specs.Sending.{Sent, sent_as}
 use Rattle.accusing_links.proofs.Answered.{Good, good_ok, good_err, good_check, good_on, in_use_good}
 use Rattle.accusing_links.proofs.Received.{Received}
-use Rattle.accusing_links.proofs.Sends.{AreSaid, SaidIn, AreOnward, sends_acks_good, sends_segment_good, sends_late_good}
+use Rattle.accusing_links.proofs.Sends.{AreSaid, AreOnward, sends_acks_good, sends_segment_good, sends_late_good}
 use Rattle.accusing_links.proofs.RightLinks.{Numbers, AreRight, right_at}
 use Rattle.accusing_links.proofs.LinkSteps.{at_is}
 use Rattle.accusing_links.proofs.LinkSends.{good_always}
 use Rattle.accusing_links.proofs.Tied.{AreTied, tied_at}
-use Rattle.accusing_links.proofs.Follows.{live_keeps, keeps, IsKnown, all_follow, NoneTo, OneTo, none_at, AreKnown, known_at, all_by_one}
+use Rattle.accusing_links.proofs.Follows.{live_keeps, keeps, all_follow, NoneTo, OneTo, none_at, AreKnown, known_at, all_by_one}
 use Rattle.accusing_links.proofs.FollowRows.{Are, kept_calm, IsCalmRow, after_follows, calm_row}
 use Rattle.accusing_links.proofs.FollowSteps.{in_live, not_both}
 

@@ -1,6 +1,6 @@
 -- What the user does and what comes keeps it what is known of a link's last acknowledgement sent; and what comes first from a far address joins one
 -- link to it.
-use Rattle.std.proofs.Common.{◌≡◌, ℕ, ◌<◌, Bool, true, false, ◌&&◌, ◌||◌, not, eqb, Option, Some, None, Result, Ok, List, [], ◌∷◌, refl, sym, ap}
+use Rattle.std.proofs.Common.{◌≡◌, ℕ, ◌<◌, Bool, true, false, ◌&&◌, not, eqb, Option, Some, None, Result, Ok, List, [], ◌∷◌, refl, sym}
 use Rattle.std.proofs.Common.{subst, ◌∙◌, fold}
 use Rattle.std.specs.Prelude.{slice_get, is_some}
 use Rattle.std.proofs.lemmas.Bool.{and_parts}
@@ -30,9 +30,9 @@ use Rattle.accusing_links.proofs.Received.{segment_received}
 use Rattle.accusing_links.proofs.RightLinks.{Numbers}
 use Rattle.accusing_links.proofs.LinkSteps.{HasPassed, at_is, connected_live, in_run, kept_open, kept_answer, kept_connect, kept_confirm}
 use Rattle.accusing_links.proofs.TiedSteps.{kept_runs}
-use Rattle.accusing_links.proofs.Follows.{keeps, live_keeps, IsPast, Follows, follows_itself, follows_on, goes_follows, ends_follows, requeued_follows}
+use Rattle.accusing_links.proofs.Follows.{keeps, live_keeps, Follows, follows_itself, follows_on, goes_follows, ends_follows, requeued_follows}
 use Rattle.accusing_links.proofs.Follows.{all_follow, NoneTo, OneTo, all_same, one_pushed, one_changed, one_of_none}
-use Rattle.accusing_links.proofs.FollowRows.{Are, IsNow, now_at, now_on, after_follows, IsCalmRow, calm_row}
+use Rattle.accusing_links.proofs.FollowRows.{Are, IsNow, after_follows, IsCalmRow, calm_row}
 
 pub in_live : (wanted phase : Phase) → is_in wanted phase ≡ true → is_live wanted ≡ true → is_live phase ≡ true
 in_live Calling Calling e f = refl

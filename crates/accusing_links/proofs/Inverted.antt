@@ -1,5 +1,5 @@
 -- What a step of a node is, of its station and of its links.
-use Rattle.std.proofs.Common.{◌≡◌, Bool, true, false, cond, Option, Some, None, Result, Ok, Err, List, refl, ap, subst, ℕ, ◌⊎◌, inl, inr}
+use Rattle.std.proofs.Common.{◌≡◌, Bool, true, false, cond, Option, Some, None, Result, Ok, Err, List, refl, ap, subst, ℕ}
 use Rattle.ddcmp_msg.specs.Message.{MessageValue}
 use Rattle.capture.specs.declared.fate.Fate.{Fate}
 use Rattle.capture.specs.Fates.{is_met}
@@ -21,7 +21,7 @@ use Rattle.dna_links.specs.WireLinks.{WireLinks, wire_links_user, wire_links_sen
 use Rattle.dna_links.specs.Arriving.{of_anyone}
 use Rattle.dna_node.specs.TagRules.{Rules, by_bytes_with}
 use Rattle.dna_node.specs.Content.{content, link_event}
-use Rattle.dna_node.specs.WireLayers.{WireLayers, LayersTag, with_wire_station, with_wire_links, with_tag, with_wire_composed, to_wire_station}
+use Rattle.dna_node.specs.WireLayers.{WireLayers, LayersTag, with_wire_links, with_tag, with_wire_composed, to_wire_station}
 use Rattle.dna_node.specs.WireLayers.{tag_or_none, wire_sends_first, wire_sends_again, wire_sends_on, wire_keeps_packet, wire_keeps, wire_meets_on}
 use Rattle.dna_node.specs.WireLayers.{wire_user_on, wire_composes, of_no_link}
 use Rattle.accusing.specs.Placing.{machine}

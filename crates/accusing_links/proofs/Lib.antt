@@ -38,3 +38,5 @@ pub mod Phases
 pub mod Onwards
 pub mod NoneBack
 pub mod Backward
+pub mod Saying
+pub mod Telling

@@ -1,59 +1,23 @@
 -- A side for which records exist sends no acknowledgement alone that goes back.
-use Rattle.std.proofs.Common.{◌≡◌, ℕ, zero, suc, ◌+◌, ◌-◌, ◌<◌, ◌≤◌, Bool, true, false, ◌&&◌, ◌||◌, not, cond, leb, eqb, Option, Some, None, Result, Ok, Err, List, []}
-use Rattle.std.proofs.Common.{◌∷◌, ◌++◌, refl, sym, subst, ap, ◌∙◌, ◌⊎◌, inl, inr, arith}
+use Rattle.std.proofs.Common.{◌≡◌, ℕ, zero, suc, ◌+◌, ◌<◌, ◌≤◌, Bool, true, false, ◌||◌, not, List, []}
+use Rattle.std.proofs.Common.{◌∷◌, refl, ◌⊎◌, inl, inr, arith}
 use Rattle.std.specs.List.{list_any, AllByRecursion}
-use Rattle.std.proofs.lemmas.Bool.{and_parts, and_from, eq-eqb, leb-true}
-use Rattle.ddcmp_msg.specs.Message.{MessageValue, Data, Ack, Nak, Rep, Strt, Stack, IsBytes}
-use Rattle.ddcmp_msg.specs.declared.flags.Flags.{Flags}
-use Rattle.ddcmp_msg.specs.Reading.{ReadingValue, reading, Sound, HeaderBad, DataBad, Malformed}
-use Rattle.capture.specs.declared.fate.Fate.{Fate}
-use Rattle.capture.specs.declared.fate.Fate.TheVariants.{NotKept}
-use Rattle.capture.specs.declared.record.Record.{Record}
-use Rattle.capture.specs.declared.event.Event.{Event}
+use Rattle.std.proofs.lemmas.Bool.{and_parts}
 use Rattle.dna_packet.specs.declared.ack_word.AckWord.{AckWord}
 use Rattle.dna_packet.specs.AckWord.{IsAckWord}
-use Rattle.dna_packet.specs.Nsp.{NspValue, DataSegment, DataAck, LinkService, OtherDataAck, ConnectAck, NoOperation, ConnectInitiate, ConnectConfirm}
-use Rattle.dna_packet.specs.Nsp.{DisconnectInitiate, DisconnectConfirm, IsInRange}
-use Rattle.dna_station.specs.declared.head.Head.{Head}
-use Rattle.dna_station.specs.declared.tag.Tag.{Tag}
-use Rattle.dna_station.specs.declared.refusal.StepRefusal.{StepRefusal}
-use Rattle.dna_station.specs.Book.{body_of, resp_of}
-use Rattle.dna_station.specs.Book as arrival
-use Rattle.dna_station.specs.WireStation.{WireStation}
+use Rattle.dna_packet.specs.Nsp.{NspValue}
 use Rattle.dna_links.specs.declared.queue.Queues.{Queues}
-use Rattle.dna_links.specs.declared.tag.LinkTag.{LinkTag}
-use Rattle.dna_links.specs.Arriving.{of_anyone}
 use Rattle.dna_links.specs.SegmentBook.{REACH, wire, distance, is_of_data}
-use Rattle.dna_links.specs.Links.{Carried}
-use Rattle.dna_links.specs.Sending.{Sent}
-use Rattle.dna_links.specs.WireSegments.{WireSegments}
-use Rattle.dna_links.specs.WireLinks.{WireLinks, wire_links_sent, wire_links_arrived}
+use Rattle.dna_links.specs.WireLinks.{WireLinks}
 use Rattle.dna_node.specs.Content.{content}
-use Rattle.dna_node.specs.WireLayers.{WireLayers, LayersTag, new_wire_layers_node, to_wire_station}
-use Rattle.dna_node.proofs.ReadInRange.{content_in_range}
-use Rattle.accusing.specs.Placing.{Passed, Own, Other, IsDamage, comes, IsPlacedFrom, Ends, Passes, Sends, Hears, HearsNoise, Acts, machine}
-use Rattle.accusing.proofs.Bytes.{byte_of}
-use Rattle.accusing_links.specs.Placing.{node_machine, IsNodePlacing}
-use Rattle.accusing_links.specs.Segments.{Shown, packet_in, shown_in, shown_by, passed_of, segment_of}
-use Rattle.accusing_links.specs.Back.{is_word, said_in, alone_in, sent_in, sent_of, call_of, bit, calls_of, told, was_said, is_back, is_back_message}
-use Rattle.accusing_links.proofs.Answered.{Good}
-use Rattle.accusing_links.proofs.Passing.{AsNumbers, own_passed, passed_more}
+use Rattle.accusing.specs.Placing.{Passed}
+use Rattle.accusing_links.specs.Segments.{Shown, shown_in, passed_of, segment_of}
+use Rattle.accusing_links.specs.Back.{said_in, alone_in, sent_of, told, was_said, is_back}
+use Rattle.accusing_links.proofs.Passing.{AsNumbers}
 use Rattle.accusing_links.proofs.Sends.{IsOnward, AreOnward}
-use Rattle.accusing_links.proofs.RightLinks.{Numbers}
-use Rattle.accusing_links.proofs.LinkSteps.{HasPassed}
-use Rattle.accusing_links.proofs.Nodes.{MayCome, sends_right, acts_right}
-use Rattle.accusing_links.proofs.Numbered.{Bears, IsNumbered, HasByte, label_numbered, arrives_numbered, user_numbered, sends_numbered, sends_again}
-use Rattle.accusing_links.proofs.Numbered.{numbered_more}
-use Rattle.accusing_links.proofs.Inverted.{LinksMade, Nothing, Did, Composed, IsSent, Again, NoMessage, First, is_sent, IsMet, is_met_as, HasActed}
-use Rattle.accusing_links.proofs.Inverted.{Alone, Both, has_acted}
-use Rattle.accusing_links.proofs.Inverted as met
-use Rattle.accusing_links.proofs.Final.{N, P, Is, Fine, Comes, kept, Right, Came, message_may, damage_right, comes_right, right_later, UnitCame, AllCame}
-use Rattle.accusing_links.proofs.Final.{all_later, one_came, all_pushed, all_behind, first_right}
-use Rattle.accusing_links.proofs.Follows.{AreKnown, known_more, AreFollowed, all_same, one_followed, none_followed}
-use Rattle.accusing_links.proofs.FollowSteps.{IsPlain, user_follows, arrived_follows, arrived_one, not_both}
-use Rattle.accusing_links.proofs.FollowSends.{Says, SaysAlone, IsAtLeast, AreAtLeast, sent_follows, sent_none, sent_onward, sent_said}
-use Rattle.accusing_links.proofs.Phases.{sent_own, sent_other, calls_own, calls_other, calls_in, calls_pushed, calls_behind, words_of, one_of_words}
-use Rattle.accusing_links.proofs.Phases.{call_plain, call_connect, IsBefore, IsAfterCall, IsPhase, Follow, said_follows, phase_follows}
+use Rattle.accusing_links.proofs.Follows.{AreKnown}
+use Rattle.accusing_links.proofs.FollowSteps.{not_both}
+use Rattle.accusing_links.proofs.FollowSends.{IsAtLeast}
 
 pub or_cases : (a b : Bool) → (a || b) ≡ true → (a ≡ true) ⊎ (b ≡ true)
 or_cases true b e = inl refl

@@ -180,7 +180,7 @@ link_right connects (DisconnectConfirm dst src reason) fine = refl
 -- ---- what is known after a unit of the other side
 
 module _ (of : NspValue → Shown) (passed : List Passed) (unit : List ℕ) (old new : Shown) (is : Alike old (passed_of of passed)) where
-  shown_noted : ((a b c : ℕ) → new a b c ≡ (shown_by of (packet_in (reading unit)) a b c || old a b c)) →
+  pub shown_noted : ((a b c : ℕ) → new a b c ≡ (shown_by of (packet_in (reading unit)) a b c || old a b c)) →
       Alike new (passed_of of (passed ++ Other unit ∷ []))
   shown_noted more a b c =
       more a b c ∙ ap (λ (x : Bool). shown_by of (packet_in (reading unit)) a b c || x) (is a b c) ∙ sym (other_passed of passed unit a b c)

@@ -1,5 +1,5 @@
 -- What is known of the links of a node by the words that it sent and the CIs and CCs that passed, and how that stays so.
-use Rattle.std.proofs.Common.{◌≡◌, ℕ, ◌+◌, ◌≤◌, Bool, true, false, ◌&&◌, ◌||◌, ◌⊎◌, inl, inr, eqb, Option, Some, List, [], ◌∷◌, ◌++◌, refl, sym, ap, arith}
+use Rattle.std.proofs.Common.{◌≡◌, ℕ, ◌+◌, ◌≤◌, Bool, true, false, ◌&&◌, ◌||◌, ◌⊎◌, inl, inr, eqb, List, [], ◌∷◌, ◌++◌, refl, ap, arith}
 use Rattle.std.proofs.Common.{subst, ◌∙◌}
 use Rattle.std.specs.List.{list_any}
 use Rattle.std.proofs.lemmas.Bool.{and_parts, eqb-true, eq-eqb}
@@ -14,8 +14,8 @@ use Rattle.dna_links.specs.WireSegments.{WireSegments}
 use Rattle.accusing.specs.Placing.{Passed, Own, Other}
 use Rattle.accusing_links.specs.Segments.{Shown, packet_in, shown_by}
 use Rattle.accusing_links.specs.Back.{is_word, said_in, call_of, bit, calls_of, sent_in, sent_of}
-use Rattle.accusing_links.proofs.Passing.{or_later, or_same}
-use Rattle.accusing_links.proofs.Follows.{NoneTo, OneTo, AreFollowed, none_followed, one_followed, known_followed, known_more}
+use Rattle.accusing_links.proofs.Passing.{or_same}
+use Rattle.accusing_links.proofs.Follows.{NoneTo, OneTo, AreFollowed, none_followed, one_followed, known_followed}
 use Rattle.accusing_links.proofs.FollowSteps.{IsPlain, IsConnect, not_both}
 use Rattle.accusing_links.proofs.FollowSends.{Says, IsAtLeast, AreAtLeast}
 

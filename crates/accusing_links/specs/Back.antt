@@ -18,15 +18,19 @@ use Rattle.accusing_links.specs.Segments.{Shown, is_this, packet_in, shown_in, s
 abbrev pub is_word : ℕ → AckWord → Bool
 is_word number word = is_of_data word.qualifier && word.number == number
 
+-- one of these words does, and these two come before it
+abbrev pub words_shown : (one two : ℕ) → List AckWord → Shown
+words_shown one two words first second number = one == first && (two == second && list_any (is_word number) words)
+
 -- a message from the link `own` to the link `far` has a word with this number
 abbrev pub said_in : NspValue → Shown
-said_in (DataSegment s) own far number = s.srcaddr == own && (s.dstaddr == far && list_any (is_word number) s.acks)
-said_in (DataAck dst src acks) own far number = src == own && (dst == far && list_any (is_word number) acks)
+said_in (DataSegment s) own far number = words_shown s.srcaddr s.dstaddr s.acks own far number
+said_in (DataAck dst src acks) own far number = words_shown src dst acks own far number
 said_in other own far number = false
 
 -- A data unit with this NUM has a data acknowledgement message from the link `own` with this number: a station may send it again much later
 abbrev pub alone_in : ℕ → NspValue → Shown
-alone_in unit (DataAck dst src acks) num own number = unit == num && (src == own && list_any (is_word number) acks)
+alone_in unit (DataAck dst src acks) num own number = words_shown unit src acks num own number
 alone_in unit other num own number = false
 
 -- by the NUM of a data unit and its message

@@ -9,4 +9,5 @@ pub mod Wrong
 pub mod Back
 -- what is said of a unit, and what it means
 pub mod Answers
+pub mod AckAnswers
 pub mod inner

@@ -3,12 +3,14 @@
 //! there was and whatever its user did. It does not find every wrong packet. Of the units themselves crate `accusing` says the same.
 #![tactic(auto)]
 
+mod ack_accuser;
 mod found;
 mod laws;
 mod link_accuser;
 mod triples;
 mod wrong;
 
-pub use laws::wrong_packets_have_no_placing;
+pub use ack_accuser::AckAccuser;
+pub use laws::{backward_acknowledgements_have_no_placing, wrong_packets_have_no_placing};
 pub use link_accuser::LinkAccuser;
 pub use wrong::Wrong;

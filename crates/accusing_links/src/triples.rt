@@ -1,8 +1,10 @@
 //! What a side showed by messages that passed, three numbers for each thing.
 
-ghost use Rattle.std.specs.Prelude.{◌≡◌, ◌||◌, ℕ, false, OnOk, OnErr};
+ghost use Rattle.std.specs.Prelude.{◌≡◌, ◌||◌, ℕ, [], ◌∷◌, false, OnOk, OnErr};
+ghost use Rattle.accusing_links.specs.Back.{words_shown};
 ghost use Rattle.accusing_links.specs.Segments.{has, is_this};
 
+use dna_packet::{AckQualifier, AckWord};
 use std::alloc::{AllocError, Global};
 use std::collections::BTreeSet;
 use std::marker::Model;
@@ -47,6 +49,30 @@ impl Triples {
     {
         self.shown.insert((first, second, third))?;
         Ok(())
+    }
+
+    /// The number of each word that acknowledges data segments is shown behind these two. Where memory is refused, some may be shown.
+    pub fn show_words(
+        &mut self,
+        first: u16,
+        second: u16,
+        words: &[AckWord],
+    ) -> Result<(), AllocError>
+        ensures { (a b c : ℕ) → OnOk result (has self.new a b c ≡ (words_shown first second words.now a b c || has self.old a b c)) }
+    {
+        for word in words {
+            self.show_word(first, second, *word)?;
+        }
+        Ok(())
+    }
+
+    fn show_word(&mut self, first: u16, second: u16, word: AckWord) -> Result<(), AllocError>
+        ensures { (a b c : ℕ) → OnOk result (has self.new a b c ≡ (words_shown first second (word ∷ []) a b c || has self.old a b c)) }
+    {
+        match word.qualifier {
+            AckQualifier::OtherAck | AckQualifier::OtherNak => Ok(()),
+            AckQualifier::Ack | AckQualifier::Nak => self.show(first, second, word.number),
+        }
     }
 
     /// These are shown here, and those in `other`. Where memory is refused, nothing changes in either.

@@ -1,0 +1,7 @@
+use Rattle.std.proofs.Common.{◌≡◌, false}
+use Rattle.accusing_links.specs.Segments.{has}
+use Rattle.accusing_links.specs.Back.{was_said}
+use Rattle.accusing_links.proofs.ack_accuser.AckAccuser.was_said.Given as goal
+
+abbrev pub invariant-loop-above : goal.invariant-loop-above
+invariant-loop-above l = was_said (has l.self.said l.own l.far) l.number l.above ≡ false

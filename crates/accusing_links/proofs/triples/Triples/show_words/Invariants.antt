@@ -1,0 +1,7 @@
+use Rattle.std.proofs.Common.{◌≡◌, ◌||◌, ℕ, take}
+use Rattle.accusing_links.specs.Back.{words_shown}
+use Rattle.accusing_links.specs.Segments.{has}
+use Rattle.accusing_links.proofs.triples.Triples.show_words.Given as goal
+
+abbrev pub invariant-loop-word : goal.invariant-loop-word
+invariant-loop-word l = (a b c : ℕ) → has l.self a b c ≡ (words_shown l.first l.second (take l.word-index l.words) a b c || has l.fn.self a b c)
