@@ -3,7 +3,7 @@
 use crate::fault::{TapFault, reading_fault};
 use crate::tapped::Passed;
 use accusing::{Accuser, Answer};
-use accusing_links::LinkAccuser;
+use accusing_links::{AckAccuser, LinkAccuser};
 use accusing_segments::SegmentAccuser;
 use framer::{Found, Framer, Kind};
 use std::alloc::{AllocError, Global};
@@ -34,8 +34,8 @@ impl Accused {
 }
 
 /// Reads the text of what passed to its end, and finds which units no right node sent; over the line alone packets are any bytes. Each unit that was
-/// sent has passed here, and before the first of them neither side was started. The units are told to an `Accuser`, a `LinkAccuser` and a
-/// `SegmentAccuser` of each side in the order in which their last bytes passed; that is read in the code.
+/// sent has passed here, and before the first of them neither side was started. The units are told to an `Accuser`, a `LinkAccuser`, an `AckAccuser`
+/// and a `SegmentAccuser` of each side in the order in which their last bytes passed; that is read in the code.
 ///
 /// Faults: `Departs` at the first line that departs from the format, `Read` where a call of the text's reader failed, and `OutOfMemory`.
 pub fn find_accused<W: Read>(
@@ -78,6 +78,7 @@ fn packets_of(alloc: Global, own: u16, peer: u16, line_alone: bool) -> Option<Pa
     }
     Some(PacketAccusers {
         links: LinkAccuser::new(alloc, own, peer),
+        acks: AckAccuser::new(alloc),
         segments: SegmentAccuser::new(alloc),
     })
 }
@@ -98,11 +99,12 @@ struct Accusers {
     packets: Option<PacketAccusers>,
 }
 
-// What accuses a side of what is in its data units: of each by itself, and of segments by their length, by what went before under their numbers, and
-// by their order.
+// What accuses a side of what is in its data units: of each by itself, of acknowledgements by those before, and of segments by their length, by what
+// went before under their numbers, and by their order.
 #[derive(Drop)]
 struct PacketAccusers {
     links: LinkAccuser,
+    acks: AckAccuser,
     segments: SegmentAccuser,
 }
 
@@ -248,12 +250,13 @@ impl Accusers {
         self.station.other_passed(unit);
         if let Some(packets) = &mut self.packets {
             packets.links.other_passed(unit)?;
+            packets.acks.other_passed(unit)?;
             packets.segments.other_passed(unit)?;
         }
         Ok(())
     }
 
-    // No right node sent this unit.
+    // No right node sent this unit; otherwise it is sent.
     fn accuse(&mut self, unit: &[u8]) -> Result<bool, AllocError> {
         if let Answer::CannotHave(_) = self.station.sends(unit)? {
             return Ok(true);
@@ -261,7 +264,7 @@ impl Accusers {
         let Some(packets) = &self.packets else {
             return Ok(false);
         };
-        if packets.links.sends(unit).is_some() {
+        if packets.links.sends(unit).is_some() || packets.acks.accuses(unit) {
             return Ok(true);
         }
         Ok(packets.segments.is_too_long(unit) || packets.segments.is_changed(unit))
@@ -278,7 +281,10 @@ impl Accusers {
     // This side sent this unit.
     fn own_passed(&mut self, unit: &[u8]) -> Result<(), AllocError> {
         match &mut self.packets {
-            Some(packets) => packets.segments.own_passed(unit),
+            Some(packets) => {
+                packets.acks.own_passed(unit)?;
+                packets.segments.own_passed(unit)
+            }
             None => Ok(()),
         }
     }
