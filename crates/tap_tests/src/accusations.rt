@@ -89,6 +89,19 @@ a 810f00010201db70020204010400600900070001006162a7ee
 a 8110000103014f2202020401040060090007000200616263ab93
 ";
 
+// A link acknowledges 2, and then 1.
+const BACK: &str = "ddwire 1 1.1 1.2
+a 0506c00000017595
+b 0507c00000014855
+a 810f000001018a40020204010400180000070001020002edfe
+b 8110000101014e4202010402040028070009000102000200b180
+a 810d00010201a2b002020401040004090007000080cd3d
+b 810f000202012b7002010402040060070009000100686967dc
+b 810f000203012ae00201040204006007000900020068696798
+a 810d0003030102e002020401040004090007000280cc5d
+a 810d0003040100d002020401040004090007000180ccad
+";
+
 fn found(alloc: Global, text: &str) -> Result<Accused, TapFault> {
     found_over(alloc, text, false)
 }
@@ -177,6 +190,23 @@ fn a_called_link_that_does_not_run_yet_is_found(rt: HostRuntime) {
         })
     );
     assert_eq!(rt; found(rt.alloc(), RUNNING), Ok(Accused::NOBODY));
+}
+
+#[test]
+fn an_acknowledgement_that_goes_back_is_found(rt: HostRuntime) {
+    let of_a = Passed {
+        side: Side::A,
+        unit: 4,
+        line: 10,
+    };
+    assert_eq!(rt;
+        found(rt.alloc(), BACK),
+        Ok(Accused {
+            a: Some(of_a),
+            ..Accused::NOBODY
+        })
+    );
+    assert_eq!(rt; found_over(rt.alloc(), BACK, true), Ok(Accused::NOBODY));
 }
 
 #[test]

@@ -7,6 +7,8 @@ mod accusations;
 #[cfg(test)]
 mod accuser_told;
 #[cfg(test)]
+mod acks_told;
+#[cfg(test)]
 mod answers;
 #[cfg(test)]
 mod captures;
