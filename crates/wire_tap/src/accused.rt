@@ -47,28 +47,62 @@ pub fn find_accused<W: Read>(
         Ok(reader) => reader,
         Err(fault) => return Err(reading_fault(fault)),
     };
-    let (a, b) = (reader.node_a(), reader.node_b());
-    let mut of_a = SideUnits::of(alloc, Side::A, packets_of(alloc, a, b, line_alone))?;
-    let mut of_b = SideUnits::of(alloc, Side::B, packets_of(alloc, b, a, line_alone))?;
-    for _ in 0..MAX_PIECES + 1 {
-        match reader.advance(wire) {
-            Ok(Some(side)) => {
-                let line = reader.items().saturating_add(1);
-                match side {
-                    Side::A => of_a.pass_bytes(reader.bytes(), line, &mut of_b.told.accusers)?,
-                    Side::B => of_b.pass_bytes(reader.bytes(), line, &mut of_a.told.accusers)?,
+    let mut sides = Sides::of(alloc, reader.node_a(), reader.node_b(), line_alone)?;
+    sides.pass_all(&mut reader, wire)?;
+    Ok(sides.accused())
+}
+
+// Both sides.
+#[derive(Drop)]
+struct Sides {
+    a: SideUnits,
+    b: SideUnits,
+}
+
+impl Sides {
+    // Nothing passed yet between the nodes with these addresses.
+    fn of(alloc: Global, a: u16, b: u16, line_alone: bool) -> Result<Sides, AllocError> {
+        let of_a = SideUnits::of(alloc, Side::A, packets_of(alloc, a, b, line_alone))?;
+        let of_b = SideUnits::of(alloc, Side::B, packets_of(alloc, b, a, line_alone))?;
+        Ok(Sides { a: of_a, b: of_b })
+    }
+
+    // All that the text has passed.
+    fn pass_all<W: Read>(
+        &mut self,
+        reader: &mut WireReader,
+        wire: &mut Tally<W>,
+    ) -> Result<(), TapFault> {
+        for _ in 0..MAX_PIECES + 1 {
+            match reader.advance(wire) {
+                Ok(Some(side)) => {
+                    let line = reader.items().saturating_add(1);
+                    self.pass(side, reader.bytes(), line)?;
                 }
+                Ok(None) => break,
+                Err(fault) => return Err(reading_fault(fault)),
             }
-            Ok(None) => break,
-            Err(fault) => return Err(reading_fault(fault)),
+        }
+        Ok(())
+    }
+
+    // These bytes of a side passed.
+    fn pass(&mut self, side: Side, bytes: &[u8], line: u64) -> Result<(), AllocError> {
+        match side {
+            Side::A => self.a.pass_bytes(bytes, line, &mut self.b.told.accusers),
+            Side::B => self.b.pass_bytes(bytes, line, &mut self.a.told.accusers),
         }
     }
-    Ok(Accused {
-        a: of_a.told.first,
-        b: of_b.told.first,
-        segment_a: of_a.told.segment_alone(),
-        segment_b: of_b.told.segment_alone(),
-    })
+
+    // Whom they accuse.
+    fn accused(&self) -> Accused {
+        Accused {
+            a: self.a.told.first,
+            b: self.b.told.first,
+            segment_a: self.a.told.segment_alone(),
+            segment_b: self.b.told.segment_alone(),
+        }
+    }
 }
 
 // What is asked of the packets of the node with this address, with that one at the other end; nothing over the line alone.
