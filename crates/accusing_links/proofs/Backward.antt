@@ -44,9 +44,11 @@ use Rattle.accusing_links.proofs.Phases.{call_plain, call_connect, IsPhase, Foll
 use Rattle.accusing_links.proofs.Onwards.{Q, said, Gone}
 use Rattle.accusing_links.specs.Answers.{IsWrong}
 use Rattle.accusing_links.specs.Back.{is_back_in, is_back_unit}
-use Rattle.accusing_links.proofs.NoneBack.{shown_call, State, Claim, other_state, sent_state}
+use Rattle.accusing_links.proofs.Shown.{shown_call}
+use Rattle.accusing_links.proofs.NoneBack.{State, Claim, other_state, sent_state}
 
-same_message : {K : Type 0} (m n : MessageValue) (tag known : K) → ◌≡◌ {A = arrival.ArrivalValue K} (arrival.Sound m tag) (arrival.Sound n known) → m ≡ n
+same_message : {K : Type 0} (m n : MessageValue) (tag known : K) →
+    ◌≡◌ {A = arrival.ArrivalValue K} (arrival.Sound m tag) (arrival.Sound n known) → m ≡ n
 same_message m n tag known e = cc
 
 -- damage
@@ -125,7 +127,8 @@ module _ (queues : Queues) (head : Head) (own far : ℕ) (before : List Passed) 
             inr (record {
               came = omega (arith, counted, less, all);
               last = omega (arith, counted, less, all, few);
-              one = arrived_one (N queues head before) queues own far 0 s.links of_anyone packet tag b.none (call_connect far packet.message e) links made;
+              one = arrived_one (N queues head before) queues own far 0 s.links of_anyone packet tag b.none
+                  (call_connect far packet.message e) links made;
               all = λ n f. absurd (b.silent n f);
             })
         first e (inr a) =

@@ -198,8 +198,10 @@ module _ (queues : Queues) (own far least : ℕ) (Q : ℕ → Type 0) where
       asked_follows (ForThisLink refusal ∷ asks) n l k small now =
           good_check G (rule (is_some truth.tag.link && are_same n truth.tag.partner)) refusal _ (λ e. asked_follows asks n l k small.1 now)
       asked_follows (OfThisPair refusal ∷ asks) n l k small now =
-          good_check G (rule (are_same l.partner truth.tag.link && are_same n truth.tag.partner)) refusal _ (λ e. asked_follows asks n l k small.1 now)
-      asked_follows (Delivers message refusal ∷ asks) n l k small now = go (delivers message l.segments) refl (λ d x. asked_follows asks n x k small.1)
+          good_check G (rule (are_same l.partner truth.tag.link && are_same n truth.tag.partner)) refusal _
+          (λ e. asked_follows asks n l k small.1 now)
+      asked_follows (Delivers message refusal ∷ asks) n l k small now =
+          go (delivers message l.segments) refl (λ d x. asked_follows asks n x k small.1)
         where
           go : (o : Option WireSegments) → delivers message l.segments ≡ o →
               ((d : WireSegments) (x : LinkOf WireSegments) → IsNow n x →

@@ -1,5 +1,5 @@
--- What is sent keeps it what is known of a link's last acknowledgement sent; a word that is sent tells that it is at least its number; and words alone
--- then lie on from there.
+-- What is sent keeps it what is known of a link's last acknowledgement sent; a word that is sent tells that it is at least its number; and words
+-- alone then lie on from there.
 use Rattle.std.proofs.Common.{◌≡◌, ℕ, Bool, true, false, ◌&&◌, ◌||◌, ◌⊎◌, inl, inr, not, eqb, Option, Some, None, Result, List, [], ◌∷◌, refl, sym, ap}
 use Rattle.std.proofs.Common.{subst, ◌∙◌, fold}
 use Rattle.std.specs.Prelude.{slice_get}
@@ -237,7 +237,8 @@ module _ (N P : Numbers) (queues : Queues) (own far : ℕ) (s : WireLinks) where
       (λ e f. none_at far s.links n l none is.there (here segment.dstaddr far l.port.far is.to_far f)) _)
   none_message none (DataAck dst src acks) =
       acks_good (λ made. Says own far (λ words. ⊥) (DataAck dst src acks)) dst src acks (λ n l is.
-      good_always (Says own far (λ words. ⊥) (DataAck dst src acks)) (λ e f. none_at far s.links n l none is.there (here dst far l.port.far is.to_far f)) _)
+      good_always (Says own far (λ words. ⊥) (DataAck dst src acks))
+      (λ e f. none_at far s.links n l none is.there (here dst far l.port.far is.to_far f)) _)
   none_message none (LinkService interrupt dst src rest) = good_always (Unit {0}) tt _
   none_message none (OtherDataAck dst src rest) = good_always (Unit {0}) tt _
   none_message none (ConnectAck dst) = good_always (Unit {0}) tt _
@@ -261,7 +262,8 @@ module _ (N P : Numbers) (queues : Queues) (own far : ℕ) (s : WireLinks) where
         (known_at queues own far least Q s.links n l known is.there (here to far l.port.far is.to_far f) is.kept_on).received
         (here from own l.port.own is.from_own e)
 
-    acks_onward : (q : Queues) (dst src : ℕ) (acks : List AckWord) (n : ℕ) (l : LinkOf WireSegments) → AllByRecursion IsAckWord acks → IsOf dst src n l →
+    acks_onward : (q : Queues) (dst src : ℕ) (acks : List AckWord) (n : ℕ) (l : LinkOf WireSegments) → AllByRecursion IsAckWord acks →
+        IsOf dst src n l →
         Good (λ (made : Sent WireSegments (Unit {0})). SaysAlone own far (AreOnward least Q) (DataAck dst src acks))
         (sends_acks queues wire_segments (λ test. test) (of_none queues wire_segments) s (sent_as queues wire_segments s) said q acks l (left n))
     acks_onward Without dst src acks n l small is =
@@ -351,7 +353,8 @@ module _ (N P : Numbers) (queues : Queues) (own far : ℕ) (s : WireLinks) where
         words_after segment.dstaddr segment.srcaddr n l (record l.queue { gap = late.gap }) late.sent.segments segment.acks tt is f
         (sends_late_good 0 Q l.segments (received_of segment.dstaddr segment.srcaddr n l is e f) l.queue.gap l.segsize segment small late made).2))
 
-    acks_said : (q : Queues) (dst src : ℕ) (acks : List AckWord) (n : ℕ) (l : LinkOf WireSegments) → AllByRecursion IsAckWord acks → IsOf dst src n l →
+    acks_said : (q : Queues) (dst src : ℕ) (acks : List AckWord) (n : ℕ) (l : LinkOf WireSegments) → AllByRecursion IsAckWord acks →
+        IsOf dst src n l →
         Good (Tells (DataAck dst src acks)) (sends_acks queues wire_segments (λ test. test) (of_none queues wire_segments) s
         (sent_as queues wire_segments s) said q acks l (left n))
     acks_said Without dst src acks n l small is =

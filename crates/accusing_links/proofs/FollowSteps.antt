@@ -171,7 +171,8 @@ module _ (N : Numbers) (queues : Queues) (own far least : ℕ) (s : WireLinks) w
         (in_use_good AreNow queues (LiveAt given) s _ _ (good_err AreNow NoLink) (λ n l found. by n l found.there) (λ n l found. by n l found.there))
       where
         by : (n : ℕ) (l : LinkOf WireSegments) → slice_get s.links n ≡ Some l →
-            Good AreNow (asked queues wire_segments rule truth s to_links (GoTo Disconnecting ∷ []) (InPhase is_connected LinkState ∷ []) (Some n) l tt)
+            Good AreNow
+            (asked queues wire_segments rule truth s to_links (GoTo Disconnecting ∷ []) (InPhase is_connected LinkState ∷ []) (Some n) l tt)
         by n l there =
             good_check AreNow (is_connected (in_use queues l).phase) LinkState _ (λ e.
             good_ok AreNow _ (each (GoTo Disconnecting ∷ []) (Some n) _ tt (at n l _ there (closes_follow queues refl l e))))

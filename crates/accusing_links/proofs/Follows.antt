@@ -57,7 +57,8 @@ module _ (far : ℕ) where
   one_of_none [] none = tt
   one_of_none (l ∷ links) none = (λ e. none.1, one_of_none links none.1)
 
-  pub none_pushed : (later : List (LinkOf WireSegments)) (m : LinkOf WireSegments) → NoneTo later → (m.port.far ≡ Some far → ⊥) → NoneTo (later ++ m ∷ [])
+  pub none_pushed : (later : List (LinkOf WireSegments)) (m : LinkOf WireSegments) → NoneTo later → (m.port.far ≡ Some far → ⊥) →
+      NoneTo (later ++ m ∷ [])
   none_pushed [] m none this = (this, tt)
   none_pushed (first ∷ later) m none this = (none.0, none_pushed later m none.1 this)
 

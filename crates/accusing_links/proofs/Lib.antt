@@ -36,6 +36,7 @@ pub mod Inverted
 pub mod Numbered
 pub mod Phases
 pub mod Onwards
+pub mod Shown
 pub mod NoneBack
 pub mod Backward
 pub mod Saying

@@ -22,8 +22,8 @@ use Rattle.dna_node.specs.Content.{content}
 use Rattle.dna_node.specs.WireLayers.{WireLayers}
 use Rattle.dna_node.proofs.ReadInRange.{content_in_range}
 use Rattle.accusing.specs.Placing.{Passed, Own, Other, machine}
-use Rattle.accusing_links.specs.Segments.{Shown, packet_in, shown_in, shown_by, segment_of}
-use Rattle.accusing_links.specs.Back.{is_word, said_in, alone_in, sent_in, sent_of, call_of, calls_of, told, is_back}
+use Rattle.accusing_links.specs.Segments.{shown_in, segment_of}
+use Rattle.accusing_links.specs.Back.{is_word, said_in, alone_in, sent_in, sent_of, calls_of, told, is_back}
 use Rattle.accusing_links.proofs.Passing.{passed_more}
 use Rattle.accusing_links.proofs.Sends.{AreOnward}
 use Rattle.accusing_links.proofs.Numbered.{Bears, IsNumbered, label_numbered, sends_numbered, sends_again}
@@ -37,60 +37,7 @@ use Rattle.accusing_links.proofs.FollowSends.{Says, SaysAlone, IsAtLeast, AreAtL
 use Rattle.accusing_links.proofs.Phases.{sent_own, sent_other, calls_own, calls_other, calls_in, calls_pushed, words_of, one_of_words}
 use Rattle.accusing_links.proofs.Phases.{IsPhase, Follow, said_follows}
 use Rattle.accusing_links.proofs.Onwards.{Q, said, Gone, none_back, or_cases, or_one, or_second, not_false}
-
--- ---- of one message
-
-module _ (of : ℕ → NspValue → Shown) where
-  -- what a data unit shows
-  shown_none : (m : MessageValue) (a b c : ℕ) → content (body_of m) ≡ Ok None → sent_in of (Sound m) a b c ≡ true → ⊥
-  shown_none (Data flags resp num body) a b c is e =
-      let f : shown_in (of num) (Ok None) a b c ≡ true = subst (λ (x : Result (Option Carried) StepRefusal). shown_in (of num) x a b c ≡ true) is e in
-      absurd cc
-  shown_none (Ack flags resp) a b c is e = absurd cc
-  shown_none (Nak flags reason resp) a b c is e = absurd cc
-  shown_none (Rep flags num) a b c is e = absurd cc
-  shown_none (Strt flags) a b c is e = absurd cc
-  shown_none (Stack flags) a b c is e = absurd cc
-
-  shown_gone : (before : List Passed) (m : MessageValue) (a b c : ℕ) → Bears (Gone before) m → sent_in of (Sound m) a b c ≡ true →
-      sent_of of before a b c ≡ true
-  shown_gone before (Data flags resp num body) a b c gone e = gone of a b c e
-  shown_gone before (Ack flags resp) a b c gone e = absurd cc
-  shown_gone before (Nak flags reason resp) a b c gone e = absurd cc
-  shown_gone before (Rep flags num) a b c gone e = absurd cc
-  shown_gone before (Strt flags) a b c gone e = absurd cc
-  shown_gone before (Stack flags) a b c gone e = absurd cc
-
--- whatever its number
-shown_message : (of : NspValue → Shown) (m : MessageValue) (packet : Carried) (a b c : ℕ) → content (body_of m) ≡ Ok (Some packet) →
-    sent_in (λ num. of) (Sound m) a b c ≡ true → of packet.message a b c ≡ true
-shown_message of (Data flags resp num body) packet a b c is e =
-    subst (λ (x : Result (Option Carried) StepRefusal). shown_in of x a b c ≡ true) is e
-shown_message of (Ack flags resp) packet a b c is e = absurd cc
-shown_message of (Nak flags reason resp) packet a b c is e = absurd cc
-shown_message of (Rep flags num) packet a b c is e = absurd cc
-shown_message of (Strt flags) packet a b c is e = absurd cc
-shown_message of (Stack flags) packet a b c is e = absurd cc
-
-pub shown_call : (m : MessageValue) (packet : Carried) (a b c : ℕ) → content (body_of m) ≡ Ok (Some packet) →
-    shown_by call_of (packet_in (Sound m)) a b c ≡ call_of packet.message a b c
-shown_call (Data flags resp num body) packet a b c is = ap (λ (x : Result (Option Carried) StepRefusal). shown_in call_of x a b c) is
-shown_call (Ack flags resp) packet a b c is = absurd cc
-shown_call (Nak flags reason resp) packet a b c is = absurd cc
-shown_call (Rep flags num) packet a b c is = absurd cc
-shown_call (Strt flags) packet a b c is = absurd cc
-shown_call (Stack flags) packet a b c is = absurd cc
-
--- the message was just sent
-gone_now : (before : List Passed) (unit : List ℕ) (m : MessageValue) → reading unit ≡ Sound m → Bears (Gone (before ++ Own unit ∷ [])) m
-gone_now before unit (Data flags resp num body) read = λ of a b c e.
-    sent_own of before unit a b c
-    ∙ or_one (sent_in of (reading unit) a b c) _ (subst (λ (r : ReadingValue). sent_in of r a b c ≡ true) (sym read) e)
-gone_now before unit (Ack flags resp) read = tt
-gone_now before unit (Nak flags reason resp) read = tt
-gone_now before unit (Rep flags num) read = tt
-gone_now before unit (Strt flags) read = tt
-gone_now before unit (Stack flags) read = tt
+use Rattle.accusing_links.proofs.Shown.{shown_none, shown_gone, shown_message, gone_now}
 
 module _ (queues : Queues) (head : Head) (own far : ℕ) where
   abbrev Calls : List Passed → ℕ
@@ -181,7 +128,8 @@ module _ (queues : Queues) (head : Head) (own far : ℕ) where
           let is = rest later in
           record { word = is.word; among = or_second (is_word is.word.number word) _ is.among; back = is.back }
 
-  none_again : (before : List Passed) (num : ℕ) (body : List ℕ) (dst src : ℕ) (acks : List AckWord) (packet_dst packet_src : ℕ) → Gone before num body →
+  none_again : (before : List Passed) (num : ℕ) (body : List ℕ) (dst src : ℕ) (acks : List AckWord) (packet_dst packet_src : ℕ) →
+      Gone before num body →
       content body ≡ Ok (Some (record { dst = packet_dst; src = packet_src; message = DataAck dst src acks })) → src ≡ own →
       list_any (is_back (told before) num own far) acks ≡ false
   none_again before num body dst src acks packet_dst packet_src gone is of_own = go (list_any (is_back (told before) num own far) acks) refl

@@ -96,7 +96,8 @@ module _ {L : Type 0} (P : ℕ → List ℕ → Type 0) where
   pub label_numbered : (w : WireStation L) (label : L) → IsNumbered w → IsNumbered (wire_after_label w label)
   label_numbered w label is = record {
     byte = is.byte;
-    given = labelled_one (w.variables.acknowledged + 1) w.variables.held (slice_get w.variables.held (length w.variables.held - 1)) label is.given refl;
+    given = labelled_one (w.variables.acknowledged + 1) w.variables.held (slice_get w.variables.held (length w.variables.held - 1)) label
+        is.given refl;
   }
 
   -- ---- what comes

@@ -74,13 +74,16 @@ module _ (queues : Queues) (own far : ℕ) where
     abbrev pub Onward : List AckWord → Type 0
     Onward acks = (least : ℕ) → AreKnown queues own far least (Q own far before) links.links → AreOnward least (Q own far before) acks
 
-    word_back : (word : AckWord) → word.number < 4096 → ((number : ℕ) → said own far before number ≡ true → IsAtLeast queues own far (Q own far before) links.links number) →
-        ((least : ℕ) → AreKnown queues own far least (Q own far before) links.links → is_of_data word.qualifier ≡ true → IsOnward least (Q own far before) word.number) →
+    word_back : (word : AckWord) → word.number < 4096 →
+        ((number : ℕ) → said own far before number ≡ true → IsAtLeast queues own far (Q own far before) links.links number) →
+        ((least : ℕ) → AreKnown queues own far least (Q own far before) links.links → is_of_data word.qualifier ≡ true →
+        IsOnward least (Q own far before) word.number) →
         is_back (told before) num own far word ≡ true → ⊥
     word_back word small all onward e =
         let one = and_parts (is_of_data word.qualifier) _ e in
         let two = and_parts (not (sent_of alone_in before num own word.number)) _ one.1 in
-        let three = and_parts (not (passed_of segment_of before own far (wire (word.number + 2048)))) (was_said (said own far before) word.number REACH) two.1 in
+        let three = and_parts (not (passed_of segment_of before own far (wire (word.number + 2048))))
+        (was_said (said own far before) word.number REACH) two.1 in
         let above = said_above (said own far before) word.number REACH three.1 in
         let is = all (wire (word.number + above.above)) above.there in
         let same : wire (word.number + above.above) ≡ wire is.for = is.same in

@@ -186,7 +186,8 @@ module _ (least : ℕ) (Q : ℕ → Type 0) where
         go true e = held_received (leb-true 1 above (and_parts (leb 1 above) (leb above REACH) e).0)
         go false e = is
 
-  pub segment_received : (s : SegmentValue) (f : WireSegments) → s.number < 4096 → Q s.number → Received least Q f → Received least Q (takes_segment s tt f)
+  pub segment_received : (s : SegmentValue) (f : WireSegments) → s.number < 4096 → Q s.number → Received least Q f →
+      Received least Q (takes_segment s tt f)
   segment_received s f small came is =
       segment_held (acknowledged_by_all s.acks f.variables) (last_of f) s.number (piece_of s)
       (all_acknowledged s.acks f.variables (last_of f) is) small came

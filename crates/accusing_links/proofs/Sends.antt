@@ -65,7 +65,8 @@ module _ (least : ℕ) (Q : ℕ → Type 0) where
         let most : least + 2048 - distance number (wire least) ≤ is.highest = omega (arith, from, same, within, near, far, small) in
         subst Q (sym turn) (is.all (least + 2048 - distance number (wire least)) first most)
 
-    fine_words : (again : Bool) (next : LastSent) (words : List AckWord) → AllStand is.highest received is.here least again next words → AreFine Q words
+    fine_words : (again : Bool) (next : LastSent) (words : List AckWord) → AllStand is.highest received is.here least again next words →
+        AreFine Q words
     fine_words again next [] all = tt
     fine_words again next (word ∷ words) all =
         (λ e. fine_word again next word.number (all.0 e), fine_words again next words all.1)

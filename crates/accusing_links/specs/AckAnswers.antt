@@ -4,8 +4,8 @@ use Rattle.accusing.specs.Placing.{Passed}
 use Rattle.accusing_links.specs.Segments.{has}
 use Rattle.accusing_links.specs.Back.{Told, told, calls_of}
 
--- as lists: the data segments of the other side; the words of this side, and those of its data acknowledgement messages by the NUM of their units; and
--- the links from which a CI or a CC of the other side passed, and a second one
+-- as lists: the data segments of the other side; the words of this side, and those of its data acknowledgement messages by the NUM of their units;
+-- and the links from which a CI or a CC of the other side passed, and a second one
 pub record AckSight : Type 0 where
   pub segments : List (ℕ × ℕ × ℕ)
   pub said : List (ℕ × ℕ × ℕ)

@@ -1,6 +1,6 @@
--- An acknowledgement that goes back. The last acknowledgement that a link sends never does: only a data segment may carry an older word, since one that
--- goes again, or waited in a queue, may go as it was composed. So a data acknowledgement message lies at or after each word that its link sent before:
--- from one that is 1 to 2,047 higher it went almost all around. Where one CI or CC passed from the far address, one link alone can have that.
+-- An acknowledgement that goes back (NSP 4.0, acknowledgements). What a link acknowledges only rises. A data segment may carry an older word, since
+-- one that goes again, or waited in a queue, may go as it was composed. A data acknowledgement message lies at or after each word that its link sent
+-- before: after one that is 1 to 2,047 higher it went almost all around. Where one CI or CC passed from the far address, one link alone can have it.
 use Rattle.std.specs.Prelude.{ℕ, zero, suc, ◌+◌, Bool, true, false, ◌&&◌, ◌||◌, not, ◌==◌, nat_le, List, [], ◌∷◌}
 use Rattle.std.specs.List.{list_any}
 use Rattle.ddcmp_msg.specs.Message.{Data}

@@ -23,8 +23,8 @@ use std::marker::Model;
 // How far an acknowledgement may lie below one that was sent before, for this to be seen.
 const REACH: u16 = 2047;
 
-/// The node of one side of a line, of whose data acknowledgement messages is asked whether they go back. The units of both sides are told in the order
-/// in which they passed; where one can't be told for want of memory, nothing is to be asked any more.
+/// The node of one side of a line, of whose data acknowledgement messages is asked whether they go back. The units of both sides are told in the
+/// order in which they passed; where one can't be told for want of memory, nothing is to be asked any more.
 ///
 /// ```text
 ///  passed                                               accuses
