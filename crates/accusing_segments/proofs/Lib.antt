@@ -9,9 +9,12 @@ pub mod LinkSends
 pub mod Nodes
 -- what was sent under a number is outstanding as it was
 pub mod SentPieces
+pub mod SentAgain
 pub mod EachLink
 pub mod OneCall
+pub mod Used
 pub mod OneCallSteps
+pub mod OneCallFirst
 pub mod OneCallSends
 pub mod OneCallNodes
 -- what passed stays so
@@ -20,6 +23,7 @@ pub mod Passing
 pub mod Final
 pub mod SentUnits
 pub mod OneCallSo
+pub mod OneCallHears
 pub mod OneCallFinal
 -- what the accuser keeps of what passed
 pub mod Known

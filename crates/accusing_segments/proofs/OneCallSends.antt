@@ -29,12 +29,13 @@ use Rattle.accusing_links.proofs.LinkSteps.{at_is}
 use Rattle.accusing_links.proofs.RightLinks.{is_early}
 use Rattle.accusing_segments.proofs.Gave.{Gave}
 use Rattle.accusing_segments.proofs.SegmentSends.{Gone}
-use Rattle.accusing_segments.proofs.SentPieces.{Shown, Covered, Fits, Agrees, segment_kept, late_kept}
+use Rattle.accusing_segments.proofs.SentPieces.{Shown, Covered, Fits}
+use Rattle.accusing_segments.proofs.SentAgain.{Agrees, segment_kept, late_kept}
 use Rattle.accusing_segments.proofs.RightLinks.{Links, IsLinkRight, AreRight, right_at}
 use Rattle.accusing_segments.proofs.LinkSends.{running_late, late_of}
 use Rattle.accusing_segments.proofs.EachLink.{ArePlain, IsPlainRow, set_place, All, after_stays, all_done, plain_row}
 use Rattle.accusing_segments.proofs.OneCall.{IsUsed, IsDead, IsMine, stays}
-use Rattle.accusing_segments.proofs.OneCallSteps.{IsFoundBy, used_good, late_not_called}
+use Rattle.accusing_segments.proofs.Used.{IsFoundBy, used_good, late_not_called}
 
 -- this message is such a segment
 abbrev pub IsOf : (own far : ℕ) → NspValue → Shown

@@ -25,6 +25,9 @@ use Rattle.accusing_segments.proofs.SentUnits.{gone_sent, once_in, is_call, one_
 use Rattle.accusing_segments.proofs.SentUnits.{coming_pushed}
 
 module _ (queues : Queues) (own far : ℕ) where
+  abbrev Sent : List Passed → Shown
+  Sent passed = SentIn queues own far passed
+
   -- ---- what is so while units pass
 
   abbrev pub Now : List Passed → Links
@@ -35,13 +38,13 @@ module _ (queues : Queues) (own far : ℕ) where
   has (Some i) = 1
 
   abbrev pub Agree : List Passed → Type 0
-  Agree before = (n : ℕ) (p q : Piece) → SentIn queues own far before n p → SentIn queues own far before n q → (p ≡ q) ⊎ Covered (Now before own far).word n
+  Agree before = (n : ℕ) (p q : Piece) → Sent before n p → Sent before n q → (p ≡ q) ⊎ Covered (Now before own far).word n
 
   pub record IsSo (before : List Passed) (coming : List (List ℕ)) (s : WireLayers) : Type 0 where
     pub one : Option ℕ
     pub right : IsRight queues (Now before) s
-    pub held : IsHeld queues own far (SentIn queues own far before) (Now before) one s
-    pub none : one ≡ None → (n : ℕ) (p : Piece) → SentIn queues own far before n p → ⊥
+    pub held : IsHeld queues own far (Sent before) (Now before) one s
+    pub none : one ≡ None → (n : ℕ) (p : Piece) → Sent before n p → ⊥
     pub agree : Agree before
     pub calls : coming_calls queues own far coming + has one ≤ passed_calls queues own far before
 
@@ -76,7 +79,7 @@ module _ (queues : Queues) (own far : ℕ) where
   passes_so before coming unit s is = record {
     one = is.one;
     right = right_later queues (Now before) (Now (before ++ Other unit ∷ [])) (passed_more true before (Other unit)) s is.right;
-    held = held_later (SentIn queues own far before) (SentIn queues own far (before ++ Other unit ∷ [])) (Now before) (Now (before ++ Other unit ∷ [])) is.one s
+    held = held_later (Sent before) (Sent (before ++ Other unit ∷ [])) (Now before) (Now (before ++ Other unit ∷ [])) is.one s
         (sent_stays queues own far before (Other unit)) (sent_same queues own far before unit) (words_more before (Other unit)) is.held;
     none = λ e n p sent. is.none e n p (sent_same queues own far before unit n p sent);
     agree = λ n p q one two. go n p q (is.agree n p q (sent_same queues own far before unit n p one) (sent_same queues own far before unit n q two));
@@ -105,25 +108,25 @@ module _ (queues : Queues) (own far : ℕ) where
     abbrev then_passed : List Passed
     then_passed = before ++ Own unit ∷ []
 
-    grows : (n : ℕ) (p : Piece) → SentIn queues own far then_passed n p → SentIn queues own far before n p ⊎ InMessage queues own far m n p
+    grows : (n : ℕ) (p : Piece) → Sent then_passed n p → Sent before n p ⊎ InMessage queues own far m n p
     grows n p sent = go (sent_before queues own far before unit n p sent)
       where
-        go : SentIn queues own far before n p ⊎ InUnit queues own far unit n p → SentIn queues own far before n p ⊎ InMessage queues own far m n p
+        go : Sent before n p ⊎ InUnit queues own far unit n p → Sent before n p ⊎ InMessage queues own far m n p
         go (inl was) = inl was
         go (inr this) = inr (to_message queues own far (reading unit) m read n p this)
 
-    gone : (packet : Carried) → content (body_of m) ≡ Ok (Some packet) → WasSent queues own far (SentIn queues own far then_passed) packet.message
-    gone packet there = gone_sent queues own far (SentIn queues own far then_passed) packet.message (λ n p this.
+    gone : (packet : Carried) → content (body_of m) ≡ Ok (Some packet) → WasSent queues own far (Sent then_passed) packet.message
+    gone packet there = gone_sent queues own far (Sent then_passed) packet.message (λ n p this.
         sent_now queues own far before unit n p (subst (λ (o : Option NspValue). InOption queues own far o n p) (sym (message_is queues own far unit m packet read there)) this))
 
-    all : IsHeld queues own far (SentIn queues own far then_passed) (Now before) is.one after
+    all : IsHeld queues own far (Sent then_passed) (Now before) is.one after
         × ((n : ℕ) (p : Piece) → InMessage queues own far m n p →
-        SentIn queues own far before n p ⊎ Agreed queues own far (SentIn queues own far before) (Now before) is.one n p)
-    all = sends_mine queues own far (SentIn queues own far before) (SentIn queues own far then_passed) (Now before) is.one (λ m. tt) (sent_stays queues own far before (Own unit)) m grows gone
+        Sent before n p ⊎ Agreed queues own far (Sent before) (Now before) is.one n p)
+    all = sends_mine queues own far (Sent before) (Sent then_passed) (Now before) is.one (λ m. tt) (sent_stays queues own far before (Own unit)) m grows gone
         s after known made is.right.links is.held
 
     abbrev Says : ℕ → Piece → Type 0
-    Says n p = SentIn queues own far before n p ⊎ Agreed queues own far (SentIn queues own far before) (Now before) is.one n p
+    Says n p = Sent before n p ⊎ Agreed queues own far (Sent before) (Now before) is.one n p
 
     says : (n : ℕ) (p : Piece) → InUnit queues own far unit n p → Says n p
     says n p this = all.1 n p (to_message queues own far (reading unit) m read n p this)
@@ -137,27 +140,27 @@ module _ (queues : Queues) (own far : ℕ) where
     turned n p q (inr may) = inr may
 
     -- one that was sent before, and one in this unit
-    old_new : (n : ℕ) (p q : Piece) → SentIn queues own far before n p → Says n q → (p ≡ q) ⊎ Covered (Now before own far).word n
+    old_new : (n : ℕ) (p q : Piece) → Sent before n p → Says n q → (p ≡ q) ⊎ Covered (Now before own far).word n
     old_new n p q sent (inl was) = is.agree n p q sent was
     old_new n p q sent (inr agreed) = agreed.1 p sent
 
     agree_then : Agree then_passed
     agree_then n p q one two = later n p q (go (sent_before queues own far before unit n p one) (sent_before queues own far before unit n q two))
       where
-        go : SentIn queues own far before n p ⊎ InUnit queues own far unit n p → SentIn queues own far before n q ⊎ InUnit queues own far unit n q → (p ≡ q) ⊎ Covered (Now before own far).word n
+        go : Sent before n p ⊎ InUnit queues own far unit n p → Sent before n q ⊎ InUnit queues own far unit n q → (p ≡ q) ⊎ Covered (Now before own far).word n
         go (inl a) (inl b) = is.agree n p q a b
         go (inl a) (inr b) = old_new n p q a (says n q b)
         go (inr a) (inl b) = turned n q p (old_new n q p b (says n p a))
         go (inr a) (inr b) = inl (once_in queues own far (message_in unit) n p q a b)
 
-    none_then : is.one ≡ None → (n : ℕ) (p : Piece) → SentIn queues own far then_passed n p → ⊥
+    none_then : is.one ≡ None → (n : ℕ) (p : Piece) → Sent then_passed n p → ⊥
     none_then e n p sent = go (sent_before queues own far before unit n p sent)
       where
         new : Says n p → ⊥
         new (inl was) = is.none e n p was
         new (inr agreed) = let some = agreed.0.1 in absurd cc
 
-        go : SentIn queues own far before n p ⊎ InUnit queues own far unit n p → ⊥
+        go : Sent before n p ⊎ InUnit queues own far unit n p → ⊥
         go (inl was) = is.none e n p was
         go (inr this) = new (says n p this)
 
@@ -166,7 +169,7 @@ module _ (queues : Queues) (own far : ℕ) where
       one = is.one;
       right = (sends_right queues (Now before) (Now then_passed) (passed_more true before (Own unit)) s after m known made is.right
           (λ packet there. gone_now true before unit m packet read there)).0;
-      held = held_later (SentIn queues own far then_passed) (SentIn queues own far then_passed) (Now before) (Now then_passed) is.one after (λ n p sent. sent) (λ n p sent. sent)
+      held = held_later (Sent then_passed) (Sent then_passed) (Now before) (Now then_passed) is.one after (λ n p sent. sent) (λ n p sent. sent)
           (words_more before (Own unit)) all.0;
       none = none_then;
       agree = agree_then;

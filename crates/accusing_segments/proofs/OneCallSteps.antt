@@ -1,5 +1,5 @@
 -- What the user does and what comes keeps it that one link alone has these addresses; a CI or a CC by which one gets them is the first.
-use Rattle.std.proofs.Common.{◌≡◌, ℕ, Bool, true, false, ◌&&◌, eqb, Option, Some, None, Result, List, [], ◌∷◌, length, refl, sym, ap, subst}
+use Rattle.std.proofs.Common.{◌≡◌, ℕ, Bool, true, false, ◌&&◌, eqb, Option, Some, None, Result, List, [], ◌∷◌, refl, sym, ap, subst}
 use Rattle.std.proofs.Common.{◌∙◌, ◌⊎◌, inl, inr}
 use Rattle.std.specs.Prelude.{slice_get}
 use Rattle.std.proofs.lemmas.Bool.{and_parts}
@@ -8,108 +8,32 @@ use Rattle.dna_packet.specs.Nsp.{ConnectConfirm, DisconnectInitiate, DisconnectC
 use Rattle.dna_station.specs.declared.link_refusal.LinkRefusal.{LinkRefusal}
 use Rattle.dna_station.specs.declared.link_refusal.LinkRefusal.TheVariants.{NoLink, LinkState, AddressInUse, CrossedLink, WrongNode}
 use Rattle.dna_links.specs.declared.port.Phase.{Phase}
-use Rattle.dna_links.specs.declared.port.Port.{Port}
-use Rattle.dna_links.specs.declared.port.LinkTest.{LinkTest}
-use Rattle.dna_links.specs.declared.port.Phase.TheVariants.{Calling, Called, Confirming, Running, Disconnecting, Ended}
+use Rattle.dna_links.specs.declared.port.Phase.TheVariants.{Calling, Called, Confirming, Running, Disconnecting}
 use Rattle.dna_links.specs.declared.port.LinkTest.TheVariants.{TheLink, LiveAt, LiveTo, CallingAt, CalledBy, ActedOn}
 use Rattle.dna_links.specs.declared.queue.Queues.{Queues}
-use Rattle.dna_links.specs.declared.queue.Queues.TheVariants.{Without, With}
 use Rattle.dna_links.specs.declared.tag.LinkTag.{LinkTag}
-use Rattle.dna_links.specs.LookUps.{is_live, is_in, is_connected, is_at, has_both, passes}
-use Rattle.dna_links.specs.Links.{LinkOf, LinkTruth, Carried, with_seen, with_segments}
-use Rattle.dna_links.specs.Queues.{goes_to, in_use, port_of_waiting, with_in_use}
+use Rattle.dna_links.specs.LookUps.{is_live, is_in, is_connected, is_at, has_both}
+use Rattle.dna_links.specs.Links.{LinkOf, LinkTruth, Carried, with_segments}
+use Rattle.dna_links.specs.Queues.{goes_to, in_use}
 use Rattle.dna_links.specs.Table.{Ask, Finds, FindsEither, FindsNone, FindsInUse, InPhase, ForThisLink, OfThisPair, Effect, OpenHere, GiveAddress}
 use Rattle.dna_links.specs.Table.{Connect, GoTo, End, TakeSegment, TakeAcks, user_row, arrival_row}
 use Rattle.dna_links.specs.User.{LinkEventValue, Open, Accept, Reject, In, Up, Close, Abort, Boot}
 use Rattle.dna_links.specs.WireSegments.{WireSegments, wire_segments, takes_segment, takes_acks}
 use Rattle.dna_links.specs.WireLinks.{WireLinks, wire_links_user, wire_links_arrived}
-use Rattle.dna_links.specs.LinkBook.{blank, kept, does, asked, by_row, after, of_none}
+use Rattle.dna_links.specs.LinkBook.{blank, does, asked, by_row, after, of_none}
 use Rattle.dna_links.specs.Arriving.{PartnerRule}
-use Rattle.accusing_links.proofs.Answered.{Good, good_ok, good_err, good_check, link_good, seen_good}
+use Rattle.accusing_links.proofs.Answered.{Good, good_ok, good_err, good_check, link_good}
 use Rattle.accusing_links.proofs.RightLinks.{is_early}
 use Rattle.accusing_links.proofs.LinkSteps.{at_is}
 use Rattle.accusing_segments.proofs.Gave.{Gave}
 use Rattle.accusing_segments.proofs.SentPieces.{Shown, Fits, acks_fit, segment_fits}
 use Rattle.accusing_segments.proofs.RightLinks.{Links, IsLinkRight, goes_right, AreRight, right_at}
 use Rattle.accusing_segments.proofs.LinkSteps.{HasCome, kept_open, kept_answer, kept_connect, kept_confirm, kept_run, kept_segment, kept_acks}
-use Rattle.accusing_segments.proofs.LinkSteps.{calling_early, called_early, connected_live}
-use Rattle.accusing_segments.proofs.EachLink.{IsPlainRow, pushed_place, IsAt, All, after_stays, plain_row}
-use Rattle.accusing_segments.proofs.OneCall.{IsUsed, used_live, IsDead, goes_own, goes_far, goes_live, fresh_small, IsMine, none_mine, stays}
+use Rattle.accusing_segments.proofs.LinkSteps.{called_early, connected_live}
+use Rattle.accusing_segments.proofs.EachLink.{IsPlainRow, IsAt, All, after_stays, plain_row}
+use Rattle.accusing_segments.proofs.OneCall.{used_live, IsDead, goes_own, goes_far, goes_live, fresh_small, IsMine, none_mine, stays}
 use Rattle.accusing_segments.proofs.OneCall.{goes_mine, ended_mine}
-
--- ---- what is found in use
-
--- the ports by which a link is found have its addresses
-pub record IsFoundBy (q : Queues) (links : List (LinkOf WireSegments)) (test : LinkTest) (n : ℕ) (l : LinkOf WireSegments) : Type 0 where
-  pub there : slice_get links n ≡ Some l
-  pub port : Port
-  pub own : port.own ≡ l.port.own
-  pub far : port.far ≡ l.port.far
-  pub passes : passes test port ≡ true
-  pub used : is_live port.phase ≡ true → IsUsed q l
-
-waiting_own : (waits : Option Phase) (port : Port) → (port_of_waiting waits port).own ≡ port.own
-waiting_own None port = refl
-waiting_own (Some phase) port = refl
-
-waiting_far : (waits : Option Phase) (port : Port) → (port_of_waiting waits port).far ≡ port.far
-waiting_far None port = refl
-waiting_far (Some phase) port = refl
-
-pub used_good : {R : Type 0} (G : R → Type 0) (q : Queues) (test : LinkTest) (s : WireLinks) (otherwise : Result R LinkRefusal)
-    (next : ℕ → LinkOf WireSegments → Result R LinkRefusal) → Good G otherwise →
-    ((n : ℕ) (l : LinkOf WireSegments) → IsFoundBy q s.links test n l → Good G (next n l)) → Good G (with_in_use q test s otherwise next)
-used_good {R} G Without test s otherwise next none found =
-    link_good G test s otherwise next none (λ n l is. found n l
-    (record { there = is.there; port = l.port; own = refl; far = refl; passes = is.passes; used = λ live. live }))
-used_good {R} G With test s otherwise next none found =
-    link_good G test s (with_seen (in_use With) test s otherwise next) next
-    (seen_good G (in_use With) test s otherwise next none (λ n l is. found n l (record {
-      there = is.there;
-      port = port_of_waiting l.queue.waits l.port;
-      own = waiting_own l.queue.waits l.port;
-      far = waiting_far l.queue.waits l.port;
-      passes = is.passes;
-      used = λ live. inl live;
-    })))
-    (λ n l is. found n l
-    (record { there = is.there; port = l.port; own = refl; far = refl; passes = is.passes; used = λ live. inr live }))
-
-not_live : (q : Queues) (l : LinkOf WireSegments) → is_live l.port.phase ≡ true → IsDead q l → ⊥
-not_live Without l live over = absurd cc
-not_live With l live over = let o = over.0 in absurd cc
-
-pub late_not_called : (phase : Phase) → is_early phase ≡ false → is_in Called phase ≡ false
-late_not_called Confirming e = refl
-late_not_called Running e = refl
-late_not_called Disconnecting e = refl
-late_not_called Ended e = refl
-late_not_called Calling e = absurd cc
-late_not_called Called e = absurd cc
-
-calling_live : (phase : Phase) → is_in Calling phase ≡ true → is_live phase ≡ true
-calling_live Calling e = refl
-calling_live Called e = absurd cc
-calling_live Confirming e = absurd cc
-calling_live Running e = absurd cc
-calling_live Disconnecting e = absurd cc
-calling_live Ended e = absurd cc
-
-called_live : (phase : Phase) → is_in Called phase ≡ true → is_live phase ≡ true
-called_live Called e = refl
-called_live Calling e = absurd cc
-called_live Confirming e = absurd cc
-called_live Running e = absurd cc
-called_live Disconnecting e = absurd cc
-called_live Ended e = absurd cc
-
-kept_close : (q : Queues) (phase : Phase) → kept q (GoTo phase ∷ []) ≡ GoTo phase ∷ []
-kept_close Without phase = refl
-kept_close With phase = refl
-
-kept_end : (q : Queues) → kept q (End ∷ []) ≡ End ∷ []
-kept_end Without = refl
-kept_end With = refl
+use Rattle.accusing_segments.proofs.Used.{used_good, not_live, late_not_called, calling_live, called_live, kept_close, kept_end}
 
 -- a CI or a CC by which a link gets these addresses
 abbrev pub IsCall : (own far : ℕ) → NspValue → Type 0
@@ -138,7 +62,7 @@ module _ (queues : Queues) (own far : ℕ) (S : Shown) (Qs : Links) where
     right n l at = right_at Qs queues s.links n l old at
 
     -- a link that gave nothing, where nothing was sent
-    nothing_sent : (l : LinkOf WireSegments) → IsLinkRight Qs l → is_early l.port.phase ≡ true → ((n : ℕ) (p : _) → S n p → ⊥) →
+    pub nothing_sent : (l : LinkOf WireSegments) → IsLinkRight Qs l → is_early l.port.phase ≡ true → ((n : ℕ) (p : _) → S n p → ⊥) →
         Fits S (Qs own far).word l.segments
     nothing_sent l is early none = record { small = fresh_small l.segments (is.early early).gave; each = λ n p sent. absurd (none n p sent) }
 
@@ -376,85 +300,3 @@ module _ (queues : Queues) (own far : ℕ) (S : Shown) (Qs : Links) where
           (IsCall own far packet.message → ⊥) → Good Are (wire_links_arrived queues rule s packet tag)
       other_arrived rule packet tag small came other =
           good_check Are (eqb packet.src s.peer && eqb packet.dst s.node) WrongNode _ (λ e. message_mine rule tag packet.message small came other)
-
-    -- ---- the first call comes
-
-    module _ (are : AllMine None s.links) (none : (n : ℕ) (p : _) → S n p → ⊥) where
-      abbrev Left : WireLinks → Type 0
-      Left x = (one : Option ℕ) × AllMine one x.links
-
-      each_of : (i : ℕ) (es : List Effect) (n : Option ℕ) (l : LinkOf WireSegments) (k : Unit {0}) → IsAt queues (Mine (Some i)) n l →
-          AllMine (Some i) (to_links es n l k).links
-      each_of i = after_stays queues (Mine (Some i)) (stays queues own far S (Qs own far) (Some i)) s (from_none i s.links are)
-
-      module _ (rule : Bool → Bool) (truth : LinkTruth (Unit {0})) where
-        abbrev asks_for : List Effect → List Ask → Result WireLinks LinkRefusal
-        asks_for es asks = asked queues wire_segments rule truth s to_links es asks None (blank queues wire_segments) truth.known
-
-        -- a link that begins has the next number
-        begun : (src segsize : ℕ) → AllMine (Some (length s.links)) (to_links (Connect src segsize ∷ []) None
-            (does queues wire_segments truth (blank queues wire_segments) (Connect src segsize)) tt).links
-        begun src segsize n l at = go (pushed_place s.links _ n l at)
-          where
-            new : LinkOf WireSegments
-            new = does queues wire_segments truth (blank queues wire_segments) (Connect src segsize)
-
-            go : (slice_get s.links n ≡ Some l) ⊎ ((n ≡ length s.links) × (new ≡ l)) → Mine (Some (length s.links)) n l
-            go (inl there) = from_none (length s.links) s.links are n l there
-            go (inr (last, this)) = subst (Mine (Some (length s.links)) n) this
-                (record { called = λ f c. (ap (λ (x : ℕ). Some x) last, none); able = λ f o. absurd cc })
-
-        first_connect : (src segsize : ℕ) (es : List Effect) → es ≡ Connect src segsize ∷ [] →
-            Good Left (asks_for es (FindsNone (LiveTo src) None ∷ []))
-        first_connect src segsize es same =
-            subst (λ (x : List Effect). Good Left (asks_for x (FindsNone (LiveTo src) None ∷ []))) (sym same)
-            (link_good Left (LiveTo src) s _ _ (good_ok Left _ (Some (length s.links), begun src segsize))
-            (λ n l found. good_ok Left s (None, are)))
-
-        confirmed : (dst src segsize n : ℕ) (l : LinkOf WireSegments) → is_in Calling l.port.phase ≡ true → slice_get s.links n ≡ Some l →
-            Mine (Some n) n (goes_to wire_segments queues Running
-            (record l { port = record l.port { far = Some src }; partner = truth.tag.link; segsize = segsize }))
-        confirmed dst src segsize n l calling at =
-            let x : LinkOf WireSegments = record l { port = record l.port { far = Some src }; partner = truth.tag.link; segsize = segsize } in
-            let went = goes_live queues Running x (calling_live l.port.phase calling) in
-            record {
-              called = λ f c. let now : is_in Called Running ≡ true = sym (ap (λ (p : Phase). is_in Called p) went.0) ∙ c in absurd cc;
-              able = λ f o. (
-                refl,
-                inr (subst (Fits S (Qs own far).word) (sym went.1)
-                    (nothing_sent l (right n l at) (calling_early l.port.phase calling) none)),
-              );
-            }
-
-        first_confirm : (dst src segsize : ℕ) (es : List Effect) → es ≡ Connect src segsize ∷ GoTo Running ∷ [] →
-            Good Left (asks_for es (Finds (CallingAt dst) None ∷ ForThisLink CrossedLink ∷ []))
-        first_confirm dst src segsize es same =
-            subst (λ (x : List Effect). Good Left (asks_for x (Finds (CallingAt dst) None ∷ ForThisLink CrossedLink ∷ []))) (sym same)
-            (link_good Left (CallingAt dst) s _ _ (good_ok Left s (None, are)) (λ n l found.
-            let parts = and_parts (is_in Calling l.port.phase) (is_at l.port.own dst) found.passes in
-            good_check Left _ CrossedLink _ (λ e.
-            good_ok Left _ (
-              Some n,
-              each_of n (Connect src segsize ∷ GoTo Running ∷ []) (Some n) _ tt
-                  (confirmed dst src segsize n l parts.0 found.there),
-            ))))
-
-        call_mine : (m : NspValue) → IsCall own far m → Good Left (by_row queues wire_segments rule truth s to_links (arrival_row m))
-        call_mine (ConnectInitiate retransmitted src services info segsize user_data) call =
-            first_connect src segsize _ (kept_connect queues src segsize)
-        call_mine (ConnectConfirm dst src services info segsize user_data) call =
-            first_confirm dst src segsize _ (kept_confirm queues src segsize)
-        call_mine (DataSegment segment) call = absurd call
-        call_mine (DataAck dst src acks) call = absurd call
-        call_mine (LinkService interrupt dst src rest) call = absurd call
-        call_mine (OtherDataAck dst src rest) call = absurd call
-        call_mine (ConnectAck dst) call = absurd call
-        call_mine (NoOperation rest) call = absurd call
-        call_mine (DisconnectInitiate dst src reason user_data) call = absurd call
-        call_mine (DisconnectConfirm dst src reason) call = absurd call
-
-      pub call_arrived : (rule : PartnerRule) (packet : Carried) (tag : LinkTag) → IsCall own far packet.message →
-          Good Left (wire_links_arrived queues rule s packet tag)
-      call_arrived rule packet tag call =
-          good_check Left (eqb packet.src s.peer && eqb packet.dst s.node) WrongNode _ (λ e.
-          call_mine rule (record { tag = tag; known = tt }) packet.message call)
