@@ -11,4 +11,6 @@ pub mod User
 pub mod Sending
 pub mod Arriving
 pub mod LateLinks
-pub mod Late
+pub mod LateUser
+pub mod LateSends
+pub mod LateArrives

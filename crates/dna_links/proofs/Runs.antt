@@ -10,12 +10,15 @@ pub mod LateSending
 pub mod Late
 pub mod Ends
 pub mod Sides
+pub mod SideUser
 -- which link has which address, and how many messages were delivered
 pub mod Owners
 pub mod Counts
+pub mod GivenAddress
 pub mod ReadSteps
 -- what a packet that is sent or kept does, and so what holds in every run
 pub mod Takes
+pub mod SideSends
 pub mod Steps
 pub mod Bounds
 pub mod Bared

@@ -25,8 +25,10 @@ pub record AreLinksBounded (own other : LinkSide) : Type 0 where
 -- What a side keeps of its links goes along with all that may happen there: an event of its user, a message that it sends, and a message
 -- with fields in range in a packet that may still be kept
 pub record AreCutInStep (queues : Queues) (own other : LinkSide) : Type 0 where
-  pub user : (event : LinkEventValue) → cut_result queues (links_user queues own.links event) ≡ wire_links_user queues (cut_links queues own.links) event
+  pub user : (event : LinkEventValue) →
+      cut_result queues (links_user queues own.links event) ≡ wire_links_user queues (cut_links queues own.links) event
   pub sent : (packet : Carried) → cut_sent queues (links_sent queues own.links packet) ≡ wire_links_sent queues (cut_links queues own.links) packet
   pub kept : (place : ℕ) (unit : SentMessage) → own.front ≤ place → slice_get other.sent place ≡ Some (Some unit) → IsInRange unit.packet.message →
-      cut_result queues (links_arrived queues of_partner own.links unit.packet unit.truth) ≡ wire_links_arrived queues of_partner (cut_links queues own.links) unit.packet
+      cut_result queues (links_arrived queues of_partner own.links unit.packet unit.truth) ≡
+      wire_links_arrived queues of_partner (cut_links queues own.links) unit.packet
       unit.truth.tag

@@ -14,7 +14,8 @@ use Rattle.dna_links.specs.LookUps.{is_at}
 use Rattle.dna_links.specs.SegmentBook.{SegmentBook, Sending, Late, wider}
 use Rattle.dna_links.specs.Links.{LinkOf, LinksOf, LinkTruth, check, with_link, with_seen, begun, changed, in_phase, with_segments}
 use Rattle.dna_links.specs.Queues.{fresh, in_use, with_in_use, may_send, with_queue, goes_to, ends_by_message, drops, freed, booted, shows, settled}
-use Rattle.dna_links.specs.Table.{Ask, Finds, FindsEither, FindsNone, FindsInUse, KnowsInUse, InPhase, InTurn, OrElse, ForThisLink, OfThisPair, Delivers}
+use Rattle.dna_links.specs.Table.{Ask, Finds, FindsEither, FindsNone, FindsInUse, KnowsInUse, InPhase, InTurn, OrElse, ForThisLink, OfThisPair}
+use Rattle.dna_links.specs.Table.{Delivers}
 use Rattle.dna_links.specs.Table.{SendsSegment, SendsAcks, Effect, OpenHere, GiveAddress, Connect, GoTo, End, Drop, EndAll, Say, Settle, Keep, HandIn}
 use Rattle.dna_links.specs.Table.{TakeSegment, TakeAcks, Row, Asks, user_row}
 use Rattle.dna_links.specs.User.{LinkEventValue}
@@ -120,7 +121,8 @@ module _ {D K R : Type 0} (queues : Queues) (book : SegmentBook D K) (rule : Boo
   asked (SendsSegment segment ∷ asks) number link known = sends_segment queues segment link (asked asks number)
   asked (SendsAcks acks ∷ asks) number link known = sends_acks queues acks link (asked asks number)
 
-abbrev pub by_row : {D K R : Type 0} → Queues → SegmentBook D K → (Bool → Bool) → LinkTruth K → LinksOf D → (List Effect → Option ℕ → LinkOf D → K → R) →
+abbrev pub by_row : {D K R : Type 0} → Queues → SegmentBook D K → (Bool → Bool) → LinkTruth K → LinksOf D →
+    (List Effect → Option ℕ → LinkOf D → K → R) →
     Row → Result R LinkRefusal
 by_row queues book rule truth s answer (Asks asks effects) =
     asked queues book rule truth s answer (kept queues effects) asks None (blank queues book) truth.known

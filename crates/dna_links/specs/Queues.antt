@@ -47,8 +47,8 @@ abbrev pub port_of_waiting : Option Phase → Port → Port
 port_of_waiting None port = port
 port_of_waiting (Some phase) port = record port { phase = phase }
 
--- A message that asks for this phase is in its turn: CI before all others, CC after `accept`, those of RUN once RUN has begun and before a DI, and a DI
--- after `close` or `reject`. With queues the phase may be past
+-- A message that asks for this phase is in its turn: CI before all others, CC after `accept`, those of RUN once RUN has begun and before a DI, and a
+-- DI after `close` or `reject`. With queues the phase may be past
 abbrev pub is_in_turn : Phase → LinkQueue → Port → Bool
 is_in_turn Calling queue port = is_silent queue.said
 is_in_turn Confirming queue port = queue.accepted && is_silent queue.said

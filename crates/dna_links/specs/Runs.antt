@@ -53,9 +53,11 @@ pub data LinkStep (queues : Queues) (own other : LinkSide) : List LinkEventValue
 -- What steps lead to, one after another on either side, with the events of each user in their order
 pub data Reached (queues : Queues) (start : LinkWorld) : LinkWorld → (of_a of_b : List LinkEventValue) → Type 0 where
   Start : Reached queues start start [] []
-  ByA : {w : LinkWorld} {of_a of_b events : List LinkEventValue} {left : LinkSide} → Reached queues start w of_a of_b → LinkStep queues w.a w.b events left →
+  ByA : {w : LinkWorld} {of_a of_b events : List LinkEventValue} {left : LinkSide} → Reached queues start w of_a of_b →
+      LinkStep queues w.a w.b events left →
       Reached queues start (record { a = left; b = w.b }) (of_a ++ events) of_b
-  ByB : {w : LinkWorld} {of_a of_b events : List LinkEventValue} {left : LinkSide} → Reached queues start w of_a of_b → LinkStep queues w.b w.a events left →
+  ByB : {w : LinkWorld} {of_a of_b events : List LinkEventValue} {left : LinkSide} → Reached queues start w of_a of_b →
+      LinkStep queues w.b w.a events left →
       Reached queues start (record { a = w.a; b = left }) of_a (of_b ++ events)
 
 -- before any record: the addresses of each side's node and of the other one, as its head has them

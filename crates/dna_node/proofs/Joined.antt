@@ -29,7 +29,8 @@ use Rattle.dna_station.specs.StationBook.{with_packet, does, after_sending, trut
 use Rattle.dna_station.specs.Bounds.{IsOrdered}
 use Rattle.dna_station.specs.Line.{SentUnit}
 use Rattle.dna_links.specs.User.{LinkEventValue, Boot}
-use Rattle.dna_links.specs.Runs.{SentMessage, LinkSide, LinkWorld, LinkStep, ByUser, Sends, SendsNone, Composes, Keeps, Passes, Reached, Start as Begun, ByA}
+use Rattle.dna_links.specs.Runs.{SentMessage, LinkSide, LinkWorld, LinkStep, ByUser, Sends, SendsNone, Composes, Keeps, Passes, Reached}
+use Rattle.dna_links.specs.Runs.{Start as Begun, ByA}
 use Rattle.dna_node.specs.Layers.{Layers, LayersTruth, LayersNode, LayersUnit, of_place, carried_again, to_station, unit_of_station, stations}
 use Rattle.dna_node.specs.LayersPair.{layers_pair_by, layers_start, one_or_none, link_event_in, link_events, side_of, new_links_world, AreJoined}
 use Rattle.dna_station.proofs.Steps.Effects.{kept_by_all, does_stays}
@@ -40,7 +41,7 @@ use Rattle.dna_station.proofs.Bounds.Numbers.{is_data}
 use Rattle.dna_station.proofs.Delivery.PlacesInOrder.{BothPlaced, placed_kept, start_placed, IsBehind, LeftBehind, behind_left, behind_beside}
 use Rattle.dna_node.proofs.OnTop.{NoMessage, Message, NotKept, LostAbove, KeptNone, KeptOne, OnTop, ByStation, ByLinks, ByBoth, Composed, Carries}
 use Rattle.dna_node.proofs.OnTop.{Again, First, Receipt, Counted, Unheard}
-use Rattle.dna_node.proofs.OnTop.{follows}
+use Rattle.dna_node.proofs.Follows.{follows}
 use Rattle.dna_links.proofs.Runs.Steps.{reached_exchanged}
 use Rattle.dna_node.proofs.Alike.{IsExchangeable, IsKeptByA, kept_alike}
 
@@ -123,7 +124,8 @@ module _ (queues : Queues) where
           go : (slice_get own.sent i ≡ Some unit) ⊎ ((i ≡ length own.sent) × (unit_sent ≡ unit)) → is_data unit.message ≡ true →
               slice_get messages unit.known.station.place ≡ Some unit.known.carried
           go (inl a) d = grown unit.known.station.place unit.known.carried (t.told i unit a d)
-          go (inr a) d = subst (λ (x : LayersUnit). is_data x.message ≡ true → slice_get messages x.known.station.place ≡ Some x.known.carried) a.1 this
+          go (inr a) d =
+              subst (λ (x : LayersUnit). is_data x.message ≡ true → slice_get messages x.known.station.place ≡ Some x.known.carried) a.1 this
               d
 
     told_left : (r : Record) (h : Half LayersNode LayersUnit) → OnTop (judged_by queues) own other r h → AreTold h
@@ -189,7 +191,8 @@ module _ (queues : Queues) where
     moved r h (Composed body packet made done) l = record { front_left = front; moves = OneStep (Composes packet made done); behind = l }
     moved r h (Carries event none) l = record {
       front_left = front;
-      moves = subst (λ (x : Option LinkEventValue). Moves (side_of own front) (side_of other of_other) (one_or_none x) (side_of own front)) (sym none) NoStep;
+      moves = subst (λ (x : Option LinkEventValue). Moves (side_of own front) (side_of other of_other) (one_or_none x) (side_of own front))
+          (sym none) NoStep;
       behind = l;
     }
     moved r h (ByLinks event of_links links is done) l = record {
@@ -218,7 +221,8 @@ module _ (queues : Queues) where
           behind = l.3;
         }
 
-  reached_a : {start w : LinkWorld} {of_a of_b events : List LinkEventValue} {left : LinkSide} → Reached queues start w of_a of_b → Moves w.a w.b events left →
+  reached_a : {start w : LinkWorld} {of_a of_b events : List LinkEventValue} {left : LinkSide} → Reached queues start w of_a of_b →
+      Moves w.a w.b events left →
       Reached queues start (record { a = left; b = w.b }) (of_a ++ events) of_b
   reached_a {start} {w} {of_a} {of_b} x NoStep = subst (λ (l : List LinkEventValue). Reached queues start w l of_b) (sym (append-nil of_a)) x
   reached_a x (OneStep step) = ByA x step
@@ -285,6 +289,7 @@ module _ (queues : Queues) where
       b_behind = inl refl;
     }
 
-    pub all_joined : (w : World LayersNode LayersUnit) (of_a of_b : List Record) → Run (layers_pair_by queues) (layers_start head_a head_b) of_a of_b w →
+    pub all_joined : (w : World LayersNode LayersUnit) (of_a of_b : List Record) →
+        Run (layers_pair_by queues) (layers_start head_a head_b) of_a of_b w →
         AreJoined queues head_a head_b w of_a of_b
     all_joined w of_a of_b run = (lasts (layers_pair_by queues) (LayersJoined head_a head_b) joined_kept [] [] start_joined run).joined

@@ -31,7 +31,8 @@ use Rattle.dna_station.proofs.Delivery.PlacesInOrder.{ArePlaced, IsBehind, behin
 use Rattle.dna_node.proofs.Joined.{AreTold}
 use Rattle.dna_links.proofs.Runs.Every.{in_step}
 use Rattle.dna_node.proofs.LayersRead.{AreRead, body_read, LayersRead, read_exchanged, read_kept}
-use Rattle.dna_node.proofs.CutLayersNode.{HasItsMessage, IsLayersBounded, record_same}
+use Rattle.dna_node.proofs.CutLayersNode.{record_same}
+use Rattle.dna_node.proofs.LayersBounded.{HasItsMessage, IsLayersBounded}
 
 data_packet : (m : MessageValue) → is_data m ≡ true → change_of m ≡ SendPacket
 data_packet (Data flags resp num body) d = refl
@@ -46,7 +47,8 @@ module _ (queues : Queues) where
       (behind : IsBehind own.state.station.station own.state.front (map unit_of_station other.sent) front) where
     -- what the station takes has its message
     has_its_message : (hint : ℕ) (unit : LayersUnit) → slice_get other.sent hint ≡ Some unit → own.state.front ≤ hint →
-        arrival_refusal (judged_by queues).periods own.state.station.station (Sound unit.message unit.known.station) true ≡ None → HasItsMessage other front unit
+        arrival_refusal (judged_by queues).periods own.state.station.station (Sound unit.message unit.known.station) true ≡ None →
+        HasItsMessage other front unit
     has_its_message hint unit there ahead allowed =
         let low_there : slice_get (map unit_of_station other.sent) hint ≡ Some (unit_of_station unit) =
         slice_get-map unit_of_station other.sent hint ∙ ap (option_map unit_of_station) there in
@@ -77,11 +79,13 @@ module _ (queues : Queues) where
           station = sound_bounded (cut_half stations w.a) (cut_half stations w.b) order.of_a.sound order.of_b.sound;
           counted = c.joined.a_told.counted;
           links = (in_step head_a.own head_a.peer head_b.own head_b.peer _ _ _ queues c.joined.joined.reached).0;
-          kept = has_its_message w.a w.b order.of_a.sound order.of_b.order.partnered c.joined.placed.b_placed order.of_b.places c.joined.b_told c.b_read
+          kept =
+              has_its_message w.a w.b order.of_a.sound order.of_b.order.partnered c.joined.placed.b_placed order.of_b.places c.joined.b_told c.b_read
               c.joined.joined.front_a c.joined.a_behind;
         }
 
-  pub b_bounded : (head_a head_b : Head) (w : World LayersNode LayersUnit) (of_a of_b : List Record) (c : LayersRead queues head_a head_b w of_a of_b) →
+  pub b_bounded : (head_a head_b : Head) (w : World LayersNode LayersUnit) (of_a of_b : List Record)
+      (c : LayersRead queues head_a head_b w of_a of_b) →
       IsLayersBounded queues w.b w.a c.joined.joined.front_b c.joined.joined.front_a
   b_bounded head_a head_b w of_a of_b c =
       a_bounded head_b head_a (exchanged_world w) of_b of_a (read_exchanged queues head_a head_b w of_a of_b c)
@@ -97,13 +101,13 @@ module _ (queues : Queues) where
   }
 
   pub a_same : (w : World LayersNode LayersUnit) (of_a of_b : List Record) → layers_property w of_a of_b → (r : Record) →
-      advance (wire_layers_pair_by queues).node_a (cut_half (layers_seen_by queues) w.a) (cut_half (layers_seen_by queues) w.b) r ≡ cut_outcome (layers_seen_by queues)
-      (advance (layers_pair_by queues).node_a w.a w.b r)
+      advance (wire_layers_pair_by queues).node_a (cut_half (layers_seen_by queues) w.a) (cut_half (layers_seen_by queues) w.b) r ≡
+      cut_outcome (layers_seen_by queues) (advance (layers_pair_by queues).node_a w.a w.b r)
   a_same w of_a of_b c r = record_same queues w.a w.b _ _ (a_bounded c.0 c.1 w of_a of_b c.2) r
 
   pub b_same : (w : World LayersNode LayersUnit) (of_a of_b : List Record) → layers_property w of_a of_b → (r : Record) →
-      advance (wire_layers_pair_by queues).node_b (cut_half (layers_seen_by queues) w.b) (cut_half (layers_seen_by queues) w.a) r ≡ cut_outcome (layers_seen_by queues)
-      (advance (layers_pair_by queues).node_b w.b w.a r)
+      advance (wire_layers_pair_by queues).node_b (cut_half (layers_seen_by queues) w.b) (cut_half (layers_seen_by queues) w.a) r ≡
+      cut_outcome (layers_seen_by queues) (advance (layers_pair_by queues).node_b w.b w.a r)
   b_same w of_a of_b c r = record_same queues w.b w.a _ _ (b_bounded c.0 c.1 w of_a of_b c.2) r
 
   pub layers_commute : Commutes (layers_pair_by queues) (wire_layers_pair_by queues) (layers_seen_by queues) layers_property

@@ -26,7 +26,8 @@ use Rattle.dna_node.specs.LayersPair.{layers_pair_by, layers_start}
 use Rattle.two_nodes.proofs.NumberedSteps.{at_pushed}
 use Rattle.dna_station.proofs.Bounds.Numbers.{is_data}
 use Rattle.dna_node.proofs.OnTop.{FirstSent, NoMessage, Message, OnTop, ByStation, ByLinks, ByBoth, Composed, Carries, Again, First, Receipt}
-use Rattle.dna_node.proofs.OnTop.{Counted, Unheard, follows}
+use Rattle.dna_node.proofs.OnTop.{Counted, Unheard}
+use Rattle.dna_node.proofs.Follows.{follows}
 use Rattle.dna_node.proofs.Joined.{given_start, given_arrival, given_first, given_again, AreTold, LayersJoined}
 use Rattle.dna_node.proofs.Joined.{joined_exchanged, joined_kept, start_joined}
 use Rattle.dna_node.proofs.Alike.{IsExchangeable, IsKeptByA, kept_alike}

@@ -96,7 +96,8 @@ module _ {S K : Type 0} (one : EndOf S K) where
   abbrev pub sound_comes : NodeOf S → (front : ℕ) → Fate → MessageValue → StepAlone S
   sound_comes n front fate m =
       unless_wrong (one.wrong_unit n.station m)
-      (then_unless_wrong (if_met (is_met fate) (one.wrong_taken n.station m)) (meets n front (one.machine.arrives n.station (Sound m one.unknown) fate)))
+      (then_unless_wrong (if_met (is_met fate) (one.wrong_taken n.station m))
+      (meets n front (one.machine.arrives n.station (Sound m one.unknown) fate)))
 
   -- bytes with good checks that are no message are not damage: the other end sent them (1)
   abbrev pub comes_alone : NodeOf S → (front : ℕ) → Fate → ReadingValue → StepAlone S

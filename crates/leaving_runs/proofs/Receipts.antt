@@ -33,7 +33,7 @@ use Rattle.dna_links.specs.Runs.{SentMessage}
 use Rattle.dna_node.specs.TagRules.{judged_by}
 use Rattle.dna_node.specs.Layers.{Layers, LayersNode, LayersUnit, with_links, keeps, meets_on, layers_machine}
 use Rattle.dna_node.specs.LayersPair.{side_of}
-use Rattle.dna_node.proofs.CutLayersNode.{HasItsMessage}
+use Rattle.dna_node.proofs.LayersBounded.{HasItsMessage}
 use Rattle.dna_node.proofs.LayersRead.{packet_in}
 use Rattle.leaving_out.specs.Messages.{message_within, packet_of}
 use Rattle.dna_leaving.specs.Records.{LinkRecord, OfNoLink, Keeps}

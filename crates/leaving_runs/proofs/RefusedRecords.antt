@@ -30,7 +30,7 @@ use Rattle.dna_node.specs.TagRules.{judged_by}
 use Rattle.dna_node.specs.Layers.{Layers, LayersNode, LayersUnit, with_links}
 use Rattle.dna_node.specs.Layers.{keeps, meets_on, layers_machine}
 use Rattle.dna_node.specs.LayersPair.{side_of}
-use Rattle.dna_node.proofs.CutLayersNode.{HasItsMessage}
+use Rattle.dna_node.proofs.LayersBounded.{HasItsMessage}
 use Rattle.dna_leaving.specs.Records.{Keeps}
 use Rattle.dna_leaving.specs.Left.{Judged, truth_left as link_truth_left}
 use Rattle.dna_leaving.specs.Worlds.{other_out, other_judged, message_left}

@@ -19,7 +19,7 @@ use Rattle.dna_links.specs.TrueLinks.{Links}
 use Rattle.dna_node.specs.TagRules.{judged_by}
 use Rattle.dna_node.specs.Layers.{LayersNode, LayersUnit, unit_of_station}
 use Rattle.dna_node.specs.LayersPair.{layers_pair_by, layers_start, side_of}
-use Rattle.dna_node.proofs.OnTop.{follows}
+use Rattle.dna_node.proofs.Follows.{follows}
 use Rattle.dna_node.proofs.LayersRead.{LayersRead, read_kept, start_read}
 use Rattle.dna_node.proofs.LayersBounds.{a_bounded, b_bounded}
 use Rattle.dna_leaving.specs.Marks.{Marks, and_then}

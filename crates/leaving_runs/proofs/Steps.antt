@@ -19,7 +19,7 @@ use Rattle.dna_node.specs.TagRules.{judged_by}
 use Rattle.dna_node.specs.Layers.{LayersNode, LayersUnit, layers_machine}
 use Rattle.dna_node.specs.LayersPair.{side_of}
 use Rattle.dna_node.proofs.OnTop.{OnTop, ByStation, ByLinks, ByBoth, Composed, Carries, Again, First, Receipt, Counted, Unheard}
-use Rattle.dna_node.proofs.CutLayersNode.{HasItsMessage}
+use Rattle.dna_node.proofs.LayersBounded.{HasItsMessage}
 use Rattle.dna_leaving.specs.Left.{Judged}
 use Rattle.dna_leaving.specs.Worlds.{other_out, other_judged}
 use Rattle.dna_leaving.proofs.Sides.{SideRight}

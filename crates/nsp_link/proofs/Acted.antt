@@ -27,7 +27,8 @@ module _ (n : ℕ) (s : WireLinks) (made : LinkOf WireSegments → WireLinks) wh
     becomes_if_ok (Err e) new each = tt
 
 -- memory that a segment wants is taken where the segment is held
-pub held_memory : {A E : Type 0} (n : ℕ) (s : WireLinks) → n < length s.links → (segment : SegmentValue) (memory : Bool) → HoldsAs segment memory n s →
+pub held_memory : {A E : Type 0} (n : ℕ) (s : WireLinks) → n < length s.links → (segment : SegmentValue) (memory : Bool) →
+    HoldsAs segment memory n s →
     (r : Result A E) → ((l : LinkOf WireSegments) → slice_get s.links n ≡ Some l → IfErr r (λ e. is_held segment l.segments.variables ≡ true)) →
     OnErr r (memory ≡ true)
 held_memory n s within segment memory holds (Ok x) held = tt

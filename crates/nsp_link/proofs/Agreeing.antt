@@ -48,7 +48,8 @@ module _ {P F M : Type 0} (fits : P → Type 0) (makes : P → M) (refusal_of : 
 
   -- ---- what follows
 
-  pub same_by : (answer : Result P F) (made : Result M LinkRefusal) → Agrees answer made → option_map refusal_of (refusal_in answer) ≡ refusal_in made
+  pub same_by : (answer : Result P F) (made : Result M LinkRefusal) → Agrees answer made →
+      option_map refusal_of (refusal_in answer) ≡ refusal_in made
   same_by (Ok permit) made h = sym (ap (λ (r : Result M LinkRefusal). refusal_in r) h.1)
   same_by (Err failed) made h = sym (ap (λ (r : Result M LinkRefusal). refusal_in r) h)
 

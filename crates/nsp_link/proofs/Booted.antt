@@ -16,7 +16,7 @@ use Rattle.nsp_link.specs.inner.Index.{begun_from, counted, lives_to, look_at, o
 use Rattle.nsp_link.specs.inner.Indexing.{AreDead, AreIndexed, IsDead}
 use Rattle.nsp_link.specs.inner.Queue.{forgotten_link, keeps}
 use Rattle.nsp_link.proofs.Dead.{dead_more, dead_set}
-use Rattle.nsp_link.proofs.InUse.{messages_keep}
+use Rattle.nsp_link.proofs.KeptInUse.{messages_keep}
 use Rattle.nsp_link.proofs.Requeued.{waiting_keeps}
 use Rattle.nsp_link.proofs.Used.{used_if}
 
@@ -113,7 +113,8 @@ module _ (queues : Queues) where
   module _ (p : LinkOf WireSegments → Bool) (none : (l : LinkOf WireSegments) → p (over l) ≡ false) where
     none_counted : (links : List (LinkOf WireSegments)) → counted p (map over links) ≡ 0
     none_counted [] = refl
-    none_counted (l ∷ links) = ap (λ (b : Bool). cond b (suc (counted p (map over links))) (counted p (map over links))) (none l) ∙ none_counted links
+    none_counted (l ∷ links) =
+        ap (λ (b : Bool). cond b (suc (counted p (map over links))) (counted p (map over links))) (none l) ∙ none_counted links
 
 own_none : (queues : Queues) (l : LinkOf WireSegments) → own_of (booted_link wire_segments queues l) ≡ None
 own_none Without l = refl

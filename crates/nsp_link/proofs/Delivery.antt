@@ -66,7 +66,8 @@ module _ (link : ℕ) (message : List ℕ) (pieces : List (Option Piece)) where
   pub delivers_some : (n : ℕ) → delivered_pieces message pieces ≡ Some n → asked_delivery link message pieces ≡ Ok (Delivers link n)
   delivers_some n e = asked_some link message refused (next_message pieces) n e
 
-  pub delivers_none : delivered_pieces message pieces ≡ None → asked_delivery link message pieces ≡ Err (Delivery link (length message) (next_length pieces))
+  pub delivers_none : delivered_pieces message pieces ≡ None →
+      asked_delivery link message pieces ≡ Err (Delivery link (length message) (next_length pieces))
   delivers_none e = asked_none link message refused (next_message pieces) e
 
 pub ruleset delivery = (delivers_some, delivers_none)

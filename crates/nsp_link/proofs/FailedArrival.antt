@@ -16,7 +16,8 @@ use Rattle.dna_links.specs.Links.{LinkOf, Carried, at_number, changed, check, nu
 use Rattle.dna_links.specs.WireSegments.{WireSegments, wire_segments}
 use Rattle.dna_links.specs.WireLinks.{WireLinks, wire_links_arrived}
 use Rattle.nsp_link.specs.FailedSending.{nodes_of}
-use Rattle.nsp_link.specs.FailedArrival.{asked_arrival, asked_call, asked_confirm, asked_ending, asked_pair, asked_taken, failed_arrival, refusal_of_arrival}
+use Rattle.nsp_link.specs.FailedArrival.{asked_arrival, asked_call, asked_confirm, asked_ending, asked_pair, asked_taken, failed_arrival}
+use Rattle.nsp_link.specs.FailedArrival.{refusal_of_arrival}
 use Rattle.nsp_link.specs.Missing.{refusal_in}
 use Rattle.nsp_link.specs.Phases.{arrival_takes_memory}
 use Rattle.nsp_link.specs.Segments.{is_held}
@@ -48,7 +49,8 @@ module _ (queues : Queues) (m : NspValue) (tag : LinkTag) (memory : Bool) (s : W
   abbrev acts_at : ℕ → LinkOf WireSegments → Made
   acts_at number link = Ok (changed number (acts_on queues m tag link) s)
 
-  acts_agrees : (n : ℕ) (l : LinkOf WireSegments) → slice_get s.links n ≡ Some l → FitsLink m memory n s → ArrivalAgrees (Ok (OfLink n)) (acts_at n l)
+  acts_agrees : (n : ℕ) (l : LinkOf WireSegments) → slice_get s.links n ≡ Some l →
+      FitsLink m memory n s → ArrivalAgrees (Ok (OfLink n)) (acts_at n l)
   acts_agrees n l is fits = (
     (slice_get_within s.links n l is, fits),
     ap allowed_as (made_of n s (λ link. changed n (acts_on queues m tag link) s) l is),
@@ -60,7 +62,8 @@ module _ (queues : Queues) (m : NspValue) (tag : LinkTag) (memory : Bool) (s : W
         ArrivalAgrees (asked_pair rule own far tag s)
         (with_link (ActedOn own far) s (Ok s) (λ number link. check (rule (is_of_pair number link.partner tag)) CrossedLink (acts_at number link)))
     pair_agrees own far fits =
-        at_agrees (FitsArrival m memory s) (taken queues m tag s) refusal_of_arrival s _ _ (number_of (ActedOn own far) s) _ _ (tt, refl) (λ n e l is.
+        at_agrees (FitsArrival m memory s) (taken queues m tag s) refusal_of_arrival s _ _ (number_of (ActedOn own far) s) _ _ (tt, refl)
+        (λ n e l is.
         unless_agrees (FitsArrival m memory s) (taken queues m tag s) refusal_of_arrival (rule (is_of_pair n l.partner tag)) _ CrossedLink _ _ refl
         (λ passes. acts_agrees n l is (fits n l e is)))
 
@@ -121,7 +124,8 @@ pub taken_agrees : (queues : Queues) (rule : PartnerRule) (s : WireLinks) (m : N
 taken_agrees Without rule s (ConnectInitiate retransmitted src services info segsize user_data) tag =
     call_agrees Without s tag retransmitted src services info segsize user_data
 taken_agrees Without rule s (ConnectConfirm dst src services info segsize user_data) tag =
-    confirm_agrees Without (ConnectConfirm dst src services info segsize user_data) tag false s rule dst (λ n l e is link there. calling_found dst s n link e there)
+    confirm_agrees Without (ConnectConfirm dst src services info segsize user_data) tag false s rule dst
+    (λ n l e is link there. calling_found dst s n link e there)
 taken_agrees Without rule s (DisconnectInitiate dst src reason user_data) tag =
     ending_agrees Without (DisconnectInitiate dst src reason user_data) tag false s dst src (λ n lives. lives)
 taken_agrees Without rule s (DisconnectConfirm dst src reason) tag =
@@ -142,7 +146,8 @@ taken_agrees Without rule s (NoOperation rest) tag =
 taken_agrees With rule s (ConnectInitiate retransmitted src services info segsize user_data) tag =
     call_agrees With s tag retransmitted src services info segsize user_data
 taken_agrees With rule s (ConnectConfirm dst src services info segsize user_data) tag =
-    confirm_agrees With (ConnectConfirm dst src services info segsize user_data) tag false s rule dst (λ n l e is link there. calling_found dst s n link e there)
+    confirm_agrees With (ConnectConfirm dst src services info segsize user_data) tag false s rule dst
+    (λ n l e is link there. calling_found dst s n link e there)
 taken_agrees With rule s (DisconnectInitiate dst src reason user_data) tag =
     ending_agrees With (DisconnectInitiate dst src reason user_data) tag false s dst src (λ n lives. lives)
 taken_agrees With rule s (DisconnectConfirm dst src reason) tag =
@@ -185,7 +190,8 @@ arrival_same queues s packet tag =
     same_by (fits queues packet.message tag s) (makes queues packet.message tag s) refusal_of_arrival (asked_arrival of_partner s packet tag)
     (wire_links_arrived queues of_partner s packet tag) (packet_agrees queues of_partner s packet tag)
 
-module _ (rule : PartnerRule) (s : WireLinks) (packet : Carried) (tag : LinkTag) (answer : Answer) (is : answer ≡ asked_arrival rule s packet tag) where
+module _ (rule : PartnerRule) (s : WireLinks) (packet : Carried) (tag : LinkTag)
+    (answer : Answer) (is : answer ≡ asked_arrival rule s packet tag) where
   pub arrival_refused : (queues : Queues) → IfErr answer (λ failed. wire_links_arrived queues rule s packet tag ≡ Err (refusal_of_arrival failed))
   arrival_refused queues =
       answer_refuses (fits queues packet.message tag s) (makes queues packet.message tag s) refusal_of_arrival answer _ _ is

@@ -1,5 +1,6 @@
 -- A permit is given for an event of the links' user where the tables allow it, and a check is named where they refuse it.
-use Rattle.std.proofs.Common.{◌≡◌, ℕ, ◌<◌, Bool, true, false, Option, Some, None, List, Result, Ok, Err, OnOk, IfErr, length, refl, sym, subst, ap, ◌∙◌, ◌≤◌, [], option_map}
+use Rattle.std.proofs.Common.{◌≡◌, ℕ, ◌<◌, Bool, true, false, Option, Some, None, List, Result, Ok, Err, OnOk, IfErr, length, refl, sym}
+use Rattle.std.proofs.Common.{subst, ap, ◌∙◌, ◌≤◌, [], option_map}
 use Rattle.std.specs.Prelude.{slice_get, ok_or, IsOk}
 use Rattle.std.specs.Str.{bytes_eq}
 use Rattle.std.proofs.lemmas.Option.{slice_get_within}
@@ -35,7 +36,7 @@ use Rattle.nsp_link.proofs.Acted.{made_of}
 use Rattle.nsp_link.proofs.Agreeing.{Agrees, answer_allows, answer_refuses, at_agrees, permit_by, same_by, unless_agrees, use_agrees}
 use Rattle.nsp_link.proofs.Delivery.{pieces_within}
 use Rattle.nsp_link.proofs.Found.{called_found, number_within, some_there}
-use Rattle.nsp_link.proofs.InUse.{calls_at, connected_keeps_at, connected_used_at, messages_keep_at}
+use Rattle.nsp_link.proofs.KeptInUse.{calls_at, connected_keeps_at, connected_used_at, messages_keep_at}
 
 abbrev Answer : Type 0
 Answer = Result LinkUserPermit FailedLinkEvent
@@ -94,7 +95,12 @@ module _ (queues : Queues) (message : List ℕ) (memory : Bool) (s : WireLinks) 
           EventAgrees (unless b (Delivery n (length words) (next_length l.segments.variables.pieces)) (Ok (Delivers n w.pieces)))
           (on_ok (ok_or (delivered_as b w l.segments) WrongDelivery) (λ d. Ok (changed n (with_segments d l) s)))
       by_same true = (
-        (low, few.0, λ link there. subst (λ (k : LinkOf WireSegments). w.pieces ≤ in_order k.segments.variables.pieces) (same_link link there) few.1),
+        (
+          low,
+          few.0,
+          λ link there.
+              subst (λ (k : LinkOf WireSegments). w.pieces ≤ in_order k.segments.variables.pieces) (same_link link there) few.1,
+        ),
         made_here (λ link. changed n (with_segments (without_pieces w.pieces link.segments) link) s),
       )
       by_same false = refl
@@ -104,7 +110,8 @@ module _ (queues : Queues) (message : List ℕ) (memory : Bool) (s : WireLinks) 
 module _ (queues : Queues) (s : WireLinks) where
   answer_agrees : (phase : Phase) (far own : ℕ) → IsAnswer phase →
       EventAgrees queues [] true s (asked_answer phase far own s) (with_link (CalledBy far) s (Err NoLink) (λ number link.
-      with_link (LiveAt own) s (Ok (changed number (answered queues phase own link) (freed wire_segments queues own s))) (λ other held. Err AddressInUse)))
+      with_link (LiveAt own) s (Ok (changed number (answered queues phase own link) (freed wire_segments queues own s)))
+      (λ other held. Err AddressInUse)))
   answer_agrees phase far own answers =
       at_agrees (FitsEvent queues true s) (acted queues [] s) refusal_of_event s _ _ (number_of (CalledBy far) s) _ _ refl (λ n e l is.
       address_agrees queues [] true s own (Answers n own phase) _ (λ free. (
@@ -113,7 +120,8 @@ module _ (queues : Queues) (s : WireLinks) where
       )))
 
   hand_agrees : (own : ℕ) (message : List ℕ) →
-      EventAgrees queues message true s (on_link_in_use queues own s (may_hand_in queues)) (with_in_use queues (LiveAt own) s (Err NoLink) (λ number link.
+      EventAgrees queues message true s (on_link_in_use queues own s (may_hand_in queues))
+      (with_in_use queues (LiveAt own) s (Err NoLink) (λ number link.
       check (takes_messages (in_use queues link).phase) LinkState (Ok (changed number (with_segments (hands_in message link.segments) link) s))))
   hand_agrees own message =
       use_agrees (FitsEvent queues true s) (acted queues message s) refusal_of_event s _ _ queues (LiveAt own) _ _ refl (λ n e l is.
@@ -135,7 +143,8 @@ module _ (queues : Queues) (s : WireLinks) where
       )))
 
   abort_agrees : (own : ℕ) →
-      EventAgrees queues [] false s (on_link_in_use queues own s (may_give_up queues)) (with_in_use queues (LiveAt own) s (Err NoLink) (λ number link.
+      EventAgrees queues [] false s (on_link_in_use queues own s (may_give_up queues))
+      (with_in_use queues (LiveAt own) s (Err NoLink) (λ number link.
       check (is_calling (in_use queues link).phase) LinkState (Ok (changed number (drops wire_segments queues link) s))))
   abort_agrees own =
       use_agrees (FitsEvent queues false s) (acted queues [] s) refusal_of_event s _ _ queues (LiveAt own) _ _ refl (λ n e l is.

@@ -19,7 +19,8 @@ use Rattle.nsp_link.specs.declared.permit.LinkSendPermit.{LinkSendPermit}
 use Rattle.nsp_link.specs.declared.permit.LinkUserPermit.{LinkUserPermit}
 use Rattle.nsp_link.specs.inner.Failed.{asks_in_turn, asks_in_use}
 use Rattle.nsp_link.specs.inner.Rows.{found_in_use, number_in_use}
-use Rattle.nsp_link.proofs.InUse.{running_keeps, seen_waiting, unseen_waiting}
+use Rattle.nsp_link.proofs.InUse.{seen_waiting, unseen_waiting}
+use Rattle.nsp_link.proofs.KeptInUse.{running_keeps}
 use Rattle.nsp_link.proofs.Rows.{in_use_same}
 
 module _ {R : Type 0} (queues : Queues) (test : LinkTest) (s : WireLinks) (otherwise : R) (next : ℕ → LinkOf WireSegments → R) where

@@ -109,7 +109,8 @@ dead_found own links holder caller reached waiting index None (Nowhere _ none) e
 
 pub dead_holder : {D : Type 0} (own : ℕ) (links : List (LinkOf D)) (holder caller : ℕ → Option ℕ) (reached : ℕ → ℕ) (waiting : ℕ) →
     IsIndexed links holder caller reached waiting →
-    position (λ (k : LinkOf D). passes (LiveAt own) k.port) links ≡ None → (n : ℕ) (l : LinkOf D) → holder own ≡ Some n → slice_get links n ≡ Some l →
+    position (λ (k : LinkOf D). passes (LiveAt own) k.port) links ≡ None →
+    (n : ℕ) (l : LinkOf D) → holder own ≡ Some n → slice_get links n ≡ Some l →
     is_live l.port.phase ≡ false
 dead_holder {D} own links holder caller reached waiting index none n l held there =
     dead_found own links holder caller reached waiting index (position (λ (k : LinkOf D). passes (LiveAt own) k.port) links)

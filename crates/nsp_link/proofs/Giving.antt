@@ -151,14 +151,16 @@ module _ (queues : Queues) (links : List (LinkOf WireSegments)) (h c : ℕ → O
           fresh = ap (look_in own_of) there ∙ unowned
 
           here : look_at own_of (set (forgotten_at queues (h own) links) n m) n ≡ Some own
-          here = set_same own_of (forgotten_at queues (h own) links) n m (slice_get_within (forgotten_at queues (h own) links) n l still_there) ∙ owns
+          here =
+              set_same own_of (forgotten_at queues (h own) links) n m (slice_get_within (forgotten_at queues (h own) links) n l still_there) ∙ owns
 
           others : (k : ℕ) → (k ≡ n → ⊥) → look_at own_of (set (forgotten_at queues (h own) links) n m) k ≡ lost (h own) k (look_at own_of links k)
           others k apart = set_other own_of (forgotten_at queues (h own) links) n k m apart ∙ own_forgotten queues links (h own) k
 
           calls : (k q : ℕ) → look_at begun_from (set (forgotten_at queues (h own) links) n m) k ≡ Some q → c' q ≡ Some k
           calls k q e =
-              callers q ∙ index.calls k q (sym (begun_forgotten queues links (h own) k) ∙ look_less begun_from q left n k l m still_there (begun q) e)
+              callers q ∙ index.calls k q
+              (sym (begun_forgotten queues links (h own) k) ∙ look_less begun_from q left n k l m still_there (begun q) e)
 
           reaches : (q : ℕ) → r' q ≡ counted (lives_to q) (set (forgotten_at queues (h own) links) n m)
           reaches q =
@@ -186,15 +188,16 @@ module _ (queues : Queues) (links : List (LinkOf WireSegments)) (h c : ℕ → O
 
 -- ---- the same, by what the calls tell
 
-pub answered_index : (queues : Queues) (phase : Phase) (own n : ℕ) (l m : LinkOf WireSegments) (items ys : List (LinkOf WireSegments)) (h c h' c' : ℕ → Option ℕ)
+pub answered_index : (queues : Queues) (phase : Phase) (own n : ℕ) (l m : LinkOf WireSegments) (items ys : List (LinkOf WireSegments))
+    (h c h' c' : ℕ → Option ℕ)
     (r r' : ℕ → ℕ) (w w' : ℕ) → IsIndexed items h c r w → slice_get items n ≡ Some l → is_called l.port.phase ≡ true → l.port.own ≡ None →
     m ≡ answered_link queues phase own l → is_live phase ≡ true → is_called phase ≡ false → is_calling phase ≡ false →
     ys ≡ set (forgotten_at queues (h own) items) n m → ((q : ℕ) → c' q ≡ c q) → ((q : ℕ) → r' q ≡ r q) → w' ≡ w →
     ((q : ℕ) → h' q ≡ cond (eqb own q) (Some n) (h q)) → IsIndexed ys h' c' r' w'
 answered_index queues phase own n l m items ys h c h' c' r r' w w' index there was unowned is live answers known same callers counts wait given =
     subst (λ (xs : List (LinkOf WireSegments)). IsIndexed xs h' c' r' w') (sym same)
-    (indexed_answer queues items h c r w index own m (ap (λ (k : LinkOf WireSegments). k.port.own) is) n l there unowned h' c' r' w' callers counts wait
-    begun lives
+    (indexed_answer queues items h c r w index own m
+    (ap (λ (k : LinkOf WireSegments). k.port.own) is) n l there unowned h' c' r' w' callers counts wait begun lives
     (ap (λ (k : LinkOf WireSegments). is_calling k.port.phase) is ∙ known) given) where
       both : is_live phase ≡ is_live l.port.phase
       both = live ∙ sym (called_lives l.port.phase was)
@@ -207,7 +210,8 @@ answered_index queues phase own n l m items ys h c h' c' r r' w w' index there w
       lives : (q : ℕ) → lives_to q m ≡ lives_to q l
       lives q = ap (lives_to q) is ∙ ap (λ (b : Bool). b && is_at l.port.far q) both
 
-pub opened_index : (queues : Queues) (own : ℕ) (m : LinkOf WireSegments) (items ys : List (LinkOf WireSegments)) (h c h' c' : ℕ → Option ℕ) (r r' : ℕ → ℕ) (w w' : ℕ) →
+pub opened_index : (queues : Queues) (own : ℕ) (m : LinkOf WireSegments) (items ys : List (LinkOf WireSegments))
+    (h c h' c' : ℕ → Option ℕ) (r r' : ℕ → ℕ) (w w' : ℕ) →
     IsIndexed items h c r w → m ≡ opened wire_segments own → ys ≡ forgotten_at queues (h own) items ++ m ∷ [] → ((q : ℕ) → c' q ≡ c q) →
     ((q : ℕ) → r' q ≡ r q) → w' ≡ suc w → ((q : ℕ) → h' q ≡ cond (eqb own q) (Some (length items)) (h q)) → IsIndexed ys h' c' r' w'
 opened_index queues own m items ys h c h' c' r r' w w' index is same callers counts wait given =
@@ -252,7 +256,8 @@ pub ruleset indexes = (are_same)
 
 -- ---- what the definitions make of it
 
-module _ (queues : Queues) (node peer : ℕ) (items : List (LinkOf WireSegments)) (s : WireLinks) (is : record { node = node; peer = peer; links = items } ≡ s) (own : ℕ)
+module _ (queues : Queues) (node peer : ℕ) (items : List (LinkOf WireSegments)) (s : WireLinks)
+    (is : record { node = node; peer = peer; links = items } ≡ s) (own : ℕ)
     (h : Option ℕ) (held : position (λ (l : LinkOf WireSegments). is_at l.port.own own) items ≡ h) (ys : List (LinkOf WireSegments)) where
   shown_freed : freed wire_segments queues own s ≡ record { node = node; peer = peer; links = forgotten_at queues h items }
   shown_freed = ap (freed wire_segments queues own) (sym is) ∙ freed_is queues own (record { node = node; peer = peer; links = items }) h held
@@ -282,8 +287,8 @@ still_here queues links h c r w index own n l there unowned = still_there queues
     owned : ℕ → LinkOf WireSegments
     owned address = opened wire_segments address
 
-pub one_link : (xs ys : List (LinkOf WireSegments)) (n : ℕ) (k l link : LinkOf WireSegments) → xs ≡ ys → k ≡ get_or xs n k → slice_get ys n ≡ Some l →
-    Some l ≡ Some link → k ≡ link
+pub one_link : (xs ys : List (LinkOf WireSegments)) (n : ℕ) (k l link : LinkOf WireSegments) →
+    xs ≡ ys → k ≡ get_or xs n k → slice_get ys n ≡ Some l → Some l ≡ Some link → k ≡ link
 one_link xs ys n k l link same there still one =
     let here : slice_get xs n ≡ Some l = ap (λ (zs : List (LinkOf WireSegments)). slice_get zs n) same ∙ still in
     let mine : slice_get xs n ≡ Some k = link_at xs n k (slice_get_within xs n l here) there in

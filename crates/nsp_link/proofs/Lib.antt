@@ -2,6 +2,8 @@ mod Words
 mod FailedTurn
 mod Agreeing
 mod Acted
+mod FailedWords
+mod FailedSegment
 pub mod FailedSending
 pub mod FailedEvent
 pub mod FailedArrival
@@ -27,6 +29,7 @@ mod Permitted
 mod Used
 mod Settled
 mod InUse
+mod KeptInUse
 mod Rows
 mod Booted
 mod Dead

@@ -80,7 +80,8 @@ module _ {D : Type 0} where
       omega arith
 
   pub used_change_with : (queues : Queues) (links : List (LinkOf D)) (n : ℕ) (l m : LinkOf D) (used used' : ℕ → ℕ) → AreUsed queues links used →
-      slice_get links n ≡ Some l → (queues ≡ With → begins_use m ≡ begins_use l) → ((q : ℕ) → used' q ≡ used q) → AreUsed queues (set links n m) used'
+      slice_get links n ≡ Some l → (queues ≡ With → begins_use m ≡ begins_use l) → ((q : ℕ) → used' q ≡ used q) →
+      AreUsed queues (set links n m) used'
   used_change_with Without links n l m used used' are there same counts = tt
   used_change_with With links n l m used used' are there same counts = used_change With links n l m used used' are there (same refl) counts
 
@@ -97,7 +98,8 @@ module _ {D : Type 0} where
       omega arith
 
   -- a DC with its own address
-  settle_by : (w : Option Phase) (queues : Queues) (links : List (LinkOf D)) (n : ℕ) (l m : LinkOf D) (used used' : ℕ → ℕ) → AreUsed queues links used →
+  settle_by : (w : Option Phase) (queues : Queues) (links : List (LinkOf D)) (n : ℕ) (l m : LinkOf D)
+      (used used' : ℕ → ℕ) → AreUsed queues links used →
       slice_get links n ≡ Some l → begins_use m ≡ use_that_stays w l → IsReleased queues (use_that_ends w l) used used' →
       AreUsed queues (set links n m) used'
   settle_by w Without links n l m used used' are there left released = tt

@@ -1,5 +1,5 @@
--- What a node's links answer when they are asked for a message that comes: a permit, or else the first check that it does not pass, by its name, with
--- what is seen there and what is allowed. The checks are those of `Table` of `dna_links`, in their order.
+-- What a node's links answer when they are asked for a message that comes: a permit, or else the first check that it does not pass, by its name,
+-- with what is seen there and what is allowed. The checks are those of `Table` of `dna_links`, in their order.
 use Rattle.std.specs.Prelude.{ℕ, Option, ◌==◌, ◌&&◌, Result, Ok}
 use Rattle.dna_packet.specs.Nsp.{NspValue, DataSegment, LinkService, DataAck, OtherDataAck, ConnectAck, NoOperation, ConnectInitiate, ConnectConfirm}
 use Rattle.dna_packet.specs.Nsp.{DisconnectInitiate, DisconnectConfirm}

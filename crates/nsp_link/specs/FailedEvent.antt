@@ -25,7 +25,8 @@ use Rattle.nsp_link.specs.declared.permit.LinkUserPermit.{LinkUserPermit}
 use Rattle.nsp_link.specs.declared.permit.LinkUserPermit.TheVariants.{Opens, Answers, HandsIn, Delivers, Closes, GivesUp, Boots}
 
 -- the link that this test finds, else none is as the event asks for
-abbrev pub on_link_asked : LinkTest → WireLinks → (ℕ → LinkOf WireSegments → Result LinkUserPermit FailedLinkEvent) → Result LinkUserPermit FailedLinkEvent
+abbrev pub on_link_asked : LinkTest → WireLinks →
+    (ℕ → LinkOf WireSegments → Result LinkUserPermit FailedLinkEvent) → Result LinkUserPermit FailedLinkEvent
 on_link_asked test s next = with_link test s (Err (failed.NoLink (missing test s))) next
 
 -- an address that is given, and the permit where no live link has it

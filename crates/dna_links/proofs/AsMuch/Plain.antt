@@ -1,5 +1,6 @@
 -- Links without queues are those with queues once the queues are put aside, and what a link that has ended may keep is let go. Over any book.
-use Rattle.std.proofs.Common.{◌≡◌, ℕ, zero, suc, Bool, true, false, ◌||◌, Option, Some, None, List, [], ◌∷◌, map, Result, Ok, Err, refl, sym, ap, ap₂, ◌∙◌, option_map}
+use Rattle.std.proofs.Common.{◌≡◌, ℕ, zero, suc, Bool, true, false, ◌||◌, Option, Some, None, List, [], ◌∷◌, map, Result, Ok, Err, refl, sym, ap, ap₂}
+use Rattle.std.proofs.Common.{◌∙◌, option_map}
 use Rattle.std.specs.Prelude.{slice_get, slice_set}
 use Rattle.std.proofs.lemmas.List.{map-append, map-set}
 use Rattle.std.proofs.lemmas.Option.{slice_get-map, same_Some}
@@ -15,7 +16,8 @@ use Rattle.dna_links.specs.declared.port.LinkTest.TheVariants.{HasAddress}
 use Rattle.dna_links.specs.LookUps.{passes, is_live}
 use Rattle.dna_links.specs.SegmentBook.{SegmentBook, Sending, Late, with_gap}
 use Rattle.dna_links.specs.Links.{LinkOf, LinksOf, number_of, on_link, at_number, with_link, begun, changed, in_phase, with_segments}
-use Rattle.dna_links.specs.Queues.{fresh, further, has_waiting, keeps_numbers, lets_go, requeued, goes_on, ends_by_message, drops, ended, forgotten, booted_link, booted}
+use Rattle.dna_links.specs.Queues.{fresh, further, has_waiting, keeps_numbers, lets_go, requeued, goes_on, ends_by_message, drops, ended, forgotten}
+use Rattle.dna_links.specs.Queues.{booted_link, booted}
 use Rattle.dna_links.specs.Queues.{freed, shows, shows_by, settled}
 use Rattle.dna_links.specs.Sending.{Sent}
 use Rattle.dna_links.proofs.Tables.Outcomes.{looked}

@@ -293,6 +293,7 @@ module _ {D K : Type 0} (book : SegmentBook D K) (good : LetsGo book) (s : Links
   pub sent_done : (packet : Carried) → AreSent book (sent_step Without book (plain_links book s) packet) (sent_step With book s packet)
   sent_done packet = go (sent_step Without book (plain_links book s) packet) refl
     where
-      go : (o : Result (Sent D K) LinkRefusal) → sent_step Without book (plain_links book s) packet ≡ o → AreSent book o (sent_step With book s packet)
+      go : (o : Result (Sent D K) LinkRefusal) → sent_step Without book (plain_links book s) packet ≡ o →
+          AreSent book o (sent_step With book s packet)
       go (Ok made) e = sent_follows packet made e
       go (Err refusal) e = tt

@@ -22,7 +22,8 @@ use Rattle.dna_links.proofs.Cut.User.{live_if}
 use Rattle.dna_links.proofs.Runs.Sides.{all_map}
 use Rattle.dna_links.proofs.AsMuch.Plain.{at_found, at_none, plain, plain_links, LetsGo, changed_plain, begun_plain}
 use Rattle.dna_links.proofs.AsMuch.Plain.{live_segments, live_with, goes_plain, freed_plain, drops_plain, booted_plain, delivers_plain}
-use Rattle.dna_links.proofs.AsMuch.Fit.{Fits, Follows, AreDone, live_waits, in_use_is, FitsAt, AllFit, there, missing, passes_check, set_fits, begun_fits, freed_fits}
+use Rattle.dna_links.proofs.AsMuch.Fit.{Fits, Follows, AreDone, live_waits, in_use_is, FitsAt, AllFit, there, missing, passes_check, set_fits}
+use Rattle.dna_links.proofs.AsMuch.Fit.{begun_fits, freed_fits}
 
 module _ {D K : Type 0} (book : SegmentBook D K) (good : LetsGo book) (s : LinksOf D) (fits : AllFit s) where
   abbrev UserFollows : LinkEventValue → LinksOf D → Type 0

@@ -11,7 +11,8 @@ use Rattle.dna_links.specs.SegmentBook.{with_gap, wider, is_of_data}
 use Rattle.dna_links.specs.TrueSegments as on_true
 use Rattle.dna_links.specs.CutSegments.{cut}
 use Rattle.dna_links.specs.WireSegments.{WireSegments, with_pieces_alone, ends, wire_segments, delivers_whole, delivered_as, LastSent, LateSent}
-use Rattle.dna_links.specs.WireSegments.{is_ahead, moved_to, last_named, last_named_late, after_first, all_named, last_of, gap_at, after_first_late, all_named_late}
+use Rattle.dna_links.specs.WireSegments.{is_ahead, moved_to, last_named, last_named_late, after_first, all_named, last_of, gap_at, after_first_late}
+use Rattle.dna_links.specs.WireSegments.{all_named_late}
 use Rattle.dna_links.specs.WireSegments.{is_new, sends_new, segment_named, sends_segment, went_on, new_late}
 use Rattle.dna_links.proofs.Cut.Ended.{ended_delivers}
 use Rattle.dna_links.proofs.AsMuch.Plain.{DeliversAll, IsLate, gap_late, LetsGo}
@@ -83,7 +84,8 @@ NamesToo (Some sent) o = (left : ℕ) × (o ≡ Some (record { sent = sent; gap 
 
 module _ (received : ℕ) where
   abbrev WordsToo : List AckWord → Type 0
-  WordsToo words = (gap : ℕ) (sent : LastSent) → NamesToo (all_named false received words sent) (all_named_late received words (record { sent = sent; gap = gap }))
+  WordsToo words = (gap : ℕ) (sent : LastSent) →
+      NamesToo (all_named false received words sent) (all_named_late received words (record { sent = sent; gap = gap }))
 
   module _ (word : AckWord) (words : List AckWord) (rest : WordsToo words) (gap : ℕ) (sent : LastSent) where
     abbrev first : Option LastSent → Option LastSent

@@ -41,10 +41,13 @@ module _ (rule : PartnerRule) (s : Links) (ordered : AreOrdered s) where
 
   ends_same : (own far : ℕ) → cut_result Without (ends_by true_segments rule own far s) ≡ ends_by wire_segments rule own far (cut_links Without s)
   ends_same own far =
-      with_link_same Without (cut_result Without) (TheLink own far) s (with_link (CallingAt own) s (Ok s) (λ n l. Ok (changed n (ended true_segments l) s)))
-      (with_link (CallingAt own) (cut_links Without s) (Ok (cut_links Without s)) (λ n l. Ok (changed n (ended wire_segments l) (cut_links Without s))))
+      with_link_same Without (cut_result Without) (TheLink own far) s
+      (with_link (CallingAt own) s (Ok s) (λ n l. Ok (changed n (ended true_segments l) s)))
+      (with_link (CallingAt own) (cut_links Without s) (Ok (cut_links Without s))
+      (λ n l. Ok (changed n (ended wire_segments l) (cut_links Without s))))
       (λ n l. Ok (changed n (ended true_segments l) s)) (λ n l. Ok (changed n (ended wire_segments l) (cut_links Without s)))
-      (λ none. with_link_same Without (cut_result Without) (CallingAt own) s (Ok s) (Ok (cut_links Without s)) (λ n l. Ok (changed n (ended true_segments l) s))
+      (λ none. with_link_same Without (cut_result Without) (CallingAt own) s (Ok s) (Ok (cut_links Without s))
+      (λ n l. Ok (changed n (ended true_segments l) s))
       (λ n l. Ok (changed n (ended wire_segments l) (cut_links Without s)))
       (λ nobody. refl) (λ n l there here. ap Ok (one_ended n l there
       (live_if is_calling refl l.port.phase (and_parts (is_calling l.port.phase) (is_at l.port.own own) here).0))))
@@ -52,7 +55,8 @@ module _ (rule : PartnerRule) (s : Links) (ordered : AreOrdered s) where
     where
       one_ended : (n : ℕ) (l : LinkOf TrueSegments) → slice_get s.links n ≡ Some l → is_live l.port.phase ≡ true
           → cut_links Without (changed n (ended true_segments l) s) ≡ changed n (ended wire_segments (cut_link Without l)) (cut_links Without s)
-      one_ended n l there live = one_changed n (ended true_segments l) (ended wire_segments (cut_link Without l)) (ended_same l live (ordered n l there))
+      one_ended n l there live =
+          one_changed n (ended true_segments l) (ended wire_segments (cut_link Without l)) (ended_same l live (ordered n l there))
 
   -- a message that is acted on, and what it does to the segments
   acted_same : (own far : ℕ) (tag : LinkTag) (takes : LinkOf TrueSegments → TrueSegments) (takes' : LinkOf WireSegments → WireSegments)
@@ -103,13 +107,15 @@ module _ (rule : PartnerRule) (s : Links) (ordered : AreOrdered s) where
     message_same (ConnectConfirm dst src services info segsize user_data) near =
         with_link_same Without (cut_result Without) (CallingAt dst) s (Ok s) (Ok (cut_links Without s))
         (λ n l. check (rule (is_for n truth.tag)) CrossedLink (Ok (changed n (confirmed true_segments rule src segsize truth.tag l) s)))
-        (λ n l. check (rule (is_for n truth.tag)) CrossedLink (Ok (changed n (confirmed wire_segments rule src segsize truth.tag l) (cut_links Without s))))
+        (λ n l. check (rule (is_for n truth.tag)) CrossedLink
+        (Ok (changed n (confirmed wire_segments rule src segsize truth.tag l) (cut_links Without s))))
         (λ none. refl) (λ n l there here.
         let live = live_if is_calling refl l.port.phase (and_parts (is_calling l.port.phase) (is_at l.port.own dst) here).0 in
         arrived_check (rule (is_for n truth.tag)) CrossedLink (Ok (changed n (confirmed true_segments rule src segsize truth.tag l) s))
         (Ok (changed n (confirmed wire_segments rule src segsize truth.tag (cut_link Without l)) (cut_links Without s)))
         (λ e. ap Ok
-        (one_changed n (confirmed true_segments rule src segsize truth.tag l) (confirmed wire_segments rule src segsize truth.tag (cut_link Without l))
+        (one_changed n (confirmed true_segments rule src segsize truth.tag l)
+        (confirmed wire_segments rule src segsize truth.tag (cut_link Without l))
         (confirmed_same src segsize truth.tag l live))))
     message_same (DisconnectInitiate dst src reason user_data) near = ends_same dst src
     message_same (DisconnectConfirm dst src reason) near = ends_same dst src

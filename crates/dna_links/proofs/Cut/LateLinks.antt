@@ -1,5 +1,6 @@
 -- Cutting one link with queues to what a node keeps of it commutes with what becomes of it.
-use Rattle.std.proofs.Common.{◌≡◌, ℕ, Bool, true, false, not, ◌&&◌, ◌||◌, cond, ◌⊎◌, inl, inr, Option, Some, None, List, [], Result, Ok, Err, refl, sym, ap, ap₂, ◌∙◌}
+use Rattle.std.proofs.Common.{◌≡◌, ℕ, Bool, true, false, not, ◌&&◌, ◌||◌, cond, ◌⊎◌, inl, inr, Option, Some, None, List, [], Result, Ok, Err, refl}
+use Rattle.std.proofs.Common.{sym, ap, ap₂, ◌∙◌}
 use Rattle.std.proofs.Common.{map, option_map, position, subst, drop, take}
 use Rattle.std.specs.Prelude.{slice_get}
 use Rattle.std.proofs.lemmas.Bool.{and_parts}
@@ -16,7 +17,8 @@ use Rattle.dna_links.specs.declared.queue.LinkQueue.{LinkQueue}
 use Rattle.dna_links.specs.LookUps.{passes, is_live, is_in, is_at}
 use Rattle.dna_links.specs.Segmentation.{Piece, in_whole_messages}
 use Rattle.dna_links.specs.Links.{LinkOf, on_link, at_number, with_seen, in_phase, with_segments}
-use Rattle.dna_links.specs.Queues.{is_over, further, has_waiting, port_of_waiting, in_use, with_in_use, keeps_numbers, lets_go, requeued, goes_on, ends_by_message, drops}
+use Rattle.dna_links.specs.Queues.{is_over, further, has_waiting, port_of_waiting, in_use, with_in_use, keeps_numbers, lets_go, requeued, goes_on}
+use Rattle.dna_links.specs.Queues.{ends_by_message, drops}
 use Rattle.dna_links.specs.Queues.{forgotten, shows, shows_by, settled, reached}
 use Rattle.dna_links.specs.TrueSegments.{TrueSegments, true_segments}
 use Rattle.dna_links.specs.WireSegments.{WireSegments, with_pieces_alone, ends, wire_segments}
@@ -121,7 +123,8 @@ module _ (l : LinkOf TrueSegments) (live : is_live (in_use With l).phase ≡ tru
   pub kept_silent : is_over l.queue.said ≡ false → keeps_numbers l ≡ true
   kept_silent silent = go l.queue.waits live
     where
-      go : (waits : Option Phase) → is_live (port_of_waiting waits l.port).phase ≡ true → (is_live l.port.phase || has_waiting waits l.queue.said) ≡ true
+      go : (waits : Option Phase) → is_live (port_of_waiting waits l.port).phase ≡ true →
+          (is_live l.port.phase || has_waiting waits l.queue.said) ≡ true
       go None e = or_left (is_live l.port.phase) false e
       go (Some phase) e = or_right (is_live l.port.phase) (has_waiting (Some phase) l.queue.said) (waits_silent l.queue.said phase silent)
 
@@ -170,7 +173,8 @@ module _ (l : LinkOf TrueSegments) where
         ap (λ (w : WireSegments). record (cut_link With l) { segments = w; queue = record l.queue { waits = waits; said = said } })
         (let_same (keeps_numbers l) (is_live l.port.phase || has_waiting waits said) l.port.own l.segments more own)
 
-    pub ends_same : is_live l.port.phase ≡ true → cut_link With (ends_by_message true_segments With l) ≡ ends_by_message wire_segments With (cut_link With l)
+    pub ends_same : is_live l.port.phase ≡ true →
+        cut_link With (ends_by_message true_segments With l) ≡ ends_by_message wire_segments With (cut_link With l)
     ends_same live =
         ap (λ (w : WireSegments). record (cut_link With l) {
           port = record l.port { phase = Ended };
@@ -230,7 +234,8 @@ module _ (l : LinkOf TrueSegments) where
 
     -- a link in use goes to DI
     pub closes_late : is_live l.port.phase ≡ false → keeps_numbers l ≡ true →
-        cut_link With (requeued true_segments (Some Disconnecting) l.queue.said l) ≡ requeued wire_segments (Some Disconnecting) l.queue.said (cut_link With l)
+        cut_link With (requeued true_segments (Some Disconnecting) l.queue.said l) ≡
+        requeued wire_segments (Some Disconnecting) l.queue.said (cut_link With l)
     closes_late dead kept = requeued_same (Some Disconnecting) l.queue.said (λ e. absurd cc)
 
   -- live links go to a live phase

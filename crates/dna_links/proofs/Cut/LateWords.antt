@@ -9,7 +9,8 @@ use Rattle.dna_station.specs.declared.link_refusal.LinkRefusal.TheVariants.{Wron
 use Rattle.dna_links.specs.Segmentation.{piece_of, is_next_piece}
 use Rattle.dna_links.specs.SegmentBook.{Sending, Late, with_gap, wider, REACH, wire, distance, is_of_data}
 use Rattle.dna_links.specs.TrueSegments.{TrueSegments, Numbers, Named, NamedLate, highest_given, highest_received, all_named, acks_named, sends_acks}
-use Rattle.dna_links.specs.TrueSegments.{sending, with_number_late, with_first_late, named_late, all_named_late, is_new, is_repeat, sends_new, sends_again}
+use Rattle.dna_links.specs.TrueSegments.{sending, with_number_late, with_first_late, named_late, all_named_late, is_new, is_repeat, sends_new}
+use Rattle.dna_links.specs.TrueSegments.{sends_again}
 use Rattle.dna_links.specs.TrueSegments.{segment_named, sends_segment, new_late, sends_late, went_on}
 use Rattle.dna_links.specs.WireSegments.{WireSegments, LastSent, LateSent}
 use Rattle.dna_links.specs.WireSegments as wire
@@ -65,7 +66,8 @@ module _ (r : ℕ) where
       first agree =
           behind_word words agree last least most (last + distance (wire last) word.number) (distance word.number (wire last))
           (leb (last + distance (wire last) word.number) r)
-          (leb (distance word.number (wire last)) gap && (leb (distance word.number (wire last)) REACH && leb (distance word.number (wire last)) last))
+          (leb (distance word.number (wire last)) gap &&
+          (leb (distance word.number (wire last)) REACH && leb (distance word.number (wire last)) last))
           (leb-true (last + distance (wire last) word.number) r)
           (λ c. leb-true (distance word.number (wire last)) last
           (and_parts (leb (distance word.number (wire last)) REACH) (leb (distance word.number (wire last)) last)
@@ -74,7 +76,8 @@ module _ (r : ℕ) where
           ∙ ap₂ (λ (o : Option LastSent) (b : Bool). wire.after_first_late o
           (λ next. wire.all_named_late (wire r) words (record { sent = next; gap = cond b 0 (distance word.number (wire last)) })))
           (sym (chosen (leb (last + distance (wire last) word.number) r)
-          (leb (distance word.number (wire last)) gap && (leb (distance word.number (wire last)) REACH && leb (distance word.number (wire last)) last))
+          (leb (distance word.number (wire last)) gap &&
+          (leb (distance word.number (wire last)) REACH && leb (distance word.number (wire last)) last))
           (λ (n : ℕ). sent_of (max last n)) (last + distance (wire last) word.number) (last - distance word.number (wire last)) _ _ refl refl)
           ∙ one_same r last least most (leb (distance word.number (wire last)) gap) word.number)
           (ahead_same r last least most word.number)
@@ -119,7 +122,8 @@ module _ (f : TrueSegments) (ordered : IsOrdered f) (answered : IsAnswered f) wh
           subst (λ (x : Sending TrueSegments Numbers). GoesOn f x.segments) (same_Ok (sending 0 names f (record f { last = names.last })) sent e)
           (record { more = n.more; most = n.most })
 
-  segment_goes_on : (segsize : ℕ) (s : SegmentValue) (sent : Sending TrueSegments Numbers) → sends_segment segsize s f ≡ Ok sent → GoesOn f sent.segments
+  segment_goes_on : (segsize : ℕ) (s : SegmentValue) (sent : Sending TrueSegments Numbers) → sends_segment segsize s f ≡ Ok sent →
+      GoesOn f sent.segments
   segment_goes_on segsize s sent e = go (all_named (not (is_new s f)) (highest_received f) s.acks f.last) refl e
     where
       kind : (names : Named) → AreNamed s.acks f.last (highest_received f) names → (b : Bool) →
@@ -162,7 +166,8 @@ module _ (f : TrueSegments) (ordered : IsOrdered f) (answered : IsAnswered f) wh
       by_new : (b : Bool) →
           cut_late (cond b (new_late (all_named_late (highest_received f) s.acks gap f.last) segsize s f)
           (with_gap (λ sent. wider gap (went_on f sent.segments)) (sends_segment segsize s f)))
-          ≡ cond b (wire.new_late (wire.all_named_late (wire (highest_received f)) s.acks (record { sent = sent_of f.last; gap = gap })) segsize s (cut f))
+          ≡ cond b (wire.new_late
+          (wire.all_named_late (wire (highest_received f)) s.acks (record { sent = sent_of f.last; gap = gap })) segsize s (cut f))
           (with_gap (λ sent. wider gap (wire.went_on (cut f) sent.segments)) (wire.sends_segment segsize s (cut f)))
       by_new true =
           new_late_same segsize s (all_named_late (highest_received f) s.acks gap f.last)

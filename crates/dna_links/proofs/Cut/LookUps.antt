@@ -80,14 +80,16 @@ abbrev pub NoneFor : LinkTest → Links → Type 0
 NoneFor test s = (n : ℕ) (l : LinkOf TrueSegments) → slice_get s.links n ≡ Some l → passes test l.port ≡ false
 
 -- a way to go on with a link commutes, wherever a link stands there and passes
-abbrev pub GoesAlong : (queues : Queues) {R R' : Type 0} (g : R → R') → LinkTest → Links → (ℕ → LinkOf TrueSegments → R) → (ℕ → LinkOf WireSegments → R') → Type 0
+abbrev pub GoesAlong : (queues : Queues) {R R' : Type 0} (g : R → R') → LinkTest → Links → (ℕ → LinkOf TrueSegments → R) →
+    (ℕ → LinkOf WireSegments → R') → Type 0
 GoesAlong queues g test s next next' = (n : ℕ) (l : LinkOf TrueSegments) → slice_get s.links n ≡ Some l → passes test l.port ≡ true →
     g (next n l) ≡ next' n (cut_link queues l)
 
 number_same : (queues : Queues) (test : LinkTest) (s : Links) → number_of test (cut_links queues s) ≡ number_of test s
 number_same queues test s = position-map (λ (l : LinkOf WireSegments). passes test l.port) (cut_link queues) s.links
 
-module _ (queues : Queues) {R R' : Type 0} (g : R → R') (test : LinkTest) (s : Links) (otherwise : R) (otherwise' : R') (next : ℕ → LinkOf TrueSegments → R)
+module _ (queues : Queues) {R R' : Type 0} (g : R → R') (test : LinkTest) (s : Links) (otherwise : R) (otherwise' : R')
+    (next : ℕ → LinkOf TrueSegments → R)
     (next' : ℕ → LinkOf WireSegments → R') where
   at_same : (NoneFor test s → g otherwise ≡ otherwise') → GoesAlong queues g test s next next' → (o : Option ℕ) → IsFound (passed_by test) s.links o
       → g (at_number s.links o otherwise next) ≡ at_number (map (cut_link queues) s.links) o otherwise' next'
@@ -106,8 +108,12 @@ module _ (queues : Queues) {R R' : Type 0} (g : R → R') (test : LinkTest) (s :
 
 -- ---- changes
 
-pub changed_same : (queues : Queues) (n : ℕ) (l : LinkOf TrueSegments) (s : Links) → cut_links queues (changed n l s) ≡ changed n (cut_link queues l) (cut_links queues s)
-changed_same queues n l s = ap (λ (links : List (LinkOf WireSegments)). record (cut_links queues s) { links = links }) (map-set (cut_link queues) s.links n l)
+pub changed_same : (queues : Queues) (n : ℕ) (l : LinkOf TrueSegments) (s : Links) →
+    cut_links queues (changed n l s) ≡ changed n (cut_link queues l) (cut_links queues s)
+changed_same queues n l s =
+    ap (λ (links : List (LinkOf WireSegments)). record (cut_links queues s) { links = links }) (map-set (cut_link queues) s.links n l)
 
-pub begun_same : (queues : Queues) (l : LinkOf TrueSegments) (s : Links) → cut_links queues (begun l s) ≡ begun (cut_link queues l) (cut_links queues s)
-begun_same queues l s = ap (λ (links : List (LinkOf WireSegments)). record (cut_links queues s) { links = links }) (map-append (cut_link queues) s.links (l ∷ []))
+pub begun_same : (queues : Queues) (l : LinkOf TrueSegments) (s : Links) →
+    cut_links queues (begun l s) ≡ begun (cut_link queues l) (cut_links queues s)
+begun_same queues l s =
+    ap (λ (links : List (LinkOf WireSegments)). record (cut_links queues s) { links = links }) (map-append (cut_link queues) s.links (l ∷ []))

@@ -59,7 +59,8 @@ module _ (r : ℕ) where
     stays_same : (number : ℕ) → sent_of (max last (last - distance number (wire last))) ≡ sent_of last
     stays_same number = let e : max last (last - distance number (wire last)) ≡ last = omega arith in ap sent_of e
 
-    pub one_same : (again : Bool) (number : ℕ) → option_map (λ (n : ℕ). sent_of (max last n)) (named again last r number) ≡ wire.last_named again (wire r)
+    pub one_same : (again : Bool) (number : ℕ) →
+        option_map (λ (n : ℕ). sent_of (max last n)) (named again last r number) ≡ wire.last_named again (wire r)
         number (sent_of last)
     one_same again number =
         chosen (leb (last + distance (wire last) number) r)
@@ -169,7 +170,8 @@ module _ (f : TrueSegments) (ordered : IsOrdered f) where
   new_checked segsize p room sent =
       check room LinkWindowFull (check (leb (length p.body) segsize) SegmentTooLong (check (is_next_piece p f.unsent) WrongSegment (Ok sent)))
 
-  pub sends_new_same : (segsize : ℕ) (p : Piece) (names : Named) → cut_sending (sends_new segsize p names f) ≡ wire.sends_new segsize p (last_in names)
+  pub sends_new_same : (segsize : ℕ) (p : Piece) (names : Named) →
+      cut_sending (sends_new segsize p names f) ≡ wire.sends_new segsize p (last_in names)
       (cut f)
   sends_new_same segsize p names =
       three_checks (ltb (highest_given f - f.acknowledged) REACH) (leb (length p.body) segsize) (is_next_piece p f.unsent)

@@ -73,7 +73,8 @@ module _ (s : Links) (ordered : AreOrdered s) where
       → cut_one (ending true_segments s n l) ≡ ending wire_segments (cut_links Without s) n (cut_link Without l)
   ending_same n l there live =
       ap (λ (all : LinksOf WireSegments). record (ending wire_segments (cut_links Without s) n (cut_link Without l)) { links = all })
-      (changed_same Without n (ended true_segments l) s ∙ ap (λ (w : LinkOf WireSegments). changed n w (cut_links Without s)) (ended_same l live (ordered n l there)))
+      (changed_same Without n (ended true_segments l) s
+      ∙ ap (λ (w : LinkOf WireSegments). changed n w (cut_links Without s)) (ended_same l live (ordered n l there)))
 
   confirms_same : (src dst : ℕ) → cut_sent Without (confirms_end true_segments s src dst) ≡ confirms_end wire_segments (cut_links Without s) src dst
   confirms_same src dst = by_address (eqb src 0)
@@ -84,7 +85,8 @@ module _ (s : Links) (ordered : AreOrdered s) where
           ≡ cond b (with_link (CalledBy dst) (cut_links Without s) (Ok (of_no_link wire_segments (cut_links Without s)))
           (λ n l. Ok (ending wire_segments (cut_links Without s) n l))) (Ok (of_no_link wire_segments (cut_links Without s)))
       by_address true =
-          with_link_same Without (cut_sent Without) (CalledBy dst) s (Ok (of_no_link true_segments s)) (Ok (of_no_link wire_segments (cut_links Without s)))
+          with_link_same Without (cut_sent Without) (CalledBy dst) s (Ok (of_no_link true_segments s))
+          (Ok (of_no_link wire_segments (cut_links Without s)))
           (λ n l. Ok (ending true_segments s n l))
           (λ n l. Ok (ending wire_segments (cut_links Without s) n l))
           (λ none. refl) (λ n l there here. ap Ok (ending_same n l there
@@ -130,7 +132,8 @@ module _ (s : Links) (ordered : AreOrdered s) where
       sends_acks_same l.segments (ordered n l there).segments ((ordered n l there).answered run) acks
       ∙ ap (wire.sends_acks acks) (sym (live_segments l live))
 
-  message_same : (m : NspValue) → cut_sent Without (message_sent Without true_segments s m) ≡ message_sent Without wire_segments (cut_links Without s) m
+  message_same : (m : NspValue) →
+      cut_sent Without (message_sent Without true_segments s m) ≡ message_sent Without wire_segments (cut_links Without s) m
   message_same (ConnectInitiate retransmitted src services info segsize user_data) = in_its_phase_same (OpenedAt src) is_calling
   message_same (ConnectAck dst) =
       with_link_same Without (cut_sent Without) (BegunBy dst) s (Err NoLink) (Err NoLink) (λ n l. Ok (unchanged true_segments s n l))
@@ -138,7 +141,8 @@ module _ (s : Links) (ordered : AreOrdered s) where
   message_same (ConnectConfirm dst src services info segsize user_data) = in_its_phase_same (TheLink src dst) is_confirming
   message_same (DisconnectInitiate dst src reason user_data) = in_its_phase_same (TheLink src dst) is_disconnecting
   message_same (DisconnectConfirm dst src reason) =
-      with_link_same Without (cut_sent Without) (TheLink src dst) s (confirms_end true_segments s src dst) (confirms_end wire_segments (cut_links Without s) src dst)
+      with_link_same Without (cut_sent Without) (TheLink src dst) s (confirms_end true_segments s src dst)
+      (confirms_end wire_segments (cut_links Without s) src dst)
       (λ n l. Err LinkState) (λ n l. Err LinkState)
       (λ none. confirms_same src dst) (λ n l there here. refl)
   message_same (DataSegment segment) =

@@ -38,7 +38,8 @@ module _ (l : LinkOf TrueSegments) where
     pub live_segments : (cut_link Without l).segments ≡ cut l.segments
     live_segments = ap (λ (b : Bool). cut_as b l.port.own l.segments) live
 
-    pub segments_changed : (f : TrueSegments) (w : WireSegments) → cut f ≡ w → cut_link Without (with_segments f l) ≡ with_segments w (cut_link Without l)
+    pub segments_changed : (f : TrueSegments) (w : WireSegments) → cut f ≡ w →
+        cut_link Without (with_segments f l) ≡ with_segments w (cut_link Without l)
     segments_changed f w same = ap (λ (v : WireSegments). with_segments v (cut_link Without l)) (ap (λ (b : Bool). cut_as b l.port.own f) live ∙ same)
 
     pub phase_changed : (phase : Phase) → is_live phase ≡ true → cut_link Without (in_phase phase l) ≡ in_phase phase (cut_link Without l)
@@ -63,9 +64,11 @@ module _ (l : LinkOf TrueSegments) where
         go None e = absurd cc
 
   -- an ended link that loses its address keeps nothing
-  forgotten_same : is_live l.port.phase ≡ false → cut_link Without (forgotten true_segments Without l) ≡ forgotten wire_segments Without (cut_link Without l)
+  forgotten_same : is_live l.port.phase ≡ false →
+      cut_link Without (forgotten true_segments Without l) ≡ forgotten wire_segments Without (cut_link Without l)
   forgotten_same dead =
-      ap (λ (w : WireSegments). with_segments w (forgotten wire_segments Without (cut_link Without l))) (ap (λ (b : Bool). cut_as b None l.segments) dead)
+      ap (λ (w : WireSegments). with_segments w (forgotten wire_segments Without (cut_link Without l)))
+      (ap (λ (b : Bool). cut_as b None l.segments) dead)
 
 -- a boot leaves nothing of any link
 booted_one : (queues : Queues) (l : LinkOf TrueSegments) → cut_link queues (booted_link true_segments queues l) ≡
@@ -108,12 +111,14 @@ module _ (s : Links) where
       (changed_same Without n after s ∙ ap (λ (w : LinkOf WireSegments). changed n w (cut_links Without s)) same)
 
   -- the address that is given is no live link's
-  freed_same : (own : ℕ) → NoneFor (LiveAt own) s → cut_links Without (freed true_segments Without own s) ≡ freed wire_segments Without own (cut_links Without s)
+  freed_same : (own : ℕ) → NoneFor (LiveAt own) s →
+      cut_links Without (freed true_segments Without own s) ≡ freed wire_segments Without own (cut_links Without s)
   freed_same own none =
       with_link_same Without (cut_links Without) (HasAddress own) s s (cut_links Without s) (λ n l. changed n (forgotten true_segments Without l) s)
       (λ n l. changed n (forgotten wire_segments Without l) (cut_links Without s))
       (λ nobody. refl)
-      (λ n l there here. changed_same Without n (forgotten true_segments Without l) s ∙ ap (λ (w : LinkOf WireSegments). changed n w (cut_links Without s))
+      (λ n l there here. changed_same Without n (forgotten true_segments Without l) s
+      ∙ ap (λ (w : LinkOf WireSegments). changed n w (cut_links Without s))
       (forgotten_same l (dead n l there here)))
     where
       dead : (n : ℕ) (l : LinkOf TrueSegments) → slice_get s.links n ≡ Some l → is_at l.port.own own ≡ true → is_live l.port.phase ≡ false
@@ -126,7 +131,8 @@ module _ (s : Links) where
   gives_same : (own : ℕ) (next : Links) (next' : LinksOf WireSegments) → (NoneFor (LiveAt own) s → cut_links Without next ≡ next') →
       cut_result Without (gives true_segments own s next) ≡ gives wire_segments own (cut_links Without s) next'
   gives_same own next next' same =
-      with_link_same Without (cut_result Without) (LiveAt own) s (Ok next) (Ok next') (λ n l. Err AddressInUse) (λ n l. Err AddressInUse) (λ none. ap Ok (same none))
+      with_link_same Without (cut_result Without) (LiveAt own) s (Ok next) (Ok next') (λ n l. Err AddressInUse) (λ n l. Err AddressInUse)
+      (λ none. ap Ok (same none))
       (λ n l there here. refl)
 
   answers_same : (phase : Phase) (far own : ℕ) → is_live phase ≡ true →
@@ -135,12 +141,14 @@ module _ (s : Links) where
   answers_same phase far own to =
       with_link_same Without (cut_result Without) (CalledBy far) s (Err NoLink) (Err NoLink)
       (λ n l. gives true_segments own s (changed n (answered true_segments phase own l) (freed true_segments Without own s)))
-      (λ n l. gives wire_segments own (cut_links Without s) (changed n (answered wire_segments phase own l) (freed wire_segments Without own (cut_links Without s))))
+      (λ n l. gives wire_segments own (cut_links Without s)
+      (changed n (answered wire_segments phase own l) (freed wire_segments Without own (cut_links Without s))))
       (λ none. refl) along
     where
       along : (n : ℕ) (l : LinkOf TrueSegments) → slice_get s.links n ≡ Some l → passes (CalledBy far) l.port ≡ true
           → cut_result Without (gives true_segments own s (changed n (answered true_segments phase own l) (freed true_segments Without own s)))
-          ≡ gives wire_segments own (cut_links Without s) (changed n (answered wire_segments phase own (cut_link Without l)) (freed wire_segments Without own (cut_links Without s)))
+          ≡ gives wire_segments own (cut_links Without s)
+          (changed n (answered wire_segments phase own (cut_link Without l)) (freed wire_segments Without own (cut_links Without s)))
       along n l there here =
           let called = (and_parts (is_called l.port.phase) (is_at l.port.far far) here).0 in
           gives_same own (changed n (answered true_segments phase own l) (freed true_segments Without own s))
@@ -153,16 +161,19 @@ module _ (s : Links) where
   user_same (Open own) =
       gives_same own (begun (opened true_segments own) (freed true_segments Without own s))
       (begun (opened wire_segments own) (freed wire_segments Without own (cut_links Without s)))
-      (λ none. begun_same Without (opened true_segments own) (freed true_segments Without own s) ∙ ap (begun (opened wire_segments own)) (freed_same own none))
+      (λ none. begun_same Without (opened true_segments own) (freed true_segments Without own s)
+      ∙ ap (begun (opened wire_segments own)) (freed_same own none))
   user_same (Accept far own) = answers_same Confirming far own refl
   user_same (Reject far own) = answers_same Disconnecting far own refl
   user_same (In own message) =
       with_link_same Without (cut_result Without) (LiveAt own) s (Err NoLink) (Err NoLink)
       (λ n l. check (takes_messages l.port.phase) LinkState (Ok (changed n (with_segments (hands_in message l.segments) l) s)))
-      (λ n l. check (takes_messages l.port.phase) LinkState (Ok (changed n (with_segments (wire.hands_in message l.segments) l) (cut_links Without s))))
+      (λ n l. check (takes_messages l.port.phase) LinkState
+      (Ok (changed n (with_segments (wire.hands_in message l.segments) l) (cut_links Without s))))
       (λ none. refl) (λ n l there here.
       let live = (and_parts (is_live l.port.phase) (is_at l.port.own own) here).0 in
-      changes n l (with_segments (hands_in message l.segments) l) (with_segments (wire.hands_in message (cut_link Without l).segments) (cut_link Without l))
+      changes n l (with_segments (hands_in message l.segments) l)
+      (with_segments (wire.hands_in message (cut_link Without l).segments) (cut_link Without l))
       (takes_messages l.port.phase)
       (segments_changed l live (hands_in message l.segments) (wire.hands_in message (cut_link Without l).segments)
       (ap (wire.hands_in message) (sym (live_segments l live)))))
@@ -172,7 +183,8 @@ module _ (s : Links) where
       (λ n l. delivered wire_segments n l (cut_links Without s) (wire.delivers message l.segments))
       (λ none. refl) (λ n l there here.
       delivered_same n l s (delivers message l.segments)
-      ∙ ap (delivered wire_segments n (cut_link Without l) (cut_links Without s)) (delivers_at (is_live l.port.phase) l.port.own own l.segments message here))
+      ∙ ap (delivered wire_segments n (cut_link Without l) (cut_links Without s))
+      (delivers_at (is_live l.port.phase) l.port.own own l.segments message here))
   user_same (Close own) =
       with_link_same Without (cut_result Without) (LiveAt own) s (Err NoLink) (Err NoLink)
       (λ n l. check (is_connected l.port.phase) LinkState (Ok (changed n (in_phase Disconnecting l) s)))

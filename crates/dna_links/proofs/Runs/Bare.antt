@@ -91,10 +91,12 @@ goes_late false phase l e = requeued_bare (Some phase) l.queue.said l
 
 pub freed_bare : (own : ℕ) (s : Links) → bare_links (freed true_segments With own s) ≡ freed true_segments Without own (bare_links s)
 freed_bare own s =
-    sym (plain_are (freed true_segments With own s)) ∙ freed_plain true_segments true_lets_go own s ∙ ap (freed true_segments Without own) (plain_are s)
+    sym (plain_are (freed true_segments With own s)) ∙ freed_plain true_segments true_lets_go own s
+    ∙ ap (freed true_segments Without own) (plain_are s)
 
 pub booted_bare : (s : Links) → bare_links (booted true_segments With s) ≡ booted true_segments Without (bare_links s)
-booted_bare s = sym (plain_are (booted true_segments With s)) ∙ booted_plain true_segments true_lets_go s ∙ ap (booted true_segments Without) (plain_are s)
+booted_bare s =
+    sym (plain_are (booted true_segments With s)) ∙ booted_plain true_segments true_lets_go s ∙ ap (booted true_segments Without) (plain_are s)
 
 -- the link with this address is settled
 abbrev pub settled_of : (own : ℕ) → Links → Links

@@ -22,7 +22,8 @@ use Rattle.dna_links.specs.TrueLinks.{Links}
 use Rattle.dna_links.specs.Captures.{deliveries, delivery_count, ups}
 use Rattle.dna_links.proofs.Runs.Loose.{UserDid, Opens, Accepts, Rejects, HandsIn, Delivers, Closes, ClosesLate, Aborts, Boots}
 use Rattle.dna_links.proofs.Runs.Loose.{SentDid, OfNone, Stays, EndsCalled, Segment, Acks}
-use Rattle.dna_links.proofs.Tables.Outcomes.{looked, ArrivedDid, Ignores, Begins, Confirms, Ends, TakesSegment, TakesAcks, TakesOther}
+use Rattle.dna_links.proofs.Tables.Outcomes.{looked}
+use Rattle.dna_links.proofs.Tables.MessageOutcomes.{ArrivedDid, Ignores, Begins, Confirms, Ends, TakesSegment, TakesAcks, TakesOther}
 use Rattle.dna_links.proofs.Runs.Pieces.{delivered_is}
 use Rattle.dna_links.proofs.Runs.Sends.{AreSoundSegments}
 use Rattle.dna_links.proofs.Runs.Sides.{set_same, set_other}
@@ -57,15 +58,18 @@ booted_count (link ∷ links) = ap (λ (n : ℕ). length link.segments.delivered
 
 module _ (s : Links) where
   freed_count : (own : ℕ) → deliveries (freed true_segments Without own s).links ≡ deliveries s.links
-  freed_count own = looked (HasAddress own) s s (λ number link. changed number (forgotten true_segments Without link) s) (freed true_segments Without own s) refl
+  freed_count own =
+      looked (HasAddress own) s s (λ number link. changed number (forgotten true_segments Without link) s) (freed true_segments Without own s) refl
       (λ none e. ap (λ (x : Links). deliveries x.links) (sym e))
-      (λ number link found e. ap (λ (x : Links). deliveries x.links) (sym e) ∙ set_same_count s.links number link (forgotten true_segments Without link)
+      (λ number link found e. ap (λ (x : Links). deliveries x.links) (sym e)
+      ∙ set_same_count s.links number link (forgotten true_segments Without link)
       found.there refl)
 
   -- a link that was there has delivered as much
   freed_at : (own number : ℕ) (link : LinkOf TrueSegments) → slice_get s.links number ≡ Some link → (there : LinkOf TrueSegments) ×
       (slice_get (freed true_segments Without own s).links number ≡ Some there) × (there.segments.delivered ≡ link.segments.delivered)
-  freed_at own number link at = looked (HasAddress own) s s (λ n l. changed n (forgotten true_segments Without l) s) (freed true_segments Without own s) refl
+  freed_at own number link at =
+      looked (HasAddress own) s s (λ n l. changed n (forgotten true_segments Without l) s) (freed true_segments Without own s) refl
       (λ none e. subst (λ (x : Links). (there : LinkOf TrueSegments) × (slice_get x.links number ≡ Some there) ×
       (there.segments.delivered ≡ link.segments.delivered)) e (link, at, refl))
       (λ n l found e. subst
@@ -74,7 +78,8 @@ module _ (s : Links) where
       (go n l found.there (cases_eq number n)))
     where
       go : (n : ℕ) (l : LinkOf TrueSegments) → slice_get s.links n ≡ Some l → (number ≡ n) ⊎ (number ≡ n → ⊥) → (there : LinkOf TrueSegments) ×
-          (slice_get (slice_set s.links n (forgotten true_segments Without l)) number ≡ Some there) × (there.segments.delivered ≡ link.segments.delivered)
+          (slice_get (slice_set s.links n (forgotten true_segments Without l)) number ≡ Some there) ×
+          (there.segments.delivered ≡ link.segments.delivered)
       go n l there (inl e) = (
         forgotten true_segments Without l,
         ap (slice_get (slice_set s.links n (forgotten true_segments Without l))) e ∙ set_same s.links n l (forgotten true_segments Without l) there,

@@ -9,7 +9,9 @@ use Rattle.dna_links.specs.Bounds.{AreLinksBounded, AreCutInStep}
 use Rattle.dna_links.specs.Delivery.{DeliversLinks}
 use Rattle.dna_links.specs.Captures.{AreUpFrom, deliveries, ups}
 use Rattle.dna_links.specs.Alike.{bare_world}
-use Rattle.dna_links.proofs.Cut.Late.{user_late, sent_late, arrived_late}
+use Rattle.dna_links.proofs.Cut.LateUser.{user_late}
+use Rattle.dna_links.proofs.Cut.LateSends.{sent_late}
+use Rattle.dna_links.proofs.Cut.LateArrives.{arrived_late}
 use Rattle.dna_links.proofs.Runs.Loose.{without_loose}
 use Rattle.dna_links.proofs.Runs.Late.{with_loose}
 use Rattle.dna_links.proofs.Runs.Bounds.{side_in_step}
@@ -43,7 +45,8 @@ module _ (node_a peer_a node_b peer_b : ℕ) (w : LinkWorld) (of_a of_b : List L
       let d = loose.delivers node_a peer_a node_b peer_b (bare_world w) of_a of_b (with_loose run) in
       (delivers_bare w.a w.b d.0, delivers_bare w.b w.a d.1)
 
-  pub read : (queues : Queues) → Run queues → AreUpFrom of_a of_b w.a.links.links w.b.links.links × AreUpFrom of_b of_a w.b.links.links w.a.links.links
+  pub read : (queues : Queues) → Run queues →
+      AreUpFrom of_a of_b w.a.links.links w.b.links.links × AreUpFrom of_b of_a w.b.links.links w.a.links.links
   read Without run = loose.read node_a peer_a node_b peer_b w of_a of_b (without_loose run)
   read With run =
       let r = loose.read node_a peer_a node_b peer_b (bare_world w) of_a of_b (with_loose run) in

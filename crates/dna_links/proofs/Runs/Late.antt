@@ -25,8 +25,9 @@ use Rattle.dna_links.specs.TrueLinks.{Links, links_user, links_arrived}
 use Rattle.dna_links.specs.Runs.{LinkSide, LinkWorld, LinkStep, Reached, Start, ByA, ByB}
 use Rattle.dna_links.specs.Runs as runs
 use Rattle.dna_links.specs.Alike.{bare, bare_links, bare_side, bare_world}
-use Rattle.dna_links.proofs.Tables.Outcomes.{IsFound, looked, checked, ArrivedDid, Ignores}
-use Rattle.dna_links.proofs.Tables.Outcomes.{Begins, Confirms, Ends, TakesSegment, TakesAcks, TakesOther}
+use Rattle.dna_links.proofs.Tables.Outcomes.{IsFound, looked, checked}
+use Rattle.dna_links.proofs.Tables.MessageOutcomes.{ArrivedDid, Ignores}
+use Rattle.dna_links.proofs.Tables.MessageOutcomes.{Begins, Confirms, Ends, TakesSegment, TakesAcks, TakesOther}
 use Rattle.dna_links.proofs.Cut.User.{live_if}
 use Rattle.dna_links.proofs.Runs.Loose.{UserDid, Opens, Accepts, Rejects, HandsIn, Delivers, Closes, ClosesLate, Aborts, Boots}
 use Rattle.dna_links.proofs.Runs.Loose.{LooseStep, LooselyReached, OfA, OfB}
@@ -84,7 +85,8 @@ module _ (s left : Links) where
       (λ number link found e. go number link found (delivers message link.segments) refl e)
     where
       go : (number : ℕ) (link : LinkOf TrueSegments) → IsFound (HasAddress own) s number link → (o : Option TrueSegments) →
-          delivers message link.segments ≡ o → delivered true_segments number link s o ≡ Ok left → UserDid (bare_links s) (Up own message) (bare_links left)
+          delivers message link.segments ≡ o → delivered true_segments number link s o ≡ Ok left →
+          UserDid (bare_links s) (Up own message) (bare_links left)
       go number link found None does e = absurd cc
       go number link found (Some f) does e =
           user_is (Up own message) _ _ (Delivers own message number (bare link) f (found_bare (HasAddress own) s number link found) does)
@@ -121,13 +123,15 @@ module _ (rule : PartnerRule) (s left : Links) (truth : LinkTruth Numbers) where
       subst (λ (x : Links). ArrivedDid true_segments rule (bare_links s) m truth (bare_links x)) (same_Ok next left e)
       (subst (λ (x : Links). ArrivedDid true_segments rule (bare_links s) m truth x) (sym same) d)
 
-  one_bare : (number : ℕ) (link link' : LinkOf TrueSegments) → bare link ≡ link' → bare_links (changed number link s) ≡ changed number link' (bare_links s)
+  one_bare : (number : ℕ) (link link' : LinkOf TrueSegments) → bare link ≡ link' →
+      bare_links (changed number link s) ≡ changed number link' (bare_links s)
   one_bare number link link' same = changed_bare number link s ∙ ap (λ (x : LinkOf TrueSegments). changed number x (bare_links s)) same
 
   ends_late : (m : NspValue) (own far : ℕ) →
       with_link {R = Result Links LinkRefusal} (TheLink own far) s
       (with_link {R = Result Links LinkRefusal} (CallingAt own) s (Ok s) (λ n l. Ok (changed n (ends_by_message true_segments With l) s)))
-      (λ n l. Ok (changed n (ends_by_message true_segments With l) s)) ≡ Ok left → ArrivedDid true_segments rule (bare_links s) m truth (bare_links left)
+      (λ n l. Ok (changed n (ends_by_message true_segments With l) s)) ≡ Ok left →
+      ArrivedDid true_segments rule (bare_links s) m truth (bare_links left)
   ends_late m own far e =
       looked (TheLink own far) s _ _ (Ok left) e
       (λ missing e. looked (CallingAt own) s (Ok s) _ (Ok left) e
@@ -143,7 +147,8 @@ module _ (rule : PartnerRule) (s left : Links) (truth : LinkTruth Numbers) where
       rule (is_of_pair number link.partner truth.tag) ≡ true →
       ArrivedDid true_segments rule (bare_links s) m truth
       (changed number (running true_segments rule (λ l. takes l.segments) (bare link)) (bare_links s))) →
-      with_link {R = Result Links LinkRefusal} (ActedOn own far) s (Ok s) (λ number link. check (rule (is_of_pair number link.partner truth.tag)) CrossedLink
+      with_link {R = Result Links LinkRefusal} (ActedOn own far) s (Ok s)
+      (λ number link. check (rule (is_of_pair number link.partner truth.tag)) CrossedLink
       (Ok (changed number (with_segments (takes (goes_on true_segments (is_live link.port.phase) Running link).segments)
       (goes_on true_segments (is_live link.port.phase) Running link)) s))) ≡ Ok left →
       ArrivedDid true_segments rule (bare_links s) m truth (bare_links left)
@@ -155,7 +160,8 @@ module _ (rule : PartnerRule) (s left : Links) (truth : LinkTruth Numbers) where
       (live_if is_connected refl link.port.phase (and_parts (is_connected link.port.phase) (has_both link.port own far) found.passed).0))) c.1)
     where
       go : (link : LinkOf TrueSegments) (b : Bool) → b ≡ true →
-          bare (with_segments (takes (goes_on true_segments b Running link).segments) (goes_on true_segments b Running link)) ≡ running true_segments rule (λ l. takes l.segments) (bare link)
+          bare (with_segments (takes (goes_on true_segments b Running link).segments) (goes_on true_segments b Running link)) ≡
+          running true_segments rule (λ l. takes l.segments) (bare link)
       go link true e = refl
       go link false e = absurd cc
 
@@ -176,7 +182,8 @@ module _ (rule : PartnerRule) (s left : Links) (truth : LinkTruth Numbers) where
       (live_if is_calling refl link.port.phase (and_parts (is_calling link.port.phase) (is_at link.port.own dst) found.passed).0))) c.1)
     where
       go : (link : LinkOf TrueSegments) (b : Bool) → b ≡ true →
-          bare (goes_on true_segments b Running (record link { port = record link.port { far = Some src }; partner = truth.tag.link; segsize = segsize }))
+          bare (goes_on true_segments b Running
+          (record link { port = record link.port { far = Some src }; partner = truth.tag.link; segsize = segsize }))
           ≡ confirmed true_segments rule src segsize truth.tag (bare link)
       go link true e = refl
       go link false e = absurd cc

@@ -26,7 +26,8 @@ use Rattle.dna_links.specs.TrueSegments.{TrueSegments, Numbers, sends_acks, send
 use Rattle.dna_links.specs.TrueSegments as segments
 use Rattle.dna_links.specs.TrueLinks.{Links, links_sent}
 use Rattle.dna_links.specs.Alike.{bare, bare_links}
-use Rattle.dna_links.proofs.Tables.Outcomes.{looked, checked, has_numbers}
+use Rattle.dna_links.proofs.Tables.Outcomes.{looked, checked}
+use Rattle.dna_links.proofs.Tables.MessageOutcomes.{has_numbers}
 use Rattle.dna_links.proofs.Runs.Sends.{acks_sent}
 use Rattle.dna_links.proofs.Runs.LateWords.{late_sent}
 use Rattle.dna_links.proofs.Runs.Loose.{SentDid, OfNone, Stays, EndsCalled, Segment, Acks}
@@ -86,7 +87,8 @@ module _ (s : Links) (made : Sent TrueSegments Numbers) where
   end_late dst src reason e =
       looked (TheLink src dst) s _ (λ n l. Err LinkState) (Ok made) e (λ none e. go (src == 0) refl e) (λ n l found e. absurd cc)
     where
-      of_zero : src ≡ 0 → with_link {R = Result (Sent TrueSegments Numbers) LinkRefusal} (CalledBy dst) s (Ok (of_no_link true_segments s)) dropped ≡ Ok made →
+      of_zero : src ≡ 0 →
+          with_link {R = Result (Sent TrueSegments Numbers) LinkRefusal} (CalledBy dst) s (Ok (of_no_link true_segments s)) dropped ≡ Ok made →
           SentDid (bare_links s) (DisconnectConfirm dst src reason) (bare_sent made)
       of_zero none_given e =
           looked (CalledBy dst) s (Ok (of_no_link true_segments s)) dropped (Ok made) e
@@ -97,7 +99,8 @@ module _ (s : Links) (made : Sent TrueSegments Numbers) where
           (with_links (changed number (drops true_segments With link) s) (changed number (ended true_segments (bare link)) (bare_links s)) number link
           (segments.sends_other link.segments) (changed_bare number (drops true_segments With link) s)) e)
 
-      of_address : ◌≡◌ {A = Result (Sent TrueSegments Numbers) LinkRefusal} (Ok (record (of_no_link true_segments s) { links = settled_of src s })) (Ok made) →
+      of_address : ◌≡◌ {A = Result (Sent TrueSegments Numbers) LinkRefusal}
+          (Ok (record (of_no_link true_segments s) { links = settled_of src s })) (Ok made) →
           SentDid (bare_links s) (DisconnectConfirm dst src reason) (bare_sent made)
       of_address e = sent_is _ _ _ (OfNone refl) (ap (λ (x : Links). record (of_no_link true_segments s) { links = x }) (settled_bare src s)) e
 
@@ -156,7 +159,8 @@ module _ (s : Links) (made : Sent TrueSegments Numbers) where
       (λ number link there passed e. let c = checked (may_send With Running link) LinkState _ made e in
       go number link there (sends_acks acks link.segments) refl c.1)
     where
-      go : (number : ℕ) (link : LinkOf TrueSegments) → slice_get s.links number ≡ Some link → (r : Result (Sending TrueSegments Numbers) LinkRefusal) →
+      go : (number : ℕ) (link : LinkOf TrueSegments) → slice_get s.links number ≡ Some link →
+          (r : Result (Sending TrueSegments Numbers) LinkRefusal) →
           sends_acks acks link.segments ≡ r → made_acks number link r ≡ Ok made → SentDid (bare_links s) (DataAck dst src acks) (bare_sent made)
       go number link there (Err refusal) does e = absurd cc
       go number link there (Ok sent) does e =

@@ -1,5 +1,6 @@
 -- What a segment is that a link with queues sends: as of one without, but for an older word in a new one.
-use Rattle.std.proofs.Common.{◌≡◌, ℕ, ◌+◌, ◌-◌, ◌<◌, ◌≤◌, Bool, true, false, nat_le, max, cond, ◌⊎◌, inl, inr, Option, Some, None, List, [], ◌∷◌, Ok, Err}
+use Rattle.std.proofs.Common.{◌≡◌, ℕ, ◌+◌, ◌-◌, ◌<◌, ◌≤◌, Bool, true, false, nat_le, max, cond, ◌⊎◌, inl, inr, Option, Some, None, List, [], ◌∷◌, Ok}
+use Rattle.std.proofs.Common.{Err}
 use Rattle.std.proofs.Common.{Result, refl, subst, arith, eqb-true}
 use Rattle.dna_packet.specs.declared.ack_word.AckWord.{AckWord}
 use Rattle.dna_packet.specs.Nsp.{SegmentValue}

@@ -19,8 +19,10 @@ use Rattle.dna_links.specs.TrueSegments.{TrueSegments, Numbers, hands_in, delive
 use Rattle.dna_links.specs.TrueLinks.{Links}
 use Rattle.dna_links.specs.Runs.{SentMessage, LinkSide, LinkWorld, sends, keeps, LinkStep, Reached, Start, ByA, ByB}
 use Rattle.dna_links.specs.Runs as runs
-use Rattle.dna_links.proofs.Tables.Outcomes.{IsFound, has_numbers, ArrivedDid, user_did, sent_did, arrived_did}
+use Rattle.dna_links.proofs.Tables.Outcomes.{IsFound, user_did}
+use Rattle.dna_links.proofs.Tables.MessageOutcomes.{has_numbers, ArrivedDid, sent_did, arrived_did}
 use Rattle.dna_links.proofs.Tables.Outcomes as outcomes
+use Rattle.dna_links.proofs.Tables.MessageOutcomes as messages
 use Rattle.dna_links.proofs.Runs.Sends.{AreSoundSegments, SendsWords, SendsSegment, acks_sent, segment_sent}
 
 -- ---- the user
@@ -55,7 +57,8 @@ pub data SentDid (s : Links) (m : NspValue) : Sent TrueSegments Numbers → Type
   Segment : (segment : SegmentValue) (number : ℕ) (link : LinkOf TrueSegments) (sent : Sending TrueSegments Numbers) → m ≡ DataSegment segment →
       slice_get s.links number ≡ Some link → ((o : AreSoundSegments link.segments) → SendsSegment link.segments o segment sent) →
       SentDid s m (record { links = changed number (with_segments sent.segments link) s; truth = truth_of true_segments number link sent.known })
-  Acks : (dst src : ℕ) (acks : List AckWord) (number : ℕ) (link : LinkOf TrueSegments) (sent : Sending TrueSegments Numbers) → m ≡ DataAck dst src acks →
+  Acks : (dst src : ℕ) (acks : List AckWord) (number : ℕ) (link : LinkOf TrueSegments) (sent : Sending TrueSegments Numbers) →
+      m ≡ DataAck dst src acks →
       slice_get s.links number ≡ Some link → ((o : AreSoundSegments link.segments) → SendsWords link.segments o acks sent) →
       SentDid s m (record { links = changed number (with_segments sent.segments link) s; truth = truth_of true_segments number link sent.known })
 
@@ -75,9 +78,11 @@ pub data LooseStep (own other : LinkSide) : List LinkEventValue → LinkSide →
 
 pub data LooselyReached (start : LinkWorld) : LinkWorld → (of_a of_b : List LinkEventValue) → Type 0 where
   Begins : LooselyReached start start [] []
-  OfA : {w : LinkWorld} {of_a of_b events : List LinkEventValue} {left : LinkSide} → LooselyReached start w of_a of_b → LooseStep w.a w.b events left →
+  OfA : {w : LinkWorld} {of_a of_b events : List LinkEventValue} {left : LinkSide} → LooselyReached start w of_a of_b →
+      LooseStep w.a w.b events left →
       LooselyReached start (record { a = left; b = w.b }) (of_a ++ events) of_b
-  OfB : {w : LinkWorld} {of_a of_b events : List LinkEventValue} {left : LinkSide} → LooselyReached start w of_a of_b → LooseStep w.b w.a events left →
+  OfB : {w : LinkWorld} {of_a of_b events : List LinkEventValue} {left : LinkSide} → LooselyReached start w of_a of_b →
+      LooseStep w.b w.a events left →
       LooselyReached start (record { a = w.a; b = left }) of_a (of_b ++ events)
 
 -- ---- without queues
@@ -94,13 +99,13 @@ user_loose s left event (outcomes.Closes own number link found connected) =
 user_loose s left event (outcomes.Aborts own number link found calling) = Aborts own number link found.there
 user_loose s left event outcomes.Boots = Boots
 
-sent_loose : (s : Links) (m : NspValue) (made : Sent TrueSegments Numbers) → outcomes.SentDid true_segments s m made → SentDid s m made
-sent_loose s m made (outcomes.OfNone none) = OfNone none
-sent_loose s m made (outcomes.Stays number link none there) = Stays number link none there
-sent_loose s m made (outcomes.EndsCalled far reason number link none is found) = EndsCalled far reason number link none is found
-sent_loose s m made (outcomes.Segment segment number link sent is found run does) =
+sent_loose : (s : Links) (m : NspValue) (made : Sent TrueSegments Numbers) → messages.SentDid true_segments s m made → SentDid s m made
+sent_loose s m made (messages.OfNone none) = OfNone none
+sent_loose s m made (messages.Stays number link none there) = Stays number link none there
+sent_loose s m made (messages.EndsCalled far reason number link none is found) = EndsCalled far reason number link none is found
+sent_loose s m made (messages.Segment segment number link sent is found run does) =
     Segment segment number link sent is found.there (λ o. segment_sent link.segments o link.segsize segment sent does)
-sent_loose s m made (outcomes.Acks dst src acks number link sent is found run does) =
+sent_loose s m made (messages.Acks dst src acks number link sent is found run does) =
     Acks dst src acks number link sent is found.there (λ o. acks_sent link.segments o acks sent does)
 
 step_loose : (own other left : LinkSide) (events : List LinkEventValue) → LinkStep Without own other events left → LooseStep own other events left

@@ -20,8 +20,8 @@ use Rattle.dna_links.specs.TrueSegments as segments
 use Rattle.dna_links.specs.TrueLinks.{Links}
 use Rattle.dna_links.specs.Captures.{given_address, gives_address, behind, AreRead}
 use Rattle.dna_links.proofs.Runs.Loose.{SentDid, OfNone, Stays, EndsCalled, Segment, Acks}
-use Rattle.dna_links.proofs.Tables.Outcomes.{ArrivedDid, Ignores, Begins, Confirms, Ends}
-use Rattle.dna_links.proofs.Tables.Outcomes.{TakesSegment, TakesAcks, TakesOther}
+use Rattle.dna_links.proofs.Tables.MessageOutcomes.{ArrivedDid, Ignores, Begins, Confirms, Ends}
+use Rattle.dna_links.proofs.Tables.MessageOutcomes.{TakesSegment, TakesAcks, TakesOther}
 use Rattle.dna_links.proofs.Runs.Sends.{AreSoundSegments}
 use Rattle.dna_links.proofs.Runs.Sides.{all_set, all_pushed}
 use Rattle.dna_links.proofs.Runs.Reads.{given_again, later_gives, HoldsFrom, HoldsAt, IsOwned, owned_same, gives_is}

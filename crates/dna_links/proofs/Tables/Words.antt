@@ -24,7 +24,8 @@ AreWords (word ∷ words) numbers =
     ((is_of_data word.qualifier ≡ true) × (first : ℕ) × (later : List ℕ) × (numbers ≡ first ∷ later) ×
     (word.number < 4096 → wire first ≡ word.number) × AreWords words later))
 
-pub named_one : (again : Bool) (last highest word number : ℕ) → last ≤ highest → named again last highest word ≡ Some number → (last ≤ number + 2047) ×
+pub named_one : (again : Bool) (last highest word number : ℕ) → last ≤ highest → named again last highest word ≡ Some number →
+    (last ≤ number + 2047) ×
     (number ≤ highest) × (word < 4096 → wire number ≡ word)
 named_one again last highest word number l e = go (nat_le (last + distance (wire last) word) highest) refl e
   where

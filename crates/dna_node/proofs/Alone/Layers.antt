@@ -77,7 +77,8 @@ module _ (queues : Queues) (s : WireLayers) where
       ∙ booted (wire_links_user queues s.links Boot)
     where
       booted : (o : Result WireLinks LinkRefusal) →
-          with_wire_links (record (forget_layers s) { station = wire_after_event (forget_station forget_tag s.station) Halt }) (effects.forget_result o)
+          with_wire_links (record (forget_layers s) { station = wire_after_event (forget_station forget_tag s.station) Halt })
+          (effects.forget_result o)
           ≡ forget_result forget_layers (with_wire_links (record s { station = wire_after_event s.station Halt }) o)
       booted (Ok links) = refl
       booted (Err refusal) = refl

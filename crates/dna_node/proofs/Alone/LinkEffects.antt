@@ -127,7 +127,8 @@ module _ {D K : Type 0} (queues : Queues) (book : SegmentBook D K) where
   forgotten_along Without l = refl
   forgotten_along With l = refl
 
-  booted_along : (links : List (LinkOf D)) → map (booted_link book queues) (map forget_link links) ≡ map forget_link (map (booted_link book queues) links)
+  booted_along : (links : List (LinkOf D)) →
+      map (booted_link book queues) (map forget_link links) ≡ map forget_link (map (booted_link book queues) links)
   booted_along [] = refl
   booted_along (l ∷ links) =
       ap₂ (λ (x : LinkOf D) (all : List (LinkOf D)). x ∷ all)

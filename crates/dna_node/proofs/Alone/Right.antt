@@ -42,7 +42,7 @@ use Rattle.dna_links.proofs.Runs.Every.{bounded}
 use Rattle.dna_node.proofs.ReadInRange.{content_in_range}
 use Rattle.dna_node.proofs.LayersRead.{LayersRead, packet_in, body_read}
 use Rattle.dna_node.proofs.LayersLabels.{layers_labelled}
-use Rattle.dna_node.proofs.CutLayersNode.{HasItsMessage, IsLayersBounded}
+use Rattle.dna_node.proofs.LayersBounded.{HasItsMessage, IsLayersBounded}
 use Rattle.dna_node.proofs.LayersBounds.{a_bounded}
 use Rattle.dna_node.proofs.Alone.Acks.{packet_right}
 use Rattle.dna_node.proofs.Alone.Layers.{layers_along}

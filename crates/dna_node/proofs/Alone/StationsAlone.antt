@@ -111,7 +111,8 @@ module _ (w : WireStation LinkTag) where
   pub header_bad : (fate : Fate) →
       (wire_machine of_any_period).arrives (forget w) HeaderBad fate ≡ forget_result forget ((wire_machine of_period).arrives w HeaderBad fate)
   header_bad fate =
-      alike (keep_refusal false (is_kept fate)) (wire_after_arrival w HeaderBad (is_kept fate)) (wire_after_arrival (forget w) HeaderBad (is_kept fate))
+      alike (keep_refusal false (is_kept fate)) (wire_after_arrival w HeaderBad (is_kept fate))
+      (wire_after_arrival (forget w) HeaderBad (is_kept fate))
       (header_along forget_tag w (is_kept fate))
 
   pub data_bad : (fate : Fate) →

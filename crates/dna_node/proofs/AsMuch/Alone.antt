@@ -74,7 +74,8 @@ module _ {S K : Type 0} (one : EndOf S K) (machine : Machine S K) (Beside : S â†
         IsMade (does n (noise_comes one.machine n.station arrival)) (does n' (noise_comes machine t arrival))
     noise_made None = tt
     noise_made (Some arrival) =
-        does_made (one.machine.arrives n.station arrival NotKept) (machine.arrives t arrival NotKept) (as_much.arrives n.station t beside arrival NotKept)
+        does_made (one.machine.arrives n.station arrival NotKept) (machine.arrives t arrival NotKept)
+        (as_much.arrives n.station t beside arrival NotKept)
 
     -- ---- a receipt
 

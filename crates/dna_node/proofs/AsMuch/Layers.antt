@@ -56,7 +56,8 @@ pub record Stands (s t : Layers) : Type 0 where
 
 -- ---- what becomes of the links
 
-with_links_done : (t : Layers) (o o' : Result Links LinkRefusal) → AreDone true_segments o o' → IsDone Stands (with_links (plain_layers t) o) (with_links t o')
+with_links_done : (t : Layers) (o o' : Result Links LinkRefusal) → AreDone true_segments o o' →
+    IsDone Stands (with_links (plain_layers t) o) (with_links t o')
 with_links_done t (Ok links) o' done = record {
   left = record t { links = done.links };
   is = ap (with_links t) done.does;

@@ -19,12 +19,14 @@ use Rattle.dna_links.specs.inner.Forms.{confirmed, running, acted_on}
 use Rattle.dna_links.specs.TrueSegments.{TrueSegments, true_segments}
 use Rattle.dna_links.specs.TrueLinks.{Links, links_arrived}
 use Rattle.dna_links.specs.Captures.{given_address}
-use Rattle.dna_links.specs.Runs.{SentMessage, LinkSide, LinkWorld, LinkStep, ByUser, Sends, SendsNone, Composes, Keeps, Passes, Reached, Start, ByA, ByB}
+use Rattle.dna_links.specs.Runs.{SentMessage, LinkSide, LinkWorld, LinkStep, ByUser, Sends, SendsNone, Composes, Keeps, Passes, Reached, Start, ByA}
+use Rattle.dna_links.specs.Runs.{ByB}
 use Rattle.dna_links.specs.Runs.{sends, new_world}
 use Rattle.dna_node.proofs.Once.Orderly.{higher, highest, AddressesRise, highest-join}
 use Rattle.two_nodes.proofs.NumberedSteps.{at_pushed}
 use Rattle.dna_links.proofs.Runs.Reads.{at_is}
-use Rattle.dna_links.proofs.Tables.Outcomes.{IsFound, looked, checked, user_did, sent_did, arrived_did}
+use Rattle.dna_links.proofs.Tables.Outcomes.{IsFound, looked, checked, user_did}
+use Rattle.dna_links.proofs.Tables.MessageOutcomes.{sent_did, arrived_did}
 use Rattle.dna_node.proofs.Once.Addresses.{AreAddressed, none_addressed, addressed_beside, user_addressed, AtNodes, LeavesAddressed}
 use Rattle.dna_node.proofs.Once.Messages.{source, target, IsAddressed, message_kept, sent_from, sent_stays, came_stays, same_links}
 
@@ -208,8 +210,9 @@ module _ (own other : LinkSide) (most others : ℕ) (h : IsAddressedSide own oth
       (λ number link found. ap (λ (b : Bool). check b CrossedLink (Ok (changed number (running true_segments of_anyone takes link) own.links)))
       (sym (of_it src dst number link from is found)))
 
-  message_same : (m : NspValue) → u.packet.message ≡ m → message_arrived Without true_segments of_anyone own.links m u.truth ≡ message_arrived Without true_segments
-      of_partner own.links m u.truth
+  message_same : (m : NspValue) → u.packet.message ≡ m →
+      message_arrived Without true_segments of_anyone own.links m u.truth ≡
+      message_arrived Without true_segments of_partner own.links m u.truth
   message_same (ConnectConfirm dst src services info segsize user_data) is = with_same (CallingAt dst) own.links (Ok own.links) _ _
       (λ number link found. ap
       (λ (b : Bool). check b CrossedLink (Ok (changed number (confirmed true_segments of_anyone src segsize tag link) own.links)))

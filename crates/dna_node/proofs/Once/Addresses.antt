@@ -221,7 +221,8 @@ module _ (s : Links) (others : LinkList) (most : ℕ) (h : AreAddressed s.links 
   -- nobody has it
   pub freed_same : (address : ℕ) → most < address → freed true_segments Without address s ≡ s
   freed_same address less =
-      looked (HasAddress address) s s (λ number link. changed number (forgotten true_segments Without link) s) (freed true_segments Without address s) refl
+      looked (HasAddress address) s s (λ number link. changed number (forgotten true_segments Without link) s)
+      (freed true_segments Without address s) refl
       (λ none e. sym e)
       (λ number link found e.
       let l = h.highest number address (record { link = link; there = found.there; owns = at_is link.port.own address found.passed }) in

@@ -1,5 +1,6 @@
 -- What two nodes make that ask no rule on tags, two that do make too, where each side starts at most once and gives its link addresses in order.
-use Rattle.std.proofs.Common.{◌≡◌, ℕ, ◌+◌, ◌≤◌, Bool, true, false, eqb, cond, nat_lt, Option, Some, None, Result, Ok, Err, option_map, List, [], ◌∷◌, ◌++◌, map, Err}
+use Rattle.std.proofs.Common.{◌≡◌, ℕ, ◌+◌, ◌≤◌, Bool, true, false, eqb, cond, nat_lt, Option, Some, None, Result, Ok, Err, option_map, List, [], ◌∷◌}
+use Rattle.std.proofs.Common.{◌++◌, map}
 use Rattle.std.proofs.Common.{refl, sym, ap, ◌∙◌, subst, arith}
 use Rattle.std.specs.Prelude.{slice_get, bytes_eq}
 use Rattle.std.proofs.lemmas.Bool.{and_parts}
@@ -39,11 +40,12 @@ use Rattle.dna_links.specs.declared.queue.Queues.TheVariants.{Without}
 use Rattle.dna_links.specs.TrueLinks.{Links, links_arrived}
 use Rattle.dna_links.specs.Runs.{SentMessage}
 use Rattle.dna_node.specs.Content.{content}
-use Rattle.dna_node.specs.Layers.{Layers, LayersTruth, LayersNode, LayersUnit, with_links, composes, keeps, meets_on, layers_machine, stations, unit_of_station}
+use Rattle.dna_node.specs.Layers.{Layers, LayersTruth, LayersNode, LayersUnit, with_links, composes, keeps, meets_on, layers_machine, stations}
+use Rattle.dna_node.specs.Layers.{unit_of_station}
 use Rattle.dna_node.specs.LayersPair.{layers_pair, layers_start, link_event_in, link_events, side_of, bytes_pair}
 use Rattle.dna_node.proofs.Once.Orderly.{AddressesRise, IsOrderly, starts-join}
 use Rattle.dna_station.proofs.Bounds.Numbers.{is_data}
-use Rattle.dna_node.proofs.OnTop.{of_stations, lifted}
+use Rattle.dna_node.proofs.Follows.{of_stations, lifted}
 use Rattle.dna_node.proofs.Joined.{AreTold, LayersJoined, joined_kept, start_joined}
 use Rattle.dna_node.proofs.Once.Starts.{AreBegun, BothBegun, begun_kept}
 use Rattle.dna_node.proofs.Once.Meets.{meets_always}
@@ -104,7 +106,8 @@ module _ (own other : Half LayersNode LayersUnit) where
     kept_same links_s same d None is = refl
     kept_same links_s same d (Some message) is =
         ap (with_links links_s) (subst
-        (λ (x : Links). links_arrived Without by_bytes.partners x message.packet message.truth ≡ links_arrived Without judged.partners x message.packet message.truth)
+        (λ (x : Links). links_arrived Without by_bytes.partners x message.packet message.truth ≡
+        links_arrived Without judged.partners x message.packet message.truth)
         (sym same)
         (anyone_same (side_of own h.front) (side_of other h.of_other) h.most h.most_of_other h.addressed h.other_addressed message
         (h.other_addressed.told unit.known.station.place message (h.told.told hint unit there d ∙ ap Some is))))
@@ -200,7 +203,8 @@ module _ (head_a head_b : Head) where
   holds_at : (w : World LayersNode LayersUnit) (made_a made_b : List Record) → Run layers_pair (layers_start head_a head_b) made_a made_b w →
       HoldsAt head_a head_b w made_a made_b
   holds_at w made_a made_b run = record {
-    joined = lasts layers_pair (LayersJoined Without head_a head_b) (joined_kept Without head_a head_b) [] [] (start_joined Without head_a head_b) run;
+    joined =
+        lasts layers_pair (LayersJoined Without head_a head_b) (joined_kept Without head_a head_b) [] [] (start_joined Without head_a head_b) run;
     begun = lasts layers_pair (of_stations Without BothBegun) (lifted Without BothBegun begun_kept) [] [] start_begun run;
   }
 

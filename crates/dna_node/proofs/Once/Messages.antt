@@ -22,8 +22,9 @@ use Rattle.dna_links.specs.inner.Forms.{called, confirmed}
 use Rattle.dna_links.specs.TrueSegments.{TrueSegments, Numbers, true_segments}
 use Rattle.dna_links.specs.TrueLinks.{Links}
 use Rattle.dna_links.proofs.Runs.Reads.{at_is}
-use Rattle.dna_links.proofs.Tables.Outcomes.{looked, checked, SentDid, OfNone, Stays, EndsCalled, Segment, Acks, IsFound, Connects, ArrivedDid}
-use Rattle.dna_links.proofs.Tables.Outcomes.{Ignores, Begins, Confirms, Ends, TakesSegment, TakesAcks, TakesOther}
+use Rattle.dna_links.proofs.Tables.Outcomes.{looked, checked, IsFound}
+use Rattle.dna_links.proofs.Tables.MessageOutcomes.{SentDid, OfNone, Stays, EndsCalled, Segment, Acks, Connects, ArrivedDid}
+use Rattle.dna_links.proofs.Tables.MessageOutcomes.{Ignores, Begins, Confirms, Ends, TakesSegment, TakesAcks, TakesOther}
 use Rattle.dna_node.proofs.Once.Addresses.{LinkList, Owner, owner_kept, KeepsAddresses, AreAddressed, LeavesAddressed, one_left, one_kept, one_more}
 use Rattle.std.proofs.lemmas.Option.{same_Some}
 use Rattle.dna_links.specs.declared.port.Phase.TheVariants.{Running}

@@ -30,7 +30,8 @@ use Rattle.dna_station.specs.Pair.{pair}
 use Rattle.dna_links.proofs.Runs.Sides.{all_pushed}
 use Rattle.dna_node.proofs.Once.Orderly.{starts_in, starts, starts-join}
 use Rattle.dna_station.proofs.Steps.Effects.{sending_stays, by_response, by_packet, by_rep, arrival_stays}
-use Rattle.dna_station.proofs.Steps.Happens.{Happens, ComesOf, Itself, BadHeader, BadData, Nothing, UserEvent, Boots, Sending, Receipt, Counted, Unheard}
+use Rattle.dna_station.proofs.Steps.Happens.{Happens, ComesOf, Itself, BadHeader, BadData, Nothing, UserEvent, Boots, Sending, Receipt, Counted}
+use Rattle.dna_station.proofs.Steps.Happens.{Unheard}
 use Rattle.dna_station.proofs.Steps.Happens.{happens, event_of}
 use Rattle.dna_station.proofs.Bounds.Numbers.{unit_of}
 

@@ -29,5 +29,6 @@ module _ (own other : Half LayersNode LayersUnit)
   pub unit_content : AtPlaces own.state.station.station (map unit_of_station own.sent) → AreTold own → AreRead own → is_data unit.message ≡ true →
       content (body_of unit.message) ≡ Ok (packet_in unit.known.carried)
   unit_content places told read d =
-      body_read Without unit.message unit.known.station own.state.station.messages _ unit.known.carried read d (places k (unit_of_station unit) there_below)
+      body_read Without unit.message unit.known.station own.state.station.messages _ unit.known.carried read d
+      (places k (unit_of_station unit) there_below)
       (told.told k unit there d)

@@ -29,7 +29,7 @@ use Rattle.dna_node.proofs.LayersRead.{LayersRead, packet_in, read_kept, start_r
 use Rattle.dna_links.proofs.Runs.Loose.{without_loose}
 use Rattle.dna_links.proofs.Runs.Bounds.{BothOwned, sound, owned, bounded}
 use Rattle.dna_node.proofs.ReadInRange.{content_in_range}
-use Rattle.dna_node.proofs.CutLayersNode.{IsLayersBounded}
+use Rattle.dna_node.proofs.LayersBounded.{IsLayersBounded}
 use Rattle.dna_node.proofs.LayersBounds.{a_bounded}
 use Rattle.dna_links.proofs.Runs.Steps.{BothLinksSound}
 use Rattle.dna_node.proofs.Once.Addresses.{AreAddressed}

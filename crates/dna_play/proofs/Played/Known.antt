@@ -7,7 +7,8 @@ use Rattle.dna_links.specs.Bounds.{AreLinksBounded}
 use Rattle.dna_links.specs.Runs.{LinkSide}
 use Rattle.dna_node.specs.Layers.{LayersNode, LayersUnit}
 use Rattle.dna_node.specs.LayersPair.{layers_pair}
-use Rattle.dna_node.proofs.OnTop.{OnTop, Counted, follows}
+use Rattle.dna_node.proofs.OnTop.{OnTop, Counted}
+use Rattle.dna_node.proofs.Follows.{follows}
 use Rattle.dna_play.proofs.Ends.Stage.{HasNumbers}
 
 -- ---- the addresses of a head stay

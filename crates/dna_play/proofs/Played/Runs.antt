@@ -19,7 +19,8 @@ use Rattle.dna_play.specs.Stop.{Stopped}
 use Rattle.dna_play.specs.Played.{end_step, made_half, makes}
 use Rattle.dna_play.specs.Played.{Played, not_begun, play}
 use Rattle.dna_play.specs.PlayRun.{starts_now, ArePlayed}
-use Rattle.dna_node.proofs.OnTop.{OnTop, follows}
+use Rattle.dna_node.proofs.OnTop.{OnTop}
+use Rattle.dna_node.proofs.Follows.{follows}
 use Rattle.dna_play.proofs.Played.PlayLines.{line_told}
 use Rattle.dna_play.proofs.Played.Steps.{PlayHalf, MakesAll, Nothing, First}
 use Rattle.dna_play.proofs.Played.Order.{InOrder, order_join, nothing_in_order}

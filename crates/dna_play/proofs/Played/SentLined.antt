@@ -9,7 +9,8 @@ use Rattle.capture.specs.Range.{IsRecord}
 use Rattle.dna_node.specs.TagRules.{judged}
 use Rattle.dna_node.specs.Layers.{LayersNode, LayersUnit}
 use Rattle.dna_node.specs.LayersPair.{layers_pair}
-use Rattle.dna_node.proofs.OnTop.{OnTop, Again, First, follows}
+use Rattle.dna_node.proofs.OnTop.{OnTop, Again, First}
+use Rattle.dna_node.proofs.Follows.{follows}
 use Rattle.dna_links.proofs.Runs.Sides.{all_pushed}
 use Rattle.dna_play.proofs.Played.Steps.{PlayHalf}
 

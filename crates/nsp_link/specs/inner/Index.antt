@@ -1,7 +1,7 @@
 -- How the links of a node are found without a look at all that ever were: by the last holder of each own address, by the last link that
 -- a CI from each address of the other side began, and by how many live links know each of these.
-use Rattle.std.specs.Prelude.{⊤, ◌≡◌, ◌≤◌, ◌||◌, ◌&&◌, ◌==◌, not, ℕ, suc, Bool, false, Option, Some, None, List, [], ◌∷◌, length, slice_get, slice_set}
-use Rattle.std.specs.Prelude.{if◌then◌else◌, true}
+use Rattle.std.specs.Prelude.{⊤, ◌≡◌, ◌≤◌, ◌||◌, ◌&&◌, ◌==◌, not, ℕ, suc, Bool, false, Option, Some, None, List, [], ◌∷◌, length, slice_get}
+use Rattle.std.specs.Prelude.{slice_set, if◌then◌else◌, true}
 use Rattle.dna_links.specs.Queues.{port_of_waiting}
 use Rattle.dna_links.specs.declared.queue.Queues.{Queues}
 use Rattle.dna_links.specs.declared.queue.Queues.TheVariants.{Without, With}

@@ -1,5 +1,5 @@
 use Rattle.dna_node.specs.LayersPair.{layers_start}
-use Rattle.dna_node.proofs.OnTop.{run_of_stations}
+use Rattle.dna_node.proofs.Follows.{run_of_stations}
 use Rattle.dna_node.proofs.laws.layers_run_as_stations.Goals as goal
 
 pub returns : goal.returns

@@ -9,7 +9,8 @@ use Rattle.dna_node.proofs.laws.queued_wire_layers_see_right.Goals as goal
 
 pub returns-clause-of_true : goal.returns-clause-of_true
 returns-clause-of_true c = λ head_a head_b w of_a of_b run.
-    c.simulation.ensures.seen (layers_start head_a head_b) w [] [] of_a of_b (layers_kept With) (layers_commute With) (head_a, head_b, start_read With head_a head_b) run
+    c.simulation.ensures.seen (layers_start head_a head_b) w [] [] of_a of_b (layers_kept With) (layers_commute With)
+    (head_a, head_b, start_read With head_a head_b) run
 
 pub returns-clause-of_wire : goal.returns-clause-of_wire
 returns-clause-of_wire c = λ head_a head_b end of_a of_b run.

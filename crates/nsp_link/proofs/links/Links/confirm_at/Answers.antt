@@ -47,7 +47,8 @@ invariant_of-self g c =
     let known = c.port-port.ensures.calling calling in
     let same : c.index_mut.result.now ≡ k =
     one_link items items c.args.number c.index_mut.result.now k k refl c.index_mut.ensures.value (link_there at) refl in
-    let is = c.confirm.ensures ∙ ap (λ (l : LinkOf WireSegments). moved (queues_of g.row.QUEUES) Running (connected far c.args.segsize c.args.tag l)) same in
+    let is = c.confirm.ensures
+    ∙ ap (λ (l : LinkOf WireSegments). moved (queues_of g.row.QUEUES) Running (connected far c.args.segsize c.args.tag l)) same in
     record {
       indexed = record {
         found = confirmed_index at c.self.invariant.indexed.found

@@ -13,4 +13,5 @@ invariant_of-self g c = record {
 
 pub returns : goal.returns
 returns g c =
-    change_made (in_place c.self.view_is c.requires.within c.index_mut.ensures.value) (went_on (queues_of g.row.QUEUES) c.args.sent) c.go_on.ensures.goes
+    change_made (in_place c.self.view_is c.requires.within c.index_mut.ensures.value)
+    (went_on (queues_of g.row.QUEUES) c.args.sent) c.go_on.ensures.goes

@@ -9,4 +9,5 @@ make-requires g c = permit_fits (queues_of g.row.QUEUES) c.args.self.now (view c
 
 pub returns-clause-ok : goal.returns-clause-ok
 returns-clause-ok g c =
-    made_as (queues_of g.row.QUEUES) c.args.self.now (view c.args.message.now) c.args.permit c.requires c.make.result c.make.new.self c.make.ensures.ok
+    made_as (queues_of g.row.QUEUES) c.args.self.now (view c.args.message.now) c.args.permit c.requires
+    c.make.result c.make.new.self c.make.ensures.ok

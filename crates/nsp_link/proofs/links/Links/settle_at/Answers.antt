@@ -33,7 +33,8 @@ invariant_of-self g c =
           (λ q. ap (λ (m : BTreeMap ℕ ℕ). get nat_cmp m q) c.end_use.ensures.holders)
           (λ q. ap (λ (m : BTreeMap ℕ ℕ). get nat_cmp m q) c.end_use.ensures.callers)
           (λ q. ap (λ (m : HashMap ℕ ℕ _). times (hashed.get nat_eq m q)) c.end_use.ensures.reached) c.end_use.ensures.waiting
-          (rw (sym (c.use_that_ends-known.ensures ∙ ap (λ (l : LinkOf WireSegments). use_that_ends l.queue.waits l) (sym same))) c.end_use.ensures.in_use)
+          (rw (sym (c.use_that_ends-known.ensures ∙ ap (λ (l : LinkOf WireSegments). use_that_ends l.queue.waits l) (sym same)))
+          c.end_use.ensures.in_use)
           c.end_use.ensures.counts;
       dead = dead_same at _ (settled_dead _ _ c.settle.ensures.settles) c.self.invariant.dead;
     }

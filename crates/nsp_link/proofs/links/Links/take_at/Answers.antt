@@ -24,7 +24,8 @@ returns-in-DataAck-clause-ok g c =
     rw c.in-DataAck.is
     (becomes_there c.args.number c.args.self.now _ c.requires.within c.take_acks_at.new.self (λ link there.
     c.take_acks_at.ensures link there
-    ∙ ap (λ (words : List AckWord). changed c.args.number (runs (queues_of g.row.QUEUES) (takes_acks words tt) link) c.args.self.now) c.deref.ensures.0))
+    ∙ ap (λ (words : List AckWord). changed c.args.number (runs (queues_of g.row.QUEUES) (takes_acks words tt) link) c.args.self.now)
+    c.deref.ensures.0))
 
 pub returns-in-LinkService-clause-ok : goal.returns-in-LinkService-clause-ok
 returns-in-LinkService-clause-ok g c =
@@ -32,7 +33,8 @@ returns-in-LinkService-clause-ok g c =
 
 pub returns-in-OtherDataAck-clause-ok : goal.returns-in-OtherDataAck-clause-ok
 returns-in-OtherDataAck-clause-ok g c =
-    rw c.in-OtherDataAck.is (becomes_there c.args.number c.args.self.now _ c.requires.within c.run_at-in-OtherDataAck.new.self c.run_at-in-OtherDataAck.ensures)
+    rw c.in-OtherDataAck.is
+    (becomes_there c.args.number c.args.self.now _ c.requires.within c.run_at-in-OtherDataAck.new.self c.run_at-in-OtherDataAck.ensures)
 
 pub returns-in-ConnectConfirm-clause-ok : goal.returns-in-ConnectConfirm-clause-ok
 returns-in-ConnectConfirm-clause-ok g c =
@@ -44,4 +46,5 @@ returns-in-DisconnectInitiate-clause-ok g c =
 
 pub returns-in-DisconnectConfirm-clause-ok : goal.returns-in-DisconnectConfirm-clause-ok
 returns-in-DisconnectConfirm-clause-ok g c =
-    rw c.in-DisconnectConfirm.is (becomes_there c.args.number c.args.self.now _ c.requires.within c.end_at-in-DisconnectConfirm.new.self c.end_at-in-DisconnectConfirm.ensures)
+    rw c.in-DisconnectConfirm.is
+    (becomes_there c.args.number c.args.self.now _ c.requires.within c.end_at-in-DisconnectConfirm.new.self c.end_at-in-DisconnectConfirm.ensures)

@@ -36,7 +36,8 @@ returns-clause-index g c =
     record {
       found = answered_index (queues_of g.row.QUEUES) c.args.phase c.args.own c.args.number l c.answer.new.self items _ _ _ _ _ _ _ _ _
           c.count_uses.ensures.index.found there was unowned
-          (c.answer.ensures.answers ∙ ap (answered_link (queues_of g.row.QUEUES) c.args.phase c.args.own) same) c.requires.live c.requires.answers c.requires.known
+          (c.answer.ensures.answers ∙ ap (answered_link (queues_of g.row.QUEUES) c.args.phase c.args.own) same)
+          c.requires.live c.requires.answers c.requires.known
           (ap (λ (xs : List (LinkOf WireSegments)). set xs c.args.number c.answer.new.self) is)
           (λ q. ap (λ (m : BTreeMap ℕ ℕ). get nat_cmp m q) (c.end_use.ensures.callers ∙ c.give.ensures.callers))
           (λ q. ap (λ (m : HashMap ℕ ℕ _). times (hashed.get nat_eq m q)) (c.end_use.ensures.reached ∙ c.give.ensures.reached))
@@ -55,7 +56,8 @@ returns-clause-index g c =
           (sym (ap (λ (m : BTreeMap ℕ ℕ). get nat_cmp m c.args.own) c.count_uses.ensures.holders) ∙ held) at))
           (released_with _ _ _ _ here
           (rw (c.use_of.ensures ∙ ap (λ (h : Option ℕ). held_use h items) c.holder-holder.ensures) at c.end_use.ensures.in_use)))
-          (ap (λ (k : Queues). slice_get (forgotten_at k (get nat_cmp c.count_uses.new.index.holders c.args.own) items) c.args.number) (sym with) ∙ still)
+          (ap (λ (k : Queues). slice_get (forgotten_at k (get nat_cmp c.count_uses.new.index.holders c.args.own) items) c.args.number)
+          (sym with) ∙ still)
           (c.answer.ensures.uses ∙ ap begins_use same) (λ q. refl))
           (ap (λ (xs : List (LinkOf WireSegments)). set xs c.args.number c.answer.new.self)
           (is ∙ ap (λ (k : Queues). forgotten_at k (get nat_cmp c.count_uses.new.index.holders c.args.own) items) with)) (λ q. refl));
@@ -67,7 +69,8 @@ returns-clause-ok g c = λ link found.
     let l = c.index.result.now in
     let there : slice_get {X = LinkOf WireSegments} items c.args.number ≡ Some l = link_at items c.args.number l c.requires.within c.index.ensures in
     let called = c.requires.called l there in
-    let still = still_here (queues_of g.row.QUEUES) items _ _ _ _ c.count_uses.ensures.index.found c.args.own c.args.number l there (c.port-port.ensures.called called) in
+    let still = still_here (queues_of g.row.QUEUES) items _ _ _ _ c.count_uses.ensures.index.found
+    c.args.own c.args.number l there (c.port-port.ensures.called called) in
     let is = c.free.ensures.items ∙ ap (λ (h : Option ℕ). forgotten_at (queues_of g.row.QUEUES) h items) c.holder-holder.ensures in
     let same : c.index_mut.result.now ≡ link =
     one_link c.free.new.links.items _ c.args.number c.index_mut.result.now l link is c.index_mut.ensures.value still (sym there ∙ found) in

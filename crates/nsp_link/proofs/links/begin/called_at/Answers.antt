@@ -31,7 +31,8 @@ returns-clause-index g c =
     let pushed = c.push_reserved.ensures.items ∙ ap (λ (xs : List (LinkOf WireSegments)). xs ++ m ∷ []) same in
     let number : c.len.result ≡ length room = omega (arith, c.make_room.new.links.ok) in
     record {
-      found = called_index far c.args.segsize c.args.tag m items _ _ _ _ _ _ _ _ _ c.count_uses.ensures.index.found c.requires.free c.in_ok-link.ensures pushed
+      found = called_index far c.args.segsize c.args.tag m items _ _ _ _ _ _ _ _ _ c.count_uses.ensures.index.found
+          c.requires.free c.in_ok-link.ensures pushed
           (λ q. ap (λ (k : BTreeMap ℕ ℕ). get nat_cmp k q) (c.begin_use.ensures.holders ∙ c.reach.ensures.holders ∙ c.call.ensures.holders
           ∙ c.make_use_room.ensures.holders ∙ c.make_room.ensures.holders))
           (λ q. ap (λ (k : BTreeMap ℕ ℕ). get nat_cmp k q) (c.begin_use.ensures.callers ∙ c.reach.ensures.callers) ∙ c.in_ok-call.ensures.ok q

@@ -7,7 +7,8 @@ use Rattle.nsp_link.proofs.links.boot.end_from.Given as goal
 
 abbrev pub invariant-loop-number : goal.invariant-loop-number
 invariant-loop-number g l = record {
-  items : l.links.items ≡ map (booted_link wire_segments (queues_of g.row.QUEUES)) (take l.number l.fn.links.items) ++ drop l.number l.fn.links.items;
+  items : l.links.items ≡
+      map (booted_link wire_segments (queues_of g.row.QUEUES)) (take l.number l.fn.links.items) ++ drop l.number l.fn.links.items;
   dead : AreDead l.dead l.links.items;
   upto : l.dead ≤ l.number;
 }

@@ -19,4 +19,5 @@ returns-in-Ok g c =
     ∙ ap (λ (w : List AckWord). asked_late f.received w (record { sent = f.last; gap = c.args.gap })) c.deref.ensures.0
     ∙ ap (λ (t : WireSegments). asked_late t.variables.received s.acks (record { sent = last_of t; gap = c.args.gap })) c.self.view_is)
     ∙ ap (λ (b : Bool). cond b (then_asked (asked_late k.variables.received s.acks (record { sent = last_of k; gap = c.args.gap })) (λ late.
-    asked_new c.args.segsize (piece_of s) k (Gives c.args.link late))) (asked_again c.args.link s k)) (sym (sym c.is_new.ensures ∙ c.if-not-is_new.false))
+    asked_new c.args.segsize (piece_of s) k (Gives c.args.link late))) (asked_again c.args.link s k))
+    (sym (sym c.is_new.ensures ∙ c.if-not-is_new.false))

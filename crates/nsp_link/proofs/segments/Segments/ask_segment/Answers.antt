@@ -19,5 +19,6 @@ returns-in-Ok g c =
     (sym c.in-Ok.is ∙ c.ask_words.ensures
     ∙ ap (λ (w : List AckWord). asked_words false f.received w f.last) c.deref.ensures.0
     ∙ ap (λ (t : WireSegments). asked_words false t.variables.received s.acks (last_of t)) c.self.view_is)
-    ∙ ap (λ (b : Bool). cond b (then_asked (asked_words false k.variables.received s.acks (last_of k)) (λ sent. asked_new c.args.segsize (piece_of s) k
-    (Gives c.args.link (record { sent = sent; gap = 0 })))) (asked_again c.args.link s k)) (sym (sym c.is_new.ensures ∙ c.if-not-is_new.false))
+    ∙ ap (λ (b : Bool). cond b (then_asked (asked_words false k.variables.received s.acks (last_of k)) (λ sent.
+    asked_new c.args.segsize (piece_of s) k (Gives c.args.link (record { sent = sent; gap = 0 })))) (asked_again c.args.link s k))
+    (sym (sym c.is_new.ensures ∙ c.if-not-is_new.false))
