@@ -20,7 +20,7 @@ use crate::format::Format;
 use crate::hint::HintForm;
 use crate::limit::MAX_HINT;
 use crate::number::{number_before, number_of, positive_of};
-use crate::part::{after, cut_at};
+use crate::part::{after, after_letter, cut_at};
 use crate::record::Record;
 use crate::wording::Wording;
 use std::alloc::Global;
@@ -99,10 +99,10 @@ pub fn entry_of(form: HintForm, line: &[u8]) -> Option<(Entry, &[u8])>
     requires { FormFits form }
     ensures { record_at form line.now ≡ told (option_map (λ parts. (parts.0, parts.1.now)) result) }
 {
-    if let Some(rest) = after(line, b"s ") {
+    if let Some(rest) = after_letter(line, b's') {
         return Some((Entry::Sent, rest));
     }
-    if let Some(rest) = after(line, b"r ") {
+    if let Some(rest) = after_letter(line, b'r') {
         let (hint, bytes) = receipt_of(form, rest)?;
         return Some((
             Entry::Received {
@@ -112,7 +112,7 @@ pub fn entry_of(form: HintForm, line: &[u8]) -> Option<(Entry, &[u8])>
             bytes,
         ));
     }
-    if let Some(rest) = after(line, b"k ") {
+    if let Some(rest) = after_letter(line, b'k') {
         let (hint, bytes) = receipt_of(form, rest)?;
         return Some((
             Entry::Received {
@@ -122,10 +122,10 @@ pub fn entry_of(form: HintForm, line: &[u8]) -> Option<(Entry, &[u8])>
             bytes,
         ));
     }
-    if let Some(rest) = after(line, b"n ") {
+    if let Some(rest) = after_letter(line, b'n') {
         return Some((Entry::Noise, rest));
     }
-    if let Some(rest) = after(line, b"u ") {
+    if let Some(rest) = after_letter(line, b'u') {
         return event_of(form.is_wide(), rest);
     }
     if form.is_wide() {
@@ -141,7 +141,7 @@ fn wide_entry_of(form: HintForm, line: &[u8]) -> Option<(Entry, &[u8])>
     requires { FormFits form }
     ensures { wide_at form line.now ≡ told (option_map (λ parts. (parts.0, parts.1.now)) result) }
 {
-    if let Some(rest) = after(line, b"d ") {
+    if let Some(rest) = after_letter(line, b'd') {
         let (hint, bytes) = receipt_of(form, rest)?;
         return Some((
             Entry::Received {
@@ -151,7 +151,7 @@ fn wide_entry_of(form: HintForm, line: &[u8]) -> Option<(Entry, &[u8])>
             bytes,
         ));
     }
-    if let Some(rest) = after(line, b"x ") {
+    if let Some(rest) = after_letter(line, b'x') {
         return Some((Entry::Composed, rest));
     }
     None
