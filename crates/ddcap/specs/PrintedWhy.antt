@@ -31,7 +31,7 @@ use Rattle.ddcap.specs.declared.telling.Refused.{Refused}
 abbrev pub IsAccused : Reason → Entry → Accusation → Type 0
 IsAccused reason entry accusation = (accusation ≡ accuses reason entry) ⊎ (accusation ≡ Queue)
 
--- what is told of a refusal is told of the record ahead of its side, and the check that is named is the first of the verdict's reason that fails there
+-- what is told of a refusal is told of the record ahead of its side; the check that is named is the first of the verdict's reason that fails
 pub record IsTold (layers : Layers) (ends : ShownEnds) (refused : Refused) (told : Refusal) : Type 0 where
   pub side : told.side ≡ refused.side
   pub place : told.place ≡ refused.place

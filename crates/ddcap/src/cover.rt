@@ -119,8 +119,8 @@ pub fn cover_pair_over<A: Read, B: Read, E: Write>(
     }
 }
 
-/// Prints what was found of all pairs, of so many rows that are counted, and answers the status: 0 where all are accepted, 1 where one is refused, and
-/// 3 where there is no memory for the text or a write failed. The whole text is put together before the first write.
+/// Prints what was found of all pairs, of so many rows that are counted, and answers the status: 0 where all are accepted, 1 where one is
+/// refused, and 3 where there is no memory for the text or a write failed. The whole text is put together before the first write.
 pub fn print_covered<O: Write, E: Write>(
     alloc: Global,
     rows: usize,

@@ -73,7 +73,8 @@ pub fn tap_to<A: Read, B: Read, O: Write, E: Write>(
     out: &mut Tally<O>,
     err: &mut Tally<E>,
 ) -> Result<u8, RefusedAt>
-    ensures checks { ChecksTap (layers_kind With) verdict_text_of captured.entry (streams (moved A.remaining a.old a.new) (moved B.remaining b.old b.new)
+    ensures checks { ChecksTap (layers_kind With) verdict_text_of captured.entry
+        (streams (moved A.remaining a.old a.new) (moved B.remaining b.old b.new)
         (moved O.contents out.old out.new) (moved E.contents err.old err.new)) result }
     ensures cut { captured.entry.is_cut ≡ true → is_ok result ≡ true }
 {
@@ -89,7 +90,8 @@ pub fn tap_line_to<A: Read, B: Read, O: Write, E: Write>(
     out: &mut Tally<O>,
     err: &mut Tally<E>,
 ) -> Result<u8, RefusedAt>
-    ensures checks { ChecksTap stations_alone line_verdict_text_of captured.entry (streams (moved A.remaining a.old a.new) (moved B.remaining b.old b.new)
+    ensures checks { ChecksTap stations_alone line_verdict_text_of captured.entry
+        (streams (moved A.remaining a.old a.new) (moved B.remaining b.old b.new)
         (moved O.contents out.old out.new) (moved E.contents err.old err.new)) result }
     ensures cut { captured.entry.is_cut ≡ true → is_ok result ≡ true }
 {

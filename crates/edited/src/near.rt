@@ -13,8 +13,8 @@ use crate::row::{Refused, Row, Stretch};
 use std::alloc::{AllocError, Global};
 use wire_base::Side;
 
-/// What is known where a record of a side is refused: its side, the addresses of its head, the rows of this side in front of it, its own, those after it, all receipts
-/// after it, if they are at hand, and the rows of the other side.
+/// What is known where a record of a side is refused: its side, the addresses of its head, the rows of this side in front of it, its own,
+/// those after it, all receipts after it, if they are at hand, and the rows of the other side.
 #[derive(Clone, Copy)]
 pub(crate) struct Near<'r> {
     pub(crate) alloc: Global,

@@ -228,8 +228,8 @@ impl fmt::Display for SkippedWords {
     }
 }
 
-/// `unexplained a unit 7 line 16: 7 WrongNumber`, a line for each side that is accused, or that neither is, and one on what the answer of `why` rests,
-/// each with its LF: the unit with which the captures end, and why they are refused. Fails for want of memory alone.
+/// `unexplained a unit 7 line 16: 7 WrongNumber`, a line for each side that is accused, or that neither is, and one on what the answer of
+/// `why` rests, each with its LF: the unit with which the captures end, and why they are refused. Fails for want of memory alone.
 pub fn unexplained_text(
     alloc: Global,
     passed: Passed,

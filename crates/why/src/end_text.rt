@@ -37,7 +37,8 @@ pub struct EndRefusal<'r> {
     pub lines: Lines,
 }
 
-/// All JSON objects of a refused record of one end, each with its LF: the refusal, the record, the check, and the end with its live links. Fails for want of memory alone.
+/// All JSON objects of a refused record of one end, each with its LF: the refusal, the record, the check, and the end with its live links.
+/// Fails for want of memory alone.
 pub fn why_end_json(
     alloc: Global,
     refusal: EndRefusal<'_>,

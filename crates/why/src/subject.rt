@@ -133,8 +133,8 @@ fn far_address(far: u16) -> Addresses
     }
 }
 
-/// The links of these that are the one which the record is about: that with its own address, or where none has that, those with its far address. Fails
-/// for want of memory alone.
+/// The links of these that are the one which the record is about: that with its own address, or where none has that, those with its far
+/// address. Fails for want of memory alone.
 pub fn subjects(
     alloc: Global,
     named: Addresses,

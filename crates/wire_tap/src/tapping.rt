@@ -57,7 +57,8 @@ pub fn tap<W: Read, A: Write, B: Write>(
     asked: Asked,
     turns: &[Turn],
 ) -> Result<Tapped, TapFault>
-    ensures taps { Taps asked.last (format_of turns.now) (W.remaining (tally_lent wire.old)) (held (A.contents (tally_lent a.old)) (B.contents (tally_lent b.old)))
+    ensures taps { Taps asked.last (format_of turns.now) (W.remaining (tally_lent wire.old))
+        (held (A.contents (tally_lent a.old)) (B.contents (tally_lent b.old)))
         (held (A.contents (tally_lent a.new)) (B.contents (tally_lent b.new))) result }
     ensures reads { CountsReadsOf result (tally_faults wire.old) (tally_faults wire.new) }
     ensures writes_a { CountsWritesOf of_side.A result (tally_faults a.old) (tally_faults a.new) }
