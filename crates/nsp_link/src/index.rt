@@ -68,6 +68,7 @@ impl Index {
     }
 
     /// The number of the link that got this own address last.
+    #[inline(always)]
     pub fn holder(&self, own: u16) -> Option<usize>
         ensures { result ≡ get nat_cmp self.now.holders own }
     {

@@ -22,6 +22,7 @@ mod sending;
 mod shown;
 mod taking;
 mod user;
+mod uses;
 
 use crate::index::Index;
 use crate::link::Link;

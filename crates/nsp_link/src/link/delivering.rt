@@ -14,6 +14,7 @@ use wire_base::Window;
 
 impl<W: Window<Piece, 4096> + Drop> Link<W> {
     /// Whether this link, which has this number, may deliver this message now: it is the next whole one. Takes no memory.
+    #[inline(always)]
     pub fn ask_delivery(
         &self,
         number: usize,

@@ -18,6 +18,7 @@ use wire_base::Window;
 impl<W: Window<Piece, 4096> + Drop> Links<W> {
     /// Their user does this, for which they gave the permit ([`Links::ask_user`]), or their node boots. `Open`, `Accept`, `Reject` and `In` may
     /// take memory, and the other events take none. `AllocError`: that was refused, and the links are as they were.
+    #[inline(always)]
     pub fn act<const QUEUES: u8>(
         &mut self,
         event: LinkEvent,
@@ -41,6 +42,41 @@ impl<W: Window<Piece, 4096> + Drop> Links<W> {
             (event_takes_memory (user.view event.entry)) fault) }
         ensures err { OnErr result (self.new ≡ self.old) }
     {
+        match event {
+            LinkEvent::In { link, message } => {
+                self.ask_and_act::<QUEUES>(LinkEvent::In { link, message })
+            }
+            LinkEvent::Up { link, message } => {
+                self.ask_and_act::<QUEUES>(LinkEvent::Up { link, message })
+            }
+            LinkEvent::Open { .. } => self.act_on_other::<QUEUES>(event),
+            LinkEvent::Accept { .. } => self.act_on_other::<QUEUES>(event),
+            LinkEvent::Reject { .. } => self.act_on_other::<QUEUES>(event),
+            LinkEvent::Close { .. } => self.act_on_other::<QUEUES>(event),
+            LinkEvent::Abort { .. } => self.act_on_other::<QUEUES>(event),
+            LinkEvent::Boot => self.act_on_other::<QUEUES>(event),
+        }
+    }
+
+    // An event that carries no message: a link has few of them, and a function of their own keeps that of the messages small.
+    #[inline(never)]
+    fn act_on_other<const QUEUES: u8>(&mut self, event: LinkEvent) -> Result<(), LinkFault>
+        ensures ok { OnOk result (wire_links_user (queues_of QUEUES) self.old (user.view event.entry) ≡ Ok self.new) }
+        ensures refused { IfErr result (λ fault. IsFault (wire_links_user (queues_of QUEUES) self.old (user.view event.entry))
+            (event_takes_memory (user.view event.entry)) fault) }
+        ensures err { OnErr result (self.new ≡ self.old) }
+    {
+        self.ask_and_act::<QUEUES>(event)
+    }
+
+    // Where the kind of the event is known, what asks and does the others falls away.
+    #[inline(always)]
+    fn ask_and_act<const QUEUES: u8>(&mut self, event: LinkEvent) -> Result<(), LinkFault>
+        ensures ok { OnOk result (wire_links_user (queues_of QUEUES) self.old (user.view event.entry) ≡ Ok self.new) }
+        ensures refused { IfErr result (λ fault. IsFault (wire_links_user (queues_of QUEUES) self.old (user.view event.entry))
+            (event_takes_memory (user.view event.entry)) fault) }
+        ensures err { OnErr result (self.new ≡ self.old) }
+    {
         match self.ask_user::<QUEUES>(event) {
             Ok(permit) => match self.act::<QUEUES>(event, permit) {
                 Ok(()) => Ok(()),
@@ -51,6 +87,7 @@ impl<W: Window<Piece, 4096> + Drop> Links<W> {
     }
 
     // What the permit makes of them, by what holds of its link.
+    #[inline(always)]
     #[tactic(auto, using(crate::proofs::Acted::made_there))]
     fn make_event<const QUEUES: u8>(
         &mut self,

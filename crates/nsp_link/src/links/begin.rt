@@ -1,14 +1,10 @@
 //! How a link begins, and how it gets its own address.
 
-ghost use Rattle.std.specs.Prelude.{◌≡◌, ◌<◌, ◌+◌, ◌^◌, ◌++◌, ◌∷◌, [], ℕ, Option, Some, None, true, false, nat_eq, length, slice_get, slice_set};
-ghost use Rattle.std.specs.Prelude.{OnOk, OnErr, IfOk, IfErr};
+ghost use Rattle.std.specs.Prelude.{◌≡◌, ◌<◌, ◌++◌, ◌∷◌, [], ℕ, Some, None, true, false, length, slice_get, slice_set, OnOk, OnErr};
 ghost use Rattle.std.specs.Vec.{vec_len, vec_capacity};
 ghost use Rattle.std.specs.Ordering.{nat_cmp};
 ghost use Rattle.std.specs.BTreeMap.{get};
-ghost use Rattle.std.specs.HashMap.{spare};
-ghost use Rattle.std.specs.HashMap as hashed;
 ghost use Rattle.dna_links.specs.Queues.{freed};
-ghost use Rattle.dna_links.specs.declared.queue.Queues.TheVariants.{With};
 ghost use Rattle.dna_links.specs.LookUps.{is_live, is_called, is_calling};
 ghost use Rattle.dna_links.specs.Links.{LinkOf, begun, changed, number_of};
 ghost use Rattle.dna_links.specs.inner.Forms.{opened};
@@ -16,14 +12,14 @@ ghost use Rattle.dna_links.specs.Arriving.{of_partner};
 ghost use Rattle.dna_links.specs.inner.Forms.{called};
 ghost use Rattle.dna_links.specs.WireSegments.{WireSegments, wire_segments};
 ghost use Rattle.nsp_link.specs.Kinds.{queues_of};
-ghost use Rattle.nsp_link.specs.inner.Index.{IsReleased, IsTaken, counting, forgotten_at, held_use, times, counted, lives_to};
+ghost use Rattle.nsp_link.specs.inner.Index.{forgotten_at, counted, lives_to};
 ghost use Rattle.nsp_link.specs.inner.Queue.{answered_link};
 ghost use Rattle.nsp_link.specs.inner.Rows as rows;
 ghost use Rattle.nsp_link.specs.inner.Indexing.{AreIndexed};
 
 use super::Links;
+use super::uses::{begin_use, count_uses, end_use, make_room, make_use_room, use_of};
 use crate::index::Index;
-use crate::kind::is_queued;
 use crate::link::Link;
 use crate::{LinkTag, Piece};
 use dna_links::{LinkTest, Phase};
@@ -75,8 +71,8 @@ impl<W: Window<Piece, 4096> + Drop> Links<W> {
         requires live { is_live phase ≡ true }
         requires answers { is_called phase ≡ false }
         requires known { is_calling phase ≡ false }
-        ensures ok { (link : LinkOf WireSegments) → slice_get self.old.links number ≡ Some link
-            → OnOk result (self.new ≡ changed number (rows.answered (queues_of QUEUES) phase own link) (freed wire_segments (queues_of QUEUES) own self.old)) }
+        ensures ok { (link : LinkOf WireSegments) → slice_get self.old.links number ≡ Some link → OnOk result
+            (self.new ≡ changed number (rows.answered (queues_of QUEUES) phase own link) (freed wire_segments (queues_of QUEUES) own self.old)) }
         ensures err { OnErr result (self.new ≡ self.old) }
     {
         answered_at::<W, QUEUES>(
@@ -87,133 +83,6 @@ impl<W: Window<Piece, 4096> + Drop> Links<W> {
             phase,
             own,
         )
-    }
-}
-
-// There is room for one more link. No list changes.
-fn make_room<W: Window<Piece, 4096> + Drop>(
-    links: &mut Vec<Link<W>>,
-    index: &mut Index,
-) -> Result<(), AllocError>
-    requires { index.old.waiting < 2 ^ 63 }
-    ensures links { links.new.items ≡ links.old.items }
-    ensures ok { OnOk result (vec_len links.new < vec_capacity links.new) }
-    ensures room { OnOk result (index.new.waiting < spare index.new.reached) }
-    ensures reached { (q : ℕ) → times (hashed.get nat_eq index.new.reached q) ≡ times (hashed.get nat_eq index.old.reached q) }
-    ensures holders { index.new.holders ≡ index.old.holders }
-    ensures callers { index.new.callers ≡ index.old.callers }
-    ensures waiting { index.new.waiting ≡ index.old.waiting }
-    ensures in_use { index.new.in_use ≡ index.old.in_use }
-    ensures counts { index.new.counts ≡ index.old.counts }
-{
-    links.reserve(1)?;
-    index.reserve()?;
-    Ok(())
-}
-
-// What links use is counted from the first one on where there are queues, and no more where there are none. Nothing else changes.
-#[tactic(auto, using(crate::proofs::Giving::indexes))]
-fn count_uses<W: Window<Piece, 4096> + Drop, const QUEUES: u8>(
-    alloc: Global,
-    links: &Vec<Link<W>>,
-    index: &mut Index,
-)
-    requires index { AreIndexed links.now.items index.old }
-    ensures index { AreIndexed links.now.items index.new }
-    ensures kind { index.new.counts ≡ true → queues_of QUEUES ≡ With }
-    ensures holders { index.new.holders ≡ index.old.holders }
-    ensures callers { index.new.callers ≡ index.old.callers }
-    ensures reached { index.new.reached ≡ index.old.reached }
-    ensures waiting { index.new.waiting ≡ index.old.waiting }
-{
-    if !is_queued::<QUEUES>() {
-        index.stop_counting();
-        return;
-    }
-    if links.is_empty() {
-        index.begin_counting(alloc);
-    }
-}
-
-// There is room to count one more link that a CI begins. Nothing else changes.
-fn make_use_room(index: &mut Index) -> Result<(), AllocError>
-    ensures ok { OnOk result (index.old.counts ≡ true → 0 < spare index.new.in_use) }
-    ensures in_use { (q : ℕ) → times (hashed.get nat_eq index.new.in_use q) ≡ times (hashed.get nat_eq index.old.in_use q) }
-    ensures counts { index.new.counts ≡ index.old.counts }
-    ensures holders { index.new.holders ≡ index.old.holders }
-    ensures callers { index.new.callers ≡ index.old.callers }
-    ensures reached { index.new.reached ≡ index.old.reached }
-    ensures waiting { index.new.waiting ≡ index.old.waiting }
-{
-    if !index.counts() {
-        return Ok(());
-    }
-    index.reserve_use()
-}
-
-// A CI from this address begins a link, for which there is room.
-fn begin_use(index: &mut Index, far: u16)
-    requires room { index.old.counts ≡ true → 0 < spare index.old.in_use }
-    requires few { index.old.counts ≡ true → times (hashed.get nat_eq index.old.in_use far) < 2 ^ 63 }
-    ensures in_use { IsTaken (counting index.old.counts) far (λ q. times (hashed.get nat_eq index.old.in_use q))
-        (λ q. times (hashed.get nat_eq index.new.in_use q)) }
-    ensures counts { index.new.counts ≡ index.old.counts }
-    ensures holders { index.new.holders ≡ index.old.holders }
-    ensures callers { index.new.callers ≡ index.old.callers }
-    ensures reached { index.new.reached ≡ index.old.reached }
-    ensures waiting { index.new.waiting ≡ index.old.waiting }
-{
-    if !index.counts() {
-        return;
-    }
-    index.begin_use(far);
-}
-
-// Of a link that a CI from this address began, if one did, nothing is sent any more.
-pub(super) fn end_use(index: &mut Index, known: Option<u16>)
-    requires { index.old.counts ≡ true → (far : ℕ) → known ≡ Some far → 0 < times (hashed.get nat_eq index.old.in_use far) }
-    ensures in_use { IsReleased (counting index.old.counts) known (λ q. times (hashed.get nat_eq index.old.in_use q))
-        (λ q. times (hashed.get nat_eq index.new.in_use q)) }
-    ensures counts { index.new.counts ≡ index.old.counts }
-    ensures holders { index.new.holders ≡ index.old.holders }
-    ensures callers { index.new.callers ≡ index.old.callers }
-    ensures reached { index.new.reached ≡ index.old.reached }
-    ensures waiting { index.new.waiting ≡ index.old.waiting }
-{
-    if !index.counts() {
-        return;
-    }
-    if let Some(far) = known {
-        index.end_use(far);
-    }
-}
-
-// Without queues what links use is counted no more.
-pub(super) fn count_only_with<const QUEUES: u8>(index: &mut Index)
-    ensures kind { index.new.counts ≡ true → queues_of QUEUES ≡ With }
-    ensures before { index.new.counts ≡ true → index.old.counts ≡ true }
-    ensures in_use { index.new.in_use ≡ index.old.in_use }
-    ensures holders { index.new.holders ≡ index.old.holders }
-    ensures callers { index.new.callers ≡ index.old.callers }
-    ensures reached { index.new.reached ≡ index.old.reached }
-    ensures waiting { index.new.waiting ≡ index.old.waiting }
-{
-    if !is_queued::<QUEUES>() {
-        index.stop_counting();
-    }
-}
-
-// What the link with this number uses, if there is one.
-#[inline(always)]
-fn use_of<W: Window<Piece, 4096> + Drop>(links: &Vec<Link<W>>, number: Option<usize>) -> Option<u16>
-    ensures { result ≡ held_use number links.now.items }
-{
-    let Some(number) = number else {
-        return None;
-    };
-    match links.get(number) {
-        Some(link) => link.begins_use(),
-        None => None,
     }
 }
 
@@ -277,7 +146,8 @@ fn opened_at<W: Window<Piece, 4096> + Drop, const QUEUES: u8>(
     requires dead { (number : ℕ) (link : LinkOf WireSegments) → get nat_cmp index.old.holders own ≡ Some number
         → slice_get links.old.items number ≡ Some link → is_live link.port.phase ≡ false }
     ensures index { AreIndexed links.new.items index.new }
-    ensures ok { OnOk result (links.new.items ≡ forgotten_at (queues_of QUEUES) (get nat_cmp index.old.holders own) links.old.items ++ opened wire_segments own ∷ []) }
+    ensures ok { OnOk result (links.new.items
+        ≡ forgotten_at (queues_of QUEUES) (get nat_cmp index.old.holders own) links.old.items ++ opened wire_segments own ∷ []) }
     ensures err { OnErr result (links.new.items ≡ links.old.items) }
 {
     let link = Link::opened(alloc, own)?;

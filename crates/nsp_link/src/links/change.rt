@@ -21,7 +21,7 @@ ghost use Rattle.nsp_link.specs.inner.Permitted.{IsNextAt, gave, went_on};
 ghost use Rattle.nsp_link.specs.inner.Rows.{confirmed, runs};
 
 use super::Links;
-use super::begin::{count_only_with, end_use};
+use super::uses::{count_only_with, end_use};
 use crate::index::Index;
 use crate::last_sent::LastSent;
 use crate::last_sent::late::LateSent;
@@ -154,6 +154,7 @@ impl<W: Window<Piece, 4096> + Drop> Links<W> {
     }
 
     // A segment comes on the link with this number, and it runs. Where memory is refused, nothing changes.
+    #[inline(always)]
     pub(super) fn take_segment_at<const QUEUES: u8>(
         &mut self,
         number: usize,

@@ -11,6 +11,7 @@ use wire_base::Window;
 
 impl<W: Window<Piece, 4096> + Drop> Links<W> {
     // What is shown of a link that this test asks for.
+    #[inline(never)]
     pub(super) fn missing(&self, wanted: LinkTest) -> MissingLink
         ensures { result ≡ spec.missing wanted self.now }
     {

@@ -72,6 +72,49 @@ impl<W: Window<Piece, 4096> + Drop> Links<W> {
             (sending_takes_memory (queues_of QUEUES) self.old (nsp.view message.now)) fault) }
         ensures err { OnErr result (self.new ≡ self.old) }
     {
+        match message {
+            Nsp::DataSegment(_) => self.ask_and_send::<QUEUES>(dst, src, message),
+            _ => self.send_other::<QUEUES>(dst, src, message),
+        }
+    }
+
+    // A message that is no segment, as a function of its own, which keeps that of segments small.
+    #[inline(never)]
+    fn send_other<const QUEUES: u8>(
+        &mut self,
+        dst: u16,
+        src: u16,
+        message: &Nsp,
+    ) -> Result<LinkTag, LinkFault>
+        requires { nsp.IsInRange (nsp.view message.now) }
+        ensures ok { IfOk result (λ tag. wire_links_sent (queues_of QUEUES) self.old
+            (record { dst = dst; src = src; message = nsp.view message.now })
+            ≡ Ok (record { links = self.new; truth = record { tag = tag; known = tt } })) }
+        ensures refused { IfErr result (λ fault. IsFault
+            (wire_links_sent (queues_of QUEUES) self.old (record { dst = dst; src = src; message = nsp.view message.now }))
+            (sending_takes_memory (queues_of QUEUES) self.old (nsp.view message.now)) fault) }
+        ensures err { OnErr result (self.new ≡ self.old) }
+    {
+        self.ask_and_send::<QUEUES>(dst, src, message)
+    }
+
+    // Where the kind of the message is known, what asks and does the others falls away.
+    #[inline(always)]
+    fn ask_and_send<const QUEUES: u8>(
+        &mut self,
+        dst: u16,
+        src: u16,
+        message: &Nsp,
+    ) -> Result<LinkTag, LinkFault>
+        requires { nsp.IsInRange (nsp.view message.now) }
+        ensures ok { IfOk result (λ tag. wire_links_sent (queues_of QUEUES) self.old
+            (record { dst = dst; src = src; message = nsp.view message.now })
+            ≡ Ok (record { links = self.new; truth = record { tag = tag; known = tt } })) }
+        ensures refused { IfErr result (λ fault. IsFault
+            (wire_links_sent (queues_of QUEUES) self.old (record { dst = dst; src = src; message = nsp.view message.now }))
+            (sending_takes_memory (queues_of QUEUES) self.old (nsp.view message.now)) fault) }
+        ensures err { OnErr result (self.new ≡ self.old) }
+    {
         match self.ask_sending::<QUEUES>(dst, src, message) {
             Ok(permit) => match self.send::<QUEUES>(message, permit) {
                 Ok(tag) => Ok(tag),

@@ -66,6 +66,47 @@ impl<W: Window<Piece, 4096> + Drop> Links<W> {
             (record { dst = dst; src = src; message = nsp.view message.now }) tag) (arrival_takes_memory self.old (nsp.view message.now)) fault) }
         ensures err { OnErr result (self.new ≡ self.old) }
     {
+        match message {
+            Nsp::DataSegment(_) => self.ask_and_take::<OF_PAIR, QUEUES>(dst, src, message, tag),
+            _ => self.take_other::<OF_PAIR, QUEUES>(dst, src, message, tag),
+        }
+    }
+
+    // A message that is no segment, as a function of its own, which keeps that of segments small.
+    #[inline(never)]
+    fn take_other<const OF_PAIR: bool, const QUEUES: u8>(
+        &mut self,
+        dst: u16,
+        src: u16,
+        message: &Nsp,
+        tag: LinkTag,
+    ) -> Result<(), LinkFault>
+        requires { nsp.IsInRange (nsp.view message.now) }
+        ensures ok { OnOk result (wire_links_arrived (queues_of QUEUES) (partner_rule OF_PAIR) self.old
+            (record { dst = dst; src = src; message = nsp.view message.now }) tag ≡ Ok self.new) }
+        ensures refused { IfErr result (λ fault. IsFault (wire_links_arrived (queues_of QUEUES) (partner_rule OF_PAIR) self.old
+            (record { dst = dst; src = src; message = nsp.view message.now }) tag) (arrival_takes_memory self.old (nsp.view message.now)) fault) }
+        ensures err { OnErr result (self.new ≡ self.old) }
+    {
+        self.ask_and_take::<OF_PAIR, QUEUES>(dst, src, message, tag)
+    }
+
+    // Where the kind of the message is known, what asks and does the others falls away.
+    #[inline(always)]
+    fn ask_and_take<const OF_PAIR: bool, const QUEUES: u8>(
+        &mut self,
+        dst: u16,
+        src: u16,
+        message: &Nsp,
+        tag: LinkTag,
+    ) -> Result<(), LinkFault>
+        requires { nsp.IsInRange (nsp.view message.now) }
+        ensures ok { OnOk result (wire_links_arrived (queues_of QUEUES) (partner_rule OF_PAIR) self.old
+            (record { dst = dst; src = src; message = nsp.view message.now }) tag ≡ Ok self.new) }
+        ensures refused { IfErr result (λ fault. IsFault (wire_links_arrived (queues_of QUEUES) (partner_rule OF_PAIR) self.old
+            (record { dst = dst; src = src; message = nsp.view message.now }) tag) (arrival_takes_memory self.old (nsp.view message.now)) fault) }
+        ensures err { OnErr result (self.new ≡ self.old) }
+    {
         match self.ask_arrival::<OF_PAIR>(dst, src, message, tag) {
             Ok(permit) => match self.arrive::<OF_PAIR, QUEUES>(message, tag, permit) {
                 Ok(()) => Ok(()),

@@ -28,6 +28,7 @@ impl<W: Window<Piece, 4096> + Drop> Links<W> {
     /// - `TakesMessages`: of `In`, the link is not in Calling, Confirming or RUN, or was not when it ended. `IsConnected`: of `Close`, not in
     ///   Confirming or RUN. `IsCalling`: of `Abort`, not in Calling.
     /// - `Delivery`: of `Up`, the message is not the next whole one that came.
+    #[inline(always)]
     pub fn ask_user<const QUEUES: u8>(
         &self,
         event: LinkEvent,
@@ -41,6 +42,7 @@ impl<W: Window<Piece, 4096> + Drop> Links<W> {
     }
 
     // The same, with the answer alone.
+    #[inline(always)]
     #[tactic(auto, using(crate::proofs::FailedTurn::event_in_use))]
     fn ask_event<const QUEUES: u8>(
         &self,
@@ -107,6 +109,7 @@ impl<W: Window<Piece, 4096> + Drop> Links<W> {
     }
 
     // A message is handed in.
+    #[inline(always)]
     #[tactic(auto, using(crate::proofs::FailedTurn::uses_found))]
     fn ask_to_hand_in<const QUEUES: u8>(&self, own: u16) -> Result<LinkUserPermit, FailedLinkEvent>
         ensures { result ≡ asks_in_use (queues_of QUEUES) own self.now (may_hand_in (queues_of QUEUES)) }
@@ -164,6 +167,7 @@ impl<W: Window<Piece, 4096> + Drop> Links<W> {
     }
 
     // A message is delivered.
+    #[inline(always)]
     #[tactic(auto, using(crate::proofs::Found::found_links))]
     fn ask_delivery(&self, own: u16, message: &[u8]) -> Result<LinkUserPermit, FailedLinkEvent>
         ensures { result ≡ spec.asked_delivering own message.now self.now }

@@ -13,6 +13,7 @@ use wire_base::Window;
 
 impl<W: Window<Piece, 4096> + Drop> Segments<W> {
     /// Whether the link with this number may deliver this message now: it is the next whole one. Takes no memory.
+    #[inline(always)]
     #[tactic(auto, using(crate::proofs::Delivery::delivery))]
     pub fn ask_delivery(
         &self,
