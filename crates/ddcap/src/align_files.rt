@@ -12,7 +12,7 @@ use std::rt::Files;
 use wire_base::{Tally, write_whole};
 
 /// The names of the files: both captures, and those that are written.
-#[derive(Clone, Copy, Debug, PartialEq, Eq)]
+#[derive(Clone, Copy)]
 pub struct AlignPaths<'a> {
     pub a: &'a str,
     pub b: &'a str,

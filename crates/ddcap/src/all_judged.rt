@@ -17,7 +17,7 @@ use wire_base::{Side, Tally};
 const REFUSED: u8 = 1;
 
 /// Why not all refusals are found.
-#[derive(Clone, Copy, Debug, PartialEq, Eq)]
+#[derive(Clone, Copy)]
 pub enum AllFault {
     /// The file of this side can't be read again from its beginning.
     ReadOnce(Side),

@@ -11,7 +11,7 @@ use pair_judge::{Matter, Reason};
 use std::alloc::{AllocError, Global};
 
 /// What a refusal for a reason leads to.
-#[derive(Clone, Copy, Debug, PartialEq, Eq)]
+#[derive(Clone, Copy, PartialEq, Eq)]
 pub enum Beyond {
     /// The judgement ends.
     Ends,

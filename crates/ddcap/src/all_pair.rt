@@ -24,7 +24,7 @@ use std::io::{Read, Seek};
 use wire_base::{Side, Tally};
 
 /// What is told of each refusal.
-#[derive(Clone, Copy, Debug, PartialEq, Eq)]
+#[derive(Clone, Copy, PartialEq, Eq)]
 pub enum Telling {
     /// Nothing.
     Nothing,

@@ -11,7 +11,7 @@ use wire_base::Side;
 pub const MOST_TOLD: usize = 50;
 
 /// A record that is refused.
-#[derive(Clone, Copy, Debug, PartialEq, Eq)]
+#[derive(Clone, Copy)]
 pub struct Refusal {
     pub side: Side,
     pub place: u64,

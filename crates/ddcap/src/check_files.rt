@@ -14,7 +14,7 @@ use std::rt::Files;
 use wire_base::Tally;
 
 /// The names of the files of a pair.
-#[derive(Clone, Copy, Debug, PartialEq, Eq)]
+#[derive(Clone, Copy)]
 pub struct PairPaths<'p> {
     pub a: &'p str,
     pub b: &'p str,

@@ -21,7 +21,7 @@ use std::rt::Files;
 use wire_base::Tally;
 
 /// Which rows are listed.
-#[derive(Clone, Copy, Debug, PartialEq, Eq)]
+#[derive(Clone, Copy)]
 pub enum Listed {
     /// Those that a side went through, with how often each did.
     Met,

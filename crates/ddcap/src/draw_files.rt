@@ -23,7 +23,7 @@ use std::rt::Files;
 use wire_base::{Tally, write_whole};
 
 /// What is drawn of two files.
-#[derive(Clone, Copy, Debug, PartialEq, Eq)]
+#[derive(Clone, Copy)]
 pub struct Asked<'a> {
     pub a: &'a str,
     pub b: &'a str,

@@ -21,7 +21,7 @@ use why::{Accusation, Beside, EndRefusal, LinkPast, addresses_of, why_end_json, 
 use wire_base::{Side, Tally};
 
 /// What is judged, how the answer is printed, and the name of the capture in it.
-#[derive(Clone, Copy, Debug, PartialEq, Eq)]
+#[derive(Clone, Copy)]
 pub struct EndPrintout<'n> {
     pub layers: Layers,
     pub form: Form,

@@ -9,7 +9,7 @@ use wire_base::Side;
 use wire_tap::TapFault;
 
 /// What is wrong with a file, or that memory was refused.
-#[derive(Clone, Copy, Debug, PartialEq, Eq)]
+#[derive(Clone, Copy)]
 pub enum FaultKind {
     /// This line departs from its format.
     Departs { kind: Departure, line: u64 },
@@ -24,7 +24,7 @@ pub enum FaultKind {
 }
 
 /// A fault that was told on standard error: of which file, if it is one's, and with which status.
-#[derive(Clone, Copy, Debug, PartialEq, Eq)]
+#[derive(Clone, Copy)]
 pub struct FaultTold {
     pub named: Option<Named>,
     pub kind: FaultKind,

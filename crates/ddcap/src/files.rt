@@ -18,7 +18,7 @@ use std::rt::Files;
 use wire_base::Tally;
 
 /// A file, by the name that it has in what is printed.
-#[derive(Clone, Copy, Debug, PartialEq, Eq)]
+#[derive(Clone, Copy)]
 pub enum Named {
     Script,
     Wire,
@@ -51,7 +51,7 @@ impl fmt::Display for Named {
 }
 
 /// What is told of a file that can't be opened.
-#[derive(Clone, Copy, Debug, PartialEq, Eq)]
+#[derive(Clone, Copy)]
 pub enum Told {
     /// `a: cannot open`
     Name,
@@ -60,7 +60,7 @@ pub enum Told {
 }
 
 /// A file that a word names.
-#[derive(Clone, Copy, Debug, PartialEq, Eq)]
+#[derive(Clone, Copy)]
 pub struct Wanted<'p> {
     pub named: Named,
     pub path: &'p str,

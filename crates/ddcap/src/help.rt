@@ -18,7 +18,7 @@ pub const VERSION: &str = "1.10";
 const HELPED: u8 = 0;
 
 /// What help is asked for.
-#[derive(Clone, Copy, Debug, PartialEq, Eq)]
+#[derive(Clone, Copy)]
 pub enum Topic {
     /// The program as a whole.
     Program,

@@ -4,7 +4,7 @@ use crate::layers::Layers;
 use crate::telling::Form;
 
 /// Which refusals are told.
-#[derive(Clone, Copy, Debug, PartialEq, Eq)]
+#[derive(Clone, Copy, PartialEq, Eq)]
 pub enum Refusals {
     /// The first one, which ends the judgement.
     First,
@@ -13,7 +13,7 @@ pub enum Refusals {
 }
 
 /// How captures are judged, and how the answer is printed.
-#[derive(Clone, Copy, Debug, PartialEq, Eq)]
+#[derive(Clone, Copy)]
 pub struct How {
     pub form: Form,
     pub layers: Layers,

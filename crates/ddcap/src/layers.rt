@@ -29,7 +29,7 @@ use std::io::Read;
 use wire_base::{Side, Tally};
 
 /// What is judged.
-#[derive(Clone, Copy, Debug, PartialEq, Eq)]
+#[derive(Clone, Copy, PartialEq, Eq)]
 pub enum Layers {
     /// Stations with their links on top.
     Both,

@@ -9,7 +9,7 @@ use std::rt::Files;
 use wire_base::Tally;
 
 /// The names of the files: the script, and the captures to be written.
-#[derive(Clone, Copy, Debug, PartialEq, Eq)]
+#[derive(Clone, Copy)]
 pub struct PlayPaths<'a> {
     pub script: &'a str,
     pub a: &'a str,

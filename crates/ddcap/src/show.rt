@@ -17,7 +17,7 @@ use wire_base::{Side, Tally};
 const SHOWN: u8 = 0;
 
 /// How the printing of a capture's records came to its end.
-#[derive(Clone, Copy, Debug, PartialEq, Eq)]
+#[derive(Clone, Copy)]
 pub enum Ending {
     /// All records were printed.
     Whole,

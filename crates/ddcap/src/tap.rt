@@ -37,7 +37,7 @@ pub const ACCEPTED: u8 = 0;
 pub const UNEXPLAINED: u8 = 1;
 
 /// Captures that a tap wrote.
-#[derive(Clone, Copy, Debug, PartialEq, Eq)]
+#[derive(Clone, Copy)]
 pub struct Captured<'a> {
     /// How they end, and what was skipped.
     pub tapped: Tapped,
@@ -52,7 +52,7 @@ pub struct Captured<'a> {
 }
 
 /// A refused record of captures that are to be cut there, before anything is printed.
-#[derive(Clone, Copy, Debug, PartialEq, Eq)]
+#[derive(Clone, Copy)]
 pub struct RefusedAt {
     pub side: Side,
     pub place: u64,

@@ -20,7 +20,7 @@ use wire_base::{Side, Tally};
 use wire_tap::{Accused, Asked, Tapped, find_accused, tap};
 
 /// The names of the files: what passed, and the captures to be written; and whether stations and line alone are judged.
-#[derive(Clone, Copy, Debug, PartialEq, Eq)]
+#[derive(Clone, Copy)]
 pub struct TapPaths<'a> {
     pub wire: &'a str,
     pub a: &'a str,

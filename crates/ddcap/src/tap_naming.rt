@@ -22,7 +22,7 @@ const MOST_CUTS: usize = 256;
 pub type Unit = (Side, u64);
 
 // How many units of both sides captures have.
-#[derive(Clone, Copy, Debug, PartialEq, Eq)]
+#[derive(Clone, Copy, PartialEq, Eq)]
 pub(crate) struct Reach {
     a: u64,
     b: u64,

@@ -28,7 +28,7 @@ use wire_base::{Side, Tally, write_whole};
 pub const REFUSED: u8 = 1;
 
 /// How the answer is printed.
-#[derive(Clone, Copy, Debug, PartialEq, Eq)]
+#[derive(Clone, Copy, PartialEq, Eq)]
 pub enum Form {
     /// In rows, to be read.
     Rows,
@@ -37,7 +37,7 @@ pub enum Form {
 }
 
 /// A record that is refused.
-#[derive(Clone, Copy, Debug, PartialEq, Eq)]
+#[derive(Clone, Copy)]
 pub struct Refused {
     pub side: Side,
     pub place: u64,
@@ -45,7 +45,7 @@ pub struct Refused {
 }
 
 /// What is judged, how the answer is printed, and the names of both captures in it.
-#[derive(Clone, Copy, Debug, PartialEq, Eq)]
+#[derive(Clone, Copy)]
 pub struct Printout<'n> {
     pub layers: Layers,
     pub form: Form,

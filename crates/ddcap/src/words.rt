@@ -20,7 +20,7 @@ use std::alloc::Global;
 use std::convert::AsStr;
 
 /// What the program is asked to do.
-#[derive(Debug, Drop, PartialEq, Eq)]
+#[derive(Drop)]
 pub enum Task<'a> {
     /// To judge pairs of captures, over these layers: a file of side a, and one of side b, and so on.
     Check {
@@ -84,7 +84,7 @@ pub enum Task<'a> {
 }
 
 /// Why the words ask for nothing.
-#[derive(Clone, Copy, Debug, PartialEq, Eq)]
+#[derive(Clone, Copy)]
 pub enum WordsFault {
     /// They are no task. `--help`, `--version` and their kin are none either.
     BadWords,

@@ -24,7 +24,7 @@ pub struct Beside<'f, F> {
 }
 
 /// Which file on a disk it is, by whatever name it was opened.
-#[derive(Clone, Copy, Debug, PartialEq, Eq)]
+#[derive(Clone, Copy, PartialEq, Eq)]
 struct Node {
     device: u64,
     number: u64,

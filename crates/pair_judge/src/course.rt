@@ -28,7 +28,7 @@ use std::io::Read;
 use wire_base::{Side, Tally};
 
 /// What comes next of a capture.
-#[derive(Clone, Copy, Debug, PartialEq, Eq)]
+#[derive(Clone, Copy)]
 pub enum Ahead {
     /// A record that is not read yet, or the end.
     Unread,
@@ -48,7 +48,7 @@ pub struct Course {
 }
 
 /// What became of a side's next record.
-#[derive(Clone, Copy, Debug, PartialEq, Eq)]
+#[derive(Clone, Copy)]
 pub enum Advance {
     /// It was made, and the observer was told of it.
     Made,

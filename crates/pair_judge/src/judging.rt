@@ -53,7 +53,7 @@ use wire_base::{Side, Tally};
 const MOST_TURNS: u64 = 2 * MAX_RECORDS + 1;
 
 /// The judge's finding, with the counts of the records made by then.
-#[derive(Clone, Copy, Debug, PartialEq, Eq)]
+#[derive(Clone, Copy)]
 pub struct Found {
     pub finding: Finding,
     pub summary: Summary,

@@ -36,7 +36,7 @@ pub struct LoneEnd {
 }
 
 /// What became of a record.
-#[derive(Clone, Copy, Debug, PartialEq, Eq)]
+#[derive(Clone, Copy)]
 pub enum MadeAlone {
     /// It was made.
     Done,

@@ -27,7 +27,7 @@ use dna_station::StepRefusal;
 use std::alloc::{AllocError, Global};
 
 /// What became of a record.
-#[derive(Clone, Copy, Debug, PartialEq, Eq)]
+#[derive(Clone, Copy)]
 pub enum Made {
     /// It was made. `sound`: of a sound unit; `false` says nothing.
     Done { sound: bool },

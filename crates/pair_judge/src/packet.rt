@@ -9,7 +9,7 @@ use dna_station::StepRefusal;
 
 /// The bytes of an NSP message with the node addresses of its packet, of which they are a slice. They are read where the message is
 /// used: it is larger than they are, and is moved nowhere.
-#[derive(Clone, Copy, Debug, PartialEq, Eq)]
+#[derive(Clone, Copy)]
 pub struct Carried<'a> {
     /// The node that the packet is for.
     pub dst: u16,

@@ -25,7 +25,7 @@ use dna_station::StepRefusal;
 use std::alloc::AllocError;
 
 /// What became of a receipt.
-#[derive(Clone, Copy, Debug, PartialEq, Eq)]
+#[derive(Clone, Copy)]
 pub enum Receipt {
     /// It was made, of a unit that came sound or damaged.
     Done { damaged: bool },

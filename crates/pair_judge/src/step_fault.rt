@@ -3,7 +3,7 @@
 use dna_station::StepRefusal;
 
 /// Why a side made no step.
-#[derive(Clone, Copy, Debug, PartialEq, Eq)]
+#[derive(Clone, Copy)]
 pub enum StepFault {
     /// No node may make it.
     Refused(StepRefusal),

@@ -3,7 +3,7 @@
 use capture::{Format, MAX_HINT, MAX_INTERRUPT, MAX_LINK, MAX_MESSAGE, MAX_PACKET, MAX_UNIT};
 
 /// Where a line departs, in bytes from its beginning, and what would be right there.
-#[derive(Clone, Copy, Debug, PartialEq, Eq)]
+#[derive(Clone, Copy)]
 pub struct Place {
     pub at: usize,
     pub allowed: &'static str,

@@ -26,7 +26,7 @@ const UNKNOWN: Tag = Tag {
 };
 
 /// What became of a receipt.
-#[derive(Clone, Copy, Debug, PartialEq, Eq)]
+#[derive(Clone, Copy)]
 pub enum Came {
     /// It was made, of a unit that came sound or damaged.
     Done {
