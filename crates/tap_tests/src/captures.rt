@@ -25,6 +25,23 @@ r 0 0506c00000017595
 s 0507c00000014855
 ";
 
+const OF_STARTUP: Tapped = Tapped {
+    ending: Ending::Whole,
+    units_a: Units {
+        count: 2,
+        bytes: 16,
+    },
+    units_b: Units { count: 1, bytes: 8 },
+    skipped_a: Skipped {
+        maintenance: 0,
+        bytes: 1,
+    },
+    skipped_b: Skipped {
+        maintenance: 0,
+        bytes: 0,
+    },
+};
+
 fn tapped(
     alloc: Global,
     text: &str,
@@ -45,18 +62,8 @@ fn tapped(
 #[test]
 fn a_startup_that_passed_gives_both_captures(rt: HostRuntime) -> Result<(), TapFault> {
     let (tapped, a, b) = tapped(rt.alloc(), STARTUP, &[])?;
-    assert_eq!(rt; tapped.ending, Ending::Whole);
-    let skipped = Skipped {
-        maintenance: 0,
-        bytes: 1,
-    };
-    assert_eq!(rt; tapped.skipped_a, skipped);
-    let units = Units {
-        count: 2,
-        bytes: 16,
-    };
-    assert_eq!(rt; tapped.units_a, units);
     assert!(rt; !tapped.is_silent());
+    assert_eq!(rt; tapped, OF_STARTUP);
     assert_eq!(rt; a.as_slice(), LINES_A.as_bytes());
     assert_eq!(rt; b.as_slice(), LINES_B.as_bytes());
     Ok(())

@@ -1,5 +1,5 @@
 use accusing_links::{LinkAccuser, Wrong};
-use std::alloc::AllocError;
+use std::alloc::{AllocError, Global};
 
 // Data messages with a CI in a packet from 1.1 to 1.2, and in one to 1.3; with a message of flag byte 02, also on its way back; and with a packet 00.
 const CI: &[u8] =
@@ -74,29 +74,43 @@ const NO_LINK: &[u8] =
 #[test]
 fn a_packet_has_to_be_read_and_to_go_out(rt: HostRuntime) {
     let accuser = LinkAccuser::new(rt.alloc(), 1025, 1026);
-    assert_eq!(rt; accuser.sends(CI), None);
-    assert_eq!(rt; accuser.sends(TO_THIRD), Some(Wrong::WrongNode));
-    assert_eq!(rt; accuser.sends(UNKNOWN), Some(Wrong::BadNsp));
-    assert_eq!(rt; accuser.sends(RETURNED), None);
-    assert_eq!(rt; accuser.sends(NO_PACKET), Some(Wrong::BadPacket));
+    for (unit, wrong) in [
+        (CI, None),
+        (TO_THIRD, Some(Wrong::WrongNode)),
+        (UNKNOWN, Some(Wrong::BadNsp)),
+        (RETURNED, None),
+        (NO_PACKET, Some(Wrong::BadPacket)),
+    ] {
+        assert_eq!(rt; accuser.sends(unit), wrong);
+    }
     let other = LinkAccuser::new(rt.alloc(), 1026, 1025);
     assert_eq!(rt; other.sends(CI), Some(Wrong::WrongNode));
 }
 
-#[test]
-fn an_acknowledgement_needs_a_segment_that_passed(rt: HostRuntime) -> Result<(), AllocError> {
-    let mut accuser = LinkAccuser::new(rt.alloc(), 1025, 1026);
+// The accuser of a side whose link 7 was called by link 9, and runs, as does link 8.
+fn of_called(alloc: Global) -> Result<LinkAccuser, AllocError> {
+    let mut accuser = LinkAccuser::new(alloc, 1025, 1026);
     accuser.other_passed(CALL_OF_9)?;
     accuser.other_passed(RUN_TO_7)?;
     accuser.other_passed(RUN_TO_8)?;
-    assert_eq!(rt; accuser.sends(ACK_0), None);
-    assert_eq!(rt; accuser.sends(OTHER_1), None);
-    assert_eq!(rt; accuser.sends(ACK_2), Some(Wrong::WrongAck));
+    Ok(accuser)
+}
+
+#[test]
+fn an_acknowledgement_needs_a_segment_that_passed(rt: HostRuntime) -> Result<(), AllocError> {
+    let mut accuser = of_called(rt.alloc())?;
+    for (unit, wrong) in [
+        (ACK_0, None),
+        (OTHER_1, None),
+        (ACK_2, Some(Wrong::WrongAck)),
+    ] {
+        assert_eq!(rt; accuser.sends(unit), wrong);
+    }
     accuser.other_passed(SEGMENT_2)?;
     assert_eq!(rt; accuser.sends(ACK_2), None);
-    assert_eq!(rt; accuser.sends(ACK_1), Some(Wrong::WrongAck));
-    assert_eq!(rt; accuser.sends(NAK_1), Some(Wrong::WrongAck));
-    assert_eq!(rt; accuser.sends(OF_LINK_8), Some(Wrong::WrongAck));
+    for unit in [ACK_1, NAK_1, OF_LINK_8] {
+        assert_eq!(rt; accuser.sends(unit), Some(Wrong::WrongAck));
+    }
     Ok(())
 }
 

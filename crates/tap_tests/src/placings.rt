@@ -19,10 +19,6 @@ struct Line {
 }
 
 impl Line {
-    fn new(alloc: Global) -> Result<Line, AllocError> {
-        Line::of(alloc, Explained::Together, &[])
-    }
-
     fn of(alloc: Global, explained: Explained, turns: &[Turn]) -> Result<Line, AllocError> {
         let mut search = Search::new(alloc, explained)?;
         for turn in turns {
@@ -34,14 +30,27 @@ impl Line {
         })
     }
 
-    fn from_a(&mut self, unit: &[u8; 8]) -> Result<Reached, AllocError> {
-        self.b.sent_by_other(unit)?;
-        self.search.sent(Side::A, unit)
+    // No unit of these tests is longer than 11 bytes.
+    fn sent(&mut self, side: Side, unit: &[u8]) -> Result<Reached, AllocError> {
+        if unit.len() > 11 {
+            return Ok(Reached::NoWay);
+        }
+        match side {
+            Side::A => self.b.sent_by_other(unit)?,
+            Side::B => self.b.sent(unit)?,
+        }
+        self.search.sent(side, unit)
     }
 
-    fn from_b(&mut self, unit: &[u8; 8]) -> Result<Reached, AllocError> {
-        self.b.sent(unit)?;
-        self.search.sent(Side::B, unit)
+    // The first of these units that has no way is told.
+    fn pass(&mut self, units: &[(Side, &[u8])]) -> Result<Reached, AllocError> {
+        for (side, unit) in units {
+            let reached = self.sent(*side, unit)?;
+            if reached != Reached::Way {
+                return Ok(reached);
+            }
+        }
+        Ok(Reached::Way)
     }
 
     // The lines of side b.
@@ -52,19 +61,40 @@ impl Line {
     }
 }
 
+// A line is made and dropped here alone: each place where a test may end drops what it holds, and that is what a proof of the test takes longest for.
+fn reached(
+    alloc: Global,
+    explained: Explained,
+    units: &[(Side, &[u8])],
+) -> Result<Reached, AllocError> {
+    let mut line = Line::of(alloc, explained, &[])?;
+    line.pass(units)
+}
+
+// The same of both sides together, with the lines of side b.
+fn passed(
+    alloc: Global,
+    turns: &[Turn],
+    units: &[(Side, &[u8])],
+) -> Result<(Reached, Vec<u8>), AllocError> {
+    let mut line = Line::of(alloc, Explained::Together, turns)?;
+    let reached = line.pass(units)?;
+    let lines = line.lines(alloc)?;
+    Ok((reached, lines))
+}
+
 #[test]
 fn what_lets_a_side_send_is_put_between_its_units(rt: HostRuntime) -> Result<(), AllocError> {
-    let mut line = Line::new(rt.alloc())?;
-    assert_eq!(rt; line.from_a(&STRT)?, Reached::Way);
-    assert_eq!(rt; line.from_b(&STACK)?, Reached::Way);
-    assert_eq!(rt; line.lines(rt.alloc())?.as_slice(), LINES.as_bytes());
+    let (reached, lines) = passed(rt.alloc(), &[], &[(Side::A, &STRT), (Side::B, &STACK)])?;
+    assert_eq!(rt; reached, Reached::Way);
+    assert_eq!(rt; lines.as_slice(), LINES.as_bytes());
     Ok(())
 }
 
 #[test]
 fn a_unit_without_a_way_is_told(rt: HostRuntime) -> Result<(), AllocError> {
-    let mut line = Line::new(rt.alloc())?;
-    assert_eq!(rt; line.from_b(&STACK)?, Reached::NoWay);
+    let reached = reached(rt.alloc(), Explained::Together, &[(Side::B, &STACK)])?;
+    assert_eq!(rt; reached, Reached::NoWay);
     Ok(())
 }
 
@@ -81,13 +111,16 @@ const OTHER: [u8; 11] = [
 // Side b starts anew, of which it sends nothing, takes the STACK of its earlier start, and gives another packet the number 1: only by itself it may.
 #[test]
 fn a_side_by_itself_asks_no_period(rt: HostRuntime) -> Result<(), AllocError> {
+    let units: [(Side, &[u8]); 5] = [
+        (Side::B, &STRT),
+        (Side::A, &STACK),
+        (Side::A, &STACK),
+        (Side::B, &HELLO),
+        (Side::B, &OTHER),
+    ];
     for explained in [Explained::Together, Explained::Apart] {
-        let mut line = Line::of(rt.alloc(), explained, &[])?;
-        line.from_b(&STRT)?;
-        line.from_a(&STACK)?;
-        line.from_a(&STACK)?;
-        assert_eq!(rt; line.search.sent(Side::B, &HELLO)?, Reached::Way);
-        let reached = line.search.sent(Side::B, &OTHER)?;
+        assert_eq!(rt; reached(rt.alloc(), explained, &units[..4])?, Reached::Way);
+        let reached = reached(rt.alloc(), explained, &units)?;
         assert_eq!(rt; reached == Reached::Way, explained == Explained::Apart);
     }
     Ok(())
@@ -113,31 +146,36 @@ fn at_unit(unit: u64, what: Assumed) -> Turn {
 
 #[test]
 fn a_node_boots_in_the_place_of_a_halt(rt: HostRuntime) -> Result<(), AllocError> {
-    let turn = at_unit(2, Assumed::Boots);
-    let mut line = Line::of(rt.alloc(), Explained::Together, &[turn])?;
-    line.from_b(&STRT)?;
-    line.from_a(&STACK)?;
-    line.from_b(&ACK)?;
-    assert_eq!(rt; line.from_b(&STRT)?, Reached::Way);
-    assert_eq!(rt; line.lines(rt.alloc())?.as_slice(), BOOTED.as_bytes());
+    let units: [(Side, &[u8]); 4] = [
+        (Side::B, &STRT),
+        (Side::A, &STACK),
+        (Side::B, &ACK),
+        (Side::B, &STRT),
+    ];
+    let (reached, lines) = passed(rt.alloc(), &[at_unit(2, Assumed::Boots)], &units)?;
+    assert_eq!(rt; reached, Reached::Way);
+    assert_eq!(rt; lines.as_slice(), BOOTED.as_bytes());
     Ok(())
+}
+
+// Whether a line has the receipt of a unit that was kept.
+fn is_kept(lines: &[u8]) -> bool {
+    lines
+        .split(|byte| *byte == b'\n')
+        .any(|line| line.starts_with(b"k 1 "))
 }
 
 #[test]
 fn a_start_that_is_turned_keeps_fewer_packets(rt: HostRuntime) -> Result<(), AllocError> {
+    let units: [(Side, &[u8]); 4] = [
+        (Side::A, &STRT),
+        (Side::B, &STACK),
+        (Side::A, &HELLO),
+        (Side::B, &STRT),
+    ];
     for (most, wanted) in [(1, true), (0, false)] {
-        let turn = at_unit(1, Assumed::Keeps { most });
-        let mut line = Line::of(rt.alloc(), Explained::Together, &[turn])?;
-        line.from_a(&STRT)?;
-        line.from_b(&STACK)?;
-        line.b.sent_by_other(&HELLO)?;
-        line.search.sent(Side::A, &HELLO)?;
-        line.from_b(&STRT)?;
-        let lines = line.lines(rt.alloc())?;
-        let is_kept = lines
-            .split(|byte| *byte == b'\n')
-            .any(|line| line.starts_with(b"k 1 "));
-        assert_eq!(rt; is_kept, wanted);
+        let (_, lines) = passed(rt.alloc(), &[at_unit(1, Assumed::Keeps { most })], &units)?;
+        assert_eq!(rt; is_kept(lines.as_slice()), wanted);
     }
     assert!(rt; !turns_a_link(&HELLO));
     assert_eq!(rt; own_address(&HELLO), None);
@@ -160,21 +198,26 @@ fn noise_of(alloc: Global, lines: &[u8]) -> Result<Vec<u8>, AllocError> {
     Ok(noise)
 }
 
+// Whether the only line of noise reads as damaged data.
+fn is_damaged_data(alloc: Global, lines: &[u8]) -> Result<bool, AllocError> {
+    let digits = noise_of(alloc, lines)?;
+    match hex::decode(alloc, digits.as_slice()) {
+        Ok(noise) => Ok(read_unit(noise.as_slice()) == Reading::DataBad),
+        Err(_) => Err(AllocError),
+    }
+}
+
 #[test]
 fn before_a_nak_of_data_comes_noise_that_reads_as_damaged_data(
     rt: HostRuntime,
 ) -> Result<(), AllocError> {
-    let alloc = rt.alloc();
-    let mut line = Line::new(alloc)?;
-    line.from_a(&STRT)?;
-    line.from_b(&STACK)?;
-    line.from_a(&ACK)?;
-    line.from_b(&NAK)?;
-    let lines = line.lines(alloc)?;
-    let digits = noise_of(alloc, lines.as_slice())?;
-    let Ok(noise) = hex::decode(alloc, digits.as_slice()) else {
-        return Err(AllocError);
-    };
-    assert_eq!(rt; read_unit(noise.as_slice()), Reading::DataBad);
+    let units: [(Side, &[u8]); 4] = [
+        (Side::A, &STRT),
+        (Side::B, &STACK),
+        (Side::A, &ACK),
+        (Side::B, &NAK),
+    ];
+    let (_, lines) = passed(rt.alloc(), &[], &units)?;
+    assert!(rt; is_damaged_data(rt.alloc(), lines.as_slice())?);
     Ok(())
 }
