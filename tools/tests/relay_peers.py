@@ -21,7 +21,8 @@ EXCHANGE = STARTUP + [('a', PACKET), ('b', control(ACK, 0, 1))]
 class Relay:
     """A relay that writes its text into a file, and side b's port."""
 
-    def __init__(self, *options, output=None, before=None, is_b_late=False, kind=socket.SOCK_STREAM, host='127.0.0.1'):
+    def __init__(self, *options, output=None, before=None, is_b_late=False, kind=socket.SOCK_STREAM, host='127.0.0.1',
+                 here='127.0.0.1:0'):
         self.b = socket.socket(socket.AF_INET, kind)
         self.b.bind(('127.0.0.1', 0))
         self.b.settimeout(PATIENCE)
@@ -30,7 +31,7 @@ class Relay:
         self.text = tempfile.NamedTemporaryFile(prefix='relay')
         self.said, self.changed = '', threading.Condition()
         there = '%s:%d' % (host, self.b.getsockname()[1])
-        self.process = subprocess.Popen([RELAY, *options, '127.0.0.1:0', there, '1.1', '1.2'], stdin=subprocess.DEVNULL,
+        self.process = subprocess.Popen([RELAY, *options, here, there, '1.1', '1.2'], stdin=subprocess.DEVNULL,
                                         stdout=output or self.text, stderr=subprocess.PIPE, text=True, preexec_fn=before)
         self.listener = threading.Thread(target=self.hear, daemon=True)
         self.listener.start()
