@@ -1,4 +1,4 @@
-# Completion for bash of ddcap, ddcap-wire-relay and ddcap-wire-of. The words of ddcap and their options are those of `ddcap help` and its pages.
+# Completion for bash of ddcap, ddcap-wire-relay, ddcap-wire-pcap and ddcap-wire-of. The words of ddcap and their options are those of `ddcap help` and its pages.
 
 _ddcap_words() { command ddcap help 2> /dev/null | sed -n 's/^  ddcap \([a-z]*\).*/\1/p'; }
 
@@ -32,7 +32,16 @@ _ddcap() {
   fi
 }
 
-_ddcap_wire_relay() { COMPREPLY=() && _ddcap_propose '--once --udp --help'; }
+_ddcap_wire_relay() { COMPREPLY=() && _ddcap_propose '--once --udp --all-addresses --help'; }
+
+_ddcap_wire_pcap() {
+  COMPREPLY=()
+  if [ "${COMP_WORDS[COMP_CWORD - 1]}" = --port ]; then
+    _ddcap_propose ''
+  elif [[ ${COMP_WORDS[COMP_CWORD]} == -* ]]; then
+    _ddcap_propose '--port --past-loss --help'
+  fi
+}
 
 _ddcap_wire_of() {
   COMPREPLY=()
@@ -45,4 +54,5 @@ _ddcap_wire_of() {
 
 complete -o default -F _ddcap ddcap
 complete -o default -F _ddcap_wire_relay ddcap-wire-relay
+complete -o default -F _ddcap_wire_pcap ddcap-wire-pcap
 complete -o default -F _ddcap_wire_of ddcap-wire-of
