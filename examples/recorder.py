@@ -11,16 +11,34 @@
 A unit is header, data and checks as they passed, without SYN and pads. `number` says which of the peer's units this is, counted from 0 over all that
 the peer sent. Without it the next one is meant: that is right if no unit was lost, and enough for `alone`.
 
+If the node starts anew, gives up a call, or loses packets inside, its capture has to say so, in format 3: Recorder(.., form=3). That one also takes
+
+    recorder.user('boot')                    when the whole node starts anew; 'start' follows
+    recorder.user('abort', 1)                when a call that was not answered is given up, and nothing is sent for it
+    recorder.dropped(unit, number)           in place of `kept`, if the packet is lost inside the node before NSP meets it
+    recorder.composed(packet)                a packet that will never be sent, before `sent` of those that are composed later
+    recorder.user('interrupt', 1, message=b'x') and 'interrupted': an interrupt of at most 16 bytes is handed in, or delivered
+
+A call that can't be a line of the capture's format is a ValueError, and writes nothing.
+
 If you call it otherwise the pair is refused: `received` for a packet that was kept (8), a unit with SYN in front (1), no `number` though a unit was
 lost (5), `sent` only when the line has taken the unit (4, 6, 8), and no `sent` for a unit that is sent again (4, 5)."""
-EVENTS = {'start': 0, 'halt': 0, 'open': 1, 'accept': 2, 'reject': 2, 'in': 1, 'up': 1, 'close': 1}  # how many link addresses each has
-MOST_OF_UNIT, MOST_OF_MESSAGE, MOST_UNITS = 16_393, 65_535, 10 ** 18
+import re
+
+# of each event how many link addresses it has, the most bytes of its message, if it has one, and the first format that has it, where not all do
+EVENTS = {'start': (0, None, 1), 'halt': (0, None, 1), 'open': (1, None, 1), 'accept': (2, None, 1), 'reject': (2, None, 1), 'close': (1, None, 1),
+          'in': (1, 65_535, 1), 'up': (1, 65_535, 1),
+          'boot': (0, None, 3), 'abort': (1, None, 3), 'interrupt': (1, 16, 3), 'interrupted': (1, 16, 3)}
+MOST_OF_UNIT, MOST_OF_PACKET, MOST_UNITS, MOST_LINKS = 16_393, 16_383, 10 ** 18, 65_535
+NODE = re.compile(r'([1-9]\d?)\.([1-9]\d{0,3})', re.ASCII)
 
 
 class Recorder:
     def __init__(self, file, own, peer, form=2):
+        if form not in (1, 2, 3):
+            raise ValueError('no format of captures: %r' % (form,))
         self.file, self.form, self.next = file, form, 0
-        self.line('ddcap %d %s %s' % (form, own, peer))
+        self.line('ddcap %d %s %s' % (form, node(own), node(peer)))
 
     def sent(self, unit):
         self.line('s ' + digits(unit, MOST_OF_UNIT))
@@ -31,30 +49,58 @@ class Recorder:
     def kept(self, unit, number=None):
         self.receipt('k', unit, number)
 
+    def dropped(self, unit, number=None):
+        self.needs(3, 'a packet that is dropped')
+        self.receipt('d', unit, number)
+
+    def composed(self, packet):
+        self.needs(3, 'a packet that is never sent')
+        self.line('x ' + digits(packet, MOST_OF_PACKET))
+
     def noise(self, what=b''):
         self.line('n ' + digits(what, MOST_OF_UNIT))
 
     def user(self, event, *addresses, message=None):
-        if EVENTS.get(event) != len(addresses) or (event in ('in', 'up')) != (message is not None):
+        count, most, form = EVENTS.get(event, (None, None, 1))
+        if count != len(addresses) or (most is None) != (message is None):
             raise ValueError('no event of a user: %s %s' % (event, addresses))
-        if not all(0 < address < 65536 for address in addresses):
-            raise ValueError('an address of a link is from 1 to 65535: %s' % (addresses,))
-        content = [] if message is None else [digits(message, MOST_OF_MESSAGE)]
-        self.line(' '.join(['u', event, *map(str, addresses), *content]))
+        self.needs(form, event)
+        links = [whole(address, 1, MOST_LINKS) for address in addresses]
+        content = [] if most is None else [digits(message, most)]
+        self.line(' '.join(['u', event, *links, *content]))
 
     def receipt(self, letter, unit, number):
         number = self.next if number is None else number
-        if not 0 <= number < MOST_UNITS:
-            raise ValueError('the number of a unit is from 0 to %d: %d' % (MOST_UNITS - 1, number))
+        whole(number, 0, MOST_UNITS - 1)
         self.line('%s %d %s' % (letter, number - self.next if self.form == 2 else number, digits(unit, MOST_OF_UNIT)))
         self.next = number + 1
+
+    def needs(self, form, what):
+        if self.form < form:
+            raise ValueError('%s needs format %d, and this capture has format %d' % (what, form, self.form))
 
     def line(self, words):
         self.file.write(words + '\n')
         self.file.flush()  # so that nothing is missing if the node crashes
 
 
+def whole(number, least, most):
+    if not isinstance(number, int) or not least <= number <= most:
+        raise ValueError('no number from %d to %d: %r' % (least, most, number))
+    return '%d' % number
+
+
+def node(address):
+    found = NODE.fullmatch(str(address))
+    if not found or int(found[1]) > 63 or int(found[2]) > 1023:
+        raise ValueError('no address of a node, such as 1.1: %r' % (address,))
+    return found[0]
+
+
 def digits(what, most):
+    if what is None or isinstance(what, (int, str)):
+        raise ValueError('no bytes: %r' % (what,))
+    what = bytes(what)
     if len(what) > most:
         raise ValueError('%d bytes are more than %d' % (len(what), most))
-    return bytes(what).hex() or '-'
+    return what.hex() or '-'
