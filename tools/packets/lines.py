@@ -96,9 +96,18 @@ class Line:
         """Whether side b has this port."""
         return self.b[1] == port
 
+    def may_turn(self):
+        """Whether side a may as well be b: no connection tells which end was called."""
+        return not any(each.tells_sides for each in self.connections)
+
     def may_be_called_at(self, port):
-        """Whether what is side a now has this port and may be b: no connection tells which end was called."""
-        return any(each.a[1] == port for each in self.connections) and not any(each.tells_sides for each in self.connections)
+        """Whether what is side a now has this port and may be b."""
+        return self.may_turn() and any(each.a[1] == port for each in self.connections)
+
+    def port_among(self, lines):
+        """A port that names this line, if possible alone among these."""
+        is_alone = sum(each.called_at(self.b[1]) for each in lines) == 1
+        return self.b[1] if is_alone or not self.may_turn() else self.connections[-1].a[1]
 
     def turn(self):
         """What was side a is b."""
@@ -107,11 +116,11 @@ class Line:
         self.host_a, self.b = self.connections[-1].a[0], self.connections[-1].b
 
     def told(self):
-        words = '%s, a %s, b %s: %s' % (self.kind, self.host_a, place_of(self.b), counted(self.units(), 'unit'))
+        units = counted(self.units(), 'unit')
         if self.kind == 'UDP':
-            return words
+            return 'UDP, a %s, b %s: %s' % (place_of(self.connections[-1].a), place_of(self.b), units)
         empty = sum(not any(way.pieces for way in connection.ways.values()) for connection in self.connections)
-        words += ' on ' + counted(len(self.connections) - empty, 'connection')
+        words = 'TCP, a %s, b %s: %s on %s' % (self.host_a, place_of(self.b), units, counted(len(self.connections) - empty, 'connection'))
         return words + (', and %s that carried nothing' % counted(empty, 'attempt') if empty else '')
 
 
