@@ -70,7 +70,7 @@ class Stream(Way):
         self.is_short |= len(packet.payload) < packet.length
         if packet.payload:
             heapq.heappush(self.later, (number, packet.moment, packet))
-        self.follow(packet)
+        self.follow()
 
     def hear(self, packet):
         """The other side acknowledges with this packet."""
@@ -78,12 +78,12 @@ class Stream(Way):
         if number > self.next:
             self.heard.append((number, packet))
 
-    def follow(self, packet=None):
-        """Takes what is next, up to a gap: all of it passed with this packet, or without one each part where it and those before it passed."""
-        last = packet
+    def follow(self):
+        """Takes what is next, up to a gap: each part where it and those before it have passed."""
+        last = None
         while self.later and self.later[0][0] <= self.next:
             number, _, later = heapq.heappop(self.later)
-            if packet is None and (last is None or later.moment > last.moment):
+            if last is None or later.moment > last.moment:
                 last = later
             fresh = later.payload[self.next - number:]
             self.next += len(fresh)
