@@ -4,6 +4,7 @@ import os
 import re
 import shutil
 import subprocess
+import tempfile
 
 TOP = os.path.dirname(os.path.dirname(os.path.dirname(os.path.realpath(__file__))))
 RATTLE = os.path.join(TOP, 'tools', 'tests', 'rattle')
@@ -48,8 +49,7 @@ def tried(folder, crate, *words, text=None):
 def answered(folder, crate, cases, *words):
     """What a program prints in each case, and None where it does not end with status 0; it is built once. A case is a name, the words that
     the program gets and its input."""
-    room = os.path.join(folder, 'cases')
-    os.makedirs(room)
+    room = tempfile.mkdtemp(dir=folder)
     for name, given, text in cases:
         for path, content in (name, text), (name + '.args', ''.join(word + '\n' for word in given)):
             with open(os.path.join(room, path), 'w') as file:
