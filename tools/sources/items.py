@@ -5,10 +5,7 @@ import os
 import re
 from collections import namedtuple
 
-TESTS = (
-    'machine_rows', 'pair_tests', 'public_tests', 'tap_tests', 'leaving_tests', 'link_tests', 'benches',
-    'link_allocations', 'dna_rows',
-)
+TESTS = 'dna_rows', 'pair_laws'
 TOP = os.path.dirname(os.path.dirname(os.path.dirname(os.path.abspath(__file__))))
 WORD = re.compile(r'''(?:[^\W\d]|[◌>=&|+*/<≤∷∈])[^\s(){}\[\],;:"'λ]*''')
 USE = re.compile(r'^\s*(?:ghost )?use (Rattle\.[\w.]+?)(?:\.\{([^}]*)\}|(?: as (\w+))?);?$', re.MULTILINE)

@@ -5,7 +5,7 @@ import os
 import re
 
 TOP = os.path.dirname(os.path.dirname(os.path.dirname(os.path.realpath(__file__))))
-OF_TESTS = '_tests', 'benches', '_rows', '_allocations'  # crates that are no part of the program
+OF_TESTS = '_rows', '_laws'  # crates that are no part of the program
 COMMENT = re.compile(r'^\s*//.*$', re.MULTILINE)
 # a variant, and what may come after it in a pattern
 VARIANT = r'(?<!\w)%s::\w+'

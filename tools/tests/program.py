@@ -1,4 +1,4 @@
-"""The built programs, ddcap run as a person does, and libraries to preload into it. These settings say how it is tried:
+"""The built program, ddcap run as a person does, and libraries to preload into it. These settings say how it is tried:
 - DDCAP_PROGRAM: the program. Without it, the one that ./ddcap makes and runs.
 - DDCAP_EMULATED: what runs it for another machine: `qemu`, whose libraries are made by the compiler CC, and which preloads them; or `wine`, which
   preloads none, and has no devices.
@@ -9,8 +9,7 @@ import subprocess
 from functools import cached_property
 
 TOP = os.path.dirname(os.path.dirname(os.path.dirname(os.path.realpath(__file__))))
-CRATES = os.path.join(TOP, 'crates')
-PROVED = os.path.join(CRATES, 'ddcap', 'out', 'ddcap')
+PROVED = os.path.join(TOP, 'crates', 'ddcap', 'out', 'ddcap')
 EMULATED = os.environ.get('DDCAP_EMULATED')
 IS_WINDOWS = EMULATED == 'wine'
 SHARE = 20 if EMULATED and 'DDCAP_QUICK' in os.environ else 1  # of all lists one in so many is tried
@@ -31,24 +30,6 @@ def chosen():
 
 
 PROGRAM = chosen()
-
-
-def sources():
-    """The files of which programs are built: those of all crates, and the list of crates."""
-    yield os.path.join(TOP, 'crates.txt')
-    for folder, folders, names in os.walk(CRATES):
-        folders[:] = [name for name in folders if name != 'out']
-        yield from (os.path.join(folder, name) for name in names if name.endswith(('.rt', '.antt')) or name == 'crates.txt')
-
-
-def built(crate):
-    """The program of this crate. The gate leaves it; where it is not there or older than a source, the toolchain builds it first."""
-    program = os.path.join(CRATES, crate, 'out', crate)
-    if not os.path.exists(program) or os.path.getmtime(program) < max(map(os.path.getmtime, sources())):
-        if os.path.exists(program):
-            os.remove(program)  # so that one which can't be built is missed
-        subprocess.run(['rt', 'run'], cwd=os.path.join(CRATES, crate), stdin=subprocess.DEVNULL, stdout=subprocess.DEVNULL, stderr=subprocess.DEVNULL)
-    return program
 
 
 def library(folder, name):

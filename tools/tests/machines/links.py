@@ -7,12 +7,12 @@ that the other node sent, from 0 on, with its own tag; `a comes-as PLACE LINK PA
 `a gets-as SOURCE DESTINATION LINK PARTNER MESSAGE`, one that was not sent. Numbers are hexadecimal, DATA are bytes, and `-` is no link."""
 import copy
 
-from reading.judging import NAMES
+from reading.judging import NAMES, RULES
 from reading.links import NO_TAG, Links, Tag
 from reading.messages import gets, sends
 from reading.packets import Packet, read_nsp
 from reading.rows import Refused
-from tests.machines.calls import RULES, digits, optional
+from tests.machines.calls import digits, optional
 
 NODES = {'a': 0x401, 'b': 0x402}
 

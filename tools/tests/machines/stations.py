@@ -3,11 +3,11 @@ tools/tests/test_machines."""
 import random
 
 from captures import ack_of, nak_of, with_check
-from reading.judging import NAMES
+from reading.judging import NAMES, RULES
 from reading.packets import DATA_BAD, HEADER_BAD, read_unit
 from reading.rows import Refused
 from reading.station import Station
-from tests.machines.calls import RULES, digits, optional
+from tests.machines.calls import digits, optional
 
 
 def data_of(num, resp, body):
