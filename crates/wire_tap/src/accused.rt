@@ -1,5 +1,6 @@
 //! Which units no right node sent, whatever came to it.
 
+use crate::accusation::{Accusation, Accused};
 use crate::fault::{TapFault, reading_fault};
 use crate::tapped::Passed;
 use accusing::{Accuser, Answer};
@@ -10,28 +11,6 @@ use std::alloc::{AllocError, Global};
 use std::io::Read;
 use wire_base::{Side, Tally};
 use wire_text::{MAX_PIECES, WireReader};
-
-/// The first unit of each side that no right node sent after what had passed, whatever came to it, whatever was lost or damaged, and whatever its
-/// user did; none where that is not known of any.
-#[derive(Clone, Copy, Debug, PartialEq, Eq)]
-pub struct Accused {
-    pub a: Option<Passed>,
-    pub b: Option<Passed>,
-    /// Where side a is not accused: its first data segment that no right node sent that sends every packet it composed.
-    pub segment_a: Option<Passed>,
-    /// So for side b.
-    pub segment_b: Option<Passed>,
-}
-
-impl Accused {
-    /// Nobody is accused.
-    pub const NOBODY: Accused = Accused {
-        a: None,
-        b: None,
-        segment_a: None,
-        segment_b: None,
-    };
-}
 
 /// Reads the text of what passed to its end, and finds which units no right node sent; over the line alone packets are any bytes. Each unit that was
 /// sent has passed here, and before the first of them neither side was started. The units are told to an `Accuser`, a `LinkAccuser`, an `AckAccuser`
@@ -101,6 +80,7 @@ impl Sides {
             b: self.b.told.first,
             segment_a: self.a.told.segment_alone(),
             segment_b: self.b.told.segment_alone(),
+            broken: None,
         }
     }
 }
@@ -148,7 +128,7 @@ struct Told {
     side: Side,
     accusers: Accusers,
     count: u64,
-    first: Option<Passed>,
+    first: Option<Accusation>,
     // its first segment that is out of order, unless packets were dropped
     segment: Option<Passed>,
 }
@@ -260,7 +240,10 @@ impl Told {
     // Whether the side, which is not accused yet, can have sent this unit.
     fn ask(&mut self, unit: &[u8], passed: Passed) -> Result<(), AllocError> {
         if self.accusers.accuse(unit)? {
-            self.first = Some(passed);
+            self.first = Some(Accusation {
+                passed,
+                unless: None,
+            });
             return Ok(());
         }
         if self.segment.is_none() && self.accusers.doubt_segment(unit) {

@@ -5,6 +5,7 @@
 //! node sent (`accusing`, `accusing_links`, `accusing_segments`).
 #![tactic(auto)]
 
+mod accusation;
 mod accused;
 mod fault;
 mod format;
@@ -14,7 +15,8 @@ mod stop;
 mod tapped;
 mod tapping;
 
-pub use accused::{Accused, find_accused};
+pub use accusation::{Accusation, Accused, Broken, Exception};
+pub use accused::find_accused;
 pub use fault::TapFault;
 pub use tapped::{Asked, Ending, Passed, Skipped, Tapped, Units};
 pub use tapping::tap;
