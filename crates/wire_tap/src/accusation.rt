@@ -51,24 +51,29 @@ pub enum Exception {
     OtherSubchannel,
 }
 
-/// What shows that a recording is not whole, or not of this line.
+/// What shows that a recording is not whole, or not of this line. Whoever was accused of a unit that had passed before it stays accused; of later
+/// units nobody is.
 #[derive(Clone, Copy, Debug, PartialEq, Eq)]
 pub enum Broken {
     /// The first unit of this side is neither a STRT, nor a STACK after a STRT of the other side: the recording begins in the middle of a running
-    /// line.
+    /// line. Then nobody is accused of any unit.
     Begins {
         side: Side,
     },
-    /// So many bytes of this side belong to no unit, and passed before this unit, which a side could not have sent: of the same side right before it,
-    /// of the other side after that one's last unit.
+    /// So many bytes of this side belong to no unit, SYN and pads not among them, and passed at any time before this unit, which else were accused.
+    /// A message was damaged before this point, or a piece of one is missing.
     Skipped {
         side: Side,
         bytes: u64,
         before: Passed,
     },
+    /// The data of this unit do not match their block check: it was damaged before this point, or a piece of it is missing.
+    Damaged {
+        passed: Passed,
+    },
     /// Readable packets of both sides have the addresses of the nodes exchanged: the head is wrong.
     Exchanged,
-    /// This side's data units have packets, and none of them is between the two nodes: the head is wrong, or the line joins routers.
+    /// This side's data units have packets, and none of them is from its node to the other one: the head is wrong, or the line joins routers.
     NotBetween {
         side: Side,
     },

@@ -7,11 +7,19 @@
 
 mod accusation;
 mod accused;
+mod accusers;
+mod addressed;
+mod begun;
+mod evidence;
+mod exception;
 mod fault;
 mod format;
 mod outlet;
+mod shown;
 mod side_tap;
+mod sifting;
 mod stop;
+mod suspects;
 mod tapped;
 mod tapping;
 
