@@ -60,8 +60,8 @@ pub enum Broken {
     Begins {
         side: Side,
     },
-    /// So many bytes of this side belong to no unit, SYN and pads not among them, and passed at any time before this unit, which else were accused.
-    /// A message was damaged before this point, or a piece of one is missing.
+    /// So many bytes between two units of this side belong to no unit, SYN and pads not among them, and this unit, which else were accused, passed
+    /// after the first of the two. A message was damaged before this point, or a piece of the recording is missing.
     Skipped {
         side: Side,
         bytes: u64,

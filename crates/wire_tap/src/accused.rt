@@ -168,12 +168,12 @@ impl Direction {
                 unit,
                 rest,
             } => {
-                told.skip(side, strays, order);
+                told.evidence.skip(side, strays as u64);
                 told.find(kind, unit, Place { side, line, order })?;
                 Ok(Next::Rest(rest))
             }
             Found::Completed { kind, strays, rest } => {
-                told.skip(side, strays, order);
+                told.evidence.skip(side, strays as u64);
                 let unit = self.framer.completed();
                 let used = held.saturating_add(piece.len()).saturating_sub(rest.len());
                 let first = used.saturating_sub(unit.len());
@@ -182,7 +182,7 @@ impl Direction {
                 Ok(Next::Rest(rest))
             }
             Found::More { strays } => {
-                told.skip(side, strays, order);
+                told.evidence.skip(side, strays as u64);
                 let now = self.framer.held().len();
                 self.begun.hold(held, piece.len(), line, now);
                 if now <= piece.len() {
@@ -200,16 +200,11 @@ impl Direction {
 
     // What is held is no unit.
     fn end(&self, evidence: &mut Evidence) {
-        evidence.skip(self.side, self.framer.held().len() as u64, self.order);
+        evidence.end(self.side, self.framer.held().len() as u64, self.order);
     }
 }
 
 impl Told {
-    // So many bytes of this side belong to no unit, and so many units had passed before them.
-    fn skip(&mut self, side: Side, strays: usize, order: u64) {
-        self.evidence.skip(side, strays as u64, order);
-    }
-
     // One unit of this kind was found there; maintenance messages are told to nobody.
     fn find(&mut self, kind: Kind, unit: &[u8], at: Place) -> Result<(), AllocError> {
         match kind {

@@ -27,11 +27,19 @@ impl Evidence {
         begins: None,
     };
 
-    /// So many bytes of this side belong to no unit; so many units had passed before the first of them.
-    pub(crate) fn skip(&mut self, side: Side, bytes: u64, order: u64) {
+    /// So many bytes of this side belong to no unit.
+    pub(crate) fn skip(&mut self, side: Side, bytes: u64) {
         match side {
-            Side::A => self.a.skip(bytes, order),
-            Side::B => self.b.skip(bytes, order),
+            Side::A => self.a.skip(bytes),
+            Side::B => self.b.skip(bytes),
+        }
+    }
+
+    /// So many bytes of this side at the end are no whole unit; so many units had passed before the first of them.
+    pub(crate) fn end(&mut self, side: Side, bytes: u64, order: u64) {
+        match side {
+            Side::A => self.a.end(bytes, order),
+            Side::B => self.b.end(bytes, order),
         }
     }
 
@@ -39,8 +47,8 @@ impl Evidence {
     pub(crate) fn find(&mut self, side: Side) {
         self.order = self.order.saturating_add(1);
         match side {
-            Side::A => self.a.find(),
-            Side::B => self.b.find(),
+            Side::A => self.a.find(self.order),
+            Side::B => self.b.find(self.order),
         }
     }
 
@@ -87,7 +95,7 @@ impl Evidence {
         }
     }
 
-    // The first bytes of this side that belong to no unit, and how many units had passed before them.
+    // The first bytes of this side that belong to no unit, and how many units had passed before anything can be missing there.
     fn skipped(&self, side: Side, before: Passed) -> Option<(Broken, u64)> {
         let gap = self.shown(side).gap?;
         let broken = Broken::Skipped {

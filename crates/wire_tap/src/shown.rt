@@ -11,7 +11,8 @@ const STRT: u8 = 0x06;
 
 const STACK: u8 = 0x07;
 
-/// Bytes that belong to no unit, before the next unit of their side; and how many units of both sides had passed before the first of them.
+/// Bytes between two units of a side that belong to no unit; and how many units of both sides had passed with the first of the two. What is missing
+/// beside these bytes passed after that one.
 #[derive(Clone, Copy)]
 pub(crate) struct Gap {
     pub(crate) bytes: u64,
@@ -31,6 +32,8 @@ pub(crate) struct Damage {
 pub(crate) struct Shown {
     /// Whether a STRT passed.
     pub(crate) has_strt: bool,
+    // how many units of both sides had passed with its last unit
+    with_last: u64,
     /// The first bytes that belong to no unit.
     pub(crate) gap: Option<Gap>,
     /// The first unit that is damaged.
@@ -45,6 +48,7 @@ impl Shown {
     /// Nothing passed.
     pub(crate) const NOTHING: Shown = Shown {
         has_strt: false,
+        with_last: 0,
         gap: None,
         damage: None,
         goes_out: false,
@@ -52,8 +56,17 @@ impl Shown {
         goes_elsewhere: false,
     };
 
-    /// So many bytes belong to no unit; so many units had passed before the first.
-    pub(crate) fn skip(&mut self, bytes: u64, order: u64) {
+    /// So many bytes belong to no unit.
+    pub(crate) fn skip(&mut self, bytes: u64) {
+        self.skip_after(bytes, self.with_last);
+    }
+
+    /// So many bytes at the end are no whole unit; so many units of both sides had passed before the first of them.
+    pub(crate) fn end(&mut self, bytes: u64, order: u64) {
+        self.skip_after(bytes, order);
+    }
+
+    fn skip_after(&mut self, bytes: u64, order: u64) {
         if bytes == 0 {
             return;
         }
@@ -73,8 +86,9 @@ impl Shown {
         }
     }
 
-    /// A unit was found.
-    pub(crate) fn find(&mut self) {
+    /// A unit was found; with it so many units of both sides passed.
+    pub(crate) fn find(&mut self, order: u64) {
+        self.with_last = order;
         if let Some(gap) = &mut self.gap {
             gap.is_open = false;
         }
