@@ -4,25 +4,25 @@ use crate::objects::put;
 use std::alloc::{AllocError, Global};
 use wire_tap::{Accusation, Accused, Broken, Exception, Passed};
 
-/// The units that no correct node sent, and those that one sent only if it discarded packets that it had composed; none of a recording that is not
-/// whole.
+/// The units that no correct node sent, and those that one sent only if it discarded packets that it had composed.
 pub fn put_accused(
     alloc: Global,
     object: &mut Vec<u8>,
     accused: Accused,
 ) -> Result<(), AllocError> {
-    let told = match accused.broken {
-        Some(_) => Accused::NOBODY,
-        None => accused,
-    };
     put(object, ", \"accused\": [")?;
-    put_both_accused(alloc, object, conditional(told.a), conditional(told.b))?;
+    put_both_accused(
+        alloc,
+        object,
+        conditional(accused.a),
+        conditional(accused.b),
+    )?;
     put(object, "], \"accused_unless_dropped\": [")?;
     put_both_accused(
         alloc,
         object,
-        undiscarded(told.segment_a),
-        undiscarded(told.segment_b),
+        undiscarded(accused.segment_a),
+        undiscarded(accused.segment_b),
     )?;
     put(object, "]")
 }
@@ -75,17 +75,22 @@ fn put_one_accused(
     let Some(Conditional { passed, word }) = accused else {
         return Ok(());
     };
-    let Passed { side, unit, line } = passed;
-    let part = format!(in alloc;
-        "{{\"side\": \"{side}\", \"unit\": {unit}, \"line\": {line}, \"if\": [\"whole recording\""
-    )?;
-    put(object, part.as_str())?;
+    put(object, "{")?;
+    put_passed(alloc, object, passed)?;
+    put(object, ", \"if\": [\"whole recording\"")?;
     if let Some(word) = word {
         put(object, ", \"")?;
         put(object, word)?;
         put(object, "\"")?;
     }
     put(object, "]}")
+}
+
+/// Which unit it is.
+pub fn put_passed(alloc: Global, object: &mut Vec<u8>, passed: Passed) -> Result<(), AllocError> {
+    let Passed { side, unit, line } = passed;
+    let part = format!(in alloc; "\"side\": \"{side}\", \"unit\": {unit}, \"line\": {line}")?;
+    put(object, part.as_str())
 }
 
 /// What shows that the recording is not whole, or `null`.
@@ -109,10 +114,15 @@ pub fn put_recording(
             before,
         } => {
             let part = format!(in alloc;
-                "bytes skipped\", \"side\": \"{side}\", \"bytes\": {bytes}, \"before\": "
+                "bytes skipped\", \"side\": \"{side}\", \"bytes\": {bytes}, \"before\": {{"
             )?;
             put(object, part.as_str())?;
-            put_before(alloc, object, before)?;
+            put_passed(alloc, object, before)?;
+            put(object, "}")?;
+        }
+        Broken::Damaged { passed } => {
+            put(object, "unit damaged\", ")?;
+            put_passed(alloc, object, passed)?;
         }
         Broken::Exchanged => put(object, "addresses exchanged\"")?,
         Broken::NotBetween { side } => {
@@ -121,11 +131,4 @@ pub fn put_recording(
         }
     }
     put(object, "}")
-}
-
-// The unit before which bytes were skipped.
-fn put_before(alloc: Global, object: &mut Vec<u8>, before: Passed) -> Result<(), AllocError> {
-    let Passed { side, unit, line } = before;
-    let part = format!(in alloc; "{{\"side\": \"{side}\", \"unit\": {unit}, \"line\": {line}}}")?;
-    put(object, part.as_str())
 }

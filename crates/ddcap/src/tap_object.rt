@@ -12,7 +12,7 @@ use crate::fault_told::FaultTold;
 use crate::layers::{Layers, judge_over};
 use crate::objects::{begun, ended, put, put_counts, put_reason};
 use crate::tap::{ACCEPTED, Captured, RefusedAt, UNEXPLAINED, to_be_cut};
-use crate::tap_accused::{put_accused, put_recording};
+use crate::tap_accused::{put_accused, put_passed, put_recording};
 use crate::text::FAULTY;
 use pair_judge::{Reason, Verdict};
 use placing::{Assumed, Turn};
@@ -171,9 +171,8 @@ fn too_wide_object(alloc: Global, name: &str, passed: Passed) -> Result<Vec<u8>,
 
 // Which unit it is.
 fn put_unit(alloc: Global, object: &mut Vec<u8>, passed: Passed) -> Result<(), AllocError> {
-    let Passed { side, unit, line } = passed;
-    let part = format!(in alloc; ", \"side\": \"{side}\", \"unit\": {unit}, \"line\": {line}")?;
-    put(object, part.as_str())
+    put(object, ", ")?;
+    put_passed(alloc, object, passed)
 }
 
 // The boots and aborts that are assumed.

@@ -1,12 +1,12 @@
 -- The words for whom an answer accuses, under which conditions, and for what shows that nobody can be.
-use Rattle.std.specs.Prelude.{ℕ, Option, Some, None, List, [], ◌++◌, codes}
+use Rattle.std.specs.Prelude.{Bool, true, false, if◌then◌else◌, ℕ, Option, Some, None, List, [], ◌++◌, codes}
 use Rattle.std.specs.Fmt.{decimal}
 use Rattle.wire_base.specs.declared.side.Side.{Side}
 use Rattle.wire_base.specs.Side.{other_side, side_letter}
 use Rattle.wire_tap.specs.declared.accusation.Accusation.{Accusation}
 use Rattle.wire_tap.specs.declared.accusation.Accused.{Accused}
 use Rattle.wire_tap.specs.declared.accusation.Broken.{Broken}
-use Rattle.wire_tap.specs.declared.accusation.Broken.TheVariants.{Begins, Skipped, Exchanged, NotBetween}
+use Rattle.wire_tap.specs.declared.accusation.Broken.TheVariants.{Begins, Skipped, Damaged, Exchanged, NotBetween}
 use Rattle.wire_tap.specs.declared.accusation.Exception.{Exception}
 use Rattle.wire_tap.specs.declared.accusation.Exception.TheVariants.{AcknowledgementQueue, IsRouter, OtherIsRouter, GaveUpCall, OtherSubchannel}
 use Rattle.wire_tap.specs.declared.tapped.Passed.{Passed}
@@ -65,6 +65,9 @@ seen_words (Begins side) =
 seen_words (Skipped side bytes before) =
     stray_words side bytes ++ (codes " before " ++ (side_letter before.side ++ (codes "'s unit " ++ (decimal before.unit
     ++ (codes " (line " ++ (decimal before.line ++ codes ")"))))))
+seen_words (Damaged passed) =
+    codes "the data of " ++ (side_letter passed.side ++ (codes "'s unit " ++ (decimal passed.unit ++ (codes " (line " ++ (decimal passed.line
+    ++ codes ") fail their block check")))))
 seen_words Exchanged = codes "the packets of both sides have the addresses of the head exchanged"
 seen_words (NotBetween side) = codes "no packet of " ++ (side_letter side ++ codes " is between the two nodes of the head")
 
@@ -72,17 +75,36 @@ seen_words (NotBetween side) = codes "no packet of " ++ (side_letter side ++ cod
 abbrev pub mend_words : Broken → List ℕ
 mend_words (Begins side) = codes "record again from before the first STRT"
 mend_words (Skipped side bytes before) = codes "record again"
+mend_words (Damaged passed) = codes "record again"
 mend_words Exchanged = codes "exchange them in the head"
 mend_words (NotBetween side) = codes "correct the head, or use tap --line if the line joins routers"
 
-abbrev pub broken_words : Broken → List ℕ
-broken_words broken = seen_words broken ++ (codes ", so neither node is accused: " ++ mend_words broken)
+-- of what nobody is accused: of nothing at all, or of nothing but what the lines before name
+abbrev pub of_words : Bool → List ℕ
+of_words is_after_others = if is_after_others then codes " of anything else" else []
 
--- whom the answer accuses; of a recording that is not whole what shows that, and nobody
-abbrev pub accused_words_of : Option Broken → Accused → List ℕ
-accused_words_of None accused =
+abbrev pub broken_words : Bool → Broken → List ℕ
+broken_words is_after_others broken = seen_words broken ++ (codes ", so neither node is accused" ++ (of_words is_after_others ++ (codes ": " ++ mend_words broken)))
+
+-- a unit is named
+abbrev pub names_unit : (a b : Option Accusation) → (segment_a segment_b : Option Passed) → Bool
+names_unit (Some of_a) b segment_a segment_b = true
+names_unit None (Some of_b) segment_a segment_b = true
+names_unit None None (Some of_a) segment_b = true
+names_unit None None None (Some of_b) = true
+names_unit None None None None = false
+
+-- the units that are named
+abbrev pub named_words : Accused → List ℕ
+named_words accused =
     both_at_fault_words accused.a accused.b ++ (discarded_words accused.segment_a ++ discarded_words accused.segment_b)
-accused_words_of (Some broken) accused = codes "\n" ++ broken_words broken
+
+-- whom the answer accuses, and what shows that the recording is not whole: it is told alone, or after the units that had passed before it
+abbrev pub accused_words_of : Option Broken → Bool → Accused → List ℕ
+accused_words_of None names accused = named_words accused
+accused_words_of (Some broken) true accused = named_words accused ++ (codes "\n" ++ broken_words true broken)
+accused_words_of (Some broken) false accused = codes "\n" ++ broken_words false broken
 
 abbrev pub accused_words : Accused → List ℕ
-accused_words accused = accused_words_of accused.broken accused
+accused_words accused =
+    accused_words_of accused.broken (names_unit accused.a accused.b accused.segment_a accused.segment_b) accused

@@ -1,5 +1,8 @@
 //! The words for whom an answer accuses, and under which conditions.
 
+ghost use Rattle.std.specs.Prelude.{◌≡◌};
+ghost use Rattle.tap_answer.specs.AccusedWords.{names_unit};
+
 use crate::broken_text::BrokenWords;
 use std::fmt;
 use wire_base::Side;
@@ -172,7 +175,34 @@ impl fmt::Display for BothAtFaultWords {
     }
 }
 
-/// Whom the answer accuses, a line each before which is an LF; of a recording that is not whole what shows that, and nobody.
+// The units that are named: at fault, or sent only by a node that discarded packets.
+#[derive(Clone, Copy)]
+struct NamedWords {
+    accused: Accused,
+}
+
+impl fmt::Display for NamedWords {
+    ghost use Rattle.std.specs.Prelude.{Some};
+    ghost use Rattle.tap_answer.specs.AccusedWords.{named_words};
+
+    ghost output = { λ words. Some (named_words words.accused) };
+
+    fn fmt<W: fmt::Write>(&self, f: &mut fmt::Formatter<W>) -> fmt::Result {
+        let Accused {
+            a,
+            b,
+            segment_a,
+            segment_b,
+            ..
+        } = self.accused;
+        let both = BothAtFaultWords { a, b };
+        let of_a = DiscardedWords { passed: segment_a };
+        let of_b = DiscardedWords { passed: segment_b };
+        write!(f, "{both}{of_a}{of_b}")
+    }
+}
+
+/// Whom the answer accuses, and what shows that the recording is not whole, a line each, before which is an LF.
 #[derive(Clone, Copy)]
 pub(crate) struct AccusedWords {
     pub(crate) accused: Accused,
@@ -185,20 +215,41 @@ impl fmt::Display for AccusedWords {
     ghost output = { λ words. Some (accused_words words.accused) };
 
     fn fmt<W: fmt::Write>(&self, f: &mut fmt::Formatter<W>) -> fmt::Result {
-        let Accused {
-            a,
-            b,
-            segment_a,
-            segment_b,
-            broken,
-        } = self.accused;
-        if let Some(broken) = broken {
-            let seen = BrokenWords { broken };
-            return write!(f, "\n{seen}");
+        let accused = self.accused;
+        let named = NamedWords { accused };
+        let Some(broken) = accused.broken else {
+            return write!(f, "{named}");
+        };
+        if names_a_unit(accused) {
+            let seen = BrokenWords {
+                broken,
+                is_after_others: true,
+            };
+            return write!(f, "{named}\n{seen}");
         }
-        let both = BothAtFaultWords { a, b };
-        let of_a = DiscardedWords { passed: segment_a };
-        let of_b = DiscardedWords { passed: segment_b };
-        write!(f, "{both}{of_a}{of_b}")
+        let seen = BrokenWords {
+            broken,
+            is_after_others: false,
+        };
+        write!(f, "\n{seen}")
     }
+}
+
+// Whether a unit is named.
+fn names_a_unit(accused: Accused) -> bool
+    ensures { result ≡ names_unit accused.a accused.b accused.segment_a accused.segment_b }
+{
+    let None = accused.a else {
+        return true;
+    };
+    let None = accused.b else {
+        return true;
+    };
+    let None = accused.segment_a else {
+        return true;
+    };
+    let None = accused.segment_b else {
+        return true;
+    };
+    false
 }

@@ -53,6 +53,13 @@ impl fmt::Display for SeenWords {
                 let Passed { side, unit, line } = before;
                 write!(f, "{stray} before {side}'s unit {unit} (line {line})")
             }
+            Broken::Damaged { passed } => {
+                let Passed { side, unit, line } = passed;
+                write!(
+                    f,
+                    "the data of {side}'s unit {unit} (line {line}) fail their block check"
+                )
+            }
             Broken::Exchanged => {
                 f.write_str("the packets of both sides have the addresses of the head exchanged")
             }
@@ -63,6 +70,26 @@ impl fmt::Display for SeenWords {
                 )
             }
         }
+    }
+}
+
+// Of what nobody is accused.
+#[derive(Clone, Copy)]
+struct OfWords {
+    is_after_others: bool,
+}
+
+impl fmt::Display for OfWords {
+    ghost use Rattle.std.specs.Prelude.{Some};
+    ghost use Rattle.tap_answer.specs.AccusedWords.{of_words};
+
+    ghost output = { λ words. Some (of_words words.is_after_others) };
+
+    fn fmt<W: fmt::Write>(&self, f: &mut fmt::Formatter<W>) -> fmt::Result {
+        if self.is_after_others {
+            return f.write_str(" of anything else");
+        }
+        Ok(())
     }
 }
 
@@ -81,7 +108,7 @@ impl fmt::Display for MendWords {
     fn fmt<W: fmt::Write>(&self, f: &mut fmt::Formatter<W>) -> fmt::Result {
         match self.broken {
             Broken::Begins { .. } => f.write_str("record again from before the first STRT"),
-            Broken::Skipped { .. } => f.write_str("record again"),
+            Broken::Skipped { .. } | Broken::Damaged { .. } => f.write_str("record again"),
             Broken::Exchanged => f.write_str("exchange them in the head"),
             Broken::NotBetween { .. } => {
                 f.write_str("correct the head, or use tap --line if the line joins routers")
@@ -90,25 +117,29 @@ impl fmt::Display for MendWords {
     }
 }
 
-/// What was seen, that nobody is accused, and what mends it, in a line without its LF.
+/// What was seen, that nobody is accused, or of nothing but what the lines before it name, and what mends it. No LF.
 #[derive(Clone, Copy)]
 pub(crate) struct BrokenWords {
     pub(crate) broken: Broken,
+    pub(crate) is_after_others: bool,
 }
 
 impl fmt::Display for BrokenWords {
     ghost use Rattle.std.specs.Prelude.{Some};
     ghost use Rattle.tap_answer.specs.AccusedWords.{broken_words};
 
-    ghost output = { λ words. Some (broken_words words.broken) };
+    ghost output = { λ words. Some (broken_words words.is_after_others words.broken) };
 
     fn fmt<W: fmt::Write>(&self, f: &mut fmt::Formatter<W>) -> fmt::Result {
         let seen = SeenWords {
             broken: self.broken,
         };
+        let of = OfWords {
+            is_after_others: self.is_after_others,
+        };
         let mend = MendWords {
             broken: self.broken,
         };
-        write!(f, "{seen}, so neither node is accused: {mend}")
+        write!(f, "{seen}, so neither node is accused{of}: {mend}")
     }
 }
