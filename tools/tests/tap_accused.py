@@ -3,6 +3,7 @@ with a unit that a rule forbids, and recordings of a right line that are not who
 wrong and are refused (tools/tests/nodes/small_right_nodes.py)."""
 import os
 import random
+import re
 import subprocess
 import sys
 import tempfile
@@ -13,7 +14,7 @@ from tests.nodes.small_node import Node
 from tests.nodes.small_sessions import Stuck
 from tests.program import TOP, share
 from tests.tap_texts import ANSWERS, STRT, UP, data_of, packet_of, scripts, text_of
-from tests.tap_words import AT_FAULT, BOTH, DISCARDED, NOBODY, at_fault, discarded, fault_of_answer, unexplained, unless
+from tests.tap_words import AT_FAULT, BOTH, BROKEN, DISCARDED, NOBODY, at_fault, discarded, fault_of_answer, unexplained, unless
 
 CALL, CONFIRM, ACKNOWLEDGED = '18000001000102f401', '28010002000102f40100', '04020001000080'
 AGAIN = 'record again'
@@ -173,7 +174,7 @@ def right_wires(tap):
     for name, answer in ANSWERS:
         with open(os.path.join(TOP, 'tools', 'lists', 'tap', name + '.wire'), encoding='ascii') as wire:
             text = wire.read()
-        if answer.startswith('accepted\n') and text.count(STRT[:4]) <= 2:
+        if answer.startswith('accepted\n') and all(text.count('\n%s %s' % (side, STRT[:4])) <= 1 for side in 'ab'):
             yield name, text
     for name, script in scripts():
         if not name.endswith('.script') or any(script.count('\n%s start\n' % side) > 1 for side in 'ab'):
@@ -185,30 +186,46 @@ def right_wires(tap):
             yield name, subprocess.run([os.path.join(TOP, 'tools', 'wire_of'), tap.a, tap.b], capture_output=True, text=True).stdout
 
 
-def cut(text, byte):
-    """The text of a recording that begins at this byte of it."""
+def bare(digits):
+    """A unit without the SYN before it."""
+    return re.sub('^(96)+', '', digits)
+
+
+def without_bytes(text, first, last):
+    """The text of a recording that lacks these bytes of it, where each unit has a piece of its own; and whether some unit lacks a part, but for parts
+    that make a unit together."""
     head, *lines = text.splitlines()
-    for place, line in enumerate(lines):
-        size = len(line[2:]) // 2
-        if byte < size:
-            return '\n'.join([head, line[:2] + line[2 + 2 * byte:], *lines[place + 1:]]) + '\n'
-        byte -= size
-    return head + '\n'
+    left, at, parts = [head], 0, []
+    for line in lines:
+        side, digits = line[:2], line[2:]
+        size = len(digits) // 2
+        begin, end = (min(max(byte - at, 0), size) for byte in (first, last))
+        rest = digits[:2 * begin] + digits[2 * end:]
+        left += [side + rest] if rest else []
+        if bare(rest) and bare(rest) != bare(digits):
+            parts.append(bare(rest))
+        at += size
+    return '\n'.join(left) + '\n', bool(parts) and ''.join(parts) not in [bare(line[2:]) for line in lines]
 
 
 def faults_of_cuts(tap, cuts):
-    """For each of so many recordings that begin at a byte of a right line how somebody is accused, or None."""
-    texts = list(right_wires(tap))
-    shown = 0
+    """For each of so many recordings that begin at a byte of a right line, or have a hole that cuts a unit in two, how somebody is accused, or None."""
+    texts, seen = list(right_wires(tap)), set()
     for seed in share(range(cuts)):
         chance = random.Random('cut %d' % seed)
-        name, text = chance.choice(texts)
-        byte = chance.randrange(1, sum(len(line[2:]) // 2 for line in text.splitlines()[1:]))
-        printed = tap.tap(cut(text, byte))
+        # the pieces of what a script plays are units
+        name, text = chance.choice([each for each in texts if seed % 2 or each[0].endswith('.script')])
+        size = sum(len(line[2:]) // 2 for line in text.splitlines()[1:])
+        first = 0 if seed % 2 else chance.randrange(size)
+        last = chance.randrange(first + 1, size + 1 if first == 0 else min(size, first + 200) + 1)
+        rest, is_seen = without_bytes(text, first, last)
+        if first and not is_seen:
+            continue
+        printed = tap.tap(rest)
         is_right = not AT_FAULT.search(printed[0]) and not DISCARDED.search(printed[0])
-        shown += ' so neither node is accused' in printed[0]
-        yield None if is_right else '%s from byte %d on: printed %r' % (name, byte, printed)
-    yield None if shown else 'no recording showed that it is cut'
+        seen |= {broken for _, _, broken in BROKEN.findall(printed[0])}
+        yield None if is_right else '%s without bytes %d to %d: printed %r' % (name, first, last, printed)
+    yield None if len(seen) > 1 else 'it is seen of no recording that it is not whole: %s' % seen
 
 
 # ---- nodes that do nothing wrong and are refused
