@@ -117,20 +117,21 @@ def broken_words(seen, mend, else_=''):
 
 
 def begins(side):
-    return broken_words("%s's recording begins in the middle of a running line, or %s began without a start" % (side, side),
+    return broken_words("side %s's recording begins in the middle of a running line, or side %s began without a start" % (side, side),
                         'record again from before the first STRT')
 
 
 def skipped(size, of, side, unit, line, else_=''):
-    return broken_words("%d bytes of %s that belong to no unit were skipped before %s's unit %d (line %d)" % (size, of, side, unit, line), AGAIN, else_)
+    return broken_words("%d bytes of side %s that belong to no unit were skipped before side %s's unit %d (line %d)" % (size, of, side, unit, line),
+                        AGAIN, else_)
 
 
 def damaged(side, unit, line):
-    return broken_words("the data of %s's unit %d (line %d) fail their block check" % (side, unit, line), AGAIN)
+    return broken_words("the data of side %s's unit %d (line %d) fail their block check" % (side, unit, line), AGAIN)
 
 
 def not_between(side):
-    return broken_words('no packet of %s is between the two nodes of the head' % side, 'correct the head, or use tap --line if the line joins routers')
+    return broken_words('no packet of side %s is between the two nodes of the head' % side, 'correct the head, or use tap --line if the line joins routers')
 
 
 EXCHANGED = broken_words('the packets of both sides have the addresses of the head exchanged', 'exchange them in the head')

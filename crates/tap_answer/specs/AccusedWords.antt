@@ -54,22 +54,23 @@ discarded_words (Some passed) =
     codes "\nside " ++ (side_letter passed.side ++ (codes ", unit " ++ (decimal passed.unit ++ (codes " (line " ++ (decimal passed.line
     ++ (codes "), if the recording is whole: " ++ only_if_words))))))
 
--- `24 bytes of a that belong to no unit were skipped`
+-- `24 bytes of side a that belong to no unit were skipped`
 abbrev pub stray_words : Side → ℕ → List ℕ
-stray_words side bytes = decimal bytes ++ (codes " bytes of " ++ (side_letter side ++ codes " that belong to no unit were skipped"))
+stray_words side bytes = decimal bytes ++ (codes " bytes of side " ++ (side_letter side ++ codes " that belong to no unit were skipped"))
 
 -- what shows that a recording is not whole
 abbrev pub seen_words : Broken → List ℕ
 seen_words (Begins side) =
-    side_letter side ++ (codes "'s recording begins in the middle of a running line, or " ++ (side_letter side ++ codes " began without a start"))
+    codes "side " ++ (side_letter side ++ (codes "'s recording begins in the middle of a running line, or side " ++ (side_letter side
+    ++ codes " began without a start")))
 seen_words (Skipped side bytes before) =
-    stray_words side bytes ++ (codes " before " ++ (side_letter before.side ++ (codes "'s unit " ++ (decimal before.unit
+    stray_words side bytes ++ (codes " before side " ++ (side_letter before.side ++ (codes "'s unit " ++ (decimal before.unit
     ++ (codes " (line " ++ (decimal before.line ++ codes ")"))))))
 seen_words (Damaged passed) =
-    codes "the data of " ++ (side_letter passed.side ++ (codes "'s unit " ++ (decimal passed.unit ++ (codes " (line " ++ (decimal passed.line
+    codes "the data of side " ++ (side_letter passed.side ++ (codes "'s unit " ++ (decimal passed.unit ++ (codes " (line " ++ (decimal passed.line
     ++ codes ") fail their block check")))))
 seen_words Exchanged = codes "the packets of both sides have the addresses of the head exchanged"
-seen_words (NotBetween side) = codes "no packet of " ++ (side_letter side ++ codes " is between the two nodes of the head")
+seen_words (NotBetween side) = codes "no packet of side " ++ (side_letter side ++ codes " is between the two nodes of the head")
 
 -- what mends it
 abbrev pub mend_words : Broken → List ℕ

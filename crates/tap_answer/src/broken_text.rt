@@ -21,7 +21,7 @@ impl fmt::Display for StrayWords {
         let (side, bytes) = (self.side, self.bytes);
         write!(
             f,
-            "{bytes} bytes of {side} that belong to no unit were skipped"
+            "{bytes} bytes of side {side} that belong to no unit were skipped"
         )
     }
 }
@@ -42,7 +42,7 @@ impl fmt::Display for SeenWords {
         match self.broken {
             Broken::Begins { side } => write!(
                 f,
-                "{side}'s recording begins in the middle of a running line, or {side} began without a start"
+                "side {side}'s recording begins in the middle of a running line, or side {side} began without a start"
             ),
             Broken::Skipped {
                 side,
@@ -51,13 +51,13 @@ impl fmt::Display for SeenWords {
             } => {
                 let stray = StrayWords { side, bytes };
                 let Passed { side, unit, line } = before;
-                write!(f, "{stray} before {side}'s unit {unit} (line {line})")
+                write!(f, "{stray} before side {side}'s unit {unit} (line {line})")
             }
             Broken::Damaged { passed } => {
                 let Passed { side, unit, line } = passed;
                 write!(
                     f,
-                    "the data of {side}'s unit {unit} (line {line}) fail their block check"
+                    "the data of side {side}'s unit {unit} (line {line}) fail their block check"
                 )
             }
             Broken::Exchanged => {
@@ -66,7 +66,7 @@ impl fmt::Display for SeenWords {
             Broken::NotBetween { side } => {
                 write!(
                     f,
-                    "no packet of {side} is between the two nodes of the head"
+                    "no packet of side {side} is between the two nodes of the head"
                 )
             }
         }
