@@ -5,16 +5,16 @@ const decode = bytes => new TextDecoder().decode(bytes);
 // What was printed to both streams.
 export const printed = answer => decode(answer.out) + decode(answer.err);
 
-// A line of `tap` on a unit that is wrong whatever came to its node.
-const ACCUSES = /^whatever came to it, no right node sends /m;
-// And on one that is right only of a node that dropped packets.
-const ACCUSES_UNLESS = /^a right node sends .* only if it dropped packets that it had composed$/m;
+// A line of the program as a sentence.
+const sentence = line => `${line[0].toUpperCase()}${line.slice(1)}.`;
+
+// The lines of `tap` on whom it accuses, under which conditions, or on what shows that nobody can be.
+const ACCUSES = /^(?:side [ab] is at fault |side [ab], unit |both sides are accused: |.*, so neither node is accused).*$/gm;
 
 // What it means that `tap` found no explanation.
 function unexplained(text) {
-  if (ACCUSES.test(text)) return 'Whatever came to it, no right node sends this.';
-  if (ACCUSES_UNLESS.test(text)) return 'A right node sends this only if it dropped packets that it had composed.';
-  return 'No way was found in which two right nodes would send this. This alone accuses neither node.';
+  const lines = [...text.matchAll(ACCUSES)].map(([line]) => sentence(line));
+  return lines.length ? lines.join(' ') : 'No way was found in which two correct nodes would send this. This alone accuses neither node.';
 }
 
 // Of a verdict its kind (good, bad or fault), a title, what it means, and the program's own first line. `isOneEnd` and `isWire` tell what was judged.
@@ -97,7 +97,7 @@ export function countsOf(text) {
 // On what an answer of `tap` rests, and what it skipped, in sentences; of another answer nothing.
 export function conditionsOf(text) {
   const lines = [...text.matchAll(/^(?:this assumes|this holds only|more bytes were skipped) .*$/gm)];
-  const rests = lines.map(([line]) => `${line[0].toUpperCase()}${line.slice(1)}.`);
+  const rests = lines.map(([line]) => sentence(line));
   const rows = [...text.matchAll(/^([ab]) skipped maintenance messages (\d+) bytes between units (\d+)$/gm)];
   return [...rests, ...rows.filter(([, , messages, bytes]) => messages !== '0' || bytes !== '0')
     .map(([, side, messages, bytes]) => `Skipped of what ${side} sent: ${messages} maintenance messages, ${bytes} bytes between units.`)];

@@ -1,6 +1,7 @@
-"""Which message of a link no right node sends, whatever came to it, for `tools/tests/test_tap`: each kind of message is tried after what makes it a
+"""Which message of a link no correct node sends, whatever it received, for `tools/tests/test_tap`: each kind of message is tried after what makes it a
 link by docs/LINKS.md, and after what does not. Side a called from its links 1 and 4; the message goes from its link 1 to link 2 of side b."""
 from tests.tap_texts import UP, data_of, packet_of, text_of
+from tests.tap_words import AT_FAULT, at_fault
 
 CALLS = ('18000001000102f401', '18000004000102f401')
 
@@ -51,7 +52,8 @@ def faults_of_links(tap):
     for what, message, linked in MESSAGES:
         for before, of_b in OF_B.items():
             units = after(of_b, message)
-            accused = '\nwhatever came to it, no right node sends a unit 4 line %d\n' % (len(units) + 1)
+            accused = at_fault('a', 4, len(units) + 1)
             printed = tap.tap(text_of(units))
-            is_right = (accused in printed[0]) == (before not in linked) and printed[0].count('no right node sends a') == (before not in linked)
+            of_a = [side for side, *_ in AT_FAULT.findall(printed[0]) if side == 'a']
+            is_right = (accused in printed[0]) == (before not in linked) == len(of_a)
             yield None if is_right else '%s after %s: printed %r' % (what, before, printed)

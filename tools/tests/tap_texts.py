@@ -1,4 +1,4 @@
-"""Texts of what passed for `tools/tests/test_tap`: those of tools/lists/tap with the first line that `ddcap tap` answers; texts that are made here;
+"""Texts of what passed for `tools/tests/test_tap`: those of tools/lists/tap with what `ddcap tap` answers; texts that are made here;
 and what passed in the pairs that scripts of examples/ and the rows of tools/lists/rows.txt play."""
 import glob
 import os
@@ -7,39 +7,42 @@ import subprocess
 from captures import ack_of, changed, nak_of, with_check
 from lists.rows import HEAD, rows_of
 from tests.program import TOP, share
+from tests.tap_words import APART, NOBODY, at_fault, discarded, fault_of_answer, unexplained
 
 STRT, STACK, MAINTENANCE = '0506c00000017595', '0507c00000014855', '9002c00000019950080007c0'
 UP = [('a', STRT), ('b', STACK), ('a', ack_of(0))]
 
-# The first line of the answer to tools/lists/tap/NAME.wire, or its beginning.
+# The answer to tools/lists/tap/NAME.wire, up to the premise.
 ANSWERS = (
-    ('lossless', 'accepted\na records 175 sent 87 received 87 damaged 0 kept 40'),
-    ('skipped_number', 'unexplained a unit 7 line 16: 7 WrongNumber\nwhatever came to it, no right node sends a unit 7 line 16\n'),
+    ('lossless', 'accepted\na records 175 sent 87 received 87 damaged 0 kept 40 periods 1 links 0 up 0\n'
+     'b records 170 sent 87 received 82 damaged 0 kept 40 periods 1 links 0 up 0\n'),
+    ('skipped_number', unexplained('a', 7, 16, '7 WrongNumber', at_fault('a', 7, 16))),
     # the unit begins in the line that is named, and ends in the next one
-    ('number_skipped_in_two_pieces', 'unexplained a unit 7 line 16: 7 WrongNumber\n'),
+    ('number_skipped_in_two_pieces', unexplained('a', 7, 16, '7 WrongNumber', at_fault('a', 7, 16))),
     # a link acknowledges a segment that never passed; a message of flag byte 02
-    ('acknowledged_too_far', 'unexplained a unit 4 line 9: 21 WrongAck\nwhatever came to it, no right node sends a unit 4 line 9\n'),
+    ('acknowledged_too_far', unexplained('a', 4, 9, '21 WrongAck', at_fault('a', 4, 9))),
     # a link sends segments 1, 2 and 4
-    ('skipped_segment', 'unexplained a unit 4 line 8: 20 WrongSegment\nno consistent explanation was found; this alone accuses neither node\n'
-     'a right node sends a unit 4 line 8 only if it dropped packets that it had composed\n'),
+    ('skipped_segment', unexplained('a', 4, 8, '20 WrongSegment', NOBODY, discarded('a', 4, 8))),
     # segment 1 goes again with another byte: as it can't be acknowledged, and as it may be
-    ('changed_segment', 'unexplained a unit 3 line 7: 20 WrongSegment\nwhatever came to it, no right node sends a unit 3 line 7\n'),
+    ('changed_segment', unexplained('a', 3, 7, '20 WrongSegment', at_fault('a', 3, 7, 'other subchannel'))),
     ('changed_segment_acknowledged', 'accepted\n'),
-    ('unread_message', 'unexplained a unit 1 line 4: 17 BadNsp\nwhatever came to it, no right node sends a unit 1 line 4\n'),
+    ('unread_message', unexplained('a', 1, 4, '17 BadNsp', at_fault('a', 1, 4))),
     # 255 packets are outstanding
-    ('full_window', 'accepted\na records 259 sent 257 received 1 damaged 0 kept 0'),
+    ('full_window', 'accepted\na records 259 sent 257 received 1 damaged 0 kept 0 periods 1 links 0 up 0\n'
+     'b records 259 sent 2 received 256 damaged 0 kept 255 periods 1 links 0 up 0\n'),
     # a CI and its CC pass again, and are no other call
-    ('call_and_confirm_twice', 'accepted\na records 9 sent 4 received 3 damaged 0 kept 2'),
+    ('call_and_confirm_twice', 'accepted\na records 9 sent 4 received 3 damaged 0 kept 2 periods 1 links 1 up 0\n'
+     'b records 8 sent 3 received 3 damaged 0 kept 2 periods 1 links 1 up 0\n'),
     # a NAK came before the unit, which goes by it and has a wrong RESP besides
-    ('wrong_response_behind_a_nak', 'unexplained a unit 4 line 9: 8 WrongResponse\n'),
+    ('wrong_response_behind_a_nak', unexplained('a', 4, 9, '8 WrongResponse', at_fault('a', 4, 9))),
     # a NAK of damaged data, of a data message and of an ACK
     ('nak2', 'accepted\n'),
     ('nak_of_data', 'accepted\n'),
     # no link has the address 0: the unit that names it is unexplained
-    ('ci0', 'unexplained a unit 2 line 5: 18 NoLink\n'),
-    ('ci_from_0_answered', 'unexplained a unit 2 line 5: 18 NoLink\n'),
-    ('cc0', 'unexplained b unit 1 line 6: 18 NoLink\n'),
-    ('di0', 'unexplained b unit 1 line 6: 18 NoLink\n'),
+    ('ci0', unexplained('a', 2, 5, '18 NoLink', at_fault('a', 2, 5))),
+    ('ci_from_0_answered', unexplained('a', 2, 5, '18 NoLink', at_fault('a', 2, 5))),
+    ('cc0', unexplained('b', 1, 6, '18 NoLink', at_fault('b', 1, 6))),
+    ('di0', unexplained('b', 1, 6, '18 NoLink', at_fault('b', 1, 6))),
     # a DC to the address 0 ends no call
     ('dc_to_0', 'accepted\n'),
     # a NAK that names all packets was lost, since a REP follows
@@ -54,31 +57,29 @@ ANSWERS = (
     ('called_again_at_restart', 'accepted\n'),
     # the address of a link that lives is opened again after a restart; and a segment of it is answered by a DC
     ('opened_again_after_boot', 'accepted\na records 17 sent 7 received 4 damaged 0 kept 1 periods 2 links 2 up 0\n'
-     'b records 16 sent 5 received 7 damaged 0 kept 3 periods 2 links 1 up 0\nthis assumes a boot before a unit 4 line 9\nthis holds only'),
+     'b records 16 sent 5 received 7 damaged 0 kept 3 periods 2 links 1 up 0\nthis assumes a boot before a unit 4 line 9\n'),
     ('no_link_after_boot', 'accepted\na records 22 sent 9 received 6 damaged 0 kept 3 periods 2 links 2 up 0\n'
-     'b records 22 sent 7 received 9 damaged 0 kept 5 periods 2 links 2 up 0\nthis assumes a boot before a unit 4 line 9\nthis holds only'),
+     'b records 22 sent 7 received 9 damaged 0 kept 5 periods 2 links 2 up 0\nthis assumes a boot before a unit 4 line 9\n'),
     # both nodes boot, and each one's address is used again
     ('both_boot', 'accepted\na records 20 sent 8 received 5 damaged 0 kept 2 periods 2 links 3 up 0\n'
      'b records 19 sent 6 received 8 damaged 0 kept 4 periods 2 links 3 up 0\n'
-     'this assumes a boot before a unit 4 line 9\nthis assumes a boot before b unit 3 line 10\nthis holds only'),
+     'this assumes a boot before a unit 4 line 9\nthis assumes a boot before b unit 3 line 10\n'),
     # what is assumed is told of an answer that is no acceptance too
-    ('skipped_number_after_boot', 'unexplained a unit 7 line 14: 7 WrongNumber\nwhatever came to it, no right node sends a unit 7 line 14\n'
-     'ddcap why shows the unit, but whom it accuses depends on what tap assumed\nthis assumes a boot before a unit 4 line 9\nthis holds only'),
-    ('earlier_stack_after_boot', 'apart: b unit 7 line 18: 7 WrongNumber\neach side is explained by itself; this accuses neither node\n'
-     'this assumes a boot before a unit 4 line 9\nthis holds only'),
+    ('skipped_number_after_boot', unexplained('a', 7, 14, '7 WrongNumber', at_fault('a', 7, 14)) + 'this assumes a boot before a unit 4 line 9\n'),
+    ('earlier_stack_after_boot', 'apart: b unit 7 line 18: 7 WrongNumber\n' + APART + 'this assumes a boot before a unit 4 line 9\n'),
     # a CC is answered by a DC; and the address of a call is given to another link
     ('call_given_up', 'accepted\na records 9 sent 4 received 2 damaged 0 kept 1 periods 1 links 1 up 0\n'
-     'b records 9 sent 3 received 4 damaged 0 kept 2 periods 1 links 1 up 0\nthis assumes an abort of the call in a unit 2 line 5\nthis holds only'),
+     'b records 9 sent 3 received 4 damaged 0 kept 2 periods 1 links 1 up 0\nthis assumes an abort of the call in a unit 2 line 5\n'),
     ('address_answers_after_call', 'accepted\na records 10 sent 4 received 2 damaged 0 kept 1 periods 1 links 2 up 0\n'
-     'b records 9 sent 3 received 4 damaged 0 kept 2 periods 1 links 2 up 0\nthis assumes an abort of the call in a unit 2 line 5\nthis holds only'),
+     'b records 9 sent 3 received 4 damaged 0 kept 2 periods 1 links 2 up 0\nthis assumes an abort of the call in a unit 2 line 5\n'),
     # there was no restart; the link was used after it; the link was used
-    ('opened_again_without_restart', 'unexplained a unit 4 line 9: 19 LinkState\n'),
-    ('used_after_restart', 'unexplained a unit 7 line 13: 19 LinkState\n'),
-    ('no_link_of_used_call', 'unexplained a unit 4 line 8: 19 LinkState\n'),
+    ('opened_again_without_restart', unexplained('a', 4, 9, '19 LinkState')),
+    ('used_after_restart', unexplained('a', 7, 13, '19 LinkState')),
+    ('no_link_of_used_call', unexplained('a', 4, 8, '19 LinkState')),
     # the units before the named one have a placing
-    ('other_unit_named', 'apart: b unit 3 line 9: 6 WrongState\n'),
+    ('other_unit_named', 'apart: b unit 3 line 9: 6 WrongState\n' + APART),
     # a station that was started anew takes the STACK that answered its earlier start
-    ('stack_of_earlier_start', 'apart: b unit 2 line 6: 7 WrongNumber\neach side is explained by itself; this accuses neither node\n'),
+    ('stack_of_earlier_start', 'apart: b unit 2 line 6: 7 WrongNumber\n' + APART),
 )
 
 NO_UNIT = 'wire: no unit\n'
@@ -177,14 +178,14 @@ def long_message(size, piece):
 MADE = (
     ('a window of 255', window_of_255(), 'accepted\n'),
     ('a call that is repeated', repeated_call(), 'accepted\n'),
-    ('a NAK of data that are wrong', nak_of_wrong_data(), 'unexplained a unit 4 line 8: 10 '),
+    ('a NAK of data that are wrong', nak_of_wrong_data(), unexplained('a', 4, 8, '10 Changed', at_fault('a', 4, 8))),
     ('300 REPs', many_reps(300), 'accepted\n'),
     ('60 rounds after a lost ACK', many_rounds(60), 'accepted\n'),
     ('1,100 ACKs behind a NAK', behind_a_nak(1100), 'accepted\n'),
     ('a segment behind the end of its link', segment_behind_an_end(), 'accepted\n'),
     ('a message of 65,535 bytes in 4,096 pieces', long_message(65_535, 16), 'accepted\n'),
     ('an STRT in which a line begins', [('a', STRT), ('b', STACK), ('a', ack_of(0)), ('a', data_of(2, 0)[:10]), ('a', data_of(2, 0)[10:])],
-     'unexplained a unit 2 line 5: 7 WrongNumber\n'),
+     unexplained('a', 2, 5, '7 WrongNumber', at_fault('a', 2, 5))),
 )
 
 
@@ -192,12 +193,11 @@ def faults_of_answers(tap):
     """For each text how it is answered otherwise, or None."""
     for name, right in ANSWERS:
         with open(os.path.join(TOP, 'tools', 'lists', 'tap', name + '.wire'), encoding='ascii') as wire:
-            printed = tap.tap(wire.read())
-        yield None if printed[0].startswith(right) else '%s: printed %r' % (name, printed)
-        yield None if tap.check()[2] in (0, 1) else '%s: its captures are no texts' % name
+            fault = fault_of_answer(tap, wire.read(), right)
+        yield '%s: %s' % (name, fault) if fault else None
     for name, units, right in MADE:
-        printed = tap.tap(text_of(units))
-        yield None if printed[0].startswith(right) else '%s: printed %r' % (name, printed)
+        fault = fault_of_answer(tap, text_of(units), right)
+        yield '%s: %s' % (name, fault) if fault else None
 
 
 def faults_of_silence(tap):

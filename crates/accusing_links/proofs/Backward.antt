@@ -26,7 +26,7 @@ use Rattle.dna_node.specs.WireLayers.{WireLayers, LayersTag, new_wire_layers_nod
 use Rattle.dna_node.proofs.ReadInRange.{content_in_range}
 use Rattle.accusing.specs.Placing.{Passed, Own, Other, IsDamage, comes, IsPlacedFrom, Ends, Passes, Sends, Hears, HearsNoise, Acts}
 use Rattle.accusing.proofs.Bytes.{byte_of}
-use Rattle.accusing_links.specs.Placing.{node_machine, IsNodePlacing}
+use Rattle.accusing_links.specs.Placing.{node_machine, NameLinks, IsNodePlacing}
 use Rattle.accusing_links.specs.Segments.{packet_in, shown_in, shown_by}
 use Rattle.accusing_links.specs.Back.{call_of, bit, calls_of, told, is_back, is_back_message}
 use Rattle.accusing_links.proofs.Nodes.{MayCome, sends_right, acts_right}
@@ -241,35 +241,35 @@ module _ (queues : Queues) (head : Head) (own far : ℕ) where
   one_reading m n r e f = cc
 
   all_claims : {s : WireLayers} {front : ℕ} {coming : List (List ℕ)} {passed : List Passed} {records : List Record} →
-      IsPlacedFrom (node_machine queues) s front coming passed records → (before : List Passed) → State queues head own far before s coming →
-      AllClaims before passed
-  all_claims Ends before is = tt
-  all_claims (Passes {s = s} {coming = coming} {unit = unit} later) before is =
-      all_claims later (before ++ Other unit ∷ []) (other_state queues head own far before unit s coming is)
-  all_claims (Sends {s = s} {coming = coming} {unit = unit} m after known read made later) before is =
+      IsPlacedFrom (node_machine queues) s front coming passed records → NameLinks records → (before : List Passed) →
+      State queues head own far before s coming → AllClaims before passed
+  all_claims Ends names before is = tt
+  all_claims (Passes {s = s} {coming = coming} {unit = unit} later) names before is =
+      all_claims later names (before ++ Other unit ∷ []) (other_state queues head own far before unit s coming is)
+  all_claims (Sends {s = s} {coming = coming} {unit = unit} m after known read made later) names before is =
       let right = (sends_right queues (Is queues head before) (Fine queues head before) (Comes queues head before) (kept queues head before) s after m
       known made is.right).0 in
       let all = sent_state queues head own far before unit s coming is m read after (is_sent queues s m after known made) right in (
         λ n also. subst (Claim queues head own far before) (one_reading m n (reading unit) read also) all.0,
-        all_claims later (before ++ Own unit ∷ []) all.1,
+        all_claims later names (before ++ Own unit ∷ []) all.1,
       )
-  all_claims (Hears {s = s} {coming = coming} lost unit rest are hint hinted bytes byte how tag fate after made later) before is =
+  all_claims (Hears {s = s} {coming = coming} lost unit rest are hint hinted bytes byte how tag fate after made later) names before is =
       let all = all_behind queues head before lost unit rest (subst (AllCame queues head before) are is.came) in
       let right = comes_right queues head before s after tag fate unit bytes how all.0 made is.right in
       let less = subst (λ (units : List (List ℕ)).
       bit (shown_by call_of (packet_in (reading unit)) 0 0 far) + calls_in rest far ≤ calls_in units far) (sym are)
       (calls_behind lost unit rest far) in
-      all_claims later before
+      all_claims later names before
       (heard_state before s after coming rest unit bytes tag fate is how byte (reading bytes) refl made right all.1 all.0 less)
-  all_claims (HearsNoise {s = s} {coming = coming} bytes damage tag after made later) before is =
-      all_claims later before
+  all_claims (HearsNoise {s = s} {coming = coming} bytes damage tag after made later) names before is =
+      all_claims later names before
       (noise_state before s after coming tag is (reading bytes) damage made
       (damage_right queues head before s after tag NotKept (reading bytes) damage made is.right))
-  all_claims (Acts {s = s} {coming = coming} event after made later) before is =
-      all_claims later before
+  all_claims (Acts {s = s} {coming = coming} event after made later) names before is =
+      all_claims later names.1 before
       (acted_state queues head own far before s coming after event is (has_acted queues s after event made)
-      (acts_right queues (Is queues head before) (Fine queues head before) (Comes queues head before) (kept queues head before) s after event made
-      is.right))
+      (acts_right queues (Is queues head before) (Fine queues head before) (Comes queues head before) (kept queues head before) s after event names.0
+      made is.right))
 
   first_state : State queues head own far [] (new_wire_layers_node head).station []
   first_state = record {
@@ -293,7 +293,7 @@ module _ (queues : Queues) (head : Head) (own far : ℕ) where
 
   claim_of : (before later : List Passed) (unit : List ℕ) (records : List Record) (m : MessageValue) → reading unit ≡ Sound m →
       IsNodePlacing queues head (before ++ Own unit ∷ later) records → Claim queues head own far before m
-  claim_of before later unit records m read placing = one_claim [] before unit later (all_claims placing [] first_state) m read
+  claim_of before later unit records m read placing = one_claim [] before unit later (all_claims placing.0 placing.1 [] first_state) m read
 
 -- ---- what goes back
 

@@ -28,7 +28,7 @@ use Rattle.dna_node.specs.WireLayers.{WireLayers, LayersTag, new_wire_layers_nod
 use Rattle.accusing.specs.Placing.{Passed, Own, Other, IsDamage, comes, IsPlacedFrom, Ends, Passes, Sends, Hears, HearsNoise, Acts}
 use Rattle.accusing_links.specs.declared.wrong.Wrong.{Wrong}
 use Rattle.accusing_links.specs.declared.wrong.Wrong.TheVariants.{WrongNode, NoLink, WrongAck}
-use Rattle.accusing_links.specs.Placing.{node_machine, IsNodePlacing}
+use Rattle.accusing_links.specs.Placing.{node_machine, NameLinks, IsNodePlacing}
 use Rattle.accusing_links.specs.Answers.{IsWrong}
 use Rattle.accusing_links.specs.Segments.{Shown, packet_in, is_this, shown_in, shown_by, passed_of, segment_of}
 use Rattle.accusing_links.specs.Connects.{CI, CC, RUN, connect_of}
@@ -37,6 +37,7 @@ use Rattle.accusing_links.specs.Wrong.{wrong_content, wrong_in, wrong_unit}
 use Rattle.accusing_links.proofs.Answered.{Good}
 use Rattle.accusing_links.proofs.Addresses.{HaveAddresses, GoesOut, user_keeps, arrived_keeps, sent_keeps}
 use Rattle.accusing_links.proofs.Held.{AreHeld, Carries}
+use Rattle.accusing_links.proofs.Named.{NamesOwn}
 use Rattle.accusing_links.proofs.Nodes.{HasFine, IsFine, MayCome, AreKept, IsRight, sends_right, arrives_right, acts_right}
 use Rattle.accusing_links.proofs.Received.{AreFine}
 use Rattle.accusing_links.proofs.RightLinks.{Numbers, AreRight, right_more}
@@ -69,11 +70,11 @@ module _ (queues : Queues) (head : Head) where
       pub segment : HasPassed N packet.message
       pub connect : ConnectPassed P packet.message
 
-    user_kept : (s : WireLinks) (event : LinkEventValue) → Is s → Good Is (wire_links_user queues s event)
-    user_kept s event is made e = record {
+    user_kept : (s : WireLinks) (event : LinkEventValue) → NamesOwn event → Is s → Good Is (wire_links_user queues s event)
+    user_kept s event names is made e = record {
       addresses = user_keeps queues head.own head.peer s is.addresses event made e;
       right = user_right N queues s is.right event made e;
-      tied = user_tied P queues s is.tied event made e;
+      tied = user_tied P queues s is.tied event names made e;
     }
 
     sent_kept : (s : WireLinks) (packet : Carried) → Is s → IsInRange packet.message →
@@ -222,13 +223,13 @@ module _ (queues : Queues) (head : Head) where
     acks_more (DisconnectConfirm dst src reason) fine = tt
 
     joined_more : (own far : ℕ) → Joined (P before) own far → Joined (P after) own far
-    joined_more own far (inl called) = inl (passed_more connect_of before one CI 0 far called)
-    joined_more own far (inr answered) = inr (passed_more connect_of before one CC own far answered)
+    joined_more own far (named, inl called) = (named, inl (passed_more connect_of before one CI 0 far called))
+    joined_more own far (named, inr answered) = (named, inr (passed_more connect_of before one CC own far answered))
 
     run_more : (own far : ℕ) → CanRun (P before) own far → CanRun (P after) own far
-    run_more own far (inl called) =
-        inl (passed_more connect_of before one CI 0 far called.0, passed_more connect_of before one RUN own far called.1)
-    run_more own far (inr answered) = inr (passed_more connect_of before one CC own far answered)
+    run_more own far (named, inl called) =
+        (named, inl (passed_more connect_of before one CI 0 far called.0, passed_more connect_of before one RUN own far called.1))
+    run_more own far (named, inr answered) = (named, inr (passed_more connect_of before one CC own far answered))
 
     link_more : (m : NspValue) → LinkFine (P before) m → LinkFine (P after) m
     link_more (DataSegment s) fine = run_more s.srcaddr s.dstaddr fine
@@ -237,8 +238,8 @@ module _ (queues : Queues) (head : Head) where
     link_more (OtherDataAck dst src rest) fine = run_more src dst fine
     link_more (ConnectAck dst) fine = passed_more connect_of before one CI 0 dst fine
     link_more (NoOperation rest) fine = tt
-    link_more (ConnectInitiate retransmitted src services info segsize user_data) fine = tt
-    link_more (ConnectConfirm dst src services info segsize user_data) fine = passed_more connect_of before one CI 0 dst fine
+    link_more (ConnectInitiate retransmitted src services info segsize user_data) fine = fine
+    link_more (ConnectConfirm dst src services info segsize user_data) fine = (fine.0, passed_more connect_of before one CI 0 dst fine.1)
     link_more (DisconnectInitiate dst src reason user_data) fine = joined_more src dst fine
     link_more (DisconnectConfirm dst src reason) fine = tt
 
@@ -306,24 +307,24 @@ module _ (queues : Queues) (head : Head) where
   AllFine before (Other unit ∷ passed) = AllFine (before ++ Other unit ∷ []) passed
 
   all_fine : {s : WireLayers} {front : ℕ} {coming : List (List ℕ)} {passed : List Passed} {records : List Record} →
-      IsPlacedFrom (node_machine queues) s front coming passed records → (before : List Passed) → Right before s → AllCame before coming →
-      AllFine before passed
-  all_fine Ends before is came = tt
-  all_fine (Passes {s = s} {coming = coming} {unit = unit} later) before is came =
-      all_fine later (before ++ Other unit ∷ []) (right_later before (Other unit) s is)
+      IsPlacedFrom (node_machine queues) s front coming passed records → NameLinks records → (before : List Passed) → Right before s →
+      AllCame before coming → AllFine before passed
+  all_fine Ends names before is came = tt
+  all_fine (Passes {s = s} {coming = coming} {unit = unit} later) names before is came =
+      all_fine later names (before ++ Other unit ∷ []) (right_later before (Other unit) s is)
       (all_pushed (before ++ Other unit ∷ []) coming unit (all_later before (Other unit) coming came) (one_came before unit))
-  all_fine (Sends {s = s} {coming = coming} {unit = unit} m after known read made later) before is came =
+  all_fine (Sends {s = s} {coming = coming} {unit = unit} m after known read made later) names before is came =
       let sent = sends_right queues (Is before) (Fine before) (Comes before) (kept before) s after m known made is in (
         ap (λ (r : ReadingValue). wrong_in head (heard before) (packet_in r)) read ∙ fine_message before m sent.1,
-        all_fine later (before ++ Own unit ∷ []) (right_later before (Own unit) after sent.0) (all_later before (Own unit) coming came),
+        all_fine later names (before ++ Own unit ∷ []) (right_later before (Own unit) after sent.0) (all_later before (Own unit) coming came),
       )
-  all_fine (Hears {s = s} {coming = coming} lost unit rest are hint hinted bytes byte how tag fate after made later) before is came =
+  all_fine (Hears {s = s} {coming = coming} lost unit rest are hint hinted bytes byte how tag fate after made later) names before is came =
       let all = all_behind before lost unit rest (subst (AllCame before) are came) in
-      all_fine later before (comes_right before s after tag fate unit bytes how all.0 made is) all.1
-  all_fine (HearsNoise {s = s} bytes damage tag after made later) before is came =
-      all_fine later before (damage_right before s after tag NotKept (reading bytes) damage made is) came
-  all_fine (Acts {s = s} event after made later) before is came =
-      all_fine later before (acts_right queues (Is before) (Fine before) (Comes before) (kept before) s after event made is) came
+      all_fine later names before (comes_right before s after tag fate unit bytes how all.0 made is) all.1
+  all_fine (HearsNoise {s = s} bytes damage tag after made later) names before is came =
+      all_fine later names before (damage_right before s after tag NotKept (reading bytes) damage made is) came
+  all_fine (Acts {s = s} event after made later) names before is came =
+      all_fine later names.1 before (acts_right queues (Is before) (Fine before) (Comes before) (kept before) s after event names.0 made is) came
 
   one_fine : (start before : List Passed) (unit : List ℕ) (later : List Passed) → AllFine start (before ++ Own unit ∷ later) →
       wrong_unit head (heard (start ++ before)) unit ≡ None
@@ -342,7 +343,7 @@ module _ (queues : Queues) (head : Head) where
   pub never_placed : (before later : List Passed) (unit : List ℕ) (records : List Record) (wrong : Wrong) →
       wrong_unit head (heard before) unit ≡ Some wrong → IsNodePlacing queues head (before ++ Own unit ∷ later) records → ⊥
   never_placed before later unit records wrong refuted placing =
-      let fine = one_fine [] before unit later (all_fine placing [] first_right tt) in cc
+      let fine = one_fine [] before unit later (all_fine placing.0 placing.1 [] first_right tt) in cc
 
 pub wrong_own : (head : Head) (passed : List Passed) (unit : List ℕ) (result : Option Wrong) →
     result ≡ wrong_unit head (heard passed) unit → IfSome result (λ wrong. IsWrong head (passed ++ Own unit ∷ []))

@@ -4,6 +4,8 @@ pub mod Held
 -- the addresses of its node and of the other one stay
 pub mod Answered
 pub mod Addresses
+-- no link has the address 0
+pub mod Named
 -- a node with any links that keep something
 pub mod Nodes
 -- what the words of a link stand for

@@ -3,6 +3,7 @@ use Rattle.std.proofs.Common.{◌≡◌, ℕ, Bool, true, false, cond, Option, S
 use Rattle.ddcmp_msg.specs.Message.{MessageValue}
 use Rattle.capture.specs.declared.fate.Fate.{Fate}
 use Rattle.capture.specs.Fates.{is_met}
+use Rattle.capture.specs.Range.{EventNumbersFit}
 use Rattle.capture.specs.declared.event.Event.{Event}
 use Rattle.capture.specs.declared.event.Event.TheVariants as events
 use Rattle.dna_station.specs.declared.tag.Tag.{Tag}
@@ -29,6 +30,7 @@ use Rattle.dna_node.proofs.ReadInRange.{content_in_range}
 use Rattle.accusing.specs.Placing.{machine}
 use Rattle.accusing_links.specs.Placing.{node_machine}
 use Rattle.accusing_links.proofs.Answered.{Good}
+use Rattle.accusing_links.proofs.Named.{NamesOwn, NamesIn, names_in}
 use Rattle.accusing_links.proofs.Held.{AreHeld, Carries, label_held, arrives_held, user_held, sends_held}
 
 ok_first : {X Y Z : Type 0} (made : X × Y) (x : X) (y : Y) → ◌≡◌ {A = Result (X × Y) Z} (Ok made) (Ok (x, y)) → made.0 ≡ x
@@ -54,7 +56,7 @@ MayCome Comes (Err refusal) = Unit {0}
 
 -- Links keep this whatever they do, where of what comes this holds; and of what they send this holds
 pub record AreKept (queues : Queues) (Is : WireLinks → Type 0) (Fine Comes : Carried → Type 0) : Type 0 where
-  pub user : (s : WireLinks) (event : LinkEventValue) → Is s → Good Is (wire_links_user queues s event)
+  pub user : (s : WireLinks) (event : LinkEventValue) → NamesOwn event → Is s → Good Is (wire_links_user queues s event)
   pub sent : (s : WireLinks) (packet : Carried) → Is s → IsInRange packet.message →
       Good (λ (made : Sent WireSegments (Unit {0})). Is made.links × Fine packet) (wire_links_sent queues s packet)
   pub arrived : (s : WireLinks) (packet : Carried) (tag : LinkTag) → Is s → IsInRange packet.message → Comes packet →
@@ -178,15 +180,17 @@ module _ (queues : Queues) (Is : WireLinks → Type 0) (Fine Comes : Carried →
   composed_right s after body (Err refusal) read e is = absurd cc
 
   user_on_right : (s after : WireLayers) (event : Event) (of_links : Option LinkEventValue) (r : Result (WireStation LinkTag) StepRefusal) →
-      machine.user s.station event ≡ r → wire_user_on rules s of_links r ≡ Ok after → IsRight s → IsRight after
-  user_on_right s after event None (Ok station) made e is =
+      machine.user s.station event ≡ r → wire_user_on rules s of_links r ≡ Ok after → NamesIn of_links → IsRight s → IsRight after
+  user_on_right s after event None (Ok station) made e names is =
       subst IsRight (ok_is _ after e) (record { links = is.links; held = user_held (IsFine Fine) s.station station event made is.held })
-  user_on_right s after event None (Err refusal) made e is = absurd cc
-  user_on_right s after event (Some of_links) (Ok station) made e is =
-      with_links_right (record s { station = station }) after (wire_links_user queues s.links of_links) (kept.user s.links of_links is.links) e
+  user_on_right s after event None (Err refusal) made e names is = absurd cc
+  user_on_right s after event (Some of_links) (Ok station) made e names is =
+      with_links_right (record s { station = station }) after (wire_links_user queues s.links of_links) (kept.user s.links of_links names is.links) e
       (user_held (IsFine Fine) s.station station event made is.held)
-  user_on_right s after event (Some of_links) (Err refusal) made e is = absurd cc
+  user_on_right s after event (Some of_links) (Err refusal) made e names is = absurd cc
 
-  pub acts_right : (s after : WireLayers) (event : Event) → (node_machine queues).user s event ≡ Ok after → IsRight s → IsRight after
-  acts_right s after (events.Composed packet) e is = composed_right s after packet (content packet) refl e is
-  acts_right s after event e is = user_on_right s after event (link_event event) (machine.user s.station event) refl e is
+  pub acts_right : (s after : WireLayers) (event : Event) → EventNumbersFit event → (node_machine queues).user s event ≡ Ok after → IsRight s →
+      IsRight after
+  acts_right s after (events.Composed packet) fits e is = composed_right s after packet (content packet) refl e is
+  acts_right s after event fits e is =
+      user_on_right s after event (link_event event) (machine.user s.station event) refl e (names_in event fits) is

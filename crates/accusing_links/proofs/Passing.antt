@@ -19,13 +19,13 @@ use Rattle.accusing_links.specs.declared.wrong.Wrong.{Wrong}
 use Rattle.accusing_links.specs.declared.wrong.Wrong.TheVariants.{WrongNode, NoLink, WrongAck}
 use Rattle.accusing_links.specs.Answers.{Sight, IsAfter}
 use Rattle.accusing_links.specs.Segments.{Shown, has, packet_in, shown_by, passed_of, segment_of}
-use Rattle.accusing_links.specs.Connects.{CI, CC, RUN, connect_of, was_joined, can_run, has_link}
+use Rattle.accusing_links.specs.Connects.{CI, CC, RUN, connect_of, is_address, was_joined, can_run, has_link}
 use Rattle.accusing_links.specs.Heard.{Heard}
 use Rattle.accusing_links.specs.Wrong.{goes_out, is_right_word, are_right_words, wrong_of_link, wrong_content, wrong_in, wrong_unit}
 use Rattle.accusing_links.proofs.RightLinks.{Numbers}
 use Rattle.accusing_links.proofs.Received.{AreFine}
 use Rattle.accusing_links.proofs.LinkSteps.{AcksFine}
-use Rattle.accusing_links.proofs.TiedSends.{Joined, CanRun, LinkFine}
+use Rattle.accusing_links.proofs.TiedSends.{LinkFine}
 
 -- ---- what passed
 
@@ -83,6 +83,9 @@ module _ (one two : Shown) (same : Alike one two) where
   message_same (DisconnectInitiate dst src reason user_data) = refl
   message_same (DisconnectConfirm dst src reason) = refl
 
+  and_same : (own : ℕ) (x y : Bool) → x ≡ y → (is_address own && x) ≡ (is_address own && y)
+  and_same own x y e = ap (λ (b : Bool). is_address own && b) e
+
   joined_same : (own far : ℕ) → was_joined one own far ≡ was_joined two own far
   joined_same own far = ap₂ (λ (a b : Bool). a || b) (same CI 0 far) (same CC own far)
 
@@ -91,15 +94,15 @@ module _ (one two : Shown) (same : Alike one two) where
       ap₂ (λ (a b : Bool). a || b) (ap₂ (λ (a b : Bool). a && b) (same CI 0 far) (same RUN own far)) (same CC own far)
 
   link_same : (m : NspValue) → has_link one m ≡ has_link two m
-  link_same (DataSegment s) = run_same _ _
-  link_same (DataAck dst src acks) = run_same _ _
-  link_same (LinkService interrupt dst src rest) = run_same _ _
-  link_same (OtherDataAck dst src rest) = run_same _ _
+  link_same (DataSegment s) = and_same _ _ _ (run_same _ _)
+  link_same (DataAck dst src acks) = and_same _ _ _ (run_same _ _)
+  link_same (LinkService interrupt dst src rest) = and_same _ _ _ (run_same _ _)
+  link_same (OtherDataAck dst src rest) = and_same _ _ _ (run_same _ _)
   link_same (ConnectAck dst) = same CI 0 dst
   link_same (NoOperation rest) = refl
   link_same (ConnectInitiate retransmitted src services info segsize user_data) = refl
-  link_same (ConnectConfirm dst src services info segsize user_data) = same CI 0 dst
-  link_same (DisconnectInitiate dst src reason user_data) = joined_same _ _
+  link_same (ConnectConfirm dst src services info segsize user_data) = and_same _ _ _ (same CI 0 dst)
+  link_same (DisconnectInitiate dst src reason user_data) = and_same _ _ _ (joined_same _ _)
   link_same (DisconnectConfirm dst src reason) = refl
 
 module _ (head : Head) (one two : Heard) (segments : Alike one.segments two.segments) (connects : Alike one.connects two.connects) where
@@ -156,25 +159,26 @@ message_right passed (DisconnectConfirm dst src reason) fine = refl
 
 -- ---- links that can be
 
-was_right : (connects : Shown) (own far : ℕ) → Joined (AsNumbers connects) own far → was_joined connects own far ≡ true
+was_right : (connects : Shown) (own far : ℕ) → AsNumbers connects CI 0 far ⊎ AsNumbers connects CC own far → was_joined connects own far ≡ true
 was_right connects own far (inl called) = ap (λ (b : Bool). b || connects CC own far) called
 was_right connects own far (inr answered) = or_later (connects CI 0 far) (connects CC own far) answered
 
-run_right : (connects : Shown) (own far : ℕ) → CanRun (AsNumbers connects) own far → can_run connects own far ≡ true
+run_right : (connects : Shown) (own far : ℕ) → (AsNumbers connects CI 0 far × AsNumbers connects RUN own far) ⊎ AsNumbers connects CC own far →
+    can_run connects own far ≡ true
 run_right connects own far (inl called) =
     ap (λ (b : Bool). b || connects CC own far) (and_from (connects CI 0 far) (connects RUN own far) called.0 called.1)
 run_right connects own far (inr answered) = or_later (connects CI 0 far && connects RUN own far) (connects CC own far) answered
 
 pub link_right : (connects : Shown) (m : NspValue) → LinkFine (AsNumbers connects) m → has_link connects m ≡ true
-link_right connects (DataSegment s) fine = run_right connects _ _ fine
-link_right connects (DataAck dst src acks) fine = run_right connects _ _ fine
-link_right connects (LinkService interrupt dst src rest) fine = run_right connects _ _ fine
-link_right connects (OtherDataAck dst src rest) fine = run_right connects _ _ fine
+link_right connects (DataSegment s) fine = and_from _ _ fine.0 (run_right connects _ _ fine.1)
+link_right connects (DataAck dst src acks) fine = and_from _ _ fine.0 (run_right connects _ _ fine.1)
+link_right connects (LinkService interrupt dst src rest) fine = and_from _ _ fine.0 (run_right connects _ _ fine.1)
+link_right connects (OtherDataAck dst src rest) fine = and_from _ _ fine.0 (run_right connects _ _ fine.1)
 link_right connects (ConnectAck dst) fine = fine
 link_right connects (NoOperation rest) fine = refl
-link_right connects (ConnectInitiate retransmitted src services info segsize user_data) fine = refl
-link_right connects (ConnectConfirm dst src services info segsize user_data) fine = fine
-link_right connects (DisconnectInitiate dst src reason user_data) fine = was_right connects _ _ fine
+link_right connects (ConnectInitiate retransmitted src services info segsize user_data) fine = fine
+link_right connects (ConnectConfirm dst src services info segsize user_data) fine = and_from _ _ fine.0 fine.1
+link_right connects (DisconnectInitiate dst src reason user_data) fine = and_from _ _ fine.0 (was_right connects _ _ fine.1)
 link_right connects (DisconnectConfirm dst src reason) fine = refl
 
 -- ---- what is known after a unit of the other side

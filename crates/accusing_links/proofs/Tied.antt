@@ -1,5 +1,5 @@
 -- A link gets its far address by a CI or a CC that passed, and tells by its phase which; one that a CI began gets into RUN by a message of RUN that
--- passed; what becomes of that by each effect of a row.
+-- passed; its own address is not 0; what becomes of that by each effect of a row.
 use Rattle.std.proofs.Common.{◌≡◌, ℕ, Bool, true, false, ◌||◌, Some, List, [], ◌∷◌, ◌++◌, map, zero, suc, fold, refl, sym, subst}
 use Rattle.std.specs.Prelude.{slice_get, slice_set}
 use Rattle.dna_links.specs.declared.port.Phase.{Phase}
@@ -15,6 +15,7 @@ use Rattle.dna_links.specs.Table.{Effect, OpenHere, GiveAddress, Connect, GoTo, 
 use Rattle.dna_links.specs.WireSegments.{WireSegments, wire_segments}
 use Rattle.dna_links.specs.LinkBook.{blank, does}
 use Rattle.accusing_links.specs.Connects.{CI, CC, RUN}
+use Rattle.accusing_links.proofs.Named.{IsAddress}
 use Rattle.accusing_links.proofs.RightLinks.{Numbers}
 
 -- a link in this phase was opened here, or begun by a CI
@@ -36,6 +37,7 @@ pub record IsTied (P : Numbers) (port : Port) (accepted ran : Bool) : Type 0 whe
   pub on_accept : accepted ≡ true → port.opened ≡ false
   pub not_yet : is_in Called port.phase ≡ true → ran ≡ false
   pub by_run : port.opened ≡ false → has_run port.phase ran ≡ true → (own far : ℕ) → port.own ≡ Some own → port.far ≡ Some far → P RUN own far
+  pub address : (own : ℕ) → port.own ≡ Some own → IsAddress own
 
 pub or_ran : (phase : Phase) (ran : Bool) → ran ≡ true → has_run phase ran ≡ true
 or_ran phase ran e = go (is_in Running phase)
@@ -79,6 +81,7 @@ module _ (P : Numbers) (queues : Queues) where
     on_accept = λ e. refl;
     not_yet = λ e. refl;
     by_run = λ e r own far f g. absurd cc;
+    address = λ own e. absurd cc;
   }
 
   -- ---- phases
@@ -107,6 +110,7 @@ module _ (P : Numbers) (queues : Queues) where
     on_accept = is.on_accept;
     not_yet = λ e. plain_called phase plain e;
     by_run = λ e r. is.by_run e (or_ran l.port.phase l.queue.ran (plain_ran phase l.queue.ran plain r));
+    address = is.address;
   }
   goes_tied With phase l plain begun is = go (is_live l.port.phase)
     where
@@ -118,6 +122,7 @@ module _ (P : Numbers) (queues : Queues) where
         on_accept = reached_tied phase l.queue l.port.opened begun is.on_accept;
         not_yet = λ e. plain_called phase plain e;
         by_run = λ e r. is.by_run e (or_ran l.port.phase l.queue.ran (reached_ran phase l.queue plain r));
+        address = is.address;
       }
       go false = record {
         by_call = is.by_call;
@@ -126,6 +131,7 @@ module _ (P : Numbers) (queues : Queues) where
         on_accept = is.on_accept;
         not_yet = is.not_yet;
         by_run = is.by_run;
+        address = is.address;
       }
 
   -- a message of RUN passed for the addresses of this link, if it was not opened here
@@ -140,6 +146,7 @@ module _ (P : Numbers) (queues : Queues) where
     on_accept = is.on_accept;
     not_yet = λ e. absurd cc;
     by_run = λ e r. came e;
+    address = is.address;
   }
   runs_tied With l came is = go (is_live l.port.phase)
     where
@@ -151,6 +158,7 @@ module _ (P : Numbers) (queues : Queues) where
         on_accept = is.on_accept;
         not_yet = λ e. absurd cc;
         by_run = λ e r. came e;
+        address = is.address;
       }
       go false = record {
         by_call = is.by_call;
@@ -159,6 +167,7 @@ module _ (P : Numbers) (queues : Queues) where
         on_accept = is.on_accept;
         not_yet = is.not_yet;
         by_run = is.by_run;
+        address = is.address;
       }
 
   -- a link that is over
@@ -175,6 +184,7 @@ module _ (P : Numbers) (queues : Queues) where
         on_accept = is.on_accept;
         not_yet = λ e. absurd cc;
         by_run = λ e r. is.by_run e (or_ran l.port.phase l.queue.ran r);
+        address = is.address;
       })))
 
   ended_tied : (q : Queues) (l : LinkOf WireSegments) → Is l → Is (ends_by_message wire_segments q l)
@@ -194,6 +204,7 @@ module _ (P : Numbers) (queues : Queues) where
     on_accept = is.on_accept;
     not_yet = is.not_yet;
     by_run = λ e r own far f g. absurd cc;
+    address = λ own e. absurd cc;
   }
   forgotten_tied With l is = record {
     by_call = is.by_call;
@@ -202,6 +213,7 @@ module _ (P : Numbers) (queues : Queues) where
     on_accept = is.on_accept;
     not_yet = is.not_yet;
     by_run = λ e r own far f g. absurd cc;
+    address = λ own e. absurd cc;
   }
 
   -- ---- effects
@@ -277,6 +289,7 @@ module _ (P R : Numbers) (queues : Queues) (more : (msgflg own far : ℕ) → P 
       on_accept = are.0.on_accept;
       not_yet = are.0.not_yet;
       by_run = λ e r own far f g. more RUN own far (are.0.by_run e r own far f g);
+      address = are.0.address;
     },
     tied_more links are.1,
   )

@@ -9,9 +9,9 @@ use Rattle.dna_packet.specs.Nsp.{ConnectConfirm, DisconnectInitiate, DisconnectC
 use Rattle.dna_station.specs.declared.link_refusal.LinkRefusal.{LinkRefusal}
 use Rattle.dna_station.specs.declared.link_refusal.LinkRefusal.TheVariants.{NoLink, LinkState, WrongNode}
 use Rattle.dna_links.specs.declared.port.Phase.{Phase}
-use Rattle.dna_links.specs.declared.port.Phase.TheVariants.{Confirming, Running, Disconnecting}
+use Rattle.dna_links.specs.declared.port.Phase.TheVariants.{Calling, Confirming, Running, Disconnecting}
 use Rattle.dna_links.specs.declared.port.Port.{Port}
-use Rattle.dna_links.specs.declared.port.LinkTest.TheVariants.{TheLink, BegunBy}
+use Rattle.dna_links.specs.declared.port.LinkTest.TheVariants.{TheLink, OpenedAt, BegunBy}
 use Rattle.dna_links.specs.declared.queue.Queues.{Queues}
 use Rattle.dna_links.specs.declared.queue.Queues.TheVariants.{Without, With}
 use Rattle.dna_links.specs.declared.queue.Said.TheVariants.{OfRun, Disconnect}
@@ -25,6 +25,7 @@ use Rattle.dna_links.specs.LinkBook.{blank, kept, asked, by_row, after, of_none,
 use Rattle.dna_links.specs.Sending.{Sent, sent_as}
 use Rattle.accusing_links.specs.Connects.{CI, CC, RUN}
 use Rattle.accusing_links.proofs.Answered.{Good, good_err, good_check, link_good, in_use_good, seen_good}
+use Rattle.accusing_links.proofs.Named.{IsAddress}
 use Rattle.accusing_links.proofs.RightLinks.{Numbers}
 use Rattle.accusing_links.proofs.LinkSteps.{at_is}
 use Rattle.accusing_links.proofs.LinkSends.{good_always}
@@ -32,16 +33,20 @@ use Rattle.accusing_links.proofs.Tied.{Is, has_run, or_ran, AreTied, tied_at}
 use Rattle.accusing_links.proofs.TiedRows.{IsCalmRow, after_tied, calm_row}
 use Rattle.accusing_links.proofs.TiedSteps.{begun_in}
 
+abbrev pub Called : Numbers → ℕ → ℕ → Type 0
+Called P own far = IsAddress own × P CI 0 far
+
 abbrev pub Joined : Numbers → ℕ → ℕ → Type 0
-Joined P own far = P CI 0 far ⊎ P CC own far
+Joined P own far = IsAddress own × (P CI 0 far ⊎ P CC own far)
 
 abbrev pub CanRun : Numbers → ℕ → ℕ → Type 0
-CanRun P own far = (P CI 0 far × P RUN own far) ⊎ P CC own far
+CanRun P own far = IsAddress own × ((P CI 0 far × P RUN own far) ⊎ P CC own far)
 
 -- a link of which a message may be sent can be
 abbrev pub LinkFine : Numbers → NspValue → Type 0
 LinkFine P (ConnectAck dst) = P CI 0 dst
-LinkFine P (ConnectConfirm dst src services info segsize user_data) = P CI 0 dst
+LinkFine P (ConnectInitiate retransmitted src services info segsize user_data) = IsAddress src
+LinkFine P (ConnectConfirm dst src services info segsize user_data) = Called P src dst
 LinkFine P (DisconnectInitiate dst src reason user_data) = Joined P src dst
 LinkFine P (DataSegment s) = CanRun P s.srcaddr s.dstaddr
 LinkFine P (DataAck dst src acks) = CanRun P src dst
@@ -117,9 +122,12 @@ module _ (P : Numbers) (queues : Queues) (s : WireLinks) (are : AreTied P queues
       both =
           let parts = and_parts (is_live port.phase) (has_both port own far) passed in and_parts (is_at port.own own) (is_at port.far far) parts.1
 
+      here : l.port.own ≡ Some own
+      here = sym of.own ∙ at_is port.own own both.0
+
       go : (b : Bool) → l.port.opened ≡ b → Joined P own far
-      go true e = inr ((there n l at).by_answer e own far (sym of.own ∙ at_is port.own own both.0) (sym of.far ∙ at_is port.far far both.1))
-      go false e = inl ((there n l at).by_call e far (sym of.far ∙ at_is port.far far both.1))
+      go true e = ((there n l at).address own here, inr ((there n l at).by_answer e own far here (sym of.far ∙ at_is port.far far both.1)))
+      go false e = ((there n l at).address own here, inl ((there n l at).by_call e far (sym of.far ∙ at_is port.far far both.1)))
 
   joined_fine : (own far : ℕ) (es : List Effect) (phase : Phase) (asks : List Ask) →
       Good (Any (Joined P own far)) (asks_by es (in_turn (TheLink own far) phase asks))
@@ -146,8 +154,9 @@ module _ (P : Numbers) (queues : Queues) (s : WireLinks) (are : AreTied P queues
           (sym of.own ∙ at_is port.own own each.0, sym of.far ∙ at_is port.far far each.1)
 
       go : (b : Bool) → l.port.opened ≡ b → CanRun P own far
-      go true e = inr ((there n l at).by_answer e own far both.0 both.1)
-      go false e = inl ((there n l at).by_call e far both.1, (there n l at).by_run e run own far both.0 both.1)
+      go true e = ((there n l at).address own both.0, inr ((there n l at).by_answer e own far both.0 both.1))
+      go false e =
+          ((there n l at).address own both.0, inl ((there n l at).by_call e far both.1, (there n l at).by_run e run own far both.0 both.1))
 
   run_fine : (own far : ℕ) (es : List Effect) (asks : List Ask) →
       Good (Any (CanRun P own far)) (asks_by es (in_turn (TheLink own far) Running asks))
@@ -166,23 +175,43 @@ module _ (P : Numbers) (queues : Queues) (s : WireLinks) (are : AreTied P queues
   accepted_begun With l e is = is.on_accept (and_parts l.queue.accepted (is_silent l.queue.said) e).0
 
   called_by : (own far n : ℕ) (l : LinkOf WireSegments) (port : Port) → slice_get s.links n ≡ Some l → IsPortOf l port →
-      passes (TheLink own far) port ≡ true → l.port.opened ≡ false → P CI 0 far
+      passes (TheLink own far) port ≡ true → l.port.opened ≡ false → Called P own far
   called_by own far n l port at of passed begun =
       let parts = and_parts (is_live port.phase) (has_both port own far) passed in
-      let both = and_parts (is_at port.own own) (is_at port.far far) parts.1 in
-      (there n l at).by_call begun far (sym of.far ∙ at_is port.far far both.1)
+      let both = and_parts (is_at port.own own) (is_at port.far far) parts.1 in (
+        (there n l at).address own (sym of.own ∙ at_is port.own own both.0),
+        (there n l at).by_call begun far (sym of.far ∙ at_is port.far far both.1),
+      )
 
-  confirm_fine : (own far : ℕ) (es : List Effect) → Good (Any (P CI 0 far)) (asks_by es (in_turn (TheLink own far) Confirming []))
+  confirm_fine : (own far : ℕ) (es : List Effect) → Good (Any (Called P own far)) (asks_by es (in_turn (TheLink own far) Confirming []))
   confirm_fine own far es =
-      in_use_good (Any (P CI 0 far)) queues (TheLink own far) s _ _ (good_err (Any (P CI 0 far)) NoLink)
-      (λ n l found. good_check (Any (P CI 0 far)) (may_send queues Confirming l) LinkState _ (λ e.
-      good_always (P CI 0 far)
+      in_use_good (Any (Called P own far)) queues (TheLink own far) s _ _ (good_err (Any (Called P own far)) NoLink)
+      (λ n l found. good_check (Any (Called P own far)) (may_send queues Confirming l) LinkState _ (λ e.
+      good_always (Called P own far)
       (called_by own far n l l.port found.there (record { own = refl; far = refl; opened = refl }) found.passes
       (accepted_begun queues l e (there n l found.there))) _))
-      (λ n l found. good_check (Any (P CI 0 far)) (may_send queues Confirming l) LinkState _ (λ e.
-      good_always (P CI 0 far)
+      (λ n l found. good_check (Any (Called P own far)) (may_send queues Confirming l) LinkState _ (λ e.
+      good_always (Called P own far)
       (called_by own far n l (in_use With l) found.there (port_in_use l.queue.waits l) found.passes
       (accepted_begun queues l e (there n l found.there))) _))
+
+  -- a link that was opened here
+  opened_by : (own n : ℕ) (l : LinkOf WireSegments) (port : Port) → slice_get s.links n ≡ Some l → IsPortOf l port →
+      passes (OpenedAt own) port ≡ true → IsAddress own
+  opened_by own n l port at of passed =
+      let parts = and_parts (is_live port.phase) (port.opened && is_at port.own own) passed in
+      let both = and_parts port.opened (is_at port.own own) parts.1 in
+      (there n l at).address own (sym of.own ∙ at_is port.own own both.1)
+
+  call_fine : (own : ℕ) (es : List Effect) → Good (Any (IsAddress own)) (asks_by es (in_turn (OpenedAt own) Calling []))
+  call_fine own es =
+      in_use_good (Any (IsAddress own)) queues (OpenedAt own) s _ _ (good_err (Any (IsAddress own)) NoLink)
+      (λ n l found. good_check (Any (IsAddress own)) (may_send queues Calling l) LinkState _ (λ e.
+      good_always (IsAddress own)
+      (opened_by own n l l.port found.there (record { own = refl; far = refl; opened = refl }) found.passes) _))
+      (λ n l found. good_check (Any (IsAddress own)) (may_send queues Calling l) LinkState _ (λ e.
+      good_always (IsAddress own)
+      (opened_by own n l (in_use With l) found.there (port_in_use l.queue.waits l) found.passes) _))
 
   -- a link that a CI began
   begun_by : (far n : ℕ) (l : LinkOf WireSegments) (port : Port) → slice_get s.links n ≡ Some l → IsPortOf l port →
@@ -219,7 +248,7 @@ module _ (P : Numbers) (queues : Queues) (s : WireLinks) (are : AreTied P queues
   message_fine (LinkService interrupt dst src rest) = run_fine src dst (kept queues (Say OfRun ∷ [])) []
   message_fine (OtherDataAck dst src rest) = run_fine src dst (kept queues (Say OfRun ∷ [])) []
   message_fine (NoOperation rest) = good_always (Unit {0}) tt _
-  message_fine (ConnectInitiate retransmitted src services info segsize user_data) = good_always (Unit {0}) tt _
+  message_fine (ConnectInitiate retransmitted src services info segsize user_data) = call_fine src (kept queues [])
   message_fine (DisconnectConfirm dst src reason) = good_always (Unit {0}) tt _
 
   pub sent_linked : (packet : Carried) → Good (Any (LinkFine P packet.message)) (wire_links_sent queues s packet)

@@ -25,6 +25,7 @@ use Rattle.dna_links.specs.LinkBook.{blank, does, are_same, kept, asked, by_row,
 use Rattle.dna_links.specs.Arriving.{PartnerRule}
 use Rattle.accusing_links.specs.Connects.{CI, CC, RUN}
 use Rattle.accusing_links.proofs.Answered.{Good, good_ok, good_err, good_check, link_good}
+use Rattle.accusing_links.proofs.Named.{IsAddress, NamesOwn}
 use Rattle.accusing_links.proofs.RightLinks.{Numbers}
 use Rattle.accusing_links.proofs.LinkSteps.{at_is, kept_open, kept_answer, kept_connect, kept_confirm}
 use Rattle.accusing_links.proofs.Tied.{Begun, Is, has_run, is_plain, RunPassed, goes_tied, runs_tied, AreCalm, all_tied, AreTied, tied_at}
@@ -102,9 +103,9 @@ module _ (P : Numbers) (queues : Queues) (s : WireLinks) (are : AreTied P queues
     abbrev asks_by : List Effect → List Ask → Result WireLinks LinkRefusal
     asks_by es asks = asked queues wire_segments rule truth s to_links es asks None (blank queues wire_segments) truth.known
 
-    open_good : (own : ℕ) (es : List Effect) → es ≡ GiveAddress own ∷ OpenHere ∷ [] →
+    open_good : (own : ℕ) (es : List Effect) → IsAddress own → es ≡ GiveAddress own ∷ OpenHere ∷ [] →
         Good Are (asks_by es (FindsNone (LiveAt own) (Some AddressInUse) ∷ []))
-    open_good own es same = subst (λ (x : List Effect). Good Are (asks_by x (FindsNone (LiveAt own) (Some AddressInUse) ∷ []))) (sym same)
+    open_good own es names same = subst (λ (x : List Effect). Good Are (asks_by x (FindsNone (LiveAt own) (Some AddressInUse) ∷ []))) (sym same)
         (link_good Are (LiveAt own) s _ _
         (good_ok Are _ (each (GiveAddress own ∷ OpenHere ∷ []) None _ tt
         (record {
@@ -114,32 +115,34 @@ module _ (P : Numbers) (queues : Queues) (s : WireLinks) (are : AreTied P queues
           on_accept = λ e. absurd cc;
           not_yet = λ e. refl;
           by_run = λ e r o far f g. absurd cc;
+          address = λ o e. let this : own ≡ o = cc in subst IsAddress this names;
         })))
         (λ n l found. good_err Are AddressInUse))
 
     -- a called link gets an address
-    addressed : (own : ℕ) (l : LinkOf WireSegments) → l.port.opened ≡ false → has_run l.port.phase l.queue.ran ≡ false → Is P queues l →
+    addressed : (own : ℕ) (l : LinkOf WireSegments) → IsAddress own → l.port.opened ≡ false → has_run l.port.phase l.queue.ran ≡ false → Is P queues l →
         Is P queues (record l { port = record l.port { own = Some own } })
-    addressed own l called not is = record {
+    addressed own l names called not is = record {
       by_call = is.by_call;
       by_answer = λ e o far f g. absurd cc;
       begun = is.begun;
       on_accept = is.on_accept;
       not_yet = is.not_yet;
       by_run = λ e r o far f g. absurd cc;
+      address = λ o e. let this : own ≡ o = cc in subst IsAddress this names;
     }
 
-    answer_good : (far own : ℕ) (phase : Phase) (es : List Effect) → is_plain phase ≡ true → ((opened : Bool) → opened ≡ false → Begun phase opened) →
+    answer_good : (far own : ℕ) (phase : Phase) (es : List Effect) → IsAddress own → is_plain phase ≡ true → ((opened : Bool) → opened ≡ false → Begun phase opened) →
         es ≡ GiveAddress own ∷ GoTo phase ∷ [] →
         Good Are (asks_by es (Finds (CalledBy far) (Some NoLink) ∷ FindsNone (LiveAt own) (Some AddressInUse) ∷ []))
-    answer_good far own phase es plain begun same =
+    answer_good far own phase es names plain begun same =
         subst (λ (x : List Effect). Good Are (asks_by x (Finds (CalledBy far) (Some NoLink) ∷ FindsNone (LiveAt own) (Some AddressInUse) ∷ [])))
         (sym same)
         (link_good Are (CalledBy far) s _ _ (good_err Are NoLink) (λ n l found.
         let is = there n l found.there in
         let phased = (and_parts (is_in Called l.port.phase) (is_at l.port.far far) found.passes).0 in
         let called : l.port.opened ≡ false = begun_in Called l.port.phase l.port.opened phased is.begun in
-        let before = addressed own l called (not_run l.port.phase l.queue.ran phased is.not_yet) is in
+        let before = addressed own l names called (not_run l.port.phase l.queue.ran phased is.not_yet) is in
         link_good Are (LiveAt own) s _ _
         (good_ok Are _ (each (GiveAddress own ∷ GoTo phase ∷ []) (Some n) _ tt
         (goes_tied P queues queues phase (record l { port = record l.port { own = Some own } }) plain (begun l.port.opened called) before)))
@@ -157,6 +160,7 @@ module _ (P : Numbers) (queues : Queues) (s : WireLinks) (are : AreTied P queues
           on_accept = λ e. absurd cc;
           not_yet = λ e. refl;
           by_run = λ e r o f g h. absurd cc;
+          address = λ o e. absurd cc;
         })))
         (λ n l found. good_ok Are s are))
 
@@ -173,6 +177,7 @@ module _ (P : Numbers) (queues : Queues) (s : WireLinks) (are : AreTied P queues
       on_accept = is.on_accept;
       not_yet = is.not_yet;
       by_run = λ e r o f g h. absurd cc;
+      address = is.address;
     }
 
     confirm_good : (own far segsize : ℕ) (es : List Effect) → P CC own far → es ≡ Connect far segsize ∷ GoTo Running ∷ [] →
@@ -222,19 +227,19 @@ module _ (P : Numbers) (queues : Queues) (s : WireLinks) (are : AreTied P queues
   calm : (event : LinkEventValue) → IsCalmRow P queues (user_row event) → Good Are (wire_links_user queues s event)
   calm event is = calm_row P queues s are (λ test. test) (of_none queues wire_segments) to_links (user_row event) Are is each
 
-  pub user_tied : (event : LinkEventValue) → Good Are (wire_links_user queues s event)
-  user_tied (Open own) = open_good (λ test. test) (of_none queues wire_segments) own _ (kept_open queues own)
-  user_tied (Accept far own) =
-      answer_good (λ test. test) (of_none queues wire_segments) far own Confirming _ refl (λ opened e. e)
+  pub user_tied : (event : LinkEventValue) → NamesOwn event → Good Are (wire_links_user queues s event)
+  user_tied (Open own) names = open_good (λ test. test) (of_none queues wire_segments) own _ names (kept_open queues own)
+  user_tied (Accept far own) names =
+      answer_good (λ test. test) (of_none queues wire_segments) far own Confirming _ names refl (λ opened e. e)
       (kept_answer queues own Confirming)
-  user_tied (Reject far own) =
-      answer_good (λ test. test) (of_none queues wire_segments) far own Disconnecting _ refl (λ opened e. tt)
+  user_tied (Reject far own) names =
+      answer_good (λ test. test) (of_none queues wire_segments) far own Disconnecting _ names refl (λ opened e. tt)
       (kept_answer queues own Disconnecting)
-  user_tied (In own message) = calm (In own message) (tt, tt)
-  user_tied (Up own message) = calm (Up own message) (tt, tt)
-  user_tied (Close own) = calm (Close own) ((refl, λ opened. tt), tt)
-  user_tied (Abort own) = calm (Abort own) (tt, tt)
-  user_tied Boot = calm Boot (tt, tt)
+  user_tied (In own message) names = calm (In own message) (tt, tt)
+  user_tied (Up own message) names = calm (Up own message) (tt, tt)
+  user_tied (Close own) names = calm (Close own) ((refl, λ opened. tt), tt)
+  user_tied (Abort own) names = calm (Abort own) (tt, tt)
+  user_tied Boot names = calm Boot (tt, tt)
 
   module _ (rule : PartnerRule) (tag : LinkTag) where
     abbrev truth : LinkTruth (Unit {0})

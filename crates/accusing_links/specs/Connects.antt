@@ -1,6 +1,6 @@
--- Of which messages no link can be, by what passed of the links of the other side (NSP 4.0, session control interface, port states): a link gets its
--- far address by a CI or a CC, and by nothing else; and one that a CI began is in RUN once a message of RUN came to it.
-use Rattle.std.specs.Prelude.{ℕ, Bool, true, false, ◌&&◌, ◌||◌}
+-- Of which messages no link can be, by what passed of the links of the other side (NSP 4.0, session control interface, port states): no link has the
+-- address 0; a link gets its far address by a CI or a CC, and by nothing else; and one that a CI began is in RUN once a message of RUN came to it.
+use Rattle.std.specs.Prelude.{ℕ, Bool, true, false, ◌&&◌, ◌||◌, not, ◌==◌}
 use Rattle.dna_packet.specs.Nsp.{NspValue, DataSegment, LinkService, DataAck, OtherDataAck, ConnectAck, ConnectInitiate, ConnectConfirm}
 use Rattle.dna_packet.specs.Nsp.{DisconnectInitiate}
 use Rattle.accusing_links.specs.Segments.{Shown, is_this}
@@ -26,6 +26,10 @@ connect_of (LinkService interrupt dst src rest) msgflg own far = is_this (RUN, d
 connect_of (OtherDataAck dst src rest) msgflg own far = is_this (RUN, dst, src) msgflg own far
 connect_of other msgflg own far = false
 
+-- a link can have this address of its own
+abbrev pub is_address : (own : ℕ) → Bool
+is_address own = not (own == 0)
+
 -- a CI passed from this link; that, or a CC from it to that one
 abbrev pub was_called : Shown → (far : ℕ) → Bool
 was_called connects far = connects CI 0 far
@@ -37,14 +41,15 @@ was_joined connects own far = was_called connects far || connects CC own far
 abbrev pub can_run : Shown → (own far : ℕ) → Bool
 can_run connects own far = (was_called connects far && connects RUN own far) || connects CC own far
 
--- A link can be of which this message may be sent: one that a CI began for a CC or a connect acknowledgement, one with both addresses for a DI, and
--- one in RUN for the others
+-- A link can be of which this message may be sent, whose address is not 0: any for a CI, one that a CI began for a CC or a connect acknowledgement,
+-- one with both addresses for a DI, and one in RUN for the others. A connect acknowledgement shows no address, and a DC may have 0
 abbrev pub has_link : Shown → NspValue → Bool
 has_link connects (ConnectAck dst) = was_called connects dst
-has_link connects (ConnectConfirm dst src services info segsize user_data) = was_called connects dst
-has_link connects (DisconnectInitiate dst src reason user_data) = was_joined connects src dst
-has_link connects (DataSegment s) = can_run connects s.srcaddr s.dstaddr
-has_link connects (DataAck dst src acks) = can_run connects src dst
-has_link connects (LinkService interrupt dst src rest) = can_run connects src dst
-has_link connects (OtherDataAck dst src rest) = can_run connects src dst
+has_link connects (ConnectInitiate retransmitted src services info segsize user_data) = is_address src
+has_link connects (ConnectConfirm dst src services info segsize user_data) = is_address src && was_called connects dst
+has_link connects (DisconnectInitiate dst src reason user_data) = is_address src && was_joined connects src dst
+has_link connects (DataSegment s) = is_address s.srcaddr && can_run connects s.srcaddr s.dstaddr
+has_link connects (DataAck dst src acks) = is_address src && can_run connects src dst
+has_link connects (LinkService interrupt dst src rest) = is_address src && can_run connects src dst
+has_link connects (OtherDataAck dst src rest) = is_address src && can_run connects src dst
 has_link connects m = true

@@ -1,7 +1,9 @@
 -- What one side of a line may have done over both layers while these units passed. A side for which no such records exist has a wrong node: that is
 -- all that is ever said against it.
-use Rattle.std.specs.Prelude.{List, []}
+use Rattle.std.specs.Prelude.{List, [], ◌∷◌}
 use Rattle.capture.specs.declared.record.Record.{Record}
+use Rattle.capture.specs.declared.record.Record.TheVariants.{User}
+use Rattle.capture.specs.Range.{EventNumbersFit}
 use Rattle.dna_station.specs.declared.head.Head.{Head}
 use Rattle.dna_station.specs.Machine.{Machine}
 use Rattle.dna_links.specs.declared.queue.Queues.{Queues}
@@ -15,6 +17,13 @@ use Rattle.accusing.specs.Placing.{Passed, IsPlacedFrom}
 abbrev pub node_machine : Queues → Machine WireLayers LayersTag
 node_machine queues = wire_layers_machine (by_bytes_with queues)
 
+-- the addresses of links that events name are 1 to 65,535, as in the text of a capture
+abbrev pub NameLinks : List Record → Type 0
+NameLinks [] = Unit {0}
+NameLinks (User event ∷ records) = EventNumbersFit event × NameLinks records
+NameLinks (one ∷ records) = NameLinks records
+
 -- From before any record, by the addresses of its head; the rest is as for a station alone
 abbrev pub IsNodePlacing : Queues → Head → List Passed → List Record → Type 0
-IsNodePlacing queues head passed records = IsPlacedFrom (node_machine queues) (new_wire_layers_node head).station 0 [] passed records
+IsNodePlacing queues head passed records =
+    IsPlacedFrom (node_machine queues) (new_wire_layers_node head).station 0 [] passed records × NameLinks records

@@ -38,6 +38,7 @@ const RUN: u16 = 0x04;
 ///  own    data, a packet with a message of flag byte 02     BadNsp
 ///  own    data, a CI in a packet from this node to a third  WrongNode
 ///  own    data, a CI in a packet to the other node          None
+///  own    data, a CI from link 0                            NoLink: no link has the address 0
 ///  own    data, link 7 acknowledges 0 to link 9             NoLink: no CI of link 9 passed, and no CC from it to link 7
 ///  other  data, a CC from link 9 to link 7
 ///  own    data, link 7 acknowledges 0 to link 9             None
@@ -219,13 +220,16 @@ impl LinkAccuser {
     {
         match message {
             Nsp::ConnectAck(m) => self.was_called(m.dstaddr),
-            Nsp::ConnectConfirm(m) => self.was_called(m.dstaddr),
-            Nsp::DisconnectInitiate(m) => self.was_joined(m.srcaddr, m.dstaddr),
-            Nsp::DataSegment(m) => self.can_run(m.srcaddr, m.dstaddr),
-            Nsp::DataAck(m) => self.can_run(m.srcaddr, m.dstaddr),
-            Nsp::LinkService(m) => self.can_run(m.srcaddr, m.dstaddr),
-            Nsp::OtherDataAck(m) => self.can_run(m.srcaddr, m.dstaddr),
-            Nsp::NoOperation(_) | Nsp::ConnectInitiate(_) | Nsp::DisconnectConfirm(_) => true,
+            Nsp::ConnectInitiate(m) => is_address(m.srcaddr),
+            Nsp::ConnectConfirm(m) => is_address(m.srcaddr) && self.was_called(m.dstaddr),
+            Nsp::DisconnectInitiate(m) => {
+                is_address(m.srcaddr) && self.was_joined(m.srcaddr, m.dstaddr)
+            }
+            Nsp::DataSegment(m) => is_address(m.srcaddr) && self.can_run(m.srcaddr, m.dstaddr),
+            Nsp::DataAck(m) => is_address(m.srcaddr) && self.can_run(m.srcaddr, m.dstaddr),
+            Nsp::LinkService(m) => is_address(m.srcaddr) && self.can_run(m.srcaddr, m.dstaddr),
+            Nsp::OtherDataAck(m) => is_address(m.srcaddr) && self.can_run(m.srcaddr, m.dstaddr),
+            Nsp::NoOperation(_) | Nsp::DisconnectConfirm(_) => true,
         }
     }
 
@@ -290,4 +294,11 @@ impl LinkAccuser {
             }
         }
     }
+}
+
+// A link can have this address of its own.
+fn is_address(own: u16) -> bool
+    ensures { result ≡ calls.is_address own }
+{
+    own != 0
 }

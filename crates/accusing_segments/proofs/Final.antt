@@ -181,7 +181,7 @@ module _ (drops : Bool) (queues : Queues) where
   fine_placed : (head : Head) (before later : List Passed) (unit : List ℕ) (records : List Record) →
       IsNodePlacing queues head (before ++ Own unit ∷ later) records → Unless drops (SendsAll records) →
       OfMessage (Fine before) (message_in unit)
-  fine_placed head before later unit records placing all = one_fine [] before unit later (all_fine placing all [] (first_right head) tt)
+  fine_placed head before later unit records placing all = one_fine [] before unit later (all_fine placing.0 all [] (first_right head) tt)
 
 -- ---- what that says of a segment
 

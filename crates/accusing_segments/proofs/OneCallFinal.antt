@@ -193,7 +193,7 @@ module _ (queues : Queues) (head : Head) (before later : List Passed) (unit : Li
   segment_same : (m : SegmentValue) → message_in unit ≡ Some (DataSegment m) → is_changed (history before) (repeats before) m ≡ true → ⊥
   segment_same m is e =
       go (one_good queues m.srcaddr m.dstaddr [] before unit later
-      (all_good queues m.srcaddr m.dstaddr placing [] (inr (first_so queues m.srcaddr m.dstaddr head)) tt))
+      (all_good queues m.srcaddr m.dstaddr placing.0 [] (inr (first_so queues m.srcaddr m.dstaddr head)) tt))
     where
       parts : (differs (first_sent before m.srcaddr m.dstaddr m.number) (piece_of m) ≡ true)
           × ((is_one_link (repeats before) m.srcaddr m.dstaddr

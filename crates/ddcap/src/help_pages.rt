@@ -198,7 +198,8 @@ Reads the bytes on a line in both directions, works out what both nodes did,
 writes it into the captures A and B, and judges these. WIRE has a head, and a
 line for each piece of bytes, from a or from b, in the order in which they
 passed; a piece may be cut anywhere. This holds only if every unit sent passed
-there, starting before the first STRT. Name three different files.
+there once, undamaged and in order, starting before the first STRT. Name three
+different files.
 
 Example, in the top folder of the sources:
 
@@ -216,10 +217,14 @@ If it finds nothing that explains a unit, it names that unit. Unit 7 of a
   unexplained a unit 7 line 16: 7 WrongNumber
   no consistent explanation was found; this alone accuses neither node
 
-If the second line is: whatever came to it, no right node sends a unit 7 line
-16, then that node is at fault. The answer begins with apart: where each side
-is explained by itself. Both captures then end with that unit. Then: ddcap why
---queued A B
+If no correct node sends a unit, the second line says instead: side a is at
+fault at its unit 7 (line 16), if the recording is whole. Where a correct node
+may send it after all, as a router may, that it is none is a condition too. If
+the recording itself shows that it is not whole, neither node is accused: the
+line says what was seen, and what to do. Both captures then end with that unit.
+Then: ddcap why --queued A B
+
+The answer begins with apart: where each side is explained by itself.
 
 The nodes may have queues between NSP and DDCMP: docs/LINKS.md says more. With
 --line only DDCMP is judged: a packet may be any bytes. Units whose header

@@ -65,6 +65,7 @@ mod run;
 mod show;
 mod shown_line;
 mod tap;
+mod tap_accused;
 mod tap_apart;
 mod tap_files;
 mod tap_naming;

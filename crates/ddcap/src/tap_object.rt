@@ -12,6 +12,7 @@ use crate::fault_told::FaultTold;
 use crate::layers::{Layers, judge_over};
 use crate::objects::{begun, ended, put, put_counts, put_reason};
 use crate::tap::{ACCEPTED, Captured, RefusedAt, UNEXPLAINED, to_be_cut};
+use crate::tap_accused::{put_accused, put_passed, put_recording};
 use crate::text::FAULTY;
 use pair_judge::{Reason, Verdict};
 use placing::{Assumed, Turn};
@@ -19,7 +20,7 @@ use std::alloc::{AllocError, Global};
 use std::io::{Read, Write};
 use tap_answer::{Told, said_of, too_wide_text};
 use wire_base::{Side, Tally};
-use wire_tap::{Accused, Passed, Skipped, Tapped};
+use wire_tap::{Passed, Skipped, Tapped};
 
 /// Judges captures as `tap_to` does, of what passed in the file of this name, and prints the answer or the fault as one JSON object. What `tap_to`
 /// tells to `err` is told there too. No contract tells the object.
@@ -125,6 +126,7 @@ fn unexplained_object(
     let mut object = begun(alloc, "unexplained", name)?;
     put_refused(alloc, &mut object, passed, reason)?;
     put_accused(alloc, &mut object, captured.accused)?;
+    put_recording(alloc, &mut object, captured.accused.broken)?;
     put_assumed(alloc, &mut object, captured.turns)?;
     put_skipped(alloc, &mut object, captured.tapped)?;
     ended(object)
@@ -159,40 +161,6 @@ fn put_refused(
     put_reason(alloc, object, reason)
 }
 
-// The units that no right node sent, and those that one sent only if it dropped packets that it had composed.
-fn put_accused(alloc: Global, object: &mut Vec<u8>, accused: Accused) -> Result<(), AllocError> {
-    put(object, ", \"accused\": [")?;
-    put_both_accused(alloc, object, accused.a, accused.b)?;
-    put(object, "], \"accused_unless_dropped\": [")?;
-    put_both_accused(alloc, object, accused.segment_a, accused.segment_b)?;
-    put(object, "]")
-}
-
-fn put_both_accused(
-    alloc: Global,
-    object: &mut Vec<u8>,
-    a: Option<Passed>,
-    b: Option<Passed>,
-) -> Result<(), AllocError> {
-    put_one_accused(alloc, object, a)?;
-    if a.is_some() && b.is_some() {
-        put(object, ", ")?;
-    }
-    put_one_accused(alloc, object, b)
-}
-
-fn put_one_accused(
-    alloc: Global,
-    object: &mut Vec<u8>,
-    accused: Option<Passed>,
-) -> Result<(), AllocError> {
-    let Some(Passed { side, unit, line }) = accused else {
-        return Ok(());
-    };
-    let part = format!(in alloc; "{{\"side\": \"{side}\", \"unit\": {unit}, \"line\": {line}}}")?;
-    put(object, part.as_str())
-}
-
 // There were too many states to try before this unit.
 fn too_wide_object(alloc: Global, name: &str, passed: Passed) -> Result<Vec<u8>, AllocError> {
     let mut object = begun(alloc, "fault", name)?;
@@ -203,9 +171,8 @@ fn too_wide_object(alloc: Global, name: &str, passed: Passed) -> Result<Vec<u8>,
 
 // Which unit it is.
 fn put_unit(alloc: Global, object: &mut Vec<u8>, passed: Passed) -> Result<(), AllocError> {
-    let Passed { side, unit, line } = passed;
-    let part = format!(in alloc; ", \"side\": \"{side}\", \"unit\": {unit}, \"line\": {line}")?;
-    put(object, part.as_str())
+    put(object, ", ")?;
+    put_passed(alloc, object, passed)
 }
 
 // The boots and aborts that are assumed.

@@ -1,3 +1,4 @@
 pub mod Telling
 pub mod Words
+pub mod AccusedWords
 pub mod Before

@@ -10,10 +10,11 @@ use Rattle.pair_judge.specs.Reason.{reason_name, reason_number}
 use Rattle.placing.specs.declared.turn.Assumed.{Assumed}
 use Rattle.placing.specs.declared.turn.Assumed.TheVariants.{Keeps, Boots, GivesUp}
 use Rattle.placing.specs.declared.turn.Turn.{Turn}
-use Rattle.wire_tap.specs.declared.accused.Accused.{Accused}
+use Rattle.wire_tap.specs.declared.accusation.Accused.{Accused}
 use Rattle.wire_tap.specs.declared.tapped.Passed.{Passed}
 use Rattle.wire_tap.specs.declared.tapped.Skipped.{Skipped}
 use Rattle.wire_tap.specs.declared.tapped.Tapped.{Tapped}
+use Rattle.tap_answer.specs.AccusedWords.{accused_words}
 
 -- `a unit 7 line 16`
 abbrev pub unit_words : Passed → List ℕ
@@ -35,27 +36,6 @@ assumed_words turns = flat_map turn_words turns
 -- `7 WrongNumber`
 abbrev pub numbered_words : Reason → List ℕ
 numbered_words reason = decimal (reason_number reason) ++ (codes " " ++ reason_name reason)
-
--- on a line of its own, that no right node sends this unit
-abbrev pub sent_by_none_words : Option Passed → List ℕ
-sent_by_none_words None = []
-sent_by_none_words (Some passed) = codes "\nwhatever came to it, no right node sends " ++ unit_words passed
-
--- so of each side that is accused; or that neither is
-abbrev pub both_accused_words : Option Passed → Option Passed → List ℕ
-both_accused_words None None = codes "\nno consistent explanation was found; this alone accuses neither node"
-both_accused_words None (Some of_b) = sent_by_none_words (Some of_b)
-both_accused_words (Some of_a) of_b = sent_by_none_words (Some of_a) ++ sent_by_none_words of_b
-
--- on a line of its own, that only a node that dropped packets sends this unit
-abbrev pub dropped_words : Option Passed → List ℕ
-dropped_words None = []
-dropped_words (Some passed) =
-    codes "\na right node sends " ++ (unit_words passed ++ codes " only if it dropped packets that it had composed")
-
-abbrev pub accused_words : Accused → List ℕ
-accused_words accused =
-    both_accused_words accused.a accused.b ++ (dropped_words accused.segment_a ++ dropped_words accused.segment_b)
 
 -- a reason, and whom the answer accuses
 abbrev pub reason_words : Reason → Accused → List ℕ
@@ -98,8 +78,12 @@ mostly_words more =
 abbrev pub skipped_more : Tapped → ℕ
 skipped_more tapped = (tapped.skipped_a.bytes + tapped.skipped_b.bytes) - (tapped.units_a.bytes + tapped.units_b.bytes)
 
--- what an answer rests on, and what was skipped
+-- what an answer rests on
+abbrev pub holds_words : List ℕ
+holds_words = codes "this holds only if every unit sent passed this point once, undamaged and in order, starting before the first STRT"
+
+-- the same, and what was skipped
 abbrev pub premise_words : Tapped → List ℕ
 premise_words tapped =
-    mostly_words (skipped_more tapped) ++ (codes "this holds only if every unit sent passed this point, starting before the first STRT\n"
-    ++ (skipped_words A tapped.skipped_a ++ (codes "\n" ++ (skipped_words B tapped.skipped_b ++ codes "\n"))))
+    mostly_words (skipped_more tapped) ++ (holds_words ++ (codes "\n"
+    ++ (skipped_words A tapped.skipped_a ++ (codes "\n" ++ (skipped_words B tapped.skipped_b ++ codes "\n")))))

@@ -4,7 +4,7 @@ ghost use Rattle.std.specs.Prelude.{◌≡◌, ◌++◌, IfOk, OnOk, string_byte
 ghost use Rattle.std.specs.List.{flat_map};
 ghost use Rattle.tap_answer.specs.Words.{assumed_words, turn_words};
 
-use crate::told_text::UnitWords;
+use crate::accused_text::UnitWords;
 use placing::{Assumed, Turn};
 use std::alloc::{AllocError, Global};
 use std::fmt;

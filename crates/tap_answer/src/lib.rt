@@ -4,7 +4,9 @@
 //! nothing, and prints nothing.
 #![tactic(auto)]
 
+mod accused_text;
 mod assuming;
+mod broken_text;
 mod counting;
 mod told;
 mod told_text;

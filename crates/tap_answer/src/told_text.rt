@@ -3,29 +3,12 @@
 ghost use Rattle.std.specs.Prelude.{◌≡◌, IfOk, string_bytes};
 ghost use Rattle.tap_answer.specs.Words.{apart_words, premise_words, too_wide_words, unexplained_end_words, unexplained_words};
 
+use crate::accused_text::{AccusedWords, UnitWords};
 use pair_judge::Reason;
 use std::alloc::{AllocError, Global};
 use std::fmt;
 use wire_base::Side;
 use wire_tap::{Accused, Passed, Skipped, Tapped};
-
-/// A unit, as it is named.
-#[derive(Clone, Copy)]
-pub(crate) struct UnitWords {
-    pub(crate) passed: Passed,
-}
-
-impl fmt::Display for UnitWords {
-    ghost use Rattle.std.specs.Prelude.{Some};
-    ghost use Rattle.tap_answer.specs.Words.{unit_words};
-
-    ghost output = { λ words. Some (unit_words words.passed) };
-
-    fn fmt<W: fmt::Write>(&self, f: &mut fmt::Formatter<W>) -> fmt::Result {
-        let Passed { side, unit, line } = self.passed;
-        write!(f, "{side} unit {unit} line {line}")
-    }
-}
 
 // A reason with its number.
 #[derive(Clone, Copy)]
@@ -43,104 +26,6 @@ impl fmt::Display for NumberedWords {
         let reason = self.reason;
         let number = reason.number();
         write!(f, "{number} {reason}")
-    }
-}
-
-// A line that no right node sends this unit, if there is one.
-#[derive(Clone, Copy)]
-struct SentByNoneWords {
-    passed: Option<Passed>,
-}
-
-impl fmt::Display for SentByNoneWords {
-    ghost use Rattle.std.specs.Prelude.{Some};
-    ghost use Rattle.tap_answer.specs.Words.{sent_by_none_words};
-
-    ghost output = { λ words. Some (sent_by_none_words words.passed) };
-
-    fn fmt<W: fmt::Write>(&self, f: &mut fmt::Formatter<W>) -> fmt::Result {
-        let Some(passed) = self.passed else {
-            return Ok(());
-        };
-        let unit = UnitWords { passed };
-        write!(f, "\nwhatever came to it, no right node sends {unit}")
-    }
-}
-
-// A line that only a node that dropped packets sends this unit, if there is one.
-#[derive(Clone, Copy)]
-struct DroppedWords {
-    passed: Option<Passed>,
-}
-
-impl fmt::Display for DroppedWords {
-    ghost use Rattle.std.specs.Prelude.{Some};
-    ghost use Rattle.tap_answer.specs.Words.{dropped_words};
-
-    ghost output = { λ words. Some (dropped_words words.passed) };
-
-    fn fmt<W: fmt::Write>(&self, f: &mut fmt::Formatter<W>) -> fmt::Result {
-        let Some(passed) = self.passed else {
-            return Ok(());
-        };
-        let unit = UnitWords { passed };
-        write!(
-            f,
-            "\na right node sends {unit} only if it dropped packets that it had composed"
-        )
-    }
-}
-
-// Which sides no right node is.
-#[derive(Clone, Copy)]
-struct BothAccusedWords {
-    a: Option<Passed>,
-    b: Option<Passed>,
-}
-
-impl fmt::Display for BothAccusedWords {
-    ghost use Rattle.std.specs.Prelude.{Some};
-    ghost use Rattle.tap_answer.specs.Words.{both_accused_words};
-
-    ghost output = { λ words. Some (both_accused_words words.a words.b) };
-
-    fn fmt<W: fmt::Write>(&self, f: &mut fmt::Formatter<W>) -> fmt::Result {
-        let (a, b) = (self.a, self.b);
-        let of_a = SentByNoneWords { passed: a };
-        let of_b = SentByNoneWords { passed: b };
-        match (a, b) {
-            (None, None) => f.write_str(
-                "\nno consistent explanation was found; this alone accuses neither node",
-            ),
-            (None, Some(_)) => write!(f, "{of_b}"),
-            (Some(_), _) => write!(f, "{of_a}{of_b}"),
-        }
-    }
-}
-
-// Whom the answer accuses.
-#[derive(Clone, Copy)]
-struct AccusedWords {
-    accused: Accused,
-}
-
-impl fmt::Display for AccusedWords {
-    ghost use Rattle.std.specs.Prelude.{Some};
-    ghost use Rattle.tap_answer.specs.Words.{accused_words};
-
-    ghost output = { λ words. Some (accused_words words.accused) };
-
-    fn fmt<W: fmt::Write>(&self, f: &mut fmt::Formatter<W>) -> fmt::Result {
-        let Accused {
-            a,
-            b,
-            segment_a,
-            segment_b,
-        } = self.accused;
-        let both = BothAccusedWords { a, b };
-        let of_a = DroppedWords { passed: segment_a };
-        let of_b = DroppedWords { passed: segment_b };
-        write!(f, "{both}{of_a}{of_b}")
     }
 }
 
@@ -201,6 +86,23 @@ impl fmt::Display for MostlyWords {
         }
         f.write_str(
             "more bytes were skipped than read: these may not be two directions of a DDCMP line\n",
+        )
+    }
+}
+
+// What an answer rests on.
+#[derive(Clone, Copy)]
+struct HoldsWords {}
+
+impl fmt::Display for HoldsWords {
+    ghost use Rattle.std.specs.Prelude.{Some};
+    ghost use Rattle.tap_answer.specs.Words.{holds_words};
+
+    ghost output = { λ _. Some holds_words };
+
+    fn fmt<W: fmt::Write>(&self, f: &mut fmt::Formatter<W>) -> fmt::Result {
+        f.write_str(
+            "this holds only if every unit sent passed this point once, undamaged and in order, starting before the first STRT",
         )
     }
 }
@@ -294,7 +196,6 @@ pub fn premise_text(alloc: Global, tapped: Tapped) -> Result<String, AllocError>
     let mostly = MostlyWords {
         more: skipped.saturating_sub(read),
     };
-    format!(in alloc;
-        "{mostly}this holds only if every unit sent passed this point, starting before the first STRT\n{line_a}\n{line_b}\n"
-    )
+    let holds = HoldsWords {};
+    format!(in alloc; "{mostly}{holds}\n{line_a}\n{line_b}\n")
 }

@@ -1,41 +1,21 @@
-//! Which units no right node sent, whatever came to it.
+//! Which units no correct node sent, whatever came to it.
 
+use crate::accusation::Accused;
+use crate::begun::Begun;
+use crate::evidence::Evidence;
 use crate::fault::{TapFault, reading_fault};
-use crate::tapped::Passed;
-use accusing::{Accuser, Answer};
-use accusing_links::{AckAccuser, LinkAccuser};
-use accusing_segments::SegmentAccuser;
+use crate::sifting::Suspects;
+use crate::suspects::SideAccused;
 use framer::{Found, Framer, Kind};
 use std::alloc::{AllocError, Global};
 use std::io::Read;
 use wire_base::{Side, Tally};
 use wire_text::{MAX_PIECES, WireReader};
 
-/// The first unit of each side that no right node sent after what had passed, whatever came to it, whatever was lost or damaged, and whatever its
-/// user did; none where that is not known of any.
-#[derive(Clone, Copy, Debug, PartialEq, Eq)]
-pub struct Accused {
-    pub a: Option<Passed>,
-    pub b: Option<Passed>,
-    /// Where side a is not accused: its first data segment that no right node sent that sends every packet it composed.
-    pub segment_a: Option<Passed>,
-    /// So for side b.
-    pub segment_b: Option<Passed>,
-}
-
-impl Accused {
-    /// Nobody is accused.
-    pub const NOBODY: Accused = Accused {
-        a: None,
-        b: None,
-        segment_a: None,
-        segment_b: None,
-    };
-}
-
-/// Reads the text of what passed to its end, and finds which units no right node sent; over the line alone packets are any bytes. Each unit that was
-/// sent has passed here, and before the first of them neither side was started. The units are told to an `Accuser`, a `LinkAccuser`, an `AckAccuser`
-/// and a `SegmentAccuser` of each side in the order in which their last bytes passed; that is read in the code.
+/// Reads the text of what passed to its end, and finds which units no correct node sent; over the line alone packets are any bytes. Each unit that
+/// was sent has passed here, and before the first of them neither side was started; where the recording shows at an accusation that this is not so,
+/// that is told, and nobody is accused from there on. The units are told to an `Accuser`, a `LinkAccuser`, an `AckAccuser` and a `SegmentAccuser` of
+/// each side in the order in which their last bytes passed; that is read in the code.
 ///
 /// Faults: `Departs` at the first line that departs from the format, `Read` where a call of the text's reader failed, and `OutOfMemory`.
 pub fn find_accused<W: Read>(
@@ -47,24 +27,63 @@ pub fn find_accused<W: Read>(
         Ok(reader) => reader,
         Err(fault) => return Err(reading_fault(fault)),
     };
-    let mut sides = Sides::of(alloc, reader.node_a(), reader.node_b(), line_alone)?;
-    sides.pass_all(&mut reader, wire)?;
-    Ok(sides.accused())
+    let mut line = Line::new(alloc, reader.node_a(), reader.node_b(), line_alone)?;
+    line.pass_all(&mut reader, wire)?;
+    Ok(line.accused())
 }
 
-// Both sides.
+// Both directions, and what their units told.
 #[derive(Drop)]
-struct Sides {
-    a: SideUnits,
-    b: SideUnits,
+struct Line {
+    a: Direction,
+    b: Direction,
+    told: Told,
 }
 
-impl Sides {
+// How the units of a direction are found.
+#[derive(Drop)]
+struct Direction {
+    side: Side,
+    framer: Framer,
+    begun: Begun,
+    // how many units of both sides had passed before what the framer holds
+    order: u64,
+}
+
+// Both sides, and what shows that not all that they sent passed.
+#[derive(Drop)]
+struct Told {
+    a: SideAccused,
+    b: SideAccused,
+    evidence: Evidence,
+}
+
+// A unit's side, the line of its first byte, and how many units of both sides had passed before that.
+#[derive(Clone, Copy)]
+struct Place {
+    side: Side,
+    line: u64,
+    order: u64,
+}
+
+// What is left of a piece.
+enum Next<'a> {
+    Rest(&'a [u8]),
+    UsedUp,
+}
+
+impl Line {
     // Nothing passed yet between the nodes with these addresses.
-    fn of(alloc: Global, a: u16, b: u16, line_alone: bool) -> Result<Sides, AllocError> {
-        let of_a = SideUnits::of(alloc, Side::A, packets_of(alloc, a, b, line_alone))?;
-        let of_b = SideUnits::of(alloc, Side::B, packets_of(alloc, b, a, line_alone))?;
-        Ok(Sides { a: of_a, b: of_b })
+    fn new(alloc: Global, a: u16, b: u16, line_alone: bool) -> Result<Line, AllocError> {
+        Ok(Line {
+            a: Direction::new(alloc, Side::A)?,
+            b: Direction::new(alloc, Side::B)?,
+            told: Told {
+                a: SideAccused::new(alloc, Side::A, a, b, line_alone),
+                b: SideAccused::new(alloc, Side::B, b, a, line_alone),
+                evidence: Evidence::NONE,
+            },
+        })
     }
 
     // All that the text has passed.
@@ -89,110 +108,42 @@ impl Sides {
     // These bytes of a side passed.
     fn pass(&mut self, side: Side, bytes: &[u8], line: u64) -> Result<(), AllocError> {
         match side {
-            Side::A => self.a.pass_bytes(bytes, line, &mut self.b.told.accusers),
-            Side::B => self.b.pass_bytes(bytes, line, &mut self.a.told.accusers),
+            Side::A => self.a.pass_bytes(bytes, line, &mut self.told),
+            Side::B => self.b.pass_bytes(bytes, line, &mut self.told),
         }
     }
 
-    // Whom they accuse.
-    fn accused(&self) -> Accused {
-        Accused {
-            a: self.a.told.first,
-            b: self.b.told.first,
-            segment_a: self.a.told.segment_alone(),
-            segment_b: self.b.told.segment_alone(),
-        }
+    // Whom they accuse, where what the framers hold at last is no unit.
+    fn accused(&mut self) -> Accused {
+        self.a.end(&mut self.told.evidence);
+        self.b.end(&mut self.told.evidence);
+        let suspects = Suspects {
+            a: self.told.a.first,
+            b: self.told.b.first,
+            segment_a: self.told.a.segment,
+            segment_b: self.told.b.segment,
+        };
+        suspects.sift(&self.told.evidence)
     }
 }
 
-// What is asked of the packets of the node with this address, with that one at the other end; nothing over the line alone.
-fn packets_of(alloc: Global, own: u16, peer: u16, line_alone: bool) -> Option<PacketAccusers> {
-    if line_alone {
-        return None;
-    }
-    Some(PacketAccusers {
-        links: LinkAccuser::new(alloc, own, peer),
-        acks: AckAccuser::new(alloc),
-        segments: SegmentAccuser::new(alloc),
-    })
-}
-
-// How the units of a side are found, and what they told.
-#[derive(Drop)]
-struct SideUnits {
-    framer: Framer,
-    told: Told,
-    // the line on which what the framer holds began
-    begun: u64,
-}
-
-// What accuses a side: of its units, and if it is asked of what is in its data units.
-#[derive(Drop)]
-struct Accusers {
-    station: Accuser,
-    packets: Option<PacketAccusers>,
-}
-
-// What accuses a side of what is in its data units: of each by itself, of acknowledgements by those before, and of segments by their length, by what
-// went before under their numbers, and by their order.
-#[derive(Drop)]
-struct PacketAccusers {
-    links: LinkAccuser,
-    acks: AckAccuser,
-    segments: SegmentAccuser,
-}
-
-// The units that a side sent so far, and the first one that it can't have sent.
-#[derive(Drop)]
-struct Told {
-    side: Side,
-    accusers: Accusers,
-    count: u64,
-    first: Option<Passed>,
-    // its first segment that is out of order, unless packets were dropped
-    segment: Option<Passed>,
-}
-
-// What is left of a piece.
-enum Next<'a> {
-    Rest(&'a [u8]),
-    UsedUp,
-}
-
-impl SideUnits {
+impl Direction {
     // Nothing passed yet.
-    fn of(
-        alloc: Global,
-        side: Side,
-        packets: Option<PacketAccusers>,
-    ) -> Result<SideUnits, AllocError> {
-        Ok(SideUnits {
+    fn new(alloc: Global, side: Side) -> Result<Direction, AllocError> {
+        Ok(Direction {
+            side,
             framer: Framer::new(alloc)?,
-            told: Told {
-                side,
-                accusers: Accusers {
-                    station: Accuser::new(alloc),
-                    packets,
-                },
-                count: 0,
-                first: None,
-                segment: None,
-            },
-            begun: 0,
+            begun: Begun::NOTHING,
+            order: 0,
         })
     }
 
     // These bytes passed.
-    fn pass_bytes(
-        &mut self,
-        piece: &[u8],
-        line: u64,
-        other: &mut Accusers,
-    ) -> Result<(), AllocError> {
+    fn pass_bytes(&mut self, piece: &[u8], line: u64, told: &mut Told) -> Result<(), AllocError> {
         let mut rest = piece;
         let most = self.framer.held().len() + piece.len() + 1;
         for _ in 0..most {
-            match self.pass_next(rest, line, other)? {
+            match self.pass_next(rest, line, told)? {
                 Next::Rest(behind) => rest = behind,
                 Next::UsedUp => break,
             }
@@ -205,121 +156,78 @@ impl SideUnits {
         &mut self,
         piece: &'a [u8],
         line: u64,
-        other: &mut Accusers,
+        told: &mut Told,
     ) -> Result<Next<'a>, AllocError> {
+        let held = self.framer.held().len();
+        let side = self.side;
+        let order = self.order_of(held, told.evidence.order);
         match self.framer.next(piece) {
             Found::Unit {
                 kind,
+                strays,
                 unit,
                 rest,
-                ..
             } => {
-                self.told.pass(kind, unit, line, other)?;
+                told.evidence.skip(side, strays as u64);
+                told.find(kind, unit, Place { side, line, order })?;
                 Ok(Next::Rest(rest))
             }
-            Found::Completed { kind, rest, .. } => {
-                let begun = self.begun;
-                self.told.pass(kind, self.framer.completed(), begun, other)?;
+            Found::Completed { kind, strays, rest } => {
+                told.evidence.skip(side, strays as u64);
+                let unit = self.framer.completed();
+                let used = held.saturating_add(piece.len()).saturating_sub(rest.len());
+                let first = used.saturating_sub(unit.len());
+                let line = self.begun.line_at(held, first, line);
+                told.find(kind, unit, Place { side, line, order })?;
                 Ok(Next::Rest(rest))
             }
-            Found::More { .. } => {
-                if self.framer.held().len() <= piece.len() {
-                    self.begun = line;
+            Found::More { strays } => {
+                told.evidence.skip(side, strays as u64);
+                let now = self.framer.held().len();
+                self.begun.hold(held, piece.len(), line, now);
+                if now <= piece.len() {
+                    self.order = told.evidence.order;
                 }
                 Ok(Next::UsedUp)
             }
         }
     }
+
+    // How many units had passed before the first of so many bytes that are held, or before the piece after them.
+    fn order_of(&self, held: usize, now: u64) -> u64 {
+        if held == 0 { now } else { self.order }
+    }
+
+    // What is held is no unit.
+    fn end(&self, evidence: &mut Evidence) {
+        evidence.end(self.side, self.framer.held().len() as u64, self.order);
+    }
 }
 
 impl Told {
-    // One unit of this kind passed, which began on this line; maintenance messages are told to nobody.
-    fn pass(
-        &mut self,
-        kind: Kind,
-        unit: &[u8],
-        line: u64,
-        other: &mut Accusers,
-    ) -> Result<(), AllocError> {
-        if let Kind::Maintenance = kind {
-            return Ok(());
+    // One unit of this kind was found there; maintenance messages are told to nobody.
+    fn find(&mut self, kind: Kind, unit: &[u8], at: Place) -> Result<(), AllocError> {
+        match kind {
+            Kind::Control | Kind::Data => self.pass(unit, at)?,
+            Kind::Maintenance => {}
         }
-        other.other_passed(unit)?;
-        let passed = Passed {
-            side: self.side,
-            unit: self.count,
-            line,
-        };
-        if self.first.is_none() {
-            self.ask(unit, passed)?;
-        }
-        self.count = self.count.saturating_add(1);
+        self.evidence.find(at.side);
         Ok(())
     }
 
-    // Whether the side, which is not accused yet, can have sent this unit.
-    fn ask(&mut self, unit: &[u8], passed: Passed) -> Result<(), AllocError> {
-        if self.accusers.accuse(unit)? {
-            self.first = Some(passed);
-            return Ok(());
-        }
-        if self.segment.is_none() && self.accusers.doubt_segment(unit) {
-            self.segment = Some(passed);
-        }
-        self.accusers.own_passed(unit)
-    }
-
-    // The segment, where the side is not accused.
-    fn segment_alone(&self) -> Option<Passed> {
-        if self.first.is_some() {
-            return None;
-        }
-        self.segment
-    }
-}
-
-impl Accusers {
-    // This unit of the other side passed.
-    fn other_passed(&mut self, unit: &[u8]) -> Result<(), AllocError> {
-        self.station.other_passed(unit);
-        if let Some(packets) = &mut self.packets {
-            packets.links.other_passed(unit)?;
-            packets.acks.other_passed(unit)?;
-            packets.segments.other_passed(unit)?;
-        }
-        Ok(())
-    }
-
-    // No right node sent this unit; otherwise it is sent.
-    fn accuse(&mut self, unit: &[u8]) -> Result<bool, AllocError> {
-        if let Answer::CannotHave(_) = self.station.sends(unit)? {
-            return Ok(true);
-        }
-        let Some(packets) = &self.packets else {
-            return Ok(false);
-        };
-        if packets.links.sends(unit).is_some() || packets.acks.accuses(unit) {
-            return Ok(true);
-        }
-        Ok(packets.segments.is_too_long(unit) || packets.segments.is_changed(unit))
-    }
-
-    // No right node that sends all it composed sent the segment in this unit.
-    fn doubt_segment(&self, unit: &[u8]) -> bool {
-        match &self.packets {
-            Some(packets) => packets.segments.accuses(unit),
-            None => false,
-        }
-    }
-
-    // This side sent this unit.
-    fn own_passed(&mut self, unit: &[u8]) -> Result<(), AllocError> {
-        match &mut self.packets {
-            Some(packets) => {
-                packets.acks.own_passed(unit)?;
-                packets.segments.own_passed(unit)
+    fn pass(&mut self, unit: &[u8], at: Place) -> Result<(), AllocError> {
+        let order = self.evidence.order;
+        let (passed, goes) = match at.side {
+            Side::A => {
+                let passed = self.a.pass(unit, at.line, order, &mut self.b)?;
+                (passed, self.a.addressed(unit))
             }
-            None => Ok(()),
-        }
+            Side::B => {
+                let passed = self.b.pass(unit, at.line, order, &mut self.a)?;
+                (passed, self.b.addressed(unit))
+            }
+        };
+        self.evidence.pass(unit, passed, goes, at.order);
+        Ok(())
     }
 }

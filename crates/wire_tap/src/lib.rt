@@ -5,16 +5,26 @@
 //! node sent (`accusing`, `accusing_links`, `accusing_segments`).
 #![tactic(auto)]
 
+mod accusation;
 mod accused;
+mod accusers;
+mod addressed;
+mod begun;
+mod evidence;
+mod exception;
 mod fault;
 mod format;
 mod outlet;
+mod shown;
 mod side_tap;
+mod sifting;
 mod stop;
+mod suspects;
 mod tapped;
 mod tapping;
 
-pub use accused::{Accused, find_accused};
+pub use accusation::{Accusation, Accused, Broken, Exception};
+pub use accused::find_accused;
 pub use fault::TapFault;
 pub use tapped::{Asked, Ending, Passed, Skipped, Tapped, Units};
 pub use tapping::tap;

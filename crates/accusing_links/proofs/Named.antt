@@ -1,0 +1,43 @@
+-- The user names links from 1 on, so no link has the address 0.
+use Rattle.std.proofs.Common.{◌≡◌, ℕ, ◌≤◌, Bool, true, false, not, eqb, Option, Some, None, refl, arith, eqb-true}
+use Rattle.capture.specs.Range.{EventNumbersFit}
+use Rattle.capture.specs.declared.event.Event.{Event}
+use Rattle.capture.specs.declared.event.Event.TheVariants as events
+use Rattle.dna_links.specs.User.{LinkEventValue, Open, Accept, Reject}
+use Rattle.dna_node.specs.Content.{link_event}
+
+abbrev pub IsAddress : ℕ → Type 0
+IsAddress own = not (eqb own 0) ≡ true
+
+-- the address that a link gets by this event
+abbrev pub NamesOwn : LinkEventValue → Type 0
+NamesOwn (Open own) = IsAddress own
+NamesOwn (Accept far own) = IsAddress own
+NamesOwn (Reject far own) = IsAddress own
+NamesOwn event = Unit {0}
+
+abbrev pub NamesIn : Option LinkEventValue → Type 0
+NamesIn None = Unit {0}
+NamesIn (Some event) = NamesOwn event
+
+from_one : (own : ℕ) → 1 ≤ own → IsAddress own
+from_one own least = go (eqb own 0) refl
+  where
+    go : (b : Bool) → eqb own 0 ≡ b → not b ≡ true
+    go true e = let none = eqb-true own 0 e in absurd (omega (arith, least, none))
+    go false e = refl
+
+pub names_in : (event : Event) → EventNumbersFit event → NamesIn (link_event event)
+names_in events.Start fits = tt
+names_in events.Halt fits = tt
+names_in (events.Open link) fits = from_one link fits.least
+names_in (events.Accept partner link) fits = from_one link fits.1.least
+names_in (events.Reject partner link) fits = from_one link fits.1.least
+names_in (events.In link message) fits = tt
+names_in (events.Up link message) fits = tt
+names_in (events.Close link) fits = tt
+names_in events.Boot fits = tt
+names_in (events.Abort link) fits = tt
+names_in (events.Composed packet) fits = tt
+names_in (events.Interrupt link message) fits = tt
+names_in (events.Interrupted link message) fits = tt

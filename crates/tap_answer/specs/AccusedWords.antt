@@ -1,0 +1,111 @@
+-- The words for whom an answer accuses, under which conditions, and for what shows that nobody can be.
+use Rattle.std.specs.Prelude.{Bool, true, false, if◌then◌else◌, ℕ, Option, Some, None, List, [], ◌++◌, codes}
+use Rattle.std.specs.Fmt.{decimal}
+use Rattle.wire_base.specs.declared.side.Side.{Side}
+use Rattle.wire_base.specs.Side.{other_side, side_letter}
+use Rattle.wire_tap.specs.declared.accusation.Accusation.{Accusation}
+use Rattle.wire_tap.specs.declared.accusation.Accused.{Accused}
+use Rattle.wire_tap.specs.declared.accusation.Broken.{Broken}
+use Rattle.wire_tap.specs.declared.accusation.Broken.TheVariants.{Begins, Skipped, Damaged, Exchanged, NotBetween}
+use Rattle.wire_tap.specs.declared.accusation.Exception.{Exception}
+use Rattle.wire_tap.specs.declared.accusation.Exception.TheVariants.{AcknowledgementQueue, IsRouter, OtherIsRouter, GaveUpCall, OtherSubchannel}
+use Rattle.wire_tap.specs.declared.tapped.Passed.{Passed}
+
+-- what a side must not do to be at fault
+abbrev pub exception_words : Side → Exception → List ℕ
+exception_words side AcknowledgementQueue = codes ", and its acknowledgements do not wait in a queue of their own"
+exception_words side IsRouter = codes ", and it is no router"
+exception_words side OtherIsRouter = codes ", and side " ++ (side_letter (other_side side) ++ codes " is no router")
+exception_words side GaveUpCall = codes ", and its user did not give up the call"
+exception_words side OtherSubchannel = codes ", and no message of the other subchannel acknowledged data"
+
+abbrev pub unless_words : Side → Option Exception → List ℕ
+unless_words side None = []
+unless_words side (Some unless) = exception_words side unless
+
+abbrev pub none_sends_words : List ℕ
+none_sends_words = codes "no correct node sends this, whatever it received"
+
+-- on a line of its own, that the side that is accused of this unit is at fault: `side a is at fault at its unit 7 (line 16), if ..`
+abbrev pub at_fault_words_of : Passed → Option Exception → List ℕ
+at_fault_words_of passed unless =
+    codes "\nside " ++ (side_letter passed.side ++ (codes " is at fault at its unit " ++ (decimal passed.unit
+    ++ (codes " (line " ++ (decimal passed.line ++ (codes "), if the recording is whole" ++ (unless_words passed.side unless ++ (codes ": " ++ none_sends_words))))))))
+
+abbrev pub at_fault_words : Option Accusation → List ℕ
+at_fault_words None = []
+at_fault_words (Some accusation) = at_fault_words_of accusation.passed accusation.unless
+
+-- so of each side that is accused, with what is likelier where both are; or that neither is
+abbrev pub both_at_fault_words : Option Accusation → Option Accusation → List ℕ
+both_at_fault_words None None = codes "\nno consistent explanation was found; this alone accuses neither node"
+both_at_fault_words None (Some of_b) = at_fault_words (Some of_b)
+both_at_fault_words (Some of_a) None = at_fault_words (Some of_a)
+both_at_fault_words (Some of_a) (Some of_b) = at_fault_words (Some of_a) ++ (at_fault_words (Some of_b)
+    ++ codes "\nboth sides are accused: the recording is more likely at fault than both nodes")
+
+abbrev pub only_if_words : List ℕ
+only_if_words = codes "a correct node sends this only if it discarded packets that it had composed"
+
+-- on a line of its own, that only a node that discarded packets sends this unit
+abbrev pub discarded_words : Option Passed → List ℕ
+discarded_words None = []
+discarded_words (Some passed) =
+    codes "\nside " ++ (side_letter passed.side ++ (codes ", unit " ++ (decimal passed.unit ++ (codes " (line " ++ (decimal passed.line
+    ++ (codes "), if the recording is whole: " ++ only_if_words))))))
+
+-- `24 bytes of side a that belong to no unit were skipped`
+abbrev pub stray_words : Side → ℕ → List ℕ
+stray_words side bytes = decimal bytes ++ (codes " bytes of side " ++ (side_letter side ++ codes " that belong to no unit were skipped"))
+
+-- what shows that a recording is not whole
+abbrev pub seen_words : Broken → List ℕ
+seen_words (Begins side) =
+    codes "side " ++ (side_letter side ++ (codes "'s recording begins in the middle of a running line, or side " ++ (side_letter side
+    ++ codes " began without a start")))
+seen_words (Skipped side bytes before) =
+    stray_words side bytes ++ (codes " before side " ++ (side_letter before.side ++ (codes "'s unit " ++ (decimal before.unit
+    ++ (codes " (line " ++ (decimal before.line ++ codes ")"))))))
+seen_words (Damaged passed) =
+    codes "the data of side " ++ (side_letter passed.side ++ (codes "'s unit " ++ (decimal passed.unit ++ (codes " (line " ++ (decimal passed.line
+    ++ codes ") fail their block check")))))
+seen_words Exchanged = codes "the packets of both sides have the addresses of the head exchanged"
+seen_words (NotBetween side) = codes "no packet of side " ++ (side_letter side ++ codes " is between the two nodes of the head")
+
+-- what mends it
+abbrev pub mend_words : Broken → List ℕ
+mend_words (Begins side) = codes "record again from before the first STRT"
+mend_words (Skipped side bytes before) = codes "record again"
+mend_words (Damaged passed) = codes "record again"
+mend_words Exchanged = codes "exchange them in the head"
+mend_words (NotBetween side) = codes "correct the head, or use tap --line if the line joins routers"
+
+-- of what nobody is accused: of nothing at all, or of nothing but what the lines before name
+abbrev pub of_words : Bool → List ℕ
+of_words is_after_others = if is_after_others then codes " of anything else" else []
+
+abbrev pub broken_words : Bool → Broken → List ℕ
+broken_words is_after_others broken = seen_words broken ++ (codes ", so neither node is accused" ++ (of_words is_after_others ++ (codes ": " ++ mend_words broken)))
+
+-- a unit is named
+abbrev pub names_unit : (a b : Option Accusation) → (segment_a segment_b : Option Passed) → Bool
+names_unit (Some of_a) b segment_a segment_b = true
+names_unit None (Some of_b) segment_a segment_b = true
+names_unit None None (Some of_a) segment_b = true
+names_unit None None None (Some of_b) = true
+names_unit None None None None = false
+
+-- the units that are named
+abbrev pub named_words : Accused → List ℕ
+named_words accused =
+    both_at_fault_words accused.a accused.b ++ (discarded_words accused.segment_a ++ discarded_words accused.segment_b)
+
+-- whom the answer accuses, and what shows that the recording is not whole: it is told alone, or after the units that had passed before it
+abbrev pub accused_words_of : Option Broken → Bool → Accused → List ℕ
+accused_words_of None names accused = named_words accused
+accused_words_of (Some broken) true accused = named_words accused ++ (codes "\n" ++ broken_words true broken)
+accused_words_of (Some broken) false accused = codes "\n" ++ broken_words false broken
+
+abbrev pub accused_words : Accused → List ℕ
+accused_words accused =
+    accused_words_of accused.broken (names_unit accused.a accused.b accused.segment_a accused.segment_b) accused
