@@ -112,7 +112,8 @@ impl<R: Files + AllocGlobal, O: Write, E: Write> Program<'_, '_, '_, R, O, E> {
             Refusals::All => why_all_to(alloc, printout, &mut a, &mut b, self.out, self.err),
         };
         if status == FAULTY {
-            explain_departure_of_pair(alloc, printout.layers, &mut a, &mut b, self.err);
+            let layers = printout.layers;
+            return Ok(explain_departure_of_pair(alloc, layers, &mut a, &mut b, self.err));
         }
         Ok(status)
     }
@@ -142,14 +143,16 @@ impl<R: Files + AllocGlobal, O: Write, E: Write> Program<'_, '_, '_, R, O, E> {
             Refusals::All => why_all_end_to(alloc, printout, &mut file, self.out, self.err),
         };
         match (status, refusals) {
-            (FAULTY, _) => explain_departure_of_end(alloc, printout.layers, &mut file, self.err),
-            (REFUSED, _) if again.has_failed => return Ok(print_failed_read(self.err, Side::A)),
-            (REFUSED, Refusals::First) => {
-                return Ok(end_with_less(alloc, printout, &mut file, self.out, self.err));
+            (FAULTY, _) => {
+                let layers = printout.layers;
+                Ok(explain_departure_of_end(alloc, layers, &mut file, self.err))
             }
-            _ => {}
+            (REFUSED, _) if again.has_failed => Ok(print_failed_read(self.err, Side::A)),
+            (REFUSED, Refusals::First) => {
+                Ok(end_with_less(alloc, printout, &mut file, self.out, self.err))
+            }
+            _ => Ok(status),
         }
-        Ok(status)
     }
 
     fn show(&mut self, path: &str) -> Result<u8, FaultTold> {
