@@ -1,5 +1,5 @@
 -- What `why` prints of an answer of the judge, as far as it is claimed, and with which status it ends.
-use Rattle.std.specs.Prelude.{◌≡◌, ℕ, ◌⊎◌, List, Option, Some, Result, Ok, Err, IfOk, codes}
+use Rattle.std.specs.Prelude.{◌≡◌, ℕ, Bool, ◌⊎◌, List, Option, Some, Result, Ok, Err, IfOk, codes}
 use Rattle.std.specs.Io.KnownBytes.{Appends}
 use Rattle.wire_base.specs.declared.side.Side.{Side}
 use Rattle.capture.specs.Entries.{record_with}
@@ -8,6 +8,7 @@ use Rattle.pair_judge.specs.Ends.{ShownEnds, StandsFor, verdict_in}
 use Rattle.pair_judge.specs.FailedIn.{IsFailedIn}
 use Rattle.pair_judge.specs.Finding.{of_side}
 use Rattle.pair_judge.specs.Judged.{IsAnswer}
+use Rattle.pair_judge.specs.Reason.{reason_matter}
 use Rattle.pair_judge.specs.declared.fault.JudgeFault.{JudgeFault}
 use Rattle.pair_judge.specs.declared.fault.JudgeFault.TheVariants.{Capture, OutOfMemory}
 use Rattle.pair_judge.specs.declared.fault.TextFault.TheVariants.{Read}
@@ -16,9 +17,9 @@ use Rattle.pair_judge.specs.declared.summary.Summary.{Summary}
 use Rattle.pair_judge.specs.declared.verdict.Verdict.{Verdict}
 use Rattle.pair_judge.specs.declared.verdict.Verdict.TheVariants.{Accepted, Refused as IsRefused}
 use Rattle.why.specs.declared.accusation.Accusation.{Accusation}
-use Rattle.why.specs.declared.accusation.Accusation.TheVariants.{Queue}
+use Rattle.why.specs.declared.accusation.Excuse.{Excuse}
 use Rattle.why.specs.declared.why_text.Refusal.{Refusal}
-use Rattle.why.specs.Refused.{BeginsWith, accuses, line_of, refused_line}
+use Rattle.why.specs.Refused.{BeginsWith, accused_by, accuses, line_of, refused_line}
 use Rattle.ddcap.specs.Layers.{nodes_of, queues_of, verdict_text_over}
 use Rattle.ddcap.specs.Printed.{Moved, TellsFault, Writes, fault_text, verdict_text}
 use Rattle.ddcap.specs.declared.layers.Layers.{Layers}
@@ -27,16 +28,19 @@ use Rattle.ddcap.specs.declared.telling.Form.{Form}
 use Rattle.ddcap.specs.declared.telling.Form.TheVariants.{Rows, Json}
 use Rattle.ddcap.specs.declared.telling.Refused.{Refused}
 
--- who is accused is what the table says of the reason; or nobody, since nodes with queues make the pair, of which no more is claimed
-abbrev pub IsAccused : Reason → Entry → Accusation → Type 0
-IsAccused reason entry accusation = (accusation ≡ accuses reason entry) ⊎ (accusation ≡ Queue)
+-- who is accused is what the table says of the reason, but for what is known of the state of the line and of nodes with queues, of which no more is
+-- claimed
+pub record IsAccused (reason : Reason) (by_table : Accusation) (accusation : Accusation) : Type 0 where
+  pub has_begun : Bool
+  pub excuse : Excuse
+  pub is : accusation ≡ accused_by (reason_matter reason) has_begun excuse by_table
 
 -- what is told of a refusal is told of the record ahead of its side; the check that is named is the first of the verdict's reason that fails
 pub record IsTold (layers : Layers) (ends : ShownEnds) (refused : Refused) (told : Refusal) : Type 0 where
   pub side : told.side ≡ refused.side
   pub place : told.place ≡ refused.place
   pub reason : told.reason ≡ refused.reason
-  pub accused : IsAccused refused.reason told.says told.accusation
+  pub accused : IsAccused refused.reason (accuses refused.reason told.says) told.accusation
   pub ahead : (of_side refused.side ends.a ends.b).ahead ≡ Some (record_with told.says told.bytes.now)
   pub failing : Side
   pub failed : IsFailedIn (queues_of layers) ends (Some (failing, told.failed))

@@ -19,6 +19,7 @@ use Rattle.why.specs.Refused.{BeginsWith, end_accuses, line_of_end, refused_line
 use Rattle.ddcap.specs.Layers.{queues_of}
 use Rattle.ddcap.specs.Printed.{Moved, Writes}
 use Rattle.ddcap.specs.PrintedAlone.{TellsEndFault, end_of, end_text_over}
+use Rattle.ddcap.specs.PrintedWhy.{IsAccused}
 use Rattle.ddcap.specs.declared.layers.Layers.{Layers}
 use Rattle.ddcap.specs.declared.telling.Form.{Form}
 use Rattle.ddcap.specs.declared.telling.Form.TheVariants.{Rows, Json}
@@ -35,7 +36,7 @@ stop verdict end = record { verdict = verdict; end = end }
 pub record IsToldOf (layers : Layers) (told : EndRefusal) (s : Stop) : Type 0 where
   pub accused : Accused
   pub is_refused : s.verdict ≡ Refused told.place accused told.reason
-  pub accusation : told.accusation ≡ end_accuses accused told.reason told.says
+  pub accusation : IsAccused told.reason (end_accuses accused told.reason told.says) told.accusation
   pub ahead : s.end.ahead ≡ Some (record_with told.says told.bytes.now)
   pub failed : IsFailedAlone (queues_of layers) s.end told.reason told.failed
 

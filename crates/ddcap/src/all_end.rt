@@ -17,6 +17,7 @@ use crate::last_rows::LastRows;
 use crate::layers::{Layers, judge_end_over, watch_end_over};
 use crate::objects::{end_object, fault_object, plain_object, with_lf};
 use crate::onlooker::{Onlooker, Originals};
+use crate::queued_too::unasked;
 use crate::telling::Form;
 use crate::text::{FAULTY, line_fault_text};
 use capture::CaptureFault;
@@ -165,7 +166,12 @@ impl<A: Read + Seek> EndCapture<'_, '_, A> {
                     end,
                     observer: rows,
                 };
-                let text = in_memory(end_refused_text(alloc, self.printout, watched))?;
+                let text = in_memory(end_refused_text(
+                    alloc,
+                    self.printout,
+                    watched,
+                    unasked(self.printout.layers),
+                ))?;
                 Ok(end_answer_of(verdict, text.into_bytes()))
             }
             _ => self.answer(alloc, verdict),
@@ -190,7 +196,7 @@ impl<A: Read + Seek> EndCapture<'_, '_, A> {
             layers: Layers::Station,
             ..self.printout
         };
-        let text = in_memory(end_refused_text(alloc, printout, watched))?;
+        let text = in_memory(end_refused_text(alloc, printout, watched, unasked(printout.layers)))?;
         Ok(end_answer_of(verdict, text.into_bytes()))
     }
 

@@ -68,7 +68,7 @@ impl<A: Read + Seek, B: Read + Seek> PairCaptures<'_, '_, '_, A, B> {
                     place,
                     reason,
                 };
-                let tried = Tried::not_asked(alloc);
+                let tried = Tried::not_asked(alloc, printout.layers);
                 let text = in_memory(refused_text(alloc, printout, refused, watched, tried))?;
                 Ok(answer_of(verdict, text.into_bytes()))
             }
@@ -89,7 +89,7 @@ impl<A: Read + Seek, B: Read + Seek> PairCaptures<'_, '_, '_, A, B> {
         }
         match explained_of(self.printout, verdict, watched) {
             Some((refused, watched)) => {
-                let tried = Tried::not_asked(alloc);
+                let tried = Tried::not_asked(alloc, self.printout.layers);
                 let text = in_memory(refused_text(alloc, self.printout, refused, watched, tried))?;
                 Ok(answer_of(verdict, text.into_bytes()))
             }

@@ -10,7 +10,7 @@ use crate::check::{print_fault, print_out_of_memory};
 use crate::end_telling::{EndPrintout, end_refused_text, print_passed};
 use crate::last_rows::LastRows;
 use crate::layers::{watch_end_over, watch_over};
-use crate::queued_too::with_queues_too;
+use crate::queued_too::{end_with_queues, with_queues_too};
 use crate::recorder::{Tried, try_edits};
 use crate::telling::{Form, Printout, Refused, print_accepted, print_refusal, refused_text};
 use pair_judge::{EndVerdict, JudgedEnds, Verdict};
@@ -101,10 +101,15 @@ pub fn why_all_end_to<A: Read + Seek, O: Write, E: Write>(
         Err(fault) => return print_end_fault(alloc, fault, err),
     };
     let verdict = watched.verdict;
-    if let EndVerdict::Passed(counts) = verdict {
-        return print_passed(alloc, printout, counts, out, err);
-    }
-    let Ok(text) = end_refused_text(alloc, printout, watched) else {
+    let reason = match verdict {
+        EndVerdict::Passed(counts) => return print_passed(alloc, printout, counts, out, err),
+        EndVerdict::Refused { reason, .. } => reason,
+    };
+    let queued = match end_with_queues(alloc, printout.layers, a, reason) {
+        Ok(queued) => queued,
+        Err(fault) => return print_end_fault(alloc, fault, err),
+    };
+    let Ok(text) = end_refused_text(alloc, printout, watched, queued) else {
         return print_out_of_memory(err);
     };
     let mut captures = EndCapture {

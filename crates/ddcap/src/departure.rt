@@ -1,12 +1,14 @@
 //! What `why` adds below the line of a fault: where a line departs from the format of captures, and what would be right there.
 
+use crate::check::{print, print_failed_read};
 use crate::layers::{Layers, judge_end_over, judge_over};
+use crate::text::FAULTY;
 use capture::{CaptureFault, Departure, MAX_LINE};
 use pair_judge::{JudgeFault, TextFault};
 use std::alloc::{AllocError, Global};
 use std::io::{Read, Seek, Write};
 use why::{FaultyLine, faulty_line_rows};
-use wire_base::{Side, Tally, write_whole};
+use wire_base::{Side, Tally};
 
 // How many bytes of a text are kept from its beginning, at least.
 const FIRST: usize = 8;
@@ -18,17 +20,18 @@ struct KeptLine {
     has_lf: bool,
 }
 
-/// Writes rows on the line by which the captures of a pair depart from the format, over these layers. It reads both files again from their beginning:
-/// where that can't be done, no line departs, or a read fails, it writes nothing. A failed write is not told.
+/// Writes rows on the line by which the captures of a pair depart from the format, over these layers, and answers the status: that of a faulty text, or
+/// 3 where a write or a read fails, of which the read is told. It reads both files again from their beginning: where that can't be done, or no line
+/// departs, it writes nothing.
 pub fn explain_departure_of_pair<A: Read + Seek, B: Read + Seek, E: Write>(
     alloc: Global,
     layers: Layers,
     a: &mut A,
     b: &mut B,
     err: &mut Tally<E>,
-) {
+) -> u8 {
     if a.rewind().is_err() || b.rewind().is_err() {
-        return;
+        return FAULTY;
     }
     let judged = judge_over(
         alloc,
@@ -36,18 +39,13 @@ pub fn explain_departure_of_pair<A: Read + Seek, B: Read + Seek, E: Write>(
         &mut Tally::new(&mut *a),
         &mut Tally::new(&mut *b),
     );
-    let Err(
-        JudgeFault::Capture {
-            side,
-            fault: TextFault::Departs { kind, line },
-        },
-    ) = judged
-    else {
-        return;
+    let Err(JudgeFault::Capture { side, fault }) = judged else {
+        return FAULTY;
     };
-    match side {
-        Side::A => explain(alloc, a, kind, line, err),
-        Side::B => explain(alloc, b, kind, line, err),
+    match (side, fault) {
+        (_, TextFault::Read) => print_failed_read(err, side),
+        (Side::A, TextFault::Departs { kind, line }) => explain(alloc, side, a, kind, line, err),
+        (Side::B, TextFault::Departs { kind, line }) => explain(alloc, side, b, kind, line, err),
     }
 }
 
@@ -57,35 +55,52 @@ pub fn explain_departure_of_end<A: Read + Seek, E: Write>(
     layers: Layers,
     a: &mut A,
     err: &mut Tally<E>,
-) {
+) -> u8 {
     if a.rewind().is_err() {
-        return;
+        return FAULTY;
     }
     let judged = judge_end_over(alloc, layers, &mut Tally::new(&mut *a));
-    if let Err(CaptureFault::Departs { kind, line }) = judged {
-        explain(alloc, a, kind, line, err);
+    match judged {
+        Err(CaptureFault::Departs { kind, line }) => explain(alloc, Side::A, a, kind, line, err),
+        Err(CaptureFault::Read) => print_failed_read(err, Side::A),
+        _ => FAULTY,
     }
 }
 
-// Reads the line with this number again, and writes where it departs.
+// Reads the line with this number of this side again, writes where it departs, and answers the status.
 fn explain<R: Read + Seek, E: Write>(
     alloc: Global,
+    side: Side,
     file: &mut R,
     kind: Departure,
     number: u64,
     err: &mut Tally<E>,
-) {
-    if file.rewind().is_err() {
-        return;
+) -> u8 {
+    match departure_rows(alloc, file, kind, number) {
+        Ok(Some(rows)) => print(err, rows.as_bytes(), FAULTY),
+        Ok(None) => print_failed_read(err, side),
+        Err(_) => FAULTY,
     }
-    let Ok(Some(first)) = first_bytes(alloc, file) else {
-        return;
+}
+
+// What is said of the line; nothing where the file can't be read again, and `None` where a read fails.
+fn departure_rows<R: Read + Seek>(
+    alloc: Global,
+    file: &mut R,
+    kind: Departure,
+    number: u64,
+) -> Result<Option<String>, AllocError> {
+    if file.rewind().is_err() {
+        return Ok(Some(String::new(alloc)));
+    }
+    let Some(first) = first_bytes(alloc, file)? else {
+        return Ok(None);
     };
     if file.rewind().is_err() {
-        return;
+        return Ok(Some(String::new(alloc)));
     }
-    let Ok(Some(kept)) = kept_line(alloc, file, number) else {
-        return;
+    let Some(kept) = kept_line(alloc, file, number)? else {
+        return Ok(None);
     };
     let line = FaultyLine {
         kind,
@@ -94,9 +109,7 @@ fn explain<R: Read + Seek, E: Write>(
         has_lf: kept.has_lf,
         first: first.as_slice(),
     };
-    if let Ok(rows) = faulty_line_rows(alloc, line) {
-        let _ = write_whole(err, rows.as_bytes());
-    }
+    Ok(Some(faulty_line_rows(alloc, line)?))
 }
 
 // The first bytes of the text; `None` where a read fails.

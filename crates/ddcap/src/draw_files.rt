@@ -7,16 +7,17 @@ use crate::all_draw::{AllFound, all_drawn, all_found, all_marked, all_words, mar
 use crate::all_judged::{AllFault, print_read_once};
 use crate::all_pair::{PairCaptures, Telling};
 use crate::all_told::Refusal;
-use crate::check::{print, print_fault, print_out_of_memory};
+use crate::check::{print, print_failed_read, print_fault, print_out_of_memory};
 use crate::draw::draw_rows_to;
 use crate::fault_told::FaultTold;
 use crate::files::{Named, Wanted, opened_plain};
 use crate::how::Refusals;
-use crate::picture::{Above, layers_of, picture_of, svg_below};
+use crate::picture::{Above, NoPicture, layers_of, picture_of, svg_below};
 use crate::telling::{Form, Printout, REFUSED};
 use crate::text::{FAILED, verdict_status};
 use crate::written::written_beside_pair;
 use drawing::{DrawnPair, Range};
+use ladder::Marked;
 use std::alloc::{AllocError, Global};
 use std::io::{Read, Seek, Write};
 use std::rt::Files;
@@ -110,8 +111,33 @@ fn draw_all<R: Files + AllocGlobal, O: Write, E: Write>(
     };
     match all_picture(alloc, asked, &pair, a, b, all.refusals.as_slice()) {
         Ok(picture) => write_picture(rt, a, b, path, picture.as_slice(), REFUSED, err),
-        Err(_) => Ok(print_out_of_memory(err)),
+        Err(NoPicture::Memory) => Ok(print_out_of_memory(err)),
+        Err(NoPicture::Read(side)) => Ok(print_failed_read(err, side)),
     }
+}
+
+// What is written above the picture of all refusals, and which records are marked.
+#[derive(Drop)]
+struct AboveAll {
+    title: String,
+    verdict: String,
+    marked: Vec<Marked>,
+}
+
+fn above_all(
+    alloc: Global,
+    asked: Asked<'_>,
+    pair: &DrawnPair,
+    refusals: &[Refusal],
+) -> Result<AboveAll, AllocError> {
+    let title = format!(in alloc; "{}  {}", asked.a, asked.b)?;
+    let verdict = all_words(alloc, refusals, pair.ends.verdict())?;
+    let marked = all_marked(alloc, refusals, pair.ends.verdict())?;
+    Ok(AboveAll {
+        title,
+        verdict,
+        marked,
+    })
 }
 
 // The picture of these rows.
@@ -122,10 +148,15 @@ fn all_picture<A: Read + Seek, B: Read + Seek>(
     a: &mut A,
     b: &mut B,
     refusals: &[Refusal],
-) -> Result<Vec<u8>, AllocError> {
-    let title = format!(in alloc; "{}  {}", asked.a, asked.b)?;
-    let verdict = all_words(alloc, refusals, pair.ends.verdict())?;
-    let marked = all_marked(alloc, refusals, pair.ends.verdict())?;
+) -> Result<Vec<u8>, NoPicture> {
+    let Ok(words) = above_all(alloc, asked, pair, refusals) else {
+        return Err(NoPicture::Memory);
+    };
+    let AboveAll {
+        title,
+        verdict,
+        marked,
+    } = words;
     let above = Above {
         title: title.as_str(),
         verdict: verdict.as_str(),

@@ -11,13 +11,18 @@ use crate::check::{print, print_out_of_memory};
 use crate::end_text::end_text;
 use crate::last_rows::LastRows;
 use crate::layers::{Layers, failed_end_over, watch_end_over};
+use crate::queued_too::{end_with_queues, unasked};
 use crate::rows_before::ladder_text;
 use crate::telling::{Form, REFUSED};
+use capture::CaptureFault;
 use ladder::Ladder;
-use pair_judge::{EndVerdict, SideEnd, SideSummary, WatchedEnd};
+use pair_judge::{EndVerdict, Reason, SideEnd, SideSummary, WatchedEnd};
 use std::alloc::{AllocError, Global};
-use std::io::{Read, Write};
-use why::{Accusation, Beside, EndRefusal, LinkPast, addresses_of, why_end_json, why_end_rows};
+use std::io::{Read, Seek, Write};
+use why::{
+    Accusation, Beside, EndRefusal, LinkPast, QueuedAnswer, addresses_of, why_end_json,
+    why_end_rows,
+};
 use wire_base::{Side, Tally};
 
 /// What is judged, how the answer is printed, and the name of the capture in it.
@@ -30,15 +35,25 @@ pub struct EndPrintout<'n> {
     pub name: &'n str,
 }
 
+/// The file of a capture, to be read again from its beginning.
+#[derive(Drop)]
+pub struct EndAgain<A> {
+    /// `None` where it can't be.
+    pub file: Option<A>,
+    /// Whether a read failed then.
+    pub has_failed: bool,
+}
+
 /// Judges the capture that a reader gives without that of the other end, over these layers, prints what is answered and why, and answers the status.
 ///
 /// A pass and a fault are printed as `alone` does (of JSON objects `{"what": "passed"}` alone). After a refusal comes what is said of it; of a
-/// station alone no link is shown, and what packets of DECnet say is told all the same. The whole text is put together before the first write;
-/// where there is no memory for it, the answer is `out of memory`.
-pub fn why_end_to<A: Read, O: Write, E: Write>(
+/// station alone no link is shown, and what packets of DECnet say is told all the same. Where a queue may explain the refusal, the capture is judged
+/// `again` with queues. The whole text is put together before the first write; where there is no memory for it, the answer is `out of memory`.
+pub fn why_end_to<A: Read, B: Read + Seek, O: Write, E: Write>(
     alloc: Global,
     printout: EndPrintout<'_>,
     a: &mut Tally<A>,
+    again: &mut EndAgain<B>,
     out: &mut Tally<O>,
     err: &mut Tally<E>,
 ) -> u8
@@ -54,10 +69,38 @@ pub fn why_end_to<A: Read, O: Write, E: Write>(
     };
     match watched.verdict {
         EndVerdict::Passed(counts) => print_passed(alloc, printout, counts, out, err),
-        EndVerdict::Refused { .. } => match end_refused_text(alloc, printout, watched) {
-            Ok(text) => print(out, text.as_bytes(), REFUSED),
-            Err(_) => print_out_of_memory(err),
-        },
+        EndVerdict::Refused { reason, .. } => {
+            let queued = match again.queued(alloc, printout.layers, reason) {
+                Ok(queued) => queued,
+                Err(_) => return print_out_of_memory(err),
+            };
+            match end_refused_text(alloc, printout, watched, queued) {
+                Ok(text) => print(out, text.as_bytes(), REFUSED),
+                Err(_) => print_out_of_memory(err),
+            }
+        }
+    }
+}
+
+impl<A: Read + Seek> EndAgain<A> {
+    // What is answered of a node with queues; not known where a read failed, which is kept.
+    fn queued(
+        &mut self,
+        alloc: Global,
+        layers: Layers,
+        reason: Reason,
+    ) -> Result<QueuedAnswer, AllocError> {
+        let Some(file) = &mut self.file else {
+            return Ok(unasked(layers));
+        };
+        match end_with_queues(alloc, layers, file, reason) {
+            Ok(queued) => Ok(queued),
+            Err(CaptureFault::OutOfMemory) => Err(AllocError),
+            Err(_) => {
+                self.has_failed = true;
+                Ok(QueuedAnswer::NotKnown)
+            }
+        }
     }
 }
 
@@ -81,11 +124,12 @@ pub fn print_passed<O: Write, E: Write>(
     }
 }
 
-/// What is said of a refusal. `AllocError` where there is no memory for it.
+/// What is said of a refusal, where this is answered of a node with queues. `AllocError` where there is no memory for it.
 pub fn end_refused_text(
     alloc: Global,
     printout: EndPrintout<'_>,
     watched: WatchedEnd<LastRows>,
+    queued: QueuedAnswer,
 ) -> Result<String, AllocError>
     ensures { IfOk result (λ text.
         TellsEnd printout.entry.layers printout.entry.form (stop watched.verdict watched.end) (string_bytes text)) }
@@ -95,7 +139,7 @@ pub fn end_refused_text(
         end,
         observer: LastRows { mut ladder, past },
     } = watched;
-    let Some(refusal) = refusal_of(printout.layers, verdict, &end, &past) else {
+    let Some(refusal) = refusal_of(printout.layers, verdict, &end, &past, queued) else {
         return end_text(alloc, printout.layers, verdict);
     };
     match printout.form {
@@ -113,6 +157,7 @@ fn refusal_of<'t>(
     verdict: EndVerdict,
     end: &'t SideEnd,
     past: &LinkPast,
+    queued: QueuedAnswer,
 ) -> Option<EndRefusal<'t>>
     ensures { IfSome result (λ told. IsToldOf layers told (stop verdict end.now)) }
 {
@@ -127,14 +172,18 @@ fn refusal_of<'t>(
     else {
         return None;
     };
+    let by_table = Accusation::of_end(accused, reason, entry);
+    let has_begun = past.has_begun(Side::A);
+    let excuse = queued.excuse(Side::A, place).of_end();
     Some(EndRefusal {
         place,
         reason,
-        accusation: Accusation::of_end(accused, reason, entry),
+        accusation: by_table.knowing(reason, has_begun, excuse),
         failed: failed_end_over(layers, end, reason),
         says: entry,
         bytes,
         lines: past.lines(Side::A, addresses_of(entry, bytes)),
+        queued,
     })
 }
 

@@ -20,6 +20,8 @@ pub enum FaultKind {
     SameFile(Named),
     /// No unit is in it.
     NoUnit,
+    /// It can't be read again.
+    ReadOnce,
     OutOfMemory,
 }
 

@@ -130,11 +130,33 @@ pub fn opened_to_write<R: Files + AllocGlobal, E: Write>(
     }
 }
 
+/// Opens a file to be written and read back, likewise. A pipe is opened without its other end.
+pub fn opened_to_read_back<R: Files + AllocGlobal, E: Write>(
+    rt: &R,
+    wanted: Wanted<'_>,
+    err: &mut Tally<E>,
+) -> Result<R::File, FaultTold> {
+    let mut how = OpenOptions::new();
+    how.read(true).write(true).create(true);
+    match open_above_streams(rt, &how, wanted.path) {
+        Ok(file) => Ok(file),
+        Err(error) => Err(told_fault_of(rt.alloc(), err, wanted, &error)),
+    }
+}
+
 // The system gives a new file the lowest free number. Where the program was started with a standard stream closed, that may be the number of the
 // stream, and what is printed would be written into the file. A copy's number is never one of theirs.
 fn open_above_streams<R: Files>(rt: &R, how: &OpenOptions, path: &str) -> io::Result<R::File> {
     let file = how.open(rt, path)?;
     file.try_clone()
+}
+
+/// The same file once more, to be read again from its beginning; `None` where the system gives no second number.
+pub fn another_of<F: OpenFile>(file: &F) -> Option<F> {
+    match file.try_clone() {
+        Ok(another) => Some(another),
+        Err(_) => None,
+    }
 }
 
 /// Tells that a file can't be opened, or that memory was wanting for it.

@@ -259,6 +259,12 @@ fn put_kind(alloc: Global, object: &mut Vec<u8>, kind: FaultKind) -> Result<(), 
         FaultKind::Read => put(object, ", \"line\": null, \"fault\": \"read failed\""),
         FaultKind::Write => put(object, ", \"line\": null, \"fault\": \"write failed\""),
         FaultKind::NoUnit => put(object, ", \"line\": null, \"fault\": \"no unit\""),
+        FaultKind::ReadOnce => {
+            put(
+                object,
+                ", \"line\": null, \"fault\": \"cannot be read twice\"",
+            )
+        }
         FaultKind::OutOfMemory => put(object, ", \"line\": null, \"fault\": \"out of memory\""),
     }
 }

@@ -13,7 +13,7 @@ use capture::CaptureFault;
 use ddcmp_msg::read_unit;
 use drawing::{DrawnPair, Judging, MAX_ROWS, Range, drawing_of};
 use ladder::{Caption, Marked};
-use pair_judge::{JudgeFault, JudgedEnds, Verdict};
+use pair_judge::{JudgeFault, JudgedEnds, TextFault, Verdict};
 use std::alloc::{AllocError, Global};
 use std::io::{Read, Seek};
 use why::{Check, CheckObject, FrontTexts, Lines};
@@ -27,9 +27,18 @@ pub struct Picture {
     pub svg: Vec<u8>,
 }
 
+/// Why there is no picture.
+#[derive(Clone, Copy)]
+pub enum NoPicture {
+    /// Memory was wanting.
+    Memory,
+    /// A read of this side's capture failed, when it was read again.
+    Read(Side),
+}
+
 /// The same rows as `draw_to` writes, as a picture with this title, which is well-formed XML whatever the rows and the title are. `Err`: as for
 /// `draw_to`; nothing is written by this.
-#[tactic(auto, using(crate::proofs::Pictures::judged_so, crate::proofs::Pictures::wanting_memory))]
+#[tactic(auto, using(crate::proofs::Pictures::judged_so, crate::proofs::Pictures::wanting_memory, crate::proofs::Pictures::failed_read))]
 pub fn picture_of<A: Read + Seek, B: Read + Seek>(
     alloc: Global,
     a: &mut A,
@@ -51,7 +60,13 @@ pub fn picture_of<A: Read + Seek, B: Read + Seek>(
             verdict: pair.ends.verdict(),
             svg,
         }),
-        Err(_) => Err(JudgeFault::OutOfMemory),
+        Err(why) => match why {
+            NoPicture::Memory => Err(JudgeFault::OutOfMemory),
+            NoPicture::Read(side) => Err(JudgeFault::Capture {
+                side,
+                fault: TextFault::Read,
+            }),
+        },
     }
 }
 
@@ -62,10 +77,12 @@ fn svg_of<A: Read + Seek, B: Read + Seek>(
     a: &mut A,
     b: &mut B,
     title: &str,
-) -> Result<Vec<u8>, AllocError>
+) -> Result<Vec<u8>, NoPicture>
     ensures { IfOk result (λ text. IsDocument text.items) }
 {
-    let verdict = verdict_words(alloc, pair.ends.verdict())?;
+    let Ok(verdict) = verdict_words(alloc, pair.ends.verdict()) else {
+        return Err(NoPicture::Memory);
+    };
     let above = Above {
         title,
         verdict: verdict.as_str(),
@@ -82,7 +99,7 @@ pub struct Above<'t> {
     pub marked: &'t [Marked],
 }
 
-/// The rows of a pair as a picture below these words. Fails for want of memory alone.
+/// The rows of a pair as a picture below these words. `Err`: memory was wanting, or a read failed.
 pub fn svg_below<A: Read + Seek, B: Read + Seek>(
     alloc: Global,
     judging: Judging,
@@ -90,11 +107,16 @@ pub fn svg_below<A: Read + Seek, B: Read + Seek>(
     a: &mut A,
     b: &mut B,
     above: Above<'_>,
-) -> Result<Vec<u8>, AllocError>
+) -> Result<Vec<u8>, NoPicture>
     ensures { IfOk result (λ text. IsDocument text.items) }
 {
-    let unit = unit_named(alloc, a, b, &pair.ends)?;
-    let check = check_words(alloc, judging, &pair.ends, &unit)?;
+    let unit = match unit_named(alloc, a, b, &pair.ends) {
+        Ok(unit) => unit,
+        Err(why) => return Err(why),
+    };
+    let Ok(check) = check_words(alloc, judging, &pair.ends, &unit) else {
+        return Err(NoPicture::Memory);
+    };
     let (seen, allowed) = seen_and_allowed(check.as_str());
     let caption = Caption {
         title: above.title,
@@ -103,7 +125,10 @@ pub fn svg_below<A: Read + Seek, B: Read + Seek>(
         allowed,
         marked: above.marked,
     };
-    pair.drawn.svg(alloc, caption)
+    match pair.drawn.svg(alloc, caption) {
+        Ok(svg) => Ok(svg),
+        Err(_) => Err(NoPicture::Memory),
+    }
 }
 
 // `accepted`, or the line of the refusal.
@@ -174,7 +199,7 @@ fn unit_named<A: Read + Seek, B: Read + Seek>(
     a: &mut A,
     b: &mut B,
     ends: &JudgedEnds,
-) -> Result<Option<Vec<u8>>, AllocError> {
+) -> Result<Option<Vec<u8>>, NoPicture> {
     let Verdict::Refused { side, .. } = ends.verdict() else {
         return Ok(None);
     };
@@ -186,8 +211,9 @@ fn unit_named<A: Read + Seek, B: Read + Seek>(
     };
     match near {
         Ok(Some(near)) => Ok(near.unit),
-        Err(CaptureFault::OutOfMemory) => Err(AllocError),
-        Ok(None) | Err(_) => Ok(None),
+        Ok(None) | Err(CaptureFault::Departs { .. } | CaptureFault::Failed) => Ok(None),
+        Err(CaptureFault::Read) => Err(NoPicture::Read(other)),
+        Err(CaptureFault::OutOfMemory) => Err(NoPicture::Memory),
     }
 }
 

@@ -5,6 +5,7 @@ use crate::due::{damage_of, due_near};
 use crate::judged_again::{PairChanges, is_run_again};
 use crate::layers::Layers;
 use crate::near::{Near, near_of, what_is_asked};
+use crate::queued_too::unasked;
 use crate::telling::Form;
 use crate::unit_changes::{is_sent_at_another_time, unit_changes};
 use capture::{CaptureFault, Entry};
@@ -84,10 +85,11 @@ impl Tried {
         }
     }
 
-    /// No edits were to be tried.
-    pub fn not_asked(alloc: Global) -> Tried {
+    /// No edits were to be tried of what is judged over these layers, nor is it judged with queues.
+    pub fn not_asked(alloc: Global, layers: Layers) -> Tried {
         let mut tried = Tried::nothing(alloc, None, nothing_later(alloc), None);
         tried.is_unasked = true;
+        tried.queued = unasked(layers);
         tried
     }
 

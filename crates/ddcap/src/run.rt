@@ -5,16 +5,16 @@ ghost use Rattle.ddcap.specs.inner.Statuses.{EndsWith};
 
 use crate::align_files::align_files;
 use crate::all_why::{why_all_end_to, why_all_to};
-use crate::check::{print, print_out_of_memory};
+use crate::check::{print, print_failed_read, print_out_of_memory};
 use crate::check_files::{alone_file, check_files};
 use crate::convert::convert_to;
 use crate::cover_files::cover_files;
 use crate::departure::{explain_departure_of_end, explain_departure_of_pair};
 use crate::draw_files::draw_files;
-use crate::end_telling::{EndPrintout, why_end_to};
+use crate::end_telling::{EndAgain, EndPrintout, why_end_to};
 use crate::explain::explain_to;
 use crate::fault_told::FaultTold;
-use crate::files::{Named, Wanted, opened, opened_plain};
+use crate::files::{Named, Wanted, another_of, opened, opened_plain};
 use crate::help::help_to;
 use crate::how::Refusals;
 use crate::less_too::end_with_less;
@@ -32,7 +32,7 @@ use std::env;
 use std::io::{ErrorKind, Write};
 use std::rt::{Env, Files};
 use why::explanation_of;
-use wire_base::Tally;
+use wire_base::{Side, Tally};
 
 // The status of words that are no task.
 const BAD_WORDS: u8 = 2;
@@ -112,7 +112,8 @@ impl<R: Files + AllocGlobal, O: Write, E: Write> Program<'_, '_, '_, R, O, E> {
             Refusals::All => why_all_to(alloc, printout, &mut a, &mut b, self.out, self.err),
         };
         if status == FAULTY {
-            explain_departure_of_pair(alloc, printout.layers, &mut a, &mut b, self.err);
+            let layers = printout.layers;
+            return Ok(explain_departure_of_pair(alloc, layers, &mut a, &mut b, self.err));
         }
         Ok(status)
     }
@@ -124,12 +125,17 @@ impl<R: Files + AllocGlobal, O: Write, E: Write> Program<'_, '_, '_, R, O, E> {
     ) -> Result<u8, FaultTold> {
         let mut file = opened_plain(self.rt, Wanted::by_path(Named::A, printout.name), self.err)?;
         let alloc = self.rt.alloc();
+        let mut again = EndAgain {
+            file: another_of(&file),
+            has_failed: false,
+        };
         let status = match refusals {
             Refusals::First => {
                 why_end_to(
                     alloc,
                     printout,
                     &mut Tally::new(&mut file),
+                    &mut again,
                     self.out,
                     self.err,
                 )
@@ -137,13 +143,16 @@ impl<R: Files + AllocGlobal, O: Write, E: Write> Program<'_, '_, '_, R, O, E> {
             Refusals::All => why_all_end_to(alloc, printout, &mut file, self.out, self.err),
         };
         match (status, refusals) {
-            (FAULTY, _) => explain_departure_of_end(alloc, printout.layers, &mut file, self.err),
-            (REFUSED, Refusals::First) => {
-                return Ok(end_with_less(alloc, printout, &mut file, self.out, self.err));
+            (FAULTY, _) => {
+                let layers = printout.layers;
+                Ok(explain_departure_of_end(alloc, layers, &mut file, self.err))
             }
-            _ => {}
+            (REFUSED, _) if again.has_failed => Ok(print_failed_read(self.err, Side::A)),
+            (REFUSED, Refusals::First) => {
+                Ok(end_with_less(alloc, printout, &mut file, self.out, self.err))
+            }
+            _ => Ok(status),
         }
-        Ok(status)
     }
 
     fn show(&mut self, path: &str) -> Result<u8, FaultTold> {

@@ -2,6 +2,8 @@
 
 ghost use Rattle.std.specs.Prelude.{◌≡◌, true, is_ok, IfOk};
 
+use crate::all_judged::print_read_once;
+use crate::check::print;
 use crate::check_files::not_judged;
 use crate::fault_told::{FaultKind, FaultTold};
 use crate::files::{Named, Wanted, opened, opened_plain};
@@ -12,7 +14,8 @@ use crate::tap_naming::named_unit;
 use crate::tap_object::tap_json_to;
 use crate::tap_turning::{MOST_ASSUMED, turn_one};
 use crate::telling::Form;
-use crate::written::{Beside, written_pair};
+use crate::text::FAILED;
+use crate::written::{Beside, is_on_disk, opened_pair_to_write, written_pair};
 use placing::{Explained, Turn};
 use std::io::Write;
 use std::rt::Files;
@@ -61,6 +64,7 @@ fn tap_whole<R: Files + AllocGlobal, O: Write, E: Write>(
     out: &mut Tally<O>,
     err: &mut Tally<E>,
 ) -> Result<u8, FaultTold> {
+    keep_read_again(rt, paths, err)?;
     let mut turns = Vec::new(rt.alloc());
     let mut named = (Side::A, 0);
     for _ in 0..=MOST_ASSUMED {
@@ -87,6 +91,40 @@ fn tap_whole<R: Files + AllocGlobal, O: Write, E: Write>(
         }
     }
     tell_unit(rt, form, paths, turns.as_slice(), named, out, err)
+}
+
+// Opens the three files, and empties none: each has to be one that can be read again and again. `Err`: one of them can't be, which was told.
+fn keep_read_again<R: Files + AllocGlobal, E: Write>(
+    rt: &R,
+    paths: TapPaths<'_>,
+    err: &mut Tally<E>,
+) -> Result<(), FaultTold> {
+    let wire = opened_plain(rt, Wanted::by_path(Named::Wire, paths.wire), err)?;
+    let beside = Beside {
+        named: Named::Wire,
+        file: &wire,
+    };
+    let (wanted_a, wanted_b) = (
+        Wanted::by_path(Named::A, paths.a),
+        Wanted::by_path(Named::B, paths.b),
+    );
+    let (a, b) = opened_pair_to_write(rt, &beside, wanted_a, wanted_b, err)?;
+    for (named, file) in [(Named::Wire, &wire), (Named::A, &a), (Named::B, &b)] {
+        if !is_on_disk(file) {
+            let status = print_read_twice(err, named);
+            return Err(FaultTold::of(named, FaultKind::ReadOnce, status));
+        }
+    }
+    Ok(())
+}
+
+// Prints that a file can't be read again, from a constant, and answers the status.
+fn print_read_twice<W: Write>(err: &mut Tally<W>, named: Named) -> u8 {
+    match named {
+        Named::A => print_read_once(err, Side::A),
+        Named::B => print_read_once(err, Side::B),
+        _ => print(err, b"wire: cannot be read twice\n", FAILED),
+    }
 }
 
 // Writes the captures as far as this unit, with which they are refused, judges them, prints the answer, and answers the status.

@@ -1,7 +1,7 @@
 //! `why`: which record was refused, what was seen and what was allowed there, and both ends as they were before it.
 
 ghost use Rattle.std.specs.Prelude.{IfOk, IfSome, string_bytes};
-ghost use Rattle.why.specs.Refused.{BeginsWith, line_of, refused_line};
+ghost use Rattle.why.specs.Refused.{BeginsWith, accuses, line_of, refused_line};
 ghost use Rattle.ddcap.specs.Printed as printed;
 ghost use Rattle.ddcap.specs.Printed.{moved};
 ghost use Rattle.ddcap.specs.PrintedWhy.{Explains, IsAccused, IsTold, PrintsAcceptance, TellsRefusal, WritesRefusal};
@@ -208,7 +208,7 @@ fn refusal_of<'t>(
         side: refused.side,
         place: refused.place,
         reason: refused.reason,
-        accusation: accusation_of(refused.reason, entry, tried.queued),
+        accusation: accusation_of(refused, entry, tried.queued, past),
         failed,
         says: entry,
         bytes,
@@ -220,14 +220,23 @@ fn refusal_of<'t>(
     })
 }
 
-// Who is accused: nobody, where nodes with queues make the pair.
-fn accusation_of(reason: Reason, entry: Entry, queued: QueuedAnswer) -> Accusation
-    ensures { IsAccused reason entry result }
+// Who is accused, by what is known of nodes with queues and of the side's line.
+fn accusation_of(
+    refused: Refused,
+    entry: Entry,
+    queued: QueuedAnswer,
+    past: &LinkPast,
+) -> Accusation
+    ensures { IsAccused refused.reason (accuses refused.reason entry) result }
 {
-    match queued {
-        QueuedAnswer::Accepted => Accusation::Queue,
-        QueuedAnswer::NotAsked | QueuedAnswer::Refused { .. } => Accusation::of(reason, entry),
-    }
+    let Refused {
+        side,
+        place,
+        reason,
+    } = refused;
+    let excuse = queued.excuse(side, place);
+    let has_begun = past.has_begun(side);
+    Accusation::of(reason, entry).knowing(reason, has_begun, excuse)
 }
 
 // The unit that the refused record names.

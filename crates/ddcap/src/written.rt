@@ -7,7 +7,7 @@ ghost use Rattle.ddcap.specs.Printed.{Writes, fault_text, stream_of};
 
 use crate::check::{print, print_out_of_memory};
 use crate::fault_told::{FaultKind, FaultTold};
-use crate::files::{Named, Wanted, opened_to_write, told_fault_of};
+use crate::files::{Named, Wanted, opened_to_read_back, opened_to_write, told_fault_of};
 use crate::text::FAILED;
 use std::alloc::Global;
 use std::fs::OpenFile;
@@ -55,14 +55,25 @@ pub fn written_pair<R: Files + AllocGlobal, E: Write>(
     let a = opened_to_write(rt, wanted_a, err)?;
     keep_apart(rt, read, wanted_a, &a, err)?;
     let b = opened_to_write(rt, wanted_b, err)?;
-    keep_apart(rt, read, wanted_b, &b, err)?;
-    let beside_a = Beside {
-        named: wanted_a.named,
-        file: &a,
-    };
-    keep_apart(rt, &beside_a, wanted_b, &b, err)?;
+    keep_apart_from_both(rt, read, &a, wanted_a, wanted_b, &b, err)?;
     let a = emptied(rt, wanted_a, a, err)?;
     let b = emptied(rt, wanted_b, b, err)?;
+    Ok((a, b))
+}
+
+/// Opens two files to be written and read back, beside one that is read, the first one first, and waits for no other end of a pipe. `Err`: one of them
+/// can't be opened, or is another one of the three. That was told. All keep what they have.
+pub fn opened_pair_to_write<R: Files + AllocGlobal, E: Write>(
+    rt: &R,
+    read: &Beside<'_, R::File>,
+    wanted_a: Wanted<'_>,
+    wanted_b: Wanted<'_>,
+    err: &mut Tally<E>,
+) -> Result<(R::File, R::File), FaultTold> {
+    let a = opened_to_read_back(rt, wanted_a, err)?;
+    keep_apart(rt, read, wanted_a, &a, err)?;
+    let b = opened_to_read_back(rt, wanted_b, err)?;
+    keep_apart_from_both(rt, read, &a, wanted_a, wanted_b, &b, err)?;
     Ok((a, b))
 }
 
@@ -101,6 +112,24 @@ pub fn written_beside_pair<R: Files + AllocGlobal, E: Write>(
     let file = opened_to_write(rt, wanted, err)?;
     keep_apart_from_pair(rt, a, b, wanted, &file, err)?;
     emptied(rt, wanted, file, err)
+}
+
+// `Err`: the file to be written is the one that is read, or the one that is written first, or the system doesn't tell. That was told.
+fn keep_apart_from_both<R: Files + AllocGlobal, E: Write>(
+    rt: &R,
+    read: &Beside<'_, R::File>,
+    a: &R::File,
+    wanted_a: Wanted<'_>,
+    wanted: Wanted<'_>,
+    file: &R::File,
+    err: &mut Tally<E>,
+) -> Result<(), FaultTold> {
+    keep_apart(rt, read, wanted, file, err)?;
+    let beside_a = Beside {
+        named: wanted_a.named,
+        file: a,
+    };
+    keep_apart(rt, &beside_a, wanted, file, err)
 }
 
 // `Err`: the file is one of these two, or the system doesn't tell. That was told.

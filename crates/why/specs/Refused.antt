@@ -12,9 +12,14 @@ use Rattle.pair_judge.specs.declared.end_verdict.Accused.TheVariants as ends
 use Rattle.pair_judge.specs.declared.reason.Reason.{Reason}
 use Rattle.pair_judge.specs.declared.reason_kind.Blame.{Blame}
 use Rattle.pair_judge.specs.declared.reason_kind.Blame.TheVariants as blame
+use Rattle.pair_judge.specs.declared.reason_kind.Matter.{Matter}
+use Rattle.pair_judge.specs.declared.reason_kind.Matter.TheVariants as matter
 use Rattle.why.specs.declared.accusation.Accusation.{Accusation}
 use Rattle.why.specs.declared.accusation.Accusation.TheVariants.{Sender, OtherSender, Hints, Line, Claim, Nobody, User}
-use Rattle.why.specs.declared.accusation.Accusation.TheVariants.{Starter, Chooser, OtherEnd, Queue}
+use Rattle.why.specs.declared.accusation.Accusation.TheVariants.{Starter, Chooser, OtherEnd, Queue, Running}
+use Rattle.why.specs.declared.accusation.Accusation.TheVariants.{SenderUnlessQueue, UserUnlessQueue, OtherEndUnlessQueue}
+use Rattle.why.specs.declared.accusation.Excuse.{Excuse}
+use Rattle.why.specs.declared.accusation.Excuse.TheVariants as excuse
 use Rattle.why.specs.declared.end_text.EndRefusal.{EndRefusal}
 use Rattle.why.specs.declared.refused_line.RefusedLine.{RefusedLine}
 use Rattle.why.specs.declared.why_text.Refusal.{Refusal}
@@ -58,6 +63,35 @@ abbrev pub end_accuses : Accused → Reason → Entry → Accusation
 end_accuses ends.ThisEnd reason entry = accuses reason entry
 end_accuses ends.OtherEnd reason entry = OtherEnd
 
+-- the same, but of a node that has no queue between NSP and DDCMP
+abbrev pub unless_queue : Accusation → Accusation
+unless_queue Sender = SenderUnlessQueue
+unless_queue User = UserUnlessQueue
+unless_queue OtherEnd = OtherEndUnlessQueue
+unless_queue accusation = accusation
+
+-- a row for what is known of nodes with queues
+abbrev pub excused : Excuse → Accusation → Accusation
+excused excuse.Refused accusation = accusation
+excused excuse.Perhaps accusation = unless_queue accusation
+excused excuse.Accepted accusation = Queue
+
+-- whether a record told before in which state the side's line was
+abbrev pub if_begun : (has_begun : Bool) → Accusation → Accusation
+if_begun true accusation = accusation
+if_begun false accusation = Running
+
+-- What is accused of a rule about this: nobody of one that asks for a state which the recording has not told; and only of one that a queue may explain
+-- it matters what is known of nodes with queues
+abbrev pub accused_by : Matter → (has_begun : Bool) → Excuse → Accusation → Accusation
+accused_by matter.LinkNow has_begun excuse accusation = if_begun has_begun (excused excuse accusation)
+accused_by matter.State has_begun excuse accusation = if_begun has_begun accusation
+accused_by matter.Response has_begun excuse accusation = if_begun has_begun accusation
+accused_by matter.Station has_begun excuse accusation = if_begun has_begun accusation
+accused_by matter.Period has_begun excuse accusation = if_begun has_begun accusation
+accused_by matter.Link has_begun excuse accusation = if_begun has_begun accusation
+accused_by matter has_begun excuse accusation = accusation
+
 abbrev pub accusation_name : Accusation → List ℕ
 accusation_name Sender = codes "sender"
 accusation_name OtherSender = codes "sender"
@@ -70,6 +104,10 @@ accusation_name User = codes "user"
 accusation_name Starter = codes "user"
 accusation_name Chooser = codes "user"
 accusation_name OtherEnd = codes "other end"
+accusation_name SenderUnlessQueue = codes "sender_without_queue"
+accusation_name UserUnlessQueue = codes "user_without_queue"
+accusation_name OtherEndUnlessQueue = codes "other_end_without_queue"
+accusation_name Running = codes "nobody"
 
 -- `{"what": "refused", "side": "a", "record": 21, "line": 23`: record i is on line i + 2
 abbrev pub place_keys : Side → (place : ℕ) → List ℕ

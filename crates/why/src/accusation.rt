@@ -1,14 +1,20 @@
 //! Who is accused.
 
 ghost use Rattle.std.specs.Prelude.{◌≡◌};
+ghost use Rattle.pair_judge.specs.Reason.{reason_matter};
 ghost use Rattle.why.specs.Refused as spec;
 
 use capture::Entry;
-use pair_judge::{Accused, Blame, Reason};
+use pair_judge::{Accused, Blame, Matter, Reason};
 use std::fmt;
 use wire_base::Side;
 
-/// By whose fault a record is refused. Printed as one word, or as `other end`: of a sender `sender`, and `user` also where it may be the node.
+// What comes before whoever is accused of a node without a queue: a row, and the beginning of the next one.
+const UNLESS_QUEUE: &str =
+    "accused  nobody, if this node has a queue between NSP and DDCMP;\n         else ";
+
+/// By whose fault a record is refused. Printed as one word, or as `other end`: of a sender `sender`, and `user` also where it may be the node. Where a
+/// queue would excuse it, `_without_queue` follows.
 #[derive(Clone, Copy, Debug, PartialEq, Eq)]
 pub enum Accusation {
     /// The node that sent the unit, or composed the packet.
@@ -33,6 +39,35 @@ pub enum Accusation {
     OtherEnd,
     /// Neither side: nodes with a queue between NSP and DDCMP make the pair.
     Queue,
+    /// The node that sent the unit, or composed the packet, unless it has such a queue.
+    SenderUnlessQueue,
+    /// The node's user, unless the node has such a queue.
+    UserUnlessQueue,
+    /// Of one end alone: the other end, unless a node has such a queue.
+    OtherEndUnlessQueue,
+    /// Neither side: the recording begins in the middle of a running line.
+    Running,
+}
+
+/// What is known of nodes with a queue between NSP and DDCMP at a refused record.
+#[derive(Clone, Copy, Debug, PartialEq, Eq)]
+pub enum Excuse {
+    /// They are refused at this record too, or no queue explains such a reason.
+    Refused,
+    /// This record may be one of such nodes.
+    Perhaps,
+    /// They make the pair.
+    Accepted,
+}
+
+impl Excuse {
+    /// The same of one end: that it passes by itself does not show a run of such nodes.
+    pub fn of_end(self) -> Excuse {
+        match self {
+            Excuse::Accepted => Excuse::Perhaps,
+            excuse => excuse,
+        }
+    }
 }
 
 impl Accusation {
@@ -60,6 +95,58 @@ impl Accusation {
         match accused {
             Accused::ThisEnd => Accusation::of(reason, entry),
             Accused::OtherEnd => Accusation::OtherEnd,
+        }
+    }
+
+    /// Who is accused where the table of reasons says this: nobody, where the recording has not told yet in which state the side's line was
+    /// (`has_begun`) and the rule asks for a state; and where a queue may explain such a reason, nobody without the condition that this is known.
+    pub fn knowing(self, reason: Reason, has_begun: bool, excuse: Excuse) -> Accusation
+        ensures { result ≡ spec.accused_by (reason_matter reason) has_begun excuse self }
+    {
+        match reason.matter() {
+            Matter::LinkNow => self.excused(excuse).if_begun(has_begun),
+            Matter::State => self.if_begun(has_begun),
+            Matter::Response => self.if_begun(has_begun),
+            Matter::Station => self.if_begun(has_begun),
+            Matter::Period => self.if_begun(has_begun),
+            Matter::Link => self.if_begun(has_begun),
+            Matter::Soundness => self,
+            Matter::Hints => self,
+            Matter::Passage => self,
+            Matter::Packet => self,
+            Matter::Nodes => self,
+            Matter::Nsp => self,
+        }
+    }
+
+    fn if_begun(self, has_begun: bool) -> Accusation
+        ensures { result ≡ spec.if_begun has_begun self }
+    {
+        if has_begun {
+            return self;
+        }
+        Accusation::Running
+    }
+
+    // The same where this is known of nodes with queues.
+    fn excused(self, excuse: Excuse) -> Accusation
+        ensures { result ≡ spec.excused excuse self }
+    {
+        match excuse {
+            Excuse::Refused => self,
+            Excuse::Perhaps => self.unless_queue(),
+            Excuse::Accepted => Accusation::Queue,
+        }
+    }
+
+    fn unless_queue(self) -> Accusation
+        ensures { result ≡ spec.unless_queue self }
+    {
+        match self {
+            Accusation::Sender => Accusation::SenderUnlessQueue,
+            Accusation::User => Accusation::UserUnlessQueue,
+            Accusation::OtherEnd => Accusation::OtherEndUnlessQueue,
+            accusation => accusation,
         }
     }
 
@@ -94,14 +181,17 @@ impl fmt::Display for Accusation {
             Accusation::Hints => f.write_str("hints"),
             Accusation::Line => f.write_str("line"),
             Accusation::Claim => f.write_str("claim"),
-            Accusation::Nobody | Accusation::Queue => f.write_str("nobody"),
+            Accusation::Nobody | Accusation::Queue | Accusation::Running => f.write_str("nobody"),
             Accusation::User | Accusation::Starter | Accusation::Chooser => f.write_str("user"),
             Accusation::OtherEnd => f.write_str("other end"),
+            Accusation::SenderUnlessQueue => f.write_str("sender_without_queue"),
+            Accusation::UserUnlessQueue => f.write_str("user_without_queue"),
+            Accusation::OtherEndUnlessQueue => f.write_str("other_end_without_queue"),
         }
     }
 }
 
-/// The same in words, of a record of this side, with its LF.
+/// The same in words, of a record of this side, with its LF; in two rows where a queue would excuse it.
 #[derive(Clone, Copy)]
 pub struct AccusedRow {
     pub side: Side,
@@ -142,6 +232,35 @@ impl fmt::Display for AccusedRow {
             Accusation::Queue => f.write_str(
                 "accused  nobody: a node with a queue between NSP and DDCMP does this\n",
             ),
+            Accusation::SenderUnlessQueue => { write!(f, "{UNLESS_QUEUE}the sender, {side}\n") }
+            Accusation::UserUnlessQueue => write!(f, "{UNLESS_QUEUE}the user of {side}\n"),
+            Accusation::OtherEndUnlessQueue => write!(f, "{UNLESS_QUEUE}the other end\n"),
+            Accusation::Running => write!(
+                f,
+                "accused  nobody: {side}'s recording begins in the middle of a running line\n"
+            ),
+        }
+    }
+}
+
+/// That the recording begins in the middle of a running line, as a JSON object with its LF; nothing where that is not so.
+#[derive(Clone, Copy)]
+pub struct RunningObject {
+    pub side: Side,
+    pub accusation: Accusation,
+}
+
+impl fmt::Display for RunningObject {
+    fn fmt<W: fmt::Write>(&self, f: &mut fmt::Formatter<W>) -> fmt::Result {
+        let side = self.side;
+        match self.accusation {
+            Accusation::Running => {
+                write!(
+                    f,
+                    "{{\"what\": \"begins_running\", \"side\": \"{side}\"}}\n"
+                )
+            }
+            _ => Ok(()),
         }
     }
 }

@@ -4,10 +4,11 @@ ghost use Rattle.std.specs.Prelude.{◌≡◌, IfOk, string_bytes};
 ghost use Rattle.why.specs.inner.EndAlone as spec;
 ghost use Rattle.why.specs.Refused.{BeginsWith, line_of_end, refused_line};
 
-use crate::accusation::{Accusation, AccusedRow};
+use crate::accusation::{Accusation, AccusedRow, RunningObject};
 use crate::ends::state_at;
 use crate::form::Form;
 use crate::past::Lines;
+use crate::queued::{QueuedAnswer, QueuedObject, QueuedRow, Whole};
 use crate::refused_line::RefusedLine;
 use crate::refused_record::{Beside, RefusedRecord, end_told, record_objects, record_rows};
 use crate::state_line::StateLine;
@@ -35,9 +36,12 @@ pub struct EndRefusal<'r> {
     pub bytes: &'r [u8],
     /// The lines that its check names.
     pub lines: Lines,
+    /// What is answered of a node with queues.
+    pub queued: QueuedAnswer,
 }
 
-/// All JSON objects of a refused record of one end, each with its LF: the refusal, the record, the check, and the end with its live links.
+/// All JSON objects of a refused record of one end, each with its LF: the refusal, the record, the check, the end with its live links, and what is
+/// answered of a node with queues.
 /// Fails for want of memory alone.
 pub fn why_end_json(
     alloc: Global,
@@ -49,11 +53,25 @@ pub fn why_end_json(
     let record = record_objects(alloc, record_of(refusal), end)?;
     let named = addresses_of(refusal.says, refusal.bytes);
     let told = end_told(alloc, Form::Object, state_alone(end), named, end)?;
-    format!(in alloc; "{record}{told}")
+    let last = last_objects(alloc, refusal)?;
+    format!(in alloc; "{record}{told}{last}")
+}
+
+// Whether the recording begins late, and what is answered of a node with queues, as JSON objects with an LF each.
+fn last_objects(alloc: Global, refusal: EndRefusal<'_>) -> Result<String, AllocError> {
+    let running = RunningObject {
+        side: Side::A,
+        accusation: refusal.accusation,
+    };
+    let queued = QueuedObject {
+        whole: Whole::End,
+        answer: refusal.queued,
+    };
+    format!(in alloc; "{running}{queued}")
 }
 
 /// All rows of a refused record of one end after the line of the verdict: the record; the check; the end with its live links; the rows before it,
-/// which are put together already; and who is accused. Fails for want of memory alone.
+/// which are put together already; who is accused, and what is answered of a node with queues. Fails for want of memory alone.
 pub fn why_end_rows(
     alloc: Global,
     refusal: EndRefusal<'_>,
@@ -68,7 +86,11 @@ pub fn why_end_rows(
         side: Side::A,
         accusation: refusal.accusation,
     };
-    format!(in alloc; "{record}{told}\n{ladder}\n{accused}")
+    let queued = QueuedRow {
+        whole: Whole::End,
+        answer: refusal.queued,
+    };
+    format!(in alloc; "{record}{told}\n{ladder}\n{accused}{queued}")
 }
 
 fn record_of(refusal: EndRefusal<'_>) -> RefusedRecord<'_>

@@ -48,7 +48,7 @@ mod why_text;
 mod words;
 mod wrapped;
 
-pub use accusation::{Accusation, AccusedRow};
+pub use accusation::{Accusation, AccusedRow, Excuse, RunningObject};
 pub use checks::{Check, CheckObject, check_rows};
 pub use digits::Fronts;
 pub use edits::{EditLine, EditsTried, FEW_RECORDS, RecorderRow, put_edit};

@@ -8,9 +8,21 @@ use dna_links::LinkTest;
 use nsp_link::{MissingLink, Numbers};
 use std::fmt::{self, Formatter, Write};
 
-/// Writes the link that a message or an event asks for.
+/// Writes the link that a message or an event asks for. A message may name 0, which is no link's address.
 pub fn write_wanted<W: Write>(f: &mut Formatter<W>, wanted: LinkTest) -> fmt::Result {
     match wanted {
+        LinkTest::TheLink { own: 0, far } => {
+            write!(
+                f,
+                "a live link with far address {far}: 0 is no link's address"
+            )
+        }
+        LinkTest::TheLink { own, far: 0 } => {
+            write!(
+                f,
+                "a live link with own address {own}: 0 is no link's address"
+            )
+        }
         LinkTest::HasAddress { own } => write!(f, "a link that got own address {own}"),
         LinkTest::LiveAt { own } => write!(f, "a live link with own address {own}"),
         LinkTest::TheLink { own, far } => write!(f, "the live link {own}-{far}"),

@@ -42,6 +42,8 @@ struct Past {
 #[derive(Drop)]
 struct SidePast {
     line: u64,
+    // Whether its line was started or halted.
+    has_begun: bool,
     boot: Option<u64>,
     links: BTreeMap<u16, Past>,
 }
@@ -70,6 +72,14 @@ impl LinkPast {
         }
     }
 
+    /// Whether a record of this side tells in which state its line was: that its user started or halted it, or that its node was started anew.
+    pub fn has_begun(&self, side: Side) -> bool {
+        match side {
+            Side::A => self.a.has_begun,
+            Side::B => self.b.has_begun,
+        }
+    }
+
     /// The lines of the link with these addresses at this side, as they are after the records that were made.
     pub fn lines(&self, side: Side, named: Addresses) -> Lines {
         let past = match side {
@@ -87,6 +97,7 @@ impl SidePast {
     fn new(alloc: Global) -> SidePast {
         SidePast {
             line: 2,
+            has_begun: false,
             boot: None,
             links: BTreeMap::new(alloc),
         }
@@ -108,7 +119,12 @@ impl SidePast {
                 }
                 Ok(())
             }
+            Entry::Start | Entry::Halt => {
+                self.has_begun = true;
+                Ok(())
+            }
             Entry::Boot => {
+                self.has_begun = true;
                 self.boot = Some(line);
                 Ok(())
             }

@@ -3,12 +3,12 @@
 ghost use Rattle.std.specs.Prelude.{◌≡◌, IfOk, string_bytes};
 ghost use Rattle.why.specs.Refused.{BeginsWith, line_of, refused_line};
 
-use crate::accusation::{Accusation, AccusedRow};
+use crate::accusation::{Accusation, AccusedRow, RunningObject};
 use crate::edits::{EditsTried, RecorderRow, so_row};
 use crate::ends::state_at;
 use crate::form::Form;
 use crate::past::Lines;
-use crate::queued::{QueuedAnswer, QueuedObject, QueuedRow};
+use crate::queued::{QueuedAnswer, QueuedObject, QueuedRow, Whole};
 use crate::refused_line::RefusedLine;
 use crate::refused_record::{Beside, RefusedRecord, end_told, record_objects, record_rows};
 use crate::subject::{Addresses, addresses_of};
@@ -85,19 +85,28 @@ pub fn why_json(
     let named = addresses_of(refusal.says, refusal.bytes);
     let own = side_told(alloc, Form::Object, side, named, ends)?;
     let other = side_told(alloc, Form::Object, side.other(), named.turned(), ends)?;
-    let last = last_objects(alloc, asked)?;
+    let running = RunningObject {
+        side,
+        accusation: refusal.accusation,
+    };
+    let last = last_objects(alloc, running, asked)?;
     format!(in alloc; "{record}{own}{other}{last}")
 }
 
-// What else was asked, as JSON objects with an LF each.
-fn last_objects(alloc: Global, asked: AlsoAsked<'_>) -> Result<String, AllocError> {
+// Whether the recording begins late, and what else was asked, as JSON objects with an LF each.
+fn last_objects(
+    alloc: Global,
+    running: RunningObject,
+    asked: AlsoAsked<'_>,
+) -> Result<String, AllocError> {
     let queued = QueuedObject {
+        whole: Whole::Pair,
         answer: asked.queued,
     };
     let AlsoAsked { less, edits, .. } = asked;
     match asked.tried {
-        Some(tried) => format!(in alloc; "{queued}{less}{edits}{tried}"),
-        None => format!(in alloc; "{queued}{less}{edits}"),
+        Some(tried) => format!(in alloc; "{running}{queued}{less}{edits}{tried}"),
+        None => format!(in alloc; "{running}{queued}{less}{edits}"),
     }
 }
 
@@ -130,6 +139,7 @@ pub fn why_rows(
     };
     let recorder = recorder_rows(alloc, shown)?;
     let queued = QueuedRow {
+        whole: Whole::Pair,
         answer: shown.asked.queued,
     };
     let less = shown.asked.less;
