@@ -43,8 +43,8 @@ fn events_of(alloc: Global, turns: &[Turn]) -> Result<Vec<Turn>, AllocError> {
     let mut events = Vec::new(alloc);
     for turn in turns {
         match turn.what {
-            Assumed::Keeps { most: _ } => {}
-            Assumed::Boots | Assumed::GivesUp => events.push(*turn)?,
+            Assumed::Keeps { most: _ } | Assumed::Answers { .. } => {}
+            Assumed::Boots | Assumed::GivesUp | Assumed::Anew { is_anew: _ } => events.push(*turn)?,
         }
     }
     Ok(events)

@@ -10,9 +10,9 @@ use crate::files::{Named, Wanted, opened, opened_plain};
 use crate::layers::Layers;
 use crate::tap::{Captured, RefusedAt, print_no_unit, print_tap_fault, tap_line_to, tap_to};
 use crate::tap_apart::are_apart;
+use crate::tap_assuming::assume_more;
 use crate::tap_naming::named_unit;
 use crate::tap_object::tap_json_to;
-use crate::tap_turning::{MOST_ASSUMED, turn_one};
 use crate::telling::Form;
 use crate::text::FAILED;
 use crate::written::{Beside, is_on_disk, opened_pair_to_write, written_pair};
@@ -21,6 +21,9 @@ use std::io::Write;
 use std::rt::Files;
 use wire_base::{Side, Tally};
 use wire_tap::{Accused, Asked, Tapped, find_accused, tap};
+
+// So often it is assumed anew: what is assumed of the packets that were kept changes the captures.
+const MOST_ROUNDS: usize = 8;
 
 /// The names of the files: what passed, and the captures to be written; and whether stations and line alone are judged.
 #[derive(Clone, Copy)]
@@ -67,7 +70,7 @@ fn tap_whole<R: Files + AllocGlobal, O: Write, E: Write>(
     keep_read_again(rt, paths, err)?;
     let mut turns = Vec::new(rt.alloc());
     let mut named = (Side::A, 0);
-    for _ in 0..=MOST_ASSUMED {
+    for round in 0..=MOST_ROUNDS {
         let tapped = write_captures(rt, paths, Explained::Together, turns.as_slice(), None, err)?;
         if tapped.is_silent() {
             let status = print_no_unit(err);
@@ -83,11 +86,12 @@ fn tap_whole<R: Files + AllocGlobal, O: Write, E: Write>(
         match judge_captures(rt, form, paths, whole, out, err)? {
             Ok(status) => return Ok(status),
             Err(refused) => {
+                if round < MOST_ROUNDS && assume_more(rt, paths, &mut turns, err)? {
+                    continue;
+                }
                 named = named_unit(rt, paths, turns.as_slice(), tapped, refused, err)?;
+                break;
             }
-        }
-        if turns.len() >= MOST_ASSUMED || !turn_one(rt, paths, &mut turns, named, err)? {
-            break;
         }
     }
     tell_unit(rt, form, paths, turns.as_slice(), named, out, err)

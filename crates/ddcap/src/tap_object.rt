@@ -181,7 +181,8 @@ fn put_assumed(alloc: Global, object: &mut Vec<u8>, turns: &[Turn]) -> Result<()
     let mut is_first = true;
     for turn in turns {
         let event = match turn.what {
-            Assumed::Keeps { most: _ } => continue,
+            Assumed::Keeps { most: _ } | Assumed::Anew { is_anew: _ } => continue,
+            Assumed::Answers { .. } => continue,
             Assumed::Boots => "boot",
             Assumed::GivesUp => "abort",
         };

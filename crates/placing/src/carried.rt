@@ -14,42 +14,13 @@ pub(crate) fn next_number(number: u16) -> u16 {
     number.wrapping_add(1) % 4096
 }
 
-/// Whether a unit has a message by which a link begins or ends.
-///
-/// ```text
-/// a CI, CC, DI or DC      true
-/// a segment, an ACK       false
-/// ```
-pub fn turns_a_link(unit: &[u8]) -> bool {
-    match message_of(unit) {
-        Some(Nsp::ConnectInitiate(_)) | Some(Nsp::ConnectConfirm(_)) => true,
-        Some(Nsp::DisconnectInitiate(_)) | Some(Nsp::DisconnectConfirm(_)) => true,
-        _ => false,
-    }
-}
-
-/// The own address of the link that the message in this unit is sent on, if it is sent on one.
-///
-/// ```text
-/// a CC from link 7 to link 9      Some(7)
-/// a connect ACK, a STRT           None
-/// ```
-pub fn own_address(unit: &[u8]) -> Option<u16> {
-    match message_of(unit)? {
-        Nsp::ConnectInitiate(message) => Some(message.srcaddr),
-        Nsp::ConnectConfirm(message) => Some(message.srcaddr),
-        Nsp::DisconnectInitiate(message) => Some(message.srcaddr),
-        Nsp::DisconnectConfirm(message) => Some(message.srcaddr),
-        Nsp::DataSegment(message) => Some(message.srcaddr),
-        Nsp::DataAck(message) => Some(message.srcaddr),
-        Nsp::LinkService(message) => Some(message.srcaddr),
-        Nsp::OtherDataAck(message) => Some(message.srcaddr),
-        _ => None,
-    }
-}
-
 /// The message of the links in a unit, if it has one. Its checks are not asked: what has no message that says so is no packet.
-pub(crate) fn message_of(unit: &[u8]) -> Option<Nsp<'_>> {
+///
+/// ```text
+/// a data message with a CI      Some(Nsp::ConnectInitiate(..))
+/// a STRT                        None
+/// ```
+pub fn message_of(unit: &[u8]) -> Option<Nsp<'_>> {
     if *unit.first()? != DATA {
         return None;
     }

@@ -23,7 +23,7 @@ mod user_link;
 mod user_links;
 mod waiting;
 
-pub use carried::{own_address, turns_a_link};
+pub use carried::message_of;
 pub use explained::Explained;
 pub use laws::{
     counts_ask_no_packet, counts_go_along, put_receipts_name_units, put_units_were_sent,

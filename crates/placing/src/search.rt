@@ -199,9 +199,10 @@ impl Search {
         }
     }
 
-    /// Nothing passes any more: one way of this side is settled. `AllocError` where there is no memory for its moves.
+    /// Nothing passes any more: one way of this side is settled, one of those on which both sides kept most packets. `AllocError` where there is no
+    /// memory for its moves.
     pub(crate) fn end(&mut self, side: Side) -> Result<(), AllocError> {
-        let Some(hypothesis) = self.hypotheses.front() else {
+        let Some(hypothesis) = self.best() else {
             return Ok(());
         };
         let Some(last) = hypothesis.front(side).last_of_best() else {
@@ -211,5 +212,17 @@ impl Search {
             Side::A => self.a.way.settle(last),
             Side::B => self.b.way.settle(last),
         }
+    }
+
+    // The first hypothesis in which both sides kept most packets.
+    fn best(&self) -> Option<&Hypothesis> {
+        let mut best: Option<&Hypothesis> = None;
+        for hypothesis in self.hypotheses.iter() {
+            match best {
+                Some(other) if other.most_kept() >= hypothesis.most_kept() => {}
+                _ => best = Some(hypothesis),
+            }
+        }
+        best
     }
 }

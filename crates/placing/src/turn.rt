@@ -15,9 +15,23 @@ pub struct Turn {
 #[derive(Clone, Copy, Debug, PartialEq, Eq)]
 pub enum Assumed {
     /// The user starts the station before it; of the packets that were under way, this many were kept at most.
-    Keeps { most: u64 },
+    Keeps {
+        most: u64,
+    },
     /// The node boots before the start that comes before it.
     Boots,
     /// It is a CI, and the user gives that call up before an answer to it is kept, or before its address is given again.
     GivesUp,
+    /// It is a CI, CC or DI that begins or answers a call anew, or that goes again: not what its flag byte, or what went before, says first.
+    Anew {
+        is_anew: bool,
+    },
+    /// Right after the packet of the other side's unit with this number was kept, the user accepts or rejects the call of this partner, which gets
+    /// this link.
+    Answers {
+        came: u64,
+        partner: u16,
+        link: u16,
+        accepts: bool,
+    },
 }

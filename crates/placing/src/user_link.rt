@@ -11,6 +11,21 @@ pub(crate) enum UserAct {
     HandIn { link: u16, far: u16, number: u16 },
 }
 
+/// How a user answers a call of this partner, which gets this link.
+#[derive(Clone, Copy, Debug, PartialEq, Eq)]
+pub(crate) struct Answer {
+    pub(crate) partner: u16,
+    pub(crate) link: u16,
+    pub(crate) accepts: bool,
+}
+
+/// What is assumed of a unit: whether its call is given up, and whether it begins something anew.
+#[derive(Clone, Copy, Debug, PartialEq, Eq)]
+pub(crate) struct Taken {
+    pub(crate) is_given_up: bool,
+    pub(crate) is_anew: Option<bool>,
+}
+
 /// The phases of a link that has an own address (NSP 4.0, port states).
 #[derive(Clone, Copy, Debug, PartialEq, Eq)]
 pub(crate) enum Phase {
@@ -28,13 +43,14 @@ pub(crate) enum Sent {
     Disconnect,
 }
 
-/// The link that got an own address last, while something of it may still be sent: its far address, 0 while it calls; whether it is assumed that its
-/// user gives it up while it does; whether what came ended it, after which what waits in the queues of its node is still sent; of the segments the
+/// The link that got an own address last, while something of it may still be sent: its far address, 0 while it calls; whether it was opened
+/// here; whether it is assumed that its user gives it up while it calls; whether what came ended it, after which what waits in the queues of its node is still sent; of the segments the
 /// last number that was given, and whether a message is handed in whose last segment is not sent yet.
 #[derive(Clone, Copy, Debug, PartialEq, Eq)]
 pub(crate) struct UserLink {
     pub(crate) far: u16,
     pub(crate) phase: Phase,
+    pub(crate) is_opened: bool,
     pub(crate) is_given_up: bool,
     pub(crate) is_over: bool,
     pub(crate) sent: Sent,

@@ -1,7 +1,7 @@
 //! What the user of a side did with its links, read off its packets.
 
 use crate::carried::{message_of, next_number};
-use crate::user_link::{Phase, Sent, UserAct, UserLink};
+use crate::user_link::{Answer, Phase, Sent, Taken, UserAct, UserLink};
 use dna_packet::Nsp;
 use std::alloc::{AllocError, Global};
 use std::collections::{BTreeMap, BTreeSet};
@@ -33,10 +33,13 @@ impl UserLinks {
     }
 
     /// The call that its user has given up by now, where this unit is sent next, which gives its address to another link. It is over.
-    pub(crate) fn given_up_before(&mut self, unit: &[u8]) -> Option<u16> {
+    pub(crate) fn given_up_before(&mut self, unit: &[u8], is_anew: Option<bool>) -> Option<u16> {
         let (own, far) = match message_of(unit)? {
             Nsp::ConnectConfirm(message) => (message.srcaddr, message.dstaddr),
             Nsp::DisconnectInitiate(message) => (message.srcaddr, message.dstaddr),
+            Nsp::ConnectInitiate(message) if is_anew == Some(true) => {
+                return self.give_up(message.srcaddr);
+            }
             _ => return None,
         };
         let _ = self.called.get(&far)?;
@@ -61,19 +64,39 @@ impl UserLinks {
         Some(own)
     }
 
-    /// What the user did before this unit was first sent, if its packet tells it; a call that it begins may be one that is given up. `AllocError`
-    /// where there is no memory for another link.
+    /// The user answers this call now, if there is one.
+    pub(crate) fn answered(&mut self, answer: Answer) -> Result<Option<UserAct>, AllocError> {
+        let Answer {
+            partner,
+            link,
+            accepts,
+        } = answer;
+        if accepts {
+            return self.confirms(link, partner);
+        }
+        if !self.answers(link, partner, Phase::Disconnecting)? {
+            return Ok(None);
+        }
+        Ok(Some(UserAct::Reject { partner, link }))
+    }
+
+    /// What the user did before this unit was first sent, if its packet tells it, where this is assumed of it. `AllocError` where there is no memory
+    /// for another link.
     pub(crate) fn before(
         &mut self,
         unit: &[u8],
-        is_given_up: bool,
+        taken: Taken,
     ) -> Result<Option<UserAct>, AllocError> {
         match message_of(unit) {
             Some(Nsp::ConnectInitiate(message)) => {
-                self.calls(message.srcaddr, message.retransmitted, is_given_up)
+                self.calls(message.srcaddr, message.retransmitted, taken)
             }
+            Some(Nsp::ConnectConfirm(_)) if taken.is_anew == Some(false) => Ok(None),
             Some(Nsp::ConnectConfirm(message)) => self.confirms(message.srcaddr, message.dstaddr),
             Some(Nsp::DisconnectInitiate(message)) => {
+                if taken.is_anew == Some(true) {
+                    return self.rejects(message.srcaddr, message.dstaddr);
+                }
                 self.disconnects(message.srcaddr, message.dstaddr)
             }
             Some(Nsp::DisconnectConfirm(message)) => {
@@ -139,25 +162,31 @@ impl UserLinks {
 
     // ---- what is sent
 
-    // A call goes again where the link has sent nothing else; where what came ended it meanwhile, its own mark tells. No link has the own address 0,
-    // so what names one is nobody's act.
+    // A call goes again where the link was opened here and has sent nothing else; where what came ended it meanwhile, its own mark tells, or what
+    // is assumed. No link has the own address 0, so what names one is nobody's act.
     fn calls(
         &mut self,
         own: u16,
         again: bool,
-        is_given_up: bool,
+        taken: Taken,
     ) -> Result<Option<UserAct>, AllocError> {
         if own == 0 {
             return Ok(None);
         }
         if let Some(link) = self.link(own) {
-            if !link.is_over || (again && link.sent == Sent::Nothing) {
+            let may_repeat = link.is_opened && link.sent == Sent::Nothing;
+            let repeats = match taken.is_anew {
+                Some(is_anew) => !is_anew,
+                None => again,
+            };
+            if !link.is_over || (may_repeat && repeats) {
                 return Ok(None);
             }
         }
         self.put(own, 0, Phase::Calling)?;
         if let Some(link) = self.links.get_mut(&own) {
-            link.is_given_up = is_given_up;
+            link.is_opened = true;
+            link.is_given_up = taken.is_given_up;
         }
         Ok(Some(UserAct::Open { link: own }))
     }
@@ -195,6 +224,10 @@ impl UserLinks {
                 }
             }
         }
+        self.rejects(own, far)
+    }
+
+    fn rejects(&mut self, own: u16, far: u16) -> Result<Option<UserAct>, AllocError> {
         if !self.answers(own, far, Phase::Disconnecting)? {
             return Ok(None);
         }
@@ -313,6 +346,7 @@ impl UserLinks {
         let link = UserLink {
             far,
             phase,
+            is_opened: false,
             is_given_up: false,
             is_over: false,
             sent: Sent::Nothing,

@@ -8,7 +8,7 @@ use Rattle.wire_base.specs.Side.{side_letter}
 use Rattle.pair_judge.specs.declared.reason.Reason.{Reason}
 use Rattle.pair_judge.specs.Reason.{reason_name, reason_number}
 use Rattle.placing.specs.declared.turn.Assumed.{Assumed}
-use Rattle.placing.specs.declared.turn.Assumed.TheVariants.{Keeps, Boots, GivesUp}
+use Rattle.placing.specs.declared.turn.Assumed.TheVariants.{Keeps, Boots, GivesUp, Anew, Answers}
 use Rattle.placing.specs.declared.turn.Turn.{Turn}
 use Rattle.wire_tap.specs.declared.accusation.Accused.{Accused}
 use Rattle.wire_tap.specs.declared.tapped.Passed.{Passed}
@@ -21,11 +21,13 @@ abbrev pub unit_words : Passed → List ℕ
 unit_words passed =
     side_letter passed.side ++ (codes " unit " ++ (decimal passed.unit ++ (codes " line " ++ decimal passed.line)))
 
--- `this assumes a boot before a unit 7 line 16`; of packets that were not kept nothing is said
+-- `this assumes a boot before a unit 7 line 16`; of what no line tells nothing is said
 abbrev pub turn_words_of : Assumed → Passed → List ℕ
 turn_words_of (Keeps most) passed = []
 turn_words_of Boots passed = codes "this assumes a boot before " ++ (unit_words passed ++ codes "\n")
 turn_words_of GivesUp passed = codes "this assumes an abort of the call in " ++ (unit_words passed ++ codes "\n")
+turn_words_of (Anew is_anew) passed = []
+turn_words_of (Answers came partner link accepts) passed = []
 
 abbrev pub turn_words : Turn → List ℕ
 turn_words turn = turn_words_of turn.what (record { side = turn.side; unit = turn.unit; line = turn.line })

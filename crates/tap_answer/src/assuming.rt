@@ -33,7 +33,8 @@ impl fmt::Display for TurnWords {
             passed: Passed { side, unit, line },
         };
         match what {
-            Assumed::Keeps { most: _ } => Ok(()),
+            Assumed::Keeps { most: _ } | Assumed::Anew { is_anew: _ } | Assumed::Answers { .. } =>
+                Ok(()),
             Assumed::Boots => write!(f, "this assumes a boot before {unit}\n"),
             Assumed::GivesUp => write!(f, "this assumes an abort of the call in {unit}\n"),
         }

@@ -10,7 +10,6 @@ mod broken_text;
 mod counting;
 mod told;
 mod told_text;
-mod turning;
 
 pub use assuming::assumed_text;
 pub use counting::units_before;
@@ -18,4 +17,3 @@ pub use told::{Told, said_of};
 pub use told_text::{
     apart_text, premise_text, too_wide_text, unexplained_end_text, unexplained_text,
 };
-pub use turning::{Choices, MOST_TURNS, choices_of};

@@ -121,6 +121,8 @@ abbrev pub is_in_one : Assumed → Bool
 is_in_one (assumes.Keeps most) = true
 is_in_one assumes.Boots = false
 is_in_one assumes.GivesUp = false
+is_in_one (assumes.Anew is_anew) = true
+is_in_one (assumes.Answers came partner link accepts) = true
 
 abbrev pub turn_is_in_one : Turn → Bool
 turn_is_in_one turn = is_in_one turn.what

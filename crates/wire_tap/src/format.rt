@@ -32,7 +32,7 @@ fn is_in_one(turn: Turn) -> bool
     ensures { result ≡ spec.turn_is_in_one turn }
 {
     match turn.what {
-        Assumed::Keeps { most: _ } => true,
+        Assumed::Keeps { most: _ } | Assumed::Anew { is_anew: _ } | Assumed::Answers { .. } => true,
         Assumed::Boots | Assumed::GivesUp => false,
     }
 }

@@ -192,6 +192,13 @@ impl View<'_> {
             State::Istrt => return self.go_started(way, room, standing),
             State::Astrt => match self.unit.said {
                 Said::Strt => self.restart(way, room, standing)?,
+                Said::Stack => {
+                    self.go_started(way, room, standing)?;
+                    if !self.keeps_at_restart(standing) {
+                        return Ok(());
+                    }
+                    self.restart(way, room, standing)?;
+                }
                 _ => return self.go_started(way, room, standing),
             },
             State::Running => match self.unit.said {

@@ -52,6 +52,11 @@ impl Hypothesis {
         }
     }
 
+    /// The most packets that both sides may have kept.
+    pub(crate) fn most_kept(&self) -> u64 {
+        self.a.most_kept().saturating_add(self.b.most_kept())
+    }
+
     /// The same with other states of side a, or of side b. `AllocError` as there.
     pub(crate) fn with_a(&self, alloc: Global, a: Front) -> Result<Hypothesis, AllocError> {
         Ok(Hypothesis {
@@ -145,6 +150,15 @@ impl Front {
             }
         }
         Some(best?.last)
+    }
+
+    // The most packets that a state kept.
+    fn most_kept(&self) -> u64 {
+        let mut most = 0;
+        for state in &self.states {
+            most = most.max(state.kept);
+        }
+        most
     }
 
     /// The fewest units of the other side that a state uses up.

@@ -4,7 +4,7 @@ use super::way::Way;
 use crate::said::Said;
 use crate::turn::{Assumed, Turn};
 use std::alloc::{AllocError, Global};
-use std::collections::VecDeque;
+use std::collections::{BTreeMap, VecDeque};
 
 // How many numbers data may have.
 const NUMBERS: usize = 256;
@@ -23,7 +23,8 @@ pub(crate) struct Sent {
     /// How many units of the other side had passed before the last of these.
     pub(crate) seen: u64,
     pub(crate) way: Way,
-    turns: Vec<Turn>,
+    // by units before which the station is started: how many packets that were under way are kept at most
+    keeps: BTreeMap<u64, u64>,
 }
 
 impl Sent {
@@ -36,7 +37,7 @@ impl Sent {
             marks: vec![in alloc; 0u64; NUMBERS]?,
             seen: 0,
             way: Way::new(alloc),
-            turns: Vec::new(alloc),
+            keeps: BTreeMap::new(alloc),
         })
     }
 
@@ -57,22 +58,25 @@ impl Sent {
 
     /// This is assumed. `AllocError` as there.
     pub(crate) fn turn(&mut self, turn: Turn) -> Result<(), AllocError> {
-        self.turns.push(turn)?;
-        Ok(())
+        let Assumed::Keeps { most } = turn.what else {
+            return Ok(());
+        };
+        let least = match self.keeps.get(&turn.unit) {
+            Some(kept) => most.min(*kept),
+            None => most,
+        };
+        match self.keeps.insert(turn.unit, least) {
+            Ok(_) => Ok(()),
+            Err(_) => Err(AllocError),
+        }
     }
 
     /// How many of the packets that are under way are kept at most, where the station is started before the next unit.
     pub(crate) fn most_kept(&self) -> u64 {
-        let unit = self.count();
-        let mut most = u64::MAX;
-        for turn in &self.turns {
-            if let Assumed::Keeps { most: kept } = turn.what {
-                if turn.unit == unit {
-                    most = most.min(kept);
-                }
-            }
+        match self.keeps.get(&self.count()) {
+            Some(most) => *most,
+            None => u64::MAX,
         }
-        most
     }
 
     /// One more passed. `AllocError` as there.

@@ -4,6 +4,7 @@ ghost use Rattle.std.specs.Prelude.{◌≡◌, OnOk};
 ghost use Rattle.placing.specs.Placed.{IsInTime, Puts};
 
 use super::Waiting;
+use crate::user_link::UserAct;
 use capture::{Entry, Fate};
 use std::alloc::AllocError;
 
@@ -21,7 +22,9 @@ impl Waiting {
         if kept {
             self.put_abort()?;
             self.keep_packet()?;
-            return self.put_came(Fate::Kept);
+            let act = self.next_answer()?;
+            self.put_came(Fate::Kept)?;
+            return self.put_user_act(act);
         }
         self.put_came(Fate::NotKept)
     }
@@ -44,6 +47,19 @@ impl Waiting {
             return None;
         };
         links.given_up_by_answer(unit.as_slice())
+    }
+
+    // How the user answers the call in the next unit of the other side, where that is assumed.
+    fn next_answer(&mut self) -> Result<Option<UserAct>, AllocError>
+        ensures { self.new ≡ self.old }
+    {
+        let Some(links) = &mut self.links else {
+            return Ok(None);
+        };
+        match self.turned.answer_to(self.gone) {
+            Some(answer) => links.answered(answer),
+            None => Ok(None),
+        }
     }
 
     #[tactic(auto, using(crate::proofs::Puts::puts_nothing))]

@@ -7,7 +7,7 @@ use super::Waiting;
 use crate::carried::{message_of, next_number};
 use crate::numbering::Numbering;
 use crate::said::Said;
-use crate::user_link::UserAct;
+use crate::user_link::{Taken, UserAct};
 use capture::{Entry, MAX_MESSAGE};
 use ddcmp_msg::{Flags, Message, NakReason, write_unit};
 use dna_packet::Nsp;
@@ -87,7 +87,7 @@ impl Waiting {
         let (Some(unit), Some(links)) = (self.own.front(), &mut self.links) else {
             return None;
         };
-        links.given_up_before(unit.as_slice())
+        links.given_up_before(unit.as_slice(), self.turned.is_anew(self.taken))
     }
 
     // What the user did with a link before the next unit.
@@ -95,7 +95,16 @@ impl Waiting {
         ensures puts { OnOk result (Puts self.old self.new) }
         ensures same { self.new.units ≡ self.old.units }
     {
-        match self.next_act()? {
+        let act = self.next_act()?;
+        self.put_user_act(act)
+    }
+
+    /// Puts the line of what the user did with a link. `AllocError` as there.
+    pub(super) fn put_user_act(&mut self, act: Option<UserAct>) -> Result<(), AllocError>
+        ensures puts { OnOk result (Puts self.old self.new) }
+        ensures same { self.new.units ≡ self.old.units }
+    {
+        match act {
             Some(UserAct::Open { link }) => self.put_aside(Entry::Open { link }, &[]),
             Some(UserAct::Accept { partner, link }) => {
                 self.put_aside(Entry::Accept { partner, link }, &[])
@@ -118,7 +127,11 @@ impl Waiting {
         let (Some(unit), Some(links)) = (self.own.front(), &mut self.links) else {
             return Ok(None);
         };
-        links.before(unit.as_slice(), self.turned.gives_up(self.taken))
+        let taken = Taken {
+            is_given_up: self.turned.gives_up(self.taken),
+            is_anew: self.turned.is_anew(self.taken),
+        };
+        links.before(unit.as_slice(), taken)
     }
 
     // A message that is handed in. One that is too long has no line; the judge will say so.

@@ -1,0 +1,295 @@
+//! What may be assumed for a record that is refused, in the order in which it is tried.
+
+use crate::event::{Act, What};
+use crate::point::{Choice, Kind, Point, key_of};
+use crate::seeker::Seeker;
+use std::alloc::{AllocError, Global};
+use wire_base::Side;
+
+// So many events back from the record something is assumed at most; and at so many of the last starts of a side, and packets before them.
+const BACK: u64 = 16_384;
+
+const MOST_STARTS: usize = 16;
+
+// What is assumed at this place, where that is not what is assumed now.
+#[derive(Clone, Copy, Debug)]
+pub(crate) struct Candidate {
+    pub(crate) number: u64,
+    pub(crate) key: u64,
+    pub(crate) choice: Option<Choice>,
+}
+
+// The record that is refused: its side, which message it is, and the addresses as that side sees them.
+#[derive(Clone, Copy)]
+struct Refused {
+    side: Side,
+    is_sent: bool,
+    what: What,
+    own: u16,
+    far: u16,
+}
+
+// Candidates in the order in which they are tried: first that a message means something else, or that a call was answered earlier; then that fewer
+// packets were kept, at the last starts before all others; that a call was given up; and that a node booted, at the first starts before all
+// others, since that ends fewest links.
+#[derive(Drop)]
+struct Sorted {
+    meant: Vec<Candidate>,
+    kept: Vec<Candidate>,
+    given_up: Vec<Candidate>,
+    own_boots: Vec<Candidate>,
+    other_boots: Vec<Candidate>,
+}
+
+impl Seeker {
+    /// What may be assumed for the record at this place, in that order. `AllocError` where there is no memory for it.
+    pub(crate) fn candidates(&self, number: usize) -> Result<Vec<Candidate>, AllocError> {
+        let mut sorted = Sorted::new(self.alloc);
+        let Some(refused) = self.refused(number) else {
+            return Ok(sorted.meant);
+        };
+        self.put_call(number as u64, refused, &mut sorted)?;
+        for behind in 0..self.points.len() {
+            let place = self.points.len() - behind - 1;
+            let Some(point) = self.points.get(place).copied() else {
+                break;
+            };
+            if point.number.saturating_add(BACK) < number as u64 {
+                break;
+            }
+            self.put_point(point, refused, &mut sorted)?;
+        }
+        sorted.all()
+    }
+
+    fn refused(&self, number: usize) -> Option<Refused> {
+        let (side, _, event) = self.log.at(number)?;
+        match event.act {
+            Act::Sends(said) => Some(Refused {
+                side,
+                is_sent: true,
+                what: said.what,
+                own: said.from,
+                far: said.to,
+            }),
+            Act::Keeps { said, .. } => Some(Refused {
+                side,
+                is_sent: false,
+                what: said.what,
+                own: said.to,
+                far: said.from,
+            }),
+            Act::Starts => None,
+        }
+    }
+
+    // The record gives an address to a link, while a call has it that may be given up.
+    fn put_call(
+        &self,
+        number: u64,
+        refused: Refused,
+        sorted: &mut Sorted,
+    ) -> Result<(), AllocError> {
+        if !refused.is_sent {
+            return Ok(());
+        }
+        match refused.what {
+            What::Confirm | What::Disconnect => {}
+            _ => return Ok(()),
+        }
+        if let Some(link) = self.book.link(refused.side, refused.own) {
+            if link.is_calling() {
+                sorted.given_up.push(Candidate {
+                    number,
+                    key: key_of(number),
+                    choice: Some(Choice::GivesUp { call: link.call }),
+                })?;
+            }
+        }
+        Ok(())
+    }
+
+    fn put_point(
+        &self,
+        point: Point,
+        refused: Refused,
+        sorted: &mut Sorted,
+    ) -> Result<(), AllocError> {
+        let now = self.choice(point.key);
+        match point.kind {
+            Kind::Starts => sorted.put_boot(point, now, refused.side),
+            Kind::Keeps { most } => sorted.put_kept(point, now, most),
+            _ if !refused.is_about(point) => Ok(()),
+            Kind::Either { is_anew, call } => {
+                let given_up = match is_anew {
+                    true => None,
+                    false => call,
+                };
+                let choice = Some(Choice::Anew {
+                    is_anew: !is_anew,
+                    given_up,
+                });
+                match given_up {
+                    Some(_) => put(&mut sorted.given_up, point, choice),
+                    None => put(&mut sorted.meant, point, choice),
+                }
+            }
+            Kind::GivesUp { call } => {
+                let choice = match now {
+                    Some(_) => None,
+                    None => Some(Choice::GivesUp { call }),
+                };
+                put(&mut sorted.given_up, point, choice)
+            }
+            Kind::Called => self.put_called(point, now, refused, sorted),
+        }
+    }
+
+    // A call that began, which may have been answered at once.
+    fn put_called(
+        &self,
+        point: Point,
+        now: Option<Choice>,
+        refused: Refused,
+        sorted: &mut Sorted,
+    ) -> Result<(), AllocError> {
+        if !refused.is_sent || point.side != refused.side || point.far != refused.far {
+            return Ok(());
+        }
+        let choice = self.answer_before(refused);
+        if choice.is_some() && choice != now {
+            put(&mut sorted.meant, point, choice)?;
+        }
+        if now.is_some() {
+            return put(&mut sorted.meant, point, None);
+        }
+        Ok(())
+    }
+
+    // How the call was answered of which this is sent, if it was.
+    fn answer_before(&self, refused: Refused) -> Option<Choice> {
+        let link = refused.own;
+        match refused.what {
+            What::Confirm => Some(Choice::Answers {
+                link,
+                accepts: true,
+            }),
+            What::Disconnect => Some(Choice::Answers {
+                link,
+                accepts: false,
+            }),
+            What::Confirmed => {
+                let answered = self.book.link(refused.side, link)?;
+                Some(Choice::Answers {
+                    link,
+                    accepts: answered.is_accepted,
+                })
+            }
+            What::ConnectAck => Some(Choice::Answers {
+                link: self.log.side(refused.side).free_address(),
+                accepts: false,
+            }),
+            _ => None,
+        }
+    }
+}
+
+impl Refused {
+    // Whether something that is assumed there may matter to it: one address of the link is the same.
+    fn is_about(self, point: Point) -> bool {
+        let (own, far) = match point.side == self.side {
+            true => (point.own, point.far),
+            false => (point.far, point.own),
+        };
+        is_same(own, self.own) || is_same(far, self.far)
+    }
+}
+
+fn is_same(address: u16, other: u16) -> bool {
+    address == other && address != 0
+}
+
+fn put(
+    candidates: &mut Vec<Candidate>,
+    point: Point,
+    choice: Option<Choice>,
+) -> Result<(), AllocError> {
+    candidates.push(Candidate {
+        number: point.number,
+        key: point.key,
+        choice,
+    })?;
+    Ok(())
+}
+
+impl Sorted {
+    fn new(alloc: Global) -> Sorted {
+        Sorted {
+            meant: Vec::new(alloc),
+            kept: Vec::new(alloc),
+            given_up: Vec::new(alloc),
+            own_boots: Vec::new(alloc),
+            other_boots: Vec::new(alloc),
+        }
+    }
+
+    fn put_boot(
+        &mut self,
+        point: Point,
+        now: Option<Choice>,
+        side: Side,
+    ) -> Result<(), AllocError> {
+        let boots = match point.side == side {
+            true => &mut self.own_boots,
+            false => &mut self.other_boots,
+        };
+        if boots.len() >= MOST_STARTS {
+            return Ok(());
+        }
+        match now {
+            Some(_) => put(boots, point, None),
+            None => put(boots, point, Some(Choice::Boots)),
+        }
+    }
+
+    fn put_kept(&mut self, point: Point, now: Option<Choice>, most: u64) -> Result<(), AllocError> {
+        if self.kept.len() >= MOST_STARTS.saturating_mul(2) {
+            return Ok(());
+        }
+        let choice = Some(Choice::Keeps { most });
+        match choice == now {
+            true => put(&mut self.kept, point, None),
+            false => put(&mut self.kept, point, choice),
+        }
+    }
+
+    // All of them, in order.
+    fn all(self) -> Result<Vec<Candidate>, AllocError> {
+        let Sorted {
+            meant,
+            kept,
+            given_up,
+            own_boots,
+            other_boots,
+        } = self;
+        let mut all = meant;
+        for candidate in &kept {
+            all.push(*candidate)?;
+        }
+        for candidate in &given_up {
+            all.push(*candidate)?;
+        }
+        put_reversed(&mut all, own_boots)?;
+        put_reversed(&mut all, other_boots)?;
+        Ok(all)
+    }
+}
+
+fn put_reversed(all: &mut Vec<Candidate>, mut of: Vec<Candidate>) -> Result<(), AllocError> {
+    for _ in 0..of.len() {
+        if let Some(candidate) = of.pop() {
+            all.push(candidate)?;
+        }
+    }
+    Ok(())
+}
