@@ -58,9 +58,9 @@ class Packets:
         header = struct.pack('>HHHH', source[1], target[1], 8 + len(payload), 0)
         self.put(over_ip(UDP, source[0], target[0], header + payload, identity))
 
-    def quoted(self, source, target):
+    def quoted(self, source, target, payload):
         """An ICMP message that a datagram from `target` to `source` found no port, and quotes it."""
-        there = over_ip(UDP, target[0], source[0], struct.pack('>HHHH', target[1], source[1], 8, 0))
+        there = over_ip(UDP, target[0], source[0], struct.pack('>HHHH', target[1], source[1], 8 + len(payload), 0) + payload)
         self.put(over_ip(ICMP, source[0], target[0], struct.pack('>BBHI', 3, 3, 0, 0) + there))
 
     def exchange(self, units, a=(A, 4001), b=(B, PORT)):
