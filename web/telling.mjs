@@ -79,10 +79,10 @@ export function rowsOf(text, ...names) {
   return found;
 }
 
-// Who is accused of a refusal, in the program's words; of one end the program doesn't say there that a queue would excuse it.
-export function accusedOf({refusal, text}) {
-  const [accused] = rowsOf(text, 'accused').accused, isExcused = refusal && refusal.queued && refusal.queued.answer === 'passed';
-  return accused && isExcused ? `nobody, if this node has a queue between NSP and DDCMP; else ${accused}` : accused;
+// Who is accused of a refusal, in the program's words, which may take two rows.
+export function accusedOf({text}) {
+  const accused = text.match(/^accused +(.*(?:\n {9}.*)*)/m);
+  return accused ? accused[1].replace(/\n +/g, ' ') : undefined;
 }
 
 // The counts of an accepted answer: {names, a: [..], b: [..]}, or null. `a records 25 sent 11 ..`

@@ -86,7 +86,7 @@ export function causeView({refusal, text, meaning}, session, first, judgeQueued)
   const likely = edit.map(({words}) => words).join('; or ');
   const place = first.match(/^(?:unexplained|apart:) ([ab]) unit (\d+) line (\d+)/);
   const where = place && `unit ${place[2]} of ${place[1]} (counted from 0), whose first byte is on line ${place[3]} of ${source.name}`;
-  const known = [['On the wire', where], ['The rule', rule], ['Accused', isWire ? '' : accusedOf({refusal, text})],
+  const known = [['On the wire', where], ['The rule', rule], ['Accused', isWire ? '' : accusedOf({text})],
     ['The recording', likely && `likely at fault: ${likely}`]];
   parts.push(make('dl', {}, ...rows(known.filter(([, value]) => value).map(([name, value]) => [name, codes(value)]))));
   return parts;
@@ -94,6 +94,7 @@ export function causeView({refusal, text, meaning}, session, first, judgeQueued)
 
 // Whether a queue explains a refusal, in a sentence.
 function queueSentence({refused, queued: {answer, side, line, number, name}}, session) {
+  if (answer === 'fault') return `A queue between NSP and DDCMP would excuse this line. With one, line ${line} of ${session.nameOf(side)} has a fault.`;
   if (answer !== 'refused') {
     const judged = answer === 'passed' ? 'this end passes' : 'the pair is accepted';
     return `A node with a queue between NSP and DDCMP may do this, and most real nodes have one. Judged as such, ${judged}.`;

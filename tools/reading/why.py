@@ -1,13 +1,13 @@
 """What `ddcap why` says of a refused pair, by the reading of tools/reading/judging.py, apart from the program. `said(a, b)` gives it, or None where
-nothing is refused: the JSON `lines` `refused`, `record` without the fields of its bytes, `state`, `link`, `queued`, `without_link` and `line_alone`
-(tools/reading/less.py); the `rows` of both sides; how many records are `behind` it; and the `check` where bytes are compared
+nothing is refused: the JSON `lines` `refused`, `record` without the fields of its bytes, `state`, `link`, `begins_running`, `queued`, `without_link`
+and `line_alone` (tools/reading/less.py); the `rows` of both sides; how many records are `behind` it; and the `check` where bytes are compared
 (tools/reading/bytes.py), else None. `said_alone(a, line)` gives the lines and rows of one end without the other (tools/reading/alone.py), with `line`
 of its station alone; as `check`, what the other end could have sent, where that is told by numbers. `lines_with_queues(a, b)` gives the lines of `why
 --queued`, of the pair as one of nodes with queues."""
 from collections import namedtuple
 
 from lists.why_rules import INDENT, wrapped
-from reading.alone import FREE, Alone, ByOther, StationAlone
+from reading.alone import FREE, Alone, ByOther, StationAlone, judged_alone
 from reading.bytes import check_of, counted
 from reading.judging import NAMES, RECEIPTS, RULES, Side, judged
 from reading.less import lines_of_end, lines_of_pair
@@ -20,8 +20,10 @@ SENDER = {1, 6, 7, 8, 9, 10, 11, 15, 16, 17, 20, 21, 22, 23}
 ACCUSED = {2: 'hints', 3: 'hints', 4: 'hints', 5: 'line', 12: 'claim', 13: 'nobody', 14: 'user', 24: 'claim', 25: 'nobody', 26: 'user', 27: 'claim'}
 
 
-# what a queue between NSP and DDCMP may explain
+# what a queue between NSP and DDCMP may explain, and what a recording can't tell before it says that the line was started or halted
 BY_QUEUES = {18, 19, 20, 21, 25}
+OF_BEFORE = {6, 12, 18}
+BEGINNINGS = 'u start', 'u halt', 'u boot'
 
 
 def accused(number, kind):
@@ -29,6 +31,21 @@ def accused(number, kind):
     if number in (18, 19):
         return 'sender' if kind in ('s', 'x') else 'user'
     return 'sender' if number in SENDER else ACCUSED[number]
+
+
+def begins_running(number, records):
+    """Whether a rule that asks for a state, or a link, is broken after these records, none of which tells in which state the line is."""
+    return number in OF_BEFORE and not any(' '.join(words) in BEGINNINGS for words in records)
+
+
+def excused(accuses, refused, queued):
+    """Who is accused of this line where this is answered of nodes with queues: nobody without a condition, if the record may be one of theirs."""
+    if queued['answer'] == 'accepted':
+        return 'nobody'
+    is_there = queued['answer'] == 'refused' and (queued['side'], queued['record']) == (refused['side'], refused['record'])
+    if is_there and queued['number'] not in (3, 4):
+        return accuses
+    return {'sender': 'sender_without_queue', 'user': 'user_without_queue', 'other end': 'other_end_without_queue'}.get(accuses, accuses)
 
 
 def run_to(a, b, most, queued=False):
@@ -171,11 +188,23 @@ def record_of(words):
 
 def queued_line(printed):
     """The line on what `check --queued` prints."""
-    if printed.startswith('accepted'):
-        return {'what': 'queued', 'answer': 'accepted'}
-    _, side, record, _, line, number, name = printed.split()
+    if printed.startswith(('accepted', 'passed')):
+        return {'what': 'queued', 'answer': printed.split()[0]}
+    _, side, record, _, line, number, name, *by = printed.split()
+    accuses = {'accuses': 'other end'} if by else {}
     return {'what': 'queued', 'answer': 'refused', 'side': side, 'record': int(record), 'line': int(line.rstrip(':')),
-            'number': int(number), 'name': name}
+            'number': int(number), 'name': name, **accuses}
+
+
+def known_lines(refused, records, queued):
+    """What is known of the state of the line and, where that is asked, of nodes with queues; and the refused line says who is accused by that."""
+    lines = [queued] if queued else []
+    if queued:
+        refused['accuses'] = excused(refused['accuses'], refused, queued)
+    if begins_running(refused['number'], records):
+        refused['accuses'] = 'nobody'
+        lines.insert(0, {'what': 'begins_running', 'side': refused['side']})
+    return lines
 
 
 def said(a, b):
@@ -196,10 +225,8 @@ def said(a, b):
         lines.append(state_of(other, sides[other]))
         lines += [link_of(other, link) for link in sides[other].links.links if link.phase != 'Ended']
         rows += side_rows(other, sides[other], named_by(words)[::1 if other == letter else -1])
-    if number in BY_QUEUES:
-        lines.append(queued_line(judged(RULES, a, b, queued=True)))
-        if lines[-1]['answer'] == 'accepted':
-            lines[0]['accuses'] = 'nobody'
+    queued = queued_line(judged(RULES, a, b, queued=True)) if number in BY_QUEUES else None
+    lines += known_lines(lines[0], side.records[:place], queued)
     lines += lines_of_pair((a, b), number)
     behind = sum(len(each.records) - each.next for each in sides) - 1
     return Said(lines, rows, behind, check_of(number, side, sides[1 - letter], 'ba'[letter], words))
@@ -221,7 +248,7 @@ def lines_with_queues(a, b):
     for other in (letter, 1 - letter):
         lines.append(state_of(other, sides[other]))
         lines += [queued_link_of(other, link) for link in sides[other].links.links if not link.is_dead()]
-    return lines
+    return lines + known_lines(lines[0], sides[letter].records[:place], None)
 
 
 # ---- one end alone
@@ -250,7 +277,9 @@ def said_alone(text, line):
     lines = [{
         'what': 'refused', 'side': 'a', 'record': place, 'line': place + 2, 'number': number, 'name': NAMES[number - 1], 'accuses': accuses,
     }, record_of(words), state_of(0, side)]
-    lines += [link_of(0, link) for link in side.links.links if link.phase != 'Ended'] + lines_of_end(text, number, line=line)
+    lines += [link_of(0, link) for link in side.links.links if link.phase != 'Ended']
+    queued = queued_line(judged_alone(text, queued=True)) if number in BY_QUEUES and not line else None
+    lines += known_lines(lines[0], side.records[:place], queued) + lines_of_end(text, number, line=line)
     allowed = allowed_there(number, side, text.split()[2:4], named_by(words)) if accuses == 'other end' else None
     return Said(lines, list(side_rows(0, side, named_by(words))), None, allowed)
 

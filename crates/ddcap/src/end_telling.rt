@@ -173,7 +173,7 @@ fn refusal_of<'t>(
         return None;
     };
     let by_table = Accusation::of_end(accused, reason, entry);
-    let has_begun = past.has_begun(Side::A);
+    let has_begun = past.has_begun(Side::A, reason);
     let excuse = queued.excuse(Side::A, place).of_end();
     Some(EndRefusal {
         place,

@@ -237,7 +237,8 @@ Status:
   1  unexplained, or apart
   2  a faulty line, as wire: line 3: syntax (or too long, too many), or a unit
      with too many possibilities before it: too wide a choice
-  3  wire: cannot open: PATH (or a: or b:), b: same file as a, wire: read
-     failed, a: write failed (or b:), out of memory, or a failed write to
-     standard output or error
+  3  wire: cannot open: PATH (or a: or b:), b: same file as a, wire: cannot be
+     read twice (or a: or b:, of a pipe or a device), wire: read failed, a:
+     write failed (or b:), out of memory, or a failed write to standard output
+     or error
 ";

@@ -95,10 +95,12 @@ It ends with status 1 and prints a text that begins:
 The first line is that of check. Then come the record, layer by layer; what was
 seen and allowed, the rule and its pages; both stations and their links as they
 were before it; the last ten rows, a on the left and b on the right; who is
-accused; what is answered without the link, and of the line alone; and whether
-a small change of a recording would make the pair acceptable. If so, the
-recording is more likely at fault than a node, unless one wrong unit of the
-node would explain it as well. This is no proof.
+accused; what is answered with queues, without the link, and of the line alone;
+and whether a small change of a recording would make the pair acceptable. If
+so, the recording is more likely at fault than a node, unless one wrong unit of
+the node would explain it as well. This is no proof. A node that may be right
+if it has a queue between NSP and DDCMP is accused only under that condition,
+and one whose recording begins in the middle of a running line is not.
 
 With --json, before or after the files, each of these is an object on a line of
 its own. For a pair that is not refused, the answer is that of check.

@@ -235,7 +235,7 @@ fn accusation_of(
         reason,
     } = refused;
     let excuse = queued.excuse(side, place);
-    let has_begun = past.has_begun(side);
+    let has_begun = past.has_begun(side, reason);
     Accusation::of(reason, entry).knowing(reason, has_begun, excuse)
 }
 

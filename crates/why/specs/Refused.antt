@@ -76,20 +76,17 @@ excused excuse.Refused accusation = accusation
 excused excuse.Perhaps accusation = unless_queue accusation
 excused excuse.Accepted accusation = Queue
 
--- whether a record told before in which state the side's line was
+-- whether records told before what the rule asks for
 abbrev pub if_begun : (has_begun : Bool) → Accusation → Accusation
 if_begun true accusation = accusation
 if_begun false accusation = Running
 
--- What is accused of a rule about this: nobody of one that asks for a state which the recording has not told; and only of one that a queue may explain
--- it matters what is known of nodes with queues
+-- Who is accused of a rule about this: nobody of one that asks for a state of the line, or for a link, which the recording has not told; and only of
+-- one that a queue may explain it matters what is known of nodes with queues
 abbrev pub accused_by : Matter → (has_begun : Bool) → Excuse → Accusation → Accusation
 accused_by matter.LinkNow has_begun excuse accusation = if_begun has_begun (excused excuse accusation)
 accused_by matter.State has_begun excuse accusation = if_begun has_begun accusation
-accused_by matter.Response has_begun excuse accusation = if_begun has_begun accusation
 accused_by matter.Station has_begun excuse accusation = if_begun has_begun accusation
-accused_by matter.Period has_begun excuse accusation = if_begun has_begun accusation
-accused_by matter.Link has_begun excuse accusation = if_begun has_begun accusation
 accused_by matter has_begun excuse accusation = accusation
 
 abbrev pub accusation_name : Accusation → List ℕ

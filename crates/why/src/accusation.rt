@@ -98,18 +98,18 @@ impl Accusation {
         }
     }
 
-    /// Who is accused where the table of reasons says this: nobody, where the recording has not told yet in which state the side's line was
-    /// (`has_begun`) and the rule asks for a state; and where a queue may explain such a reason, nobody without the condition that this is known.
+    /// Who is accused where the table of reasons says this: nobody, where the recording has not told yet (`has_begun`) in which state the side's line
+    /// was, or which links it had, and the rule asks for that; and where a queue may explain such a reason, whoever is left by what is known of that.
     pub fn knowing(self, reason: Reason, has_begun: bool, excuse: Excuse) -> Accusation
         ensures { result ≡ spec.accused_by (reason_matter reason) has_begun excuse self }
     {
         match reason.matter() {
             Matter::LinkNow => self.excused(excuse).if_begun(has_begun),
             Matter::State => self.if_begun(has_begun),
-            Matter::Response => self.if_begun(has_begun),
             Matter::Station => self.if_begun(has_begun),
-            Matter::Period => self.if_begun(has_begun),
-            Matter::Link => self.if_begun(has_begun),
+            Matter::Response => self,
+            Matter::Period => self,
+            Matter::Link => self,
             Matter::Soundness => self,
             Matter::Hints => self,
             Matter::Passage => self,

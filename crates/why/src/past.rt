@@ -4,6 +4,7 @@ use crate::layers::message_in_unit;
 use crate::subject::Addresses;
 use capture::{Entry, Fate};
 use dna_packet::{Nsp, read_nsp};
+use pair_judge::Reason;
 use std::alloc::{AllocError, Global};
 use std::collections::BTreeMap;
 use wire_base::Side;
@@ -72,11 +73,15 @@ impl LinkPast {
         }
     }
 
-    /// Whether a record of this side tells in which state its line was: that its user started or halted it, or that its node was started anew.
-    pub fn has_begun(&self, side: Side) -> bool {
-        match side {
-            Side::A => self.a.has_begun,
-            Side::B => self.b.has_begun,
+    /// Whether records of this side tell what it takes to be refused for this reason: for a message of another state, or of a link that is not there,
+    /// that its user started or halted its line, or that its node was started anew. What a recording lacks that begins later it can't tell.
+    pub fn has_begun(&self, side: Side, reason: Reason) -> bool {
+        match reason {
+            Reason::WrongState | Reason::WrongKeep | Reason::NoLink => match side {
+                Side::A => self.a.has_begun,
+                Side::B => self.b.has_begun,
+            },
+            _ => true,
         }
     }
 
