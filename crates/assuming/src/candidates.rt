@@ -1,7 +1,7 @@
 //! What may be assumed for a record that is refused, in the order in which it is tried.
 
 use crate::event::{Act, What};
-use crate::point::{Choice, Kind, Point, key_of};
+use crate::point::{Choice, Kind, Point};
 use crate::seeker::Seeker;
 use std::alloc::{AllocError, Global};
 use wire_base::Side;
@@ -48,7 +48,9 @@ impl Seeker {
         let Some(refused) = self.refused(number) else {
             return Ok(sorted.meant);
         };
-        self.put_call(number as u64, refused, &mut sorted)?;
+        for point in &self.refused {
+            self.put_point(*point, refused, &mut sorted)?;
+        }
         for behind in 0..self.points.len() {
             let place = self.points.len() - behind - 1;
             let Some(point) = self.points.get(place).copied() else {
@@ -81,32 +83,6 @@ impl Seeker {
             }),
             Act::Starts => None,
         }
-    }
-
-    // The record gives an address to a link, while a call has it that may be given up.
-    fn put_call(
-        &self,
-        number: u64,
-        refused: Refused,
-        sorted: &mut Sorted,
-    ) -> Result<(), AllocError> {
-        if !refused.is_sent {
-            return Ok(());
-        }
-        match refused.what {
-            What::Confirm | What::Disconnect => {}
-            _ => return Ok(()),
-        }
-        if let Some(link) = self.book.link(refused.side, refused.own) {
-            if link.is_calling() {
-                sorted.given_up.push(Candidate {
-                    number,
-                    key: key_of(number),
-                    choice: Some(Choice::GivesUp { call: link.call }),
-                })?;
-            }
-        }
-        Ok(())
     }
 
     fn put_point(

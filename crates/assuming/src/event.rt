@@ -15,7 +15,7 @@ pub(crate) enum What {
 }
 
 /// What links go by in a message: its two addresses, the number of a segment, the number that it acknowledges; and how many data bytes a segment
-/// has, or, in a CI or CC, may have.
+/// has, or, in a CI or CC, may have; and whether a segment ends a message.
 #[derive(Clone, Copy, Debug, PartialEq, Eq)]
 pub(crate) struct Said {
     pub(crate) what: What,
@@ -24,6 +24,7 @@ pub(crate) struct Said {
     pub(crate) number: u16,
     pub(crate) ack: Option<u16>,
     pub(crate) size: u64,
+    pub(crate) ends: bool,
 }
 
 /// A packet that may not have been kept before a start: of those that may, the place of the first one among the side's events, and how many were kept
@@ -82,6 +83,7 @@ pub(crate) fn said_in(message: &Nsp) -> Option<Said> {
             number: segment.number,
             ack: acknowledged(segment.acks.as_slice()),
             size: segment.body.len() as u64,
+            ends: segment.ends,
         }),
         Nsp::DataAck(message) => Some(Said {
             ack: acknowledged(message.acks.as_slice()),
@@ -105,6 +107,7 @@ fn sized(what: What, from: u16, to: u16, size: u64) -> Said {
         number: 0,
         ack: None,
         size,
+        ends: false,
     }
 }
 

@@ -20,5 +20,5 @@ mod seeker;
 mod sending;
 mod turns;
 
-pub use assume::assume;
+pub use assume::{Assumptions, assume};
 pub use lines::tell_lines;

@@ -30,7 +30,8 @@ pub(crate) const NO_LINK: Tag = Tag {
     partner: 0,
 };
 
-/// The last link with an own address, of which something may still be sent. `call` is the unit by which it was called from here.
+/// The last link with an own address, of which something may still be sent. `call` is the unit by which it was called from here, and
+/// `length` how many bytes of a message were sent whose last segment was not.
 #[derive(Clone, Copy, Debug, PartialEq, Eq)]
 pub(crate) struct Link {
     pub(crate) tag: Tag,
@@ -45,6 +46,7 @@ pub(crate) struct Link {
     pub(crate) given: u16,
     pub(crate) received: u16,
     pub(crate) call: u64,
+    pub(crate) length: u64,
 }
 
 /// A link that a CI began, and which is not answered yet.
@@ -70,6 +72,7 @@ impl Link {
             given: 0,
             received: 0,
             call,
+            length: 0,
         }
     }
 

@@ -37,6 +37,10 @@ pub(crate) struct Seeker {
     pub(crate) log: Log,
     pub(crate) book: Book,
     pub(crate) points: Vec<Point>,
+    // the points of the step that was refused last
+    pub(crate) refused: Vec<Point>,
+    // the first unit at which a user's message is longer than a capture can tell
+    pub(crate) too_long: Option<(Side, u64)>,
     chosen: BTreeMap<u64, Choice>,
     marks: Vec<Mark>,
     pub(crate) alloc: Global,
@@ -49,6 +53,8 @@ impl Seeker {
             log,
             book: Book::new(alloc),
             points: Vec::new(alloc),
+            refused: Vec::new(alloc),
+            too_long: None,
             chosen: BTreeMap::new(alloc),
             marks: Vec::new(alloc),
             alloc,
@@ -114,12 +120,25 @@ impl Seeker {
                 changes: self.book.changes(),
                 points: self.points.len(),
             })?;
+            let points = self.points.len();
             if !self.step(number)? {
+                self.keep_refused(points)?;
                 self.back(number)?;
                 return Ok(number);
             }
         }
         Ok(self.marks.len())
+    }
+
+    // The points from this one on are those of the step that is refused.
+    fn keep_refused(&mut self, from: usize) -> Result<(), AllocError> {
+        self.refused.clear();
+        for at in from..self.points.len() {
+            if let Some(point) = self.points.get(at) {
+                self.refused.push(*point)?;
+            }
+        }
+        Ok(())
     }
 
     // Back to before this step, or, where it was not reached, on to it.

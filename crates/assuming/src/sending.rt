@@ -4,6 +4,7 @@ use crate::event::{Said, What};
 use crate::link::{Called, Link, Phase, Sent, Tag, is_after};
 use crate::point::{Choice, Kind, key_of};
 use crate::seeker::{Here, Seeker};
+use capture::MAX_MESSAGE;
 use std::alloc::AllocError;
 
 impl Seeker {
@@ -304,8 +305,13 @@ impl Seeker {
         if said.size > link.size {
             return Ok(false);
         }
+        let length = link.length.saturating_add(said.size);
+        if length > MAX_MESSAGE as u64 && self.too_long.is_none() {
+            self.too_long = Some((here.side, here.unit));
+        }
         let link = Link {
             given: said.number,
+            length: if said.ends { 0 } else { length },
             ..link.ran()
         };
         self.sent_on(here, said.from, link)

@@ -5,13 +5,13 @@ use crate::fault_told::FaultTold;
 use crate::files::{Named, Wanted, opened, opened_plain};
 use crate::tap::print_tap_fault;
 use crate::tap_files::TapPaths;
-use assuming::{assume, tell_lines};
-use capture::CaptureFault;
+use assuming::{Assumptions, assume, tell_lines};
+use capture::{CaptureFault, Departure};
 use placing::{Assumed, Turn};
 use std::alloc::{AllocError, Global};
 use std::io::Write;
 use std::rt::Files;
-use wire_base::Tally;
+use wire_base::{Side, Tally};
 use wire_tap::TapFault;
 
 /// Assumes of the captures that were written what mends them at their links, in the order of the text; whether that is something else than before. Of
@@ -19,20 +19,55 @@ use wire_tap::TapFault;
 pub fn assume_more<R: Files + AllocGlobal, E: Write>(
     rt: &R,
     paths: TapPaths<'_>,
-    turns: &mut Vec<Turn>,
+    assumptions: &mut Assumptions,
     err: &mut Tally<E>,
 ) -> Result<bool, FaultTold> {
     if paths.line_alone {
         return Ok(false);
     }
-    let mut assumed = assumed_now(rt, paths, err)?;
-    if put_kept(&mut assumed, turns.as_slice()).is_err() {
+    let Assumptions {
+        mut turns,
+        too_long,
+    } = assumed_now(rt, paths, err)?;
+    if put_kept(&mut turns, assumptions.turns.as_slice()).is_err() {
         return Err(FaultTold::out_of_memory(print_out_of_memory(err)));
     }
-    let told = told_lines(rt, paths, assumed.as_slice(), err)?;
-    let is_more = told.as_slice() != turns.as_slice();
-    *turns = told;
+    let told = told_lines(rt, paths, turns.as_slice(), err)?;
+    let is_more = told.as_slice() != assumptions.turns.as_slice();
+    assumptions.turns = told;
+    assumptions.too_long = too_long;
     Ok(is_more)
+}
+
+/// Where the captures are refused with this unit because a user's message is too long for them: the fault, which is told. Else nothing.
+pub fn tell_too_long<R: Files + AllocGlobal, E: Write>(
+    rt: &R,
+    paths: TapPaths<'_>,
+    assumptions: &Assumptions,
+    named: (Side, u64),
+    err: &mut Tally<E>,
+) -> Result<(), FaultTold> {
+    if assumptions.too_long != Some(named) {
+        return Ok(());
+    }
+    let (side, unit) = named;
+    let at_unit = [Turn {
+        side,
+        unit,
+        line: 0,
+        what: Assumed::GivesUp,
+    }];
+    let told = told_lines(rt, paths, &at_unit, err)?;
+    let line = match told.first() {
+        Some(turn) => turn.line,
+        None => 0,
+    };
+    let fault = TapFault::Departs {
+        kind: Departure::TooLong,
+        line,
+    };
+    let status = print_tap_fault(rt.alloc(), fault, err);
+    Err(FaultTold::of_tap(fault, status))
 }
 
 // What is assumed of the captures as they were written.
@@ -40,11 +75,11 @@ fn assumed_now<R: Files + AllocGlobal, E: Write>(
     rt: &R,
     paths: TapPaths<'_>,
     err: &mut Tally<E>,
-) -> Result<Vec<Turn>, FaultTold> {
+) -> Result<Assumptions, FaultTold> {
     let mut a = opened(rt, Wanted::by_path(Named::A, paths.a), err)?;
     let mut b = opened(rt, Wanted::by_path(Named::B, paths.b), err)?;
     match assume(rt.alloc(), &mut a, &mut b) {
-        Ok(turns) => Ok(turns),
+        Ok(assumptions) => Ok(assumptions),
         Err((_, CaptureFault::OutOfMemory)) => {
             Err(FaultTold::out_of_memory(print_out_of_memory(err)))
         }

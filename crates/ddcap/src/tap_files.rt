@@ -10,12 +10,13 @@ use crate::files::{Named, Wanted, opened, opened_plain};
 use crate::layers::Layers;
 use crate::tap::{Captured, RefusedAt, print_no_unit, print_tap_fault, tap_line_to, tap_to};
 use crate::tap_apart::are_apart;
-use crate::tap_assuming::assume_more;
+use crate::tap_assuming::{assume_more, tell_too_long};
 use crate::tap_naming::named_unit;
 use crate::tap_object::tap_json_to;
 use crate::telling::Form;
 use crate::text::FAILED;
 use crate::written::{Beside, is_on_disk, opened_pair_to_write, written_pair};
+use assuming::Assumptions;
 use placing::{Explained, Turn};
 use std::io::Write;
 use std::rt::Files;
@@ -68,10 +69,14 @@ fn tap_whole<R: Files + AllocGlobal, O: Write, E: Write>(
     err: &mut Tally<E>,
 ) -> Result<u8, FaultTold> {
     keep_read_again(rt, paths, err)?;
-    let mut turns = Vec::new(rt.alloc());
+    let mut assumptions = Assumptions {
+        turns: Vec::new(rt.alloc()),
+        too_long: None,
+    };
     let mut named = (Side::A, 0);
     for round in 0..=MOST_ROUNDS {
-        let tapped = write_captures(rt, paths, Explained::Together, turns.as_slice(), None, err)?;
+        let turns = assumptions.turns.as_slice();
+        let tapped = write_captures(rt, paths, Explained::Together, turns, None, err)?;
         if tapped.is_silent() {
             let status = print_no_unit(err);
             return Err(FaultTold::of(Named::Wire, FaultKind::NoUnit, status));
@@ -80,21 +85,37 @@ fn tap_whole<R: Files + AllocGlobal, O: Write, E: Write>(
             tapped,
             is_cut: false,
             is_apart: false,
-            turns: turns.as_slice(),
+            turns,
             accused: Accused::NOBODY,
         };
         match judge_captures(rt, form, paths, whole, out, err)? {
             Ok(status) => return Ok(status),
             Err(refused) => {
-                if round < MOST_ROUNDS && assume_more(rt, paths, &mut turns, err)? {
+                if round < MOST_ROUNDS && assume_more(rt, paths, &mut assumptions, err)? {
                     continue;
                 }
-                named = named_unit(rt, paths, turns.as_slice(), tapped, refused, err)?;
+                named = named_unit(
+                    rt,
+                    paths,
+                    assumptions.turns.as_slice(),
+                    tapped,
+                    refused,
+                    err,
+                )?;
                 break;
             }
         }
     }
-    tell_unit(rt, form, paths, turns.as_slice(), named, out, err)
+    tell_too_long(rt, paths, &assumptions, named, err)?;
+    tell_unit(
+        rt,
+        form,
+        paths,
+        assumptions.turns.as_slice(),
+        named,
+        out,
+        err,
+    )
 }
 
 // Opens the three files, and empties none: each has to be one that can be read again and again. `Err`: one of them can't be, which was told.

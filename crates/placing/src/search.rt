@@ -1,6 +1,7 @@
 //! The search: what is put between the units of both sides.
 
 mod advance;
+mod alike;
 mod hypothesis;
 mod restarting;
 mod sent;
@@ -8,10 +9,11 @@ mod walk;
 mod way;
 
 use crate::explained::Explained;
-use crate::limit::MOST_STATES;
+use crate::limit::{FEW_HYPOTHESES, MOST_STATES};
 use crate::movement::Move;
 use crate::said::Said;
 use crate::turn::Turn;
+use alike::are_alike;
 use hypothesis::Hypothesis;
 use sent::Sent;
 use std::alloc::{AllocError, Global};
@@ -100,11 +102,56 @@ impl Search {
         }
         std::mem::swap(&mut self.hypotheses, &mut self.born);
         self.dead.clear();
-        if states > MOST_STATES {
+        if self.hypotheses.len() > FEW_HYPOTHESES {
+            self.drop_alike()?;
+        }
+        if self.states_of(side) > MOST_STATES {
             return Ok(Reached::TooMany);
         }
         self.pass(side, said, unit)?;
         Ok(Reached::Way)
+    }
+
+    // How many states of this side there are.
+    fn states_of(&self, side: Side) -> usize {
+        let mut states: usize = 0;
+        for hypothesis in self.hypotheses.iter() {
+            states = states.saturating_add(hypothesis.front(side).states.len());
+        }
+        states
+    }
+
+    // Of hypotheses that are alike one is kept, in which most packets were kept.
+    fn drop_alike(&mut self) -> Result<(), AllocError> {
+        for _ in 0..self.hypotheses.len() {
+            let Some(mut hypothesis) = self.hypotheses.pop_front() else {
+                break;
+            };
+            let Some(at) = self.alike_to(&hypothesis)? else {
+                self.born.reserve(1)?;
+                self.born.push_back_reserved(hypothesis);
+                continue;
+            };
+            if let Some(other) = self.born.get_mut(at) {
+                if hypothesis.most_kept() > other.most_kept() {
+                    std::mem::swap(other, &mut hypothesis);
+                }
+            }
+        }
+        std::mem::swap(&mut self.hypotheses, &mut self.born);
+        Ok(())
+    }
+
+    // The place of one that is alike.
+    fn alike_to(&self, hypothesis: &Hypothesis) -> Result<Option<usize>, AllocError> {
+        for at in 0..self.born.len() {
+            if let Some(other) = self.born.get(at) {
+                if are_alike(self.alloc, other, hypothesis)? {
+                    return Ok(Some(at));
+                }
+            }
+        }
+        Ok(None)
     }
 
     // The unit comes after all others of its side.

@@ -94,6 +94,17 @@ impl Station {
         }
     }
 
+    /// Whether it differs from the other in nothing but the periods.
+    pub(crate) fn is_like(&self, other: &Station) -> bool {
+        if self.state != other.state || self.received != other.received {
+            return false;
+        }
+        if self.acknowledged != other.acknowledged || self.outstanding != other.outstanding {
+            return false;
+        }
+        self.ahead == other.ahead && self.answers == other.answers && self.refused == other.refused
+    }
+
     /// Whether it can do all that the other can, apart from the other side's units that may still come. A higher number acknowledged covers a lower
     /// one, except where none is left to ask for.
     pub(crate) fn covers(&self, other: &Station) -> bool {

@@ -174,7 +174,7 @@ fn find_from(
     for state in &front.states {
         view.go(&mut own.way, room, *state)?;
     }
-    if unit.explained == Explained::Together || !room.found.is_empty() {
+    if unit.explained == Explained::Together {
         return Ok(());
     }
     for state in &front.states {
@@ -194,10 +194,8 @@ impl View<'_> {
                 Said::Strt => self.restart(way, room, standing)?,
                 Said::Stack => {
                     self.go_started(way, room, standing)?;
-                    if !self.keeps_at_restart(standing) {
-                        return Ok(());
-                    }
                     self.restart(way, room, standing)?;
+                    room.drop_begun_with(standing.kept);
                 }
                 _ => return self.go_started(way, room, standing),
             },

@@ -57,25 +57,6 @@ impl View<'_> {
         self.begin(way, room, stands)
     }
 
-    /// Whether it may have kept a packet that is under way, where its user starts it anew.
-    pub(super) fn keeps_at_restart(&self, standing: Standing) -> bool {
-        let period = standing.station.tag().period;
-        let from = match self.unit.explained {
-            Explained::Together => self.first_answering(standing.come, period),
-            Explained::Apart => standing.come,
-        };
-        let mut epoch = epoch_of(self.epochs, from);
-        for number in from..self.limit {
-            let Some(passing) = self.passing(number, &mut epoch) else {
-                return false;
-            };
-            if self.is_met(standing.station, passing) && standing.station.can_take(passing.said) {
-                return true;
-            }
-        }
-        false
-    }
-
     // The first unit from this one on that answers this period.
     fn first_answering(&self, from: u64, period: u64) -> u64 {
         for at in epoch_of(self.epochs, from)..self.epochs.len() {
