@@ -5,7 +5,7 @@ ghost use Rattle.drawing.specs.declared.range.TheConstants.{MAX_ROWS};
 
 use crate::all_judged::{AllFault, find_all, in_memory, read_again};
 use crate::all_left::NotJudged;
-use crate::all_pair::{LeftTexts, PairCaptures, judge_texts, stopped_at};
+use crate::all_pair::{Left, LeftTexts, PairCaptures, judge_texts, stopped_at};
 use crate::all_stops::put_end;
 use crate::all_told::{AllTold, Refusal};
 use crate::last_rows::LastRows;
@@ -70,11 +70,14 @@ pub fn all_drawn<A: Read + Seek, B: Read + Seek>(
     requires high { range.rows ≤ MAX_ROWS }
 {
     let whole = captures.whole(alloc)?;
-    let (mut texts, stops) = captures.left(alloc, &all.not_judged)?;
-    match watched_rows(alloc, captures, range, all, &whole, &texts) {
+    let Left { mut texts, stops } = captures.left(alloc, Side::B, &all.not_judged)?;
+    let (watched, stopped, is_shown) = match watched_rows(
+        alloc, captures, range, all, &whole, &texts,
+    ) {
         Ok(watched) => {
             let stopped = stopped_at(watched.ends.verdict(), stops);
-            end_drawn(alloc, captures, watched, stopped)
+            let is_shown = stopped.is_none() && all.not_judged.heads_fit();
+            (watched, stopped, is_shown)
         }
         Err(
             AllFault::Judge(
@@ -86,12 +89,16 @@ pub fn all_drawn<A: Read + Seek, B: Read + Seek>(
         ) => {
             in_memory(put_end(texts.of_mut(side), line))?;
             let watched = watched_rows(alloc, captures, range, all, &whole, &texts)?;
-            let mut drawn = end_drawn(alloc, captures, watched, None)?;
-            drawn.is_shown = false;
-            Ok(drawn)
+            (watched, None, false)
         }
-        Err(fault) => Err(fault),
-    }
+        Err(fault) => return Err(fault),
+    };
+    let (pair, verdict) = end_drawn(alloc, captures, watched, stopped)?;
+    Ok(AllDrawn {
+        pair,
+        verdict,
+        is_shown,
+    })
 }
 
 // The rows that are told of the captures themselves while these texts of what is left are judged.
@@ -121,13 +128,13 @@ fn watched_rows<'t, A: Read + Seek, B: Read + Seek>(
     }
 }
 
-// The rows, with the refused record in the last one.
+// The rows, with the refused record in the last one; and how the judgement ends, which is at this refusal if it stops there.
 fn end_drawn<A: Read + Seek, B: Read + Seek>(
     alloc: Global,
     captures: &mut PairCaptures<'_, '_, '_, A, B>,
     watched: Watched<Onlooker<'_>>,
     stopped: Option<Refusal>,
-) -> Result<AllDrawn, AllFault> {
+) -> Result<(DrawnPair, Verdict), AllFault> {
     let ends = watched.ends;
     let Onlooker::Originals(mut originals) = watched.observer else {
         return Err(AllFault::OUT_OF_MEMORY);
@@ -151,11 +158,7 @@ fn end_drawn<A: Read + Seek, B: Read + Seek>(
         }
     }
     let drawn = in_memory(originals.rows.ladder.drawn(alloc))?;
-    Ok(AllDrawn {
-        pair: DrawnPair { ends, drawn },
-        verdict,
-        is_shown: stopped.is_none(),
-    })
+    Ok((DrawnPair { ends, drawn }, verdict))
 }
 
 // Which rows are kept.

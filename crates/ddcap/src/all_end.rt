@@ -57,7 +57,7 @@ impl<A: Read + Seek> Captures for EndCapture<'_, '_, A> {
 
     fn judged(&mut self, alloc: Global, not_judged: &NotJudged) -> Result<Answer, AllFault> {
         let stop = self.stop(alloc, not_judged)?;
-        let mut text = text_left(alloc, Side::A, not_judged, self.a)?;
+        let mut text = text_left(alloc, Side::A, Side::A, not_judged, self.a)?;
         in_memory(put_stop(&mut text, stop))?;
         match self.telling {
             Telling::Explained => {

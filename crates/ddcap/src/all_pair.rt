@@ -54,6 +54,14 @@ pub struct LeftTexts {
     pub b: Vec<u8>,
 }
 
+/// What is left of both captures.
+#[derive(Drop)]
+pub struct Left {
+    pub texts: LeftTexts,
+    /// Where each text ends, if it does so before its capture.
+    pub stops: Stops,
+}
+
 impl LeftTexts {
     /// That of this side.
     pub fn of_mut(&mut self, side: Side) -> &mut Vec<u8> {
@@ -85,19 +93,19 @@ impl<A: Read + Seek, B: Read + Seek> Captures for PairCaptures<'_, '_, '_, A, B>
     }
 
     fn judged(&mut self, alloc: Global, not_judged: &NotJudged) -> Result<Answer, AllFault> {
-        let (texts, stops) = self.left(alloc, not_judged)?;
-        match self.telling {
-            Telling::Explained => {
-                let whole = self.whole(alloc)?;
-                let rows = in_memory(LastRows::new(alloc))?;
-                let originals = in_memory(Originals::new(alloc, rows, &whole.a, &whole.b))?;
-                let onlooker = Onlooker::Originals(originals);
-                self.answer_left(alloc, not_judged, onlooker, &texts, stops)
-            }
-            Telling::Answers | Telling::Nothing => {
-                self.answer_left(alloc, not_judged, Onlooker::Nobody, &texts, stops)
-            }
+        if self.telling != Telling::Explained {
+            let left = self.left(alloc, Side::B, not_judged)?;
+            return self.answer_left(alloc, not_judged, Onlooker::Nobody, &left);
         }
+        let kept = match not_judged.heads_fit() {
+            true => Side::B,
+            false => self.refused_side(alloc, not_judged)?,
+        };
+        let left = self.left(alloc, kept, not_judged)?;
+        let whole = self.whole(alloc)?;
+        let rows = in_memory(LastRows::new(alloc))?;
+        let originals = in_memory(Originals::new(alloc, rows, &whole.a, &whole.b))?;
+        self.answer_left(alloc, not_judged, Onlooker::Originals(originals), &left)
     }
 
     fn passed(&self) -> &'static str {
@@ -134,18 +142,37 @@ impl<A: Read + Seek, B: Read + Seek> PairCaptures<'_, '_, '_, A, B> {
         in_memory(NotJudged::nothing(alloc, groups, head_of_a, head_of_b))
     }
 
-    /// The texts of what is left of both captures, each to its stop, and these.
+    /// What is left of both captures, each to its stop. Where the heads do not fit, this side's is kept: what its own records have, they have there.
     pub fn left(
         &mut self,
         alloc: Global,
+        kept: Side,
         not_judged: &NotJudged,
-    ) -> Result<(LeftTexts, Stops), AllFault> {
+    ) -> Result<Left, AllFault> {
         let stops = self.stops(alloc, not_judged)?;
-        let mut a = text_left(alloc, Side::A, not_judged, self.a)?;
-        let mut b = text_left(alloc, Side::B, not_judged, self.b)?;
+        let mut a = text_left(alloc, kept, Side::A, not_judged, self.a)?;
+        let mut b = text_left(alloc, kept, Side::B, not_judged, self.b)?;
         in_memory(put_stop(&mut a, stops.a))?;
         in_memory(put_stop(&mut b, stops.b))?;
-        Ok((LeftTexts { a, b }, stops))
+        Ok(Left {
+            texts: LeftTexts { a, b },
+            stops,
+        })
+    }
+
+    // Of which side a record of what is left is refused; b where none is.
+    fn refused_side(&mut self, alloc: Global, not_judged: &NotJudged) -> Result<Side, AllFault> {
+        let Left { texts, .. } = self.left(alloc, Side::B, not_judged)?;
+        let layers = self.printout.layers;
+        let any_period = not_judged.any_period();
+        match judge_texts(alloc, layers, any_period, Onlooker::Nobody, &texts) {
+            Ok(watched) => match watched.ends.verdict() {
+                Verdict::Accepted(_) => Ok(Side::B),
+                Verdict::Refused { side, .. } => Ok(side),
+            },
+            Err(JudgeFault::OutOfMemory) => Err(AllFault::OUT_OF_MEMORY),
+            Err(_) => Ok(Side::B),
+        }
     }
 
     // At which records the judgement stops. Of the line alone there are none: nothing is left out of that.
@@ -201,18 +228,23 @@ impl<A: Read + Seek, B: Read + Seek> PairCaptures<'_, '_, '_, A, B> {
         })
     }
 
-    // The answer on these texts of what is left, while this one looks on.
+    // The answer on what is left, while this one looks on.
     fn answer_left(
         &mut self,
         alloc: Global,
         not_judged: &NotJudged,
         onlooker: Onlooker<'_>,
-        texts: &LeftTexts,
-        stops: Stops,
+        left: &Left,
     ) -> Result<Answer, AllFault> {
         let layers = self.printout.layers;
-        match judge_texts(alloc, layers, not_judged.any_period(), onlooker, texts) {
-            Ok(watched) => match stopped_at(watched.ends.verdict(), stops) {
+        match judge_texts(
+            alloc,
+            layers,
+            not_judged.any_period(),
+            onlooker,
+            &left.texts,
+        ) {
+            Ok(watched) => match stopped_at(watched.ends.verdict(), left.stops) {
                 Some(refusal) => self.answer_stopped(alloc, refusal),
                 None => self.answer_watched(alloc, watched),
             },

@@ -28,9 +28,11 @@ pub fn address_of<R: Read + Seek>(
     of_text(side, found)
 }
 
-/// The text of what is left of it. Where the heads of both captures do not fit, it is left of the text in which they do.
+/// The text of what is left of it. Where the heads of both captures do not fit, it is left of the text in which they do, and that of the `kept` side
+/// stays.
 pub fn text_left<R: Read + Seek>(
     alloc: Global,
+    kept: Side,
     side: Side,
     not_judged: &NotJudged,
     file: &mut R,
@@ -40,10 +42,10 @@ pub fn text_left<R: Read + Seek>(
     if heads_fit(&leaving) {
         return of_text(side, left_out(alloc, side, &leaving, &mut reader));
     }
-    let text = of_text(side, fitted(alloc, side, &leaving, &mut reader))?;
+    let text = of_text(side, fitted(alloc, kept, side, &leaving, &mut reader))?;
     let fitting = Leaving {
-        head_of_a: head_fitted(&leaving, Side::A),
-        head_of_b: head_fitted(&leaving, Side::B),
+        head_of_a: head_fitted(&leaving, kept, Side::A),
+        head_of_b: head_fitted(&leaving, kept, Side::B),
         ..leaving
     };
     let mut reader = Tally::new(text.as_slice());

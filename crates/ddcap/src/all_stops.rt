@@ -71,10 +71,10 @@ pub fn stop_of(side: Side, of_line: Option<Refusal>, wrong: Option<Refusal>) -> 
     {
         return Some(wrong);
     }
-    match refusal.reason {
-        Reason::Undetected | Reason::Changed => Some(refusal),
-        _ => None,
+    if refusal.reason == Reason::Undetected || refusal.reason == Reason::Changed {
+        return Some(refusal);
     }
+    None
 }
 
 /// Ends this text of what is left at this stop: the bytes of its unit become others, for which it is refused where it comes. It comes where it would

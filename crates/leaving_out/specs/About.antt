@@ -1,5 +1,5 @@
 -- Which own address a record is about: the one that its own side names, else one of the other side. And which of them belong together.
-use Rattle.std.specs.Prelude.{ℕ, ◌==◌, ◌||◌, Bool, if◌then◌else◌, Option, Some, None, List, [], ◌∷◌}
+use Rattle.std.specs.Prelude.{ℕ, ◌==◌, Bool, if◌then◌else◌, Option, Some, None, List, [], ◌∷◌}
 use Rattle.wire_base.specs.declared.side.Side.{Side}
 use Rattle.wire_base.specs.Side.{other_side}
 use Rattle.capture.specs.declared.event.Event.{Event}
@@ -68,7 +68,7 @@ answered sender (Some (ConnectAck dst)) = if dst == 0 then Some (bound sender 0 
 answered sender (Some (NoOperation rest)) = None
 answered sender (Some (ConnectInitiate retransmitted src services info segsize user_data)) = None
 answered sender (Some (ConnectConfirm dst src services info segsize user_data)) =
-    if (src == 0) || (dst == 0) then None else Some (bound sender src dst)
+    if src == 0 then None else bound_if_named sender src dst
 answered sender (Some (DisconnectInitiate dst src reason user_data)) = None
 answered sender (Some (DisconnectConfirm dst src reason)) = None
 

@@ -35,10 +35,16 @@ use Rattle.leaving_out.specs.Texts.{DepartsNext, departing}
 abbrev pub reversed : Head → Head
 reversed head = record { own = head.peer; peer = head.own }
 
--- The head of this side's capture then: that of b's, and what is seen of it from there
-abbrev pub head_fitted : Leaving → Side → Head
-head_fitted leaving A = reversed leaving.head_of_b
-head_fitted leaving B = leaving.head_of_b
+-- The head of this side's capture, where the other one's stays
+abbrev pub head_seen : Leaving → Side → Head
+head_seen leaving side = reversed (head_of leaving (other_side side))
+
+-- and where that of the `kept` side stays
+abbrev pub head_fitted : Leaving → (kept side : Side) → Head
+head_fitted leaving A A = leaving.head_of_a
+head_fitted leaving A B = reversed leaving.head_of_a
+head_fitted leaving B A = reversed leaving.head_of_b
+head_fitted leaving B B = leaving.head_of_b
 
 -- ---- packets
 
@@ -56,82 +62,82 @@ exchanged one other route =
 
 -- of a packet that this side sent: the nodes of the sender's head, and those that the receiver's has
 abbrev pub route_fitted : Leaving → Side → Route → Route
-route_fitted leaving sender route = exchanged (head_of leaving sender) (reversed (head_of leaving (other_side sender))) route
+route_fitted leaving sender route = exchanged (head_of leaving sender) (head_seen leaving sender) route
 
--- Of a those that are judged there, and of b the others: the nodes of b's head are those that the receiver of a's names, and the sender of b's
-abbrev pub is_moved_by : Side → (is_left : Bool) → Bool
-is_moved_by A is_left = not is_left
-is_moved_by B is_left = is_left
+-- Of the kept side those that its own end leaves out, since they go by the other one's head from now on; of the other side those that its own end
+-- judges
+abbrev pub is_moved_by : (kept sender : Side) → (is_left : Bool) → Bool
+is_moved_by A A is_left = is_left
+is_moved_by A B is_left = not is_left
+is_moved_by B A is_left = not is_left
+is_moved_by B B is_left = is_left
 
-abbrev pub is_moved : Leaving → Side → Result NspValue NspFault → Bool
-is_moved leaving sender (Ok m) = is_moved_by sender (is_left leaving (at_sender sender (source_of m) (destination_of m)))
-is_moved leaving sender (Err fault) = false
+abbrev pub is_moved : Leaving → (kept sender : Side) → Result NspValue NspFault → Bool
+is_moved leaving kept sender (Ok m) = is_moved_by kept sender (is_left leaving (at_sender sender (source_of m) (destination_of m)))
+is_moved leaving kept sender (Err fault) = false
 
 abbrev pub packet_on : Route → List ℕ → List ℕ
 packet_on route nsp = packet_bytes (Data route.rtflg route.dst route.src route.forward nsp)
 
-abbrev pub message_fitted : Leaving → Side → Route → List ℕ → List ℕ → List ℕ
-message_fitted leaving sender route packet nsp =
-    if is_moved leaving sender (nsp_at nsp) then packet_on (route_fitted leaving sender route) nsp else packet
-
-abbrev pub packet_fitted_by : Leaving → Side → List ℕ → Result PacketValue PacketFault → List ℕ
-packet_fitted_by leaving sender packet (Err fault) = packet
-packet_fitted_by leaving sender packet (Ok (Control bytes)) = packet
-packet_fitted_by leaving sender packet (Ok (Data rtflg dst src forward nsp)) =
-    if is_returned rtflg then packet else message_fitted leaving sender (route_of rtflg dst src forward) packet nsp
+abbrev pub packet_fitted_by : Leaving → (kept sender : Side) → List ℕ → Result PacketValue PacketFault → List ℕ
+packet_fitted_by leaving kept sender packet (Err fault) = packet
+packet_fitted_by leaving kept sender packet (Ok (Control bytes)) = packet
+packet_fitted_by leaving kept sender packet (Ok (Data rtflg dst src forward nsp)) =
+    if is_returned rtflg then packet else (
+    if is_moved leaving kept sender (nsp_at nsp) then packet_on (route_fitted leaving sender (route_of rtflg dst src forward)) nsp else packet)
 
 -- what becomes of a packet that this side sent
-abbrev pub packet_fitted : Leaving → Side → List ℕ → List ℕ
-packet_fitted leaving sender packet = packet_fitted_by leaving sender packet (packet_at packet)
+abbrev pub packet_fitted : Leaving → (kept sender : Side) → List ℕ → List ℕ
+packet_fitted leaving kept sender packet = packet_fitted_by leaving kept sender packet (packet_at packet)
 
 -- ---- units and records
 
-abbrev pub unit_fitted_by : Leaving → Side → List ℕ → ReadingValue → List ℕ
-unit_fitted_by leaving sender unit (Sound (messages.Data flags resp num body)) =
-    spelling (messages.Data flags resp num (packet_fitted leaving sender body))
-unit_fitted_by leaving sender unit (Sound (messages.Ack flags resp)) = unit
-unit_fitted_by leaving sender unit (Sound (messages.Nak flags reason resp)) = unit
-unit_fitted_by leaving sender unit (Sound (messages.Rep flags num)) = unit
-unit_fitted_by leaving sender unit (Sound (messages.Strt flags)) = unit
-unit_fitted_by leaving sender unit (Sound (messages.Stack flags)) = unit
-unit_fitted_by leaving sender unit HeaderBad = unit
-unit_fitted_by leaving sender unit DataBad = unit
-unit_fitted_by leaving sender unit (Malformed departure) = unit
+abbrev pub unit_fitted_by : Leaving → (kept sender : Side) → List ℕ → ReadingValue → List ℕ
+unit_fitted_by leaving kept sender unit (Sound (messages.Data flags resp num body)) =
+    spelling (messages.Data flags resp num (packet_fitted leaving kept sender body))
+unit_fitted_by leaving kept sender unit (Sound (messages.Ack flags resp)) = unit
+unit_fitted_by leaving kept sender unit (Sound (messages.Nak flags reason resp)) = unit
+unit_fitted_by leaving kept sender unit (Sound (messages.Rep flags num)) = unit
+unit_fitted_by leaving kept sender unit (Sound (messages.Strt flags)) = unit
+unit_fitted_by leaving kept sender unit (Sound (messages.Stack flags)) = unit
+unit_fitted_by leaving kept sender unit HeaderBad = unit
+unit_fitted_by leaving kept sender unit DataBad = unit
+unit_fitted_by leaving kept sender unit (Malformed departure) = unit
 
 -- what becomes of a unit that this side sent: its block checks are made anew
-abbrev pub unit_fitted : Leaving → Side → List ℕ → List ℕ
-unit_fitted leaving sender unit = unit_fitted_by leaving sender unit (reading unit)
+abbrev pub unit_fitted : Leaving → (kept sender : Side) → List ℕ → List ℕ
+unit_fitted leaving kept sender unit = unit_fitted_by leaving kept sender unit (reading unit)
 
-abbrev pub event_fitted : Leaving → Side → Event → Event
-event_fitted leaving side (events.Composed packet) = events.Composed (packet_fitted leaving side packet)
-event_fitted leaving side event = event
+abbrev pub event_fitted : Leaving → (kept side : Side) → Event → Event
+event_fitted leaving kept side (events.Composed packet) = events.Composed (packet_fitted leaving kept side packet)
+event_fitted leaving kept side event = event
 
-abbrev pub record_fitted : Leaving → Side → Record → Record
-record_fitted leaving side (Sent unit) = Sent (unit_fitted leaving side unit)
-record_fitted leaving side (Received hint fate unit) = Received hint fate (unit_fitted leaving (other_side side) unit)
-record_fitted leaving side (Noise bytes) = Noise bytes
-record_fitted leaving side (User event) = User (event_fitted leaving side event)
+abbrev pub record_fitted : Leaving → (kept side : Side) → Record → Record
+record_fitted leaving kept side (Sent unit) = Sent (unit_fitted leaving kept side unit)
+record_fitted leaving kept side (Received hint fate unit) = Received hint fate (unit_fitted leaving kept (other_side side) unit)
+record_fitted leaving kept side (Noise bytes) = Noise bytes
+record_fitted leaving kept side (User event) = User (event_fitted leaving kept side event)
 
-abbrev pub records_fitted : Leaving → Side → List Record → List Record
-records_fitted leaving side [] = []
-records_fitted leaving side (r ∷ rs) = record_fitted leaving side r ∷ records_fitted leaving side rs
+abbrev pub records_fitted : Leaving → (kept side : Side) → List Record → List Record
+records_fitted leaving kept side [] = []
+records_fitted leaving kept side (r ∷ rs) = record_fitted leaving kept side r ∷ records_fitted leaving kept side rs
 
 -- ---- the text
 
-abbrev pub text_fitted : Leaving → Side → ReadSoFar → List ℕ
-text_fitted leaving side read =
-    capture_text Three (head_fitted leaving side).own (head_fitted leaving side).peer (records_fitted leaving side read.records)
+abbrev pub text_fitted : Leaving → (kept side : Side) → ReadSoFar → List ℕ
+text_fitted leaving kept side read =
+    capture_text Three (head_fitted leaving kept side).own (head_fitted leaving kept side).peer (records_fitted leaving kept side read.records)
 
 -- The text that was made of a text: of all its records; and where this departs, a line that departs in the same way.
-abbrev pub FittedOf : Leaving → Side → ReadSoFar → List ℕ → Type 0
-FittedOf leaving side read made =
-    ((read.behind ≡ TheEnd) × (made ≡ text_fitted leaving side read))
-    ⊎ ((kind : Departure) × DepartsNext read kind × (made ≡ text_fitted leaving side read ++ departing kind))
+abbrev pub FittedOf : Leaving → (kept side : Side) → ReadSoFar → List ℕ → Type 0
+FittedOf leaving kept side read made =
+    ((read.behind ≡ TheEnd) × (made ≡ text_fitted leaving kept side read))
+    ⊎ ((kind : Departure) × DepartsNext read kind × (made ≡ text_fitted leaving kept side read ++ departing kind))
 
 -- What is made of this text. Only its head's departure is answered as one; a failed read, and want of memory, as such.
-abbrev pub Fits : Leaving → Side → Option (List ℕ) → Result (Vec ℕ) CaptureFault → Type 0
-Fits leaving side text (Ok made) = (read : ReadSoFar) × IsReadSoFar text read × FittedOf leaving side read made.items
-Fits leaving side text (Err (Departs kind line)) = HeadDepartsAt text kind line
-Fits leaving side text (Err Read) = Unit {0}
-Fits leaving side text (Err OutOfMemory) = Unit {0}
-Fits leaving side text (Err Failed) = ⊥
+abbrev pub Fits : Leaving → (kept side : Side) → Option (List ℕ) → Result (Vec ℕ) CaptureFault → Type 0
+Fits leaving kept side text (Ok made) = (read : ReadSoFar) × IsReadSoFar text read × FittedOf leaving kept side read made.items
+Fits leaving kept side text (Err (Departs kind line)) = HeadDepartsAt text kind line
+Fits leaving kept side text (Err Read) = Unit {0}
+Fits leaving kept side text (Err OutOfMemory) = Unit {0}
+Fits leaving kept side text (Err Failed) = ⊥

@@ -68,10 +68,14 @@ fn answered_by(sender: Side, unit: &[u8]) -> Option<Binding>
             }
         }
         Some(Nsp::ConnectConfirm(m)) => {
-            if m.srcaddr == 0 || m.dstaddr == 0 {
+            if m.srcaddr == 0 {
                 return None;
             }
-            Some(bound(sender, m.srcaddr, m.dstaddr))
+            if m.dstaddr == 0 {
+                None
+            } else {
+                Some(bound(sender, m.srcaddr, m.dstaddr))
+            }
         }
         _ => None,
     }

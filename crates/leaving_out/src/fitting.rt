@@ -1,6 +1,6 @@
 //! Captures whose heads do not fit each other, as ones whose heads do: so that what one end sends of a link that is left out still acts at the other.
 
-ghost use Rattle.std.specs.Prelude.{◌≡◌, ◌++◌, IfOk, IsTrue, OnOk, ◌↔◌};
+ghost use Rattle.std.specs.Prelude.{◌≡◌, ◌++◌, if◌then◌else◌, IfOk, IsTrue, OnOk, ◌↔◌};
 ghost use Rattle.capture.specs.Entries.{record_with};
 ghost use Rattle.capture.specs.Faulty.{CountsReads, is_failed_read};
 ghost use Rattle.capture.specs.Range.{IsRecord};
@@ -26,7 +26,7 @@ use wire_base::{Side, Tally};
 
 /// Whether both heads fit each other, as those of a pair do. Takes no memory.
 pub fn heads_fit(leaving: &Leaving<'_>) -> bool
-    ensures { IsTrue result ↔ (spec.head_fitted leaving.now Side.A ≡ leaving.now.head_of_a) }
+    ensures { IsTrue result ↔ (spec.reversed leaving.now.head_of_b ≡ leaving.now.head_of_a) }
 {
     let seen = reversed(leaving.head_of_b);
     if seen.own != leaving.head_of_a.own {
@@ -35,13 +35,15 @@ pub fn heads_fit(leaving: &Leaving<'_>) -> bool
     seen.peer == leaving.head_of_a.peer
 }
 
-/// The head of this side's capture in the texts that [`fitted`] makes: that of b's capture, and what is seen of it from there. Takes no memory.
-pub fn head_fitted(leaving: &Leaving<'_>, side: Side) -> Head
-    ensures { result ≡ spec.head_fitted leaving.now side }
+/// The head of this side's capture in the texts that [`fitted`] makes: that of the `kept` side stays. Takes no memory.
+pub fn head_fitted(leaving: &Leaving<'_>, kept: Side, side: Side) -> Head
+    ensures { result ≡ spec.head_fitted leaving.now kept side }
 {
-    match side {
-        Side::A => reversed(leaving.head_of_b),
-        Side::B => leaving.head_of_b,
+    match (kept, side) {
+        (Side::A, Side::A) => leaving.head_of_a,
+        (Side::A, Side::B) => reversed(leaving.head_of_a),
+        (Side::B, Side::A) => reversed(leaving.head_of_b),
+        (Side::B, Side::B) => leaving.head_of_b,
     }
 }
 
@@ -55,31 +57,40 @@ fn reversed(head: Head) -> Head
     }
 }
 
-/// The text of format 3, in memory, in which all that is right goes between the nodes of b's head: a packet of a message that is judged at its sender
-/// where it goes from the node of the sender's head to its peer; and one of any other message where the receiver's head has those nodes. No other
-/// packet becomes one that does. That the receiver of a judged message refuses its nodes is not seen any more: such a record is found in the captures
+/// The text of format 3, in memory, in which both heads are that of the `kept` side, and all that is right goes between its nodes: a packet of a
+/// message that is judged at its sender, where it goes from the node of the sender's head to its peer; and one of any other message, where it goes so
+/// by the receiver's head. No other packet becomes one that does. That the receiver of a judged message refuses its nodes is not seen any more: such a record is found in the captures
 /// themselves ([`wrong_node_at`](crate::wrong_node_at)).
 ///
 /// All else stays as it is, and what departs from the format and each fault are as for [`left_out`](crate::left_out).
 pub fn fitted<R: Read>(
     alloc: Global,
+    kept: Side,
     side: Side,
     leaving: &Leaving<'_>,
     reader: &mut Tally<R>,
 ) -> Result<Vec<u8>, CaptureFault>
-    ensures text { spec.Fits leaving.now side (R.remaining (tally_lent reader.old)) result }
+    ensures text { spec.Fits leaving.now kept side (R.remaining (tally_lent reader.old)) result }
     ensures reads { CountsReads (is_failed_read result) (tally_faults reader.old) (tally_faults reader.new) }
 {
     let mut capture = CaptureReader::open(alloc, reader)?;
     let mut text = Vec::new(alloc);
-    let head = head_fitted(leaving, side);
+    let head = head_fitted(leaving, kept, side);
     let Ok(()) = put_head_line(&mut text, Format::Three, head.own, head.peer) else {
         return Err(CaptureFault::OutOfMemory);
     };
     for _ in 0..MAX_RECORDS + 1 {
         match capture.advance(reader) {
             Ok(Some(entry)) => {
-                let put = put_fitted(alloc, &mut text, leaving, side, entry, capture.bytes());
+                let put = put_fitted(
+                    alloc,
+                    &mut text,
+                    leaving,
+                    kept,
+                    side,
+                    entry,
+                    capture.bytes(),
+                );
                 let Ok(()) = put else {
                     return Err(CaptureFault::OutOfMemory);
                 };
@@ -102,24 +113,25 @@ fn put_fitted(
     alloc: Global,
     text: &mut Vec<u8>,
     leaving: &Leaving<'_>,
+    kept: Side,
     side: Side,
     entry: Entry,
     bytes: &[u8],
 ) -> Result<(), AllocError>
     requires { IsRecord (record_with entry bytes.now) }
-    ensures { OnOk result (text.new.items ≡ text.old.items ++ record_line Wide (spec.record_fitted leaving.now side (record_with entry bytes.now))) }
+    ensures { OnOk result (text.new.items ≡ text.old.items ++ record_line Wide (spec.record_fitted leaving.now kept side (record_with entry bytes.now))) }
 {
     match entry {
         Entry::Sent => {
-            let made = unit_fitted(alloc, leaving, side, bytes)?;
+            let made = unit_fitted(alloc, leaving, kept, side, bytes)?;
             put_changed(text, entry, made, bytes)
         }
         Entry::Received { .. } => {
-            let made = unit_fitted(alloc, leaving, side.other(), bytes)?;
+            let made = unit_fitted(alloc, leaving, kept, side.other(), bytes)?;
             put_changed(text, entry, made, bytes)
         }
         Entry::Composed => {
-            let made = packet_fitted(alloc, leaving, side, bytes)?;
+            let made = packet_fitted(alloc, leaving, kept, side, bytes)?;
             put_changed(text, entry, made, bytes)
         }
         _ => put_line(text, entry, bytes),
@@ -130,10 +142,11 @@ fn put_fitted(
 fn unit_fitted(
     alloc: Global,
     leaving: &Leaving<'_>,
+    kept: Side,
     sender: Side,
     unit: &[u8],
 ) -> Result<Option<Vec<u8>>, AllocError>
-    ensures { IfOk result (λ made. or_same unit.now made ≡ spec.unit_fitted leaving.now sender unit.now) }
+    ensures { IfOk result (λ made. or_same unit.now made ≡ spec.unit_fitted leaving.now kept sender unit.now) }
 {
     match read_unit(unit) {
         Reading::Sound(
@@ -144,7 +157,7 @@ fn unit_fitted(
                 body,
             },
         ) => {
-            let Some(made) = packet_fitted(alloc, leaving, sender, body)? else {
+            let Some(made) = packet_fitted(alloc, leaving, kept, sender, body)? else {
                 return Ok(None);
             };
             let message = Message::Data {
@@ -163,10 +176,11 @@ fn unit_fitted(
 fn packet_fitted(
     alloc: Global,
     leaving: &Leaving<'_>,
+    kept: Side,
     sender: Side,
     packet: &[u8],
 ) -> Result<Option<Vec<u8>>, AllocError>
-    ensures { IfOk result (λ made. or_same packet.now made ≡ spec.packet_fitted leaving.now sender packet.now) }
+    ensures { IfOk result (λ made. or_same packet.now made ≡ spec.packet_fitted leaving.now kept sender packet.now) }
 {
     let Ok(read) = read_packet(packet) else {
         return Ok(None);
@@ -189,7 +203,7 @@ fn packet_fitted(
                 src,
                 forward,
             };
-            message_fitted(alloc, leaving, sender, route, packet, nsp)
+            message_fitted(alloc, leaving, kept, sender, route, packet, nsp)
         }
     }
 }
@@ -198,15 +212,17 @@ fn packet_fitted(
 fn message_fitted(
     alloc: Global,
     leaving: &Leaving<'_>,
+    kept: Side,
     sender: Side,
     route: Route,
     packet: &[u8],
     nsp: &[u8],
 ) -> Result<Option<Vec<u8>>, AllocError>
     requires { IsShortFormat route.rtflg }
-    ensures { IfOk result (λ made. or_same packet.now made ≡ spec.message_fitted leaving.now sender route packet.now nsp.now) }
+    ensures { IfOk result (λ made. or_same packet.now made ≡ (if spec.is_moved leaving.now kept sender (nsp_at nsp.now)
+        then spec.packet_on (spec.route_fitted leaving.now sender route) nsp.now else packet.now)) }
 {
-    if !is_moved(leaving, sender, nsp) {
+    if !is_moved(leaving, kept, sender, nsp) {
         return Ok(None);
     }
     let made = route_fitted(leaving, sender, route);
@@ -221,16 +237,18 @@ fn message_fitted(
 }
 
 // Whether the packet of this message goes between other nodes from now on.
-fn is_moved(leaving: &Leaving<'_>, sender: Side, nsp: &[u8]) -> bool
-    ensures { result ≡ spec.is_moved leaving.now sender (nsp_at nsp.now) }
+fn is_moved(leaving: &Leaving<'_>, kept: Side, sender: Side, nsp: &[u8]) -> bool
+    ensures { result ≡ spec.is_moved leaving.now kept sender (nsp_at nsp.now) }
 {
     let Ok(message) = read_nsp(nsp) else {
         return false;
     };
     let is_left = leaving.has(at_sender(sender, ends_of(&message)));
-    match sender {
-        Side::A => !is_left,
-        Side::B => is_left,
+    match (kept, sender) {
+        (Side::A, Side::A) => is_left,
+        (Side::A, Side::B) => !is_left,
+        (Side::B, Side::A) => !is_left,
+        (Side::B, Side::B) => is_left,
     }
 }
 
