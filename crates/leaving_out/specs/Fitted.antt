@@ -35,6 +35,10 @@ use Rattle.leaving_out.specs.Texts.{DepartsNext, departing}
 abbrev pub reversed : Head → Head
 reversed head = record { own = head.peer; peer = head.own }
 
+-- both heads fit each other, as those of a pair do
+abbrev pub heads_fit : Leaving → Bool
+heads_fit leaving = (leaving.head_of_b.peer == leaving.head_of_a.own) && (leaving.head_of_b.own == leaving.head_of_a.peer)
+
 -- The head of this side's capture, where the other one's stays
 abbrev pub head_seen : Leaving → Side → Head
 head_seen leaving side = reversed (head_of leaving (other_side side))
@@ -76,15 +80,17 @@ abbrev pub is_moved : Leaving → (kept sender : Side) → Result NspValue NspFa
 is_moved leaving kept sender (Ok m) = is_moved_by kept sender (is_left leaving (at_sender sender (source_of m) (destination_of m)))
 is_moved leaving kept sender (Err fault) = false
 
-abbrev pub packet_on : Route → List ℕ → List ℕ
-packet_on route nsp = packet_bytes (Data route.rtflg route.dst route.src route.forward nsp)
+-- the packet of this message, with this header but for the addresses of another
+abbrev pub packet_on : (route made : Route) → List ℕ → List ℕ
+packet_on route made nsp = packet_bytes (Data route.rtflg made.dst made.src route.forward nsp)
 
 abbrev pub packet_fitted_by : Leaving → (kept sender : Side) → List ℕ → Result PacketValue PacketFault → List ℕ
 packet_fitted_by leaving kept sender packet (Err fault) = packet
 packet_fitted_by leaving kept sender packet (Ok (Control bytes)) = packet
 packet_fitted_by leaving kept sender packet (Ok (Data rtflg dst src forward nsp)) =
     if is_returned rtflg then packet else (
-    if is_moved leaving kept sender (nsp_at nsp) then packet_on (route_fitted leaving sender (route_of rtflg dst src forward)) nsp else packet)
+    if is_moved leaving kept sender (nsp_at nsp)
+    then packet_on (route_of rtflg dst src forward) (route_fitted leaving sender (route_of rtflg dst src forward)) nsp else packet)
 
 -- what becomes of a packet that this side sent
 abbrev pub packet_fitted : Leaving → (kept sender : Side) → List ℕ → List ℕ

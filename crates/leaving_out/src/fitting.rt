@@ -1,6 +1,6 @@
 //! Captures whose heads do not fit each other, as ones whose heads do: so that what one end sends of a link that is left out still acts at the other.
 
-ghost use Rattle.std.specs.Prelude.{◌≡◌, ◌++◌, if◌then◌else◌, IfOk, IsTrue, OnOk, ◌↔◌};
+ghost use Rattle.std.specs.Prelude.{◌≡◌, ◌++◌, if◌then◌else◌, IfOk, OnOk};
 ghost use Rattle.capture.specs.Entries.{record_with};
 ghost use Rattle.capture.specs.Faulty.{CountsReads, is_failed_read};
 ghost use Rattle.capture.specs.Range.{IsRecord};
@@ -26,13 +26,12 @@ use wire_base::{Side, Tally};
 
 /// Whether both heads fit each other, as those of a pair do. Takes no memory.
 pub fn heads_fit(leaving: &Leaving<'_>) -> bool
-    ensures { IsTrue result ↔ (spec.reversed leaving.now.head_of_b ≡ leaving.now.head_of_a) }
+    ensures { result ≡ spec.heads_fit leaving.now }
 {
-    let seen = reversed(leaving.head_of_b);
-    if seen.own != leaving.head_of_a.own {
+    if leaving.head_of_b.peer != leaving.head_of_a.own {
         return false;
     }
-    seen.peer == leaving.head_of_a.peer
+    leaving.head_of_b.own == leaving.head_of_a.peer
 }
 
 /// The head of this side's capture in the texts that [`fitted`] makes: that of the `kept` side stays. Takes no memory.
@@ -59,8 +58,8 @@ fn reversed(head: Head) -> Head
 
 /// The text of format 3, in memory, in which both heads are that of the `kept` side, and all that is right goes between its nodes: a packet of a
 /// message that is judged at its sender, where it goes from the node of the sender's head to its peer; and one of any other message, where it goes so
-/// by the receiver's head. No other packet becomes one that does. That the receiver of a judged message refuses its nodes is not seen any more: such a record is found in the captures
-/// themselves ([`wrong_node_at`](crate::wrong_node_at)).
+/// by the receiver's head. No other packet becomes one that does. That the receiver of a judged message refuses its nodes is not seen any more: such a
+/// record is found in the captures themselves ([`wrong_node_at`](crate::wrong_node_at)).
 ///
 /// All else stays as it is, and what departs from the format and each fault are as for [`left_out`](crate::left_out).
 pub fn fitted<R: Read>(
@@ -134,7 +133,14 @@ fn put_fitted(
             let made = packet_fitted(alloc, leaving, kept, side, bytes)?;
             put_changed(text, entry, made, bytes)
         }
-        _ => put_line(text, entry, bytes),
+        Entry::Noise => put_line(text, entry, bytes),
+        Entry::In { .. } | Entry::Up { .. } => put_line(text, entry, bytes),
+        Entry::Interrupt { .. } | Entry::Interrupted { .. } => put_line(text, entry, bytes),
+        Entry::Start | Entry::Halt | Entry::Boot => put_line(text, entry, &[]),
+        Entry::Open { .. } | Entry::Close { .. } | Entry::Abort { .. } => {
+            put_line(text, entry, &[])
+        }
+        Entry::Accept { .. } | Entry::Reject { .. } => put_line(text, entry, &[]),
     }
 }
 
@@ -220,7 +226,7 @@ fn message_fitted(
 ) -> Result<Option<Vec<u8>>, AllocError>
     requires { IsShortFormat route.rtflg }
     ensures { IfOk result (λ made. or_same packet.now made ≡ (if spec.is_moved leaving.now kept sender (nsp_at nsp.now)
-        then spec.packet_on (spec.route_fitted leaving.now sender route) nsp.now else packet.now)) }
+        then spec.packet_on route (spec.route_fitted leaving.now sender route) nsp.now else packet.now)) }
 {
     if !is_moved(leaving, kept, sender, nsp) {
         return Ok(None);
