@@ -4,4 +4,6 @@
 #[cfg(test)]
 mod carried_lines;
 #[cfg(test)]
+mod fitted_lines;
+#[cfg(test)]
 mod wrong_nodes;

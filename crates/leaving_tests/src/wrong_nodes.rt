@@ -1,4 +1,4 @@
-//! Which record keeps a message of a link that is left out, between wrong nodes, for one that is judged.
+//! Which record keeps a message between wrong nodes for a link that is judged.
 
 use capture::CaptureFault;
 use leaving_out::{Head, Leaving, wrong_node_at};
@@ -69,9 +69,11 @@ fn the_first_message_that_is_kept_between_wrong_nodes_is_found(
     };
     assert_eq!(rt; found(alloc, &[OF_A], 5, &text)?, Some(4));
     assert_eq!(rt; found(alloc, &[OF_A], 100, &text)?, Some(4));
-    // it was not made; its link is left out too; or that of its sender is judged
+    // whether its sender judges it or not
+    assert_eq!(rt; found(alloc, &[], 100, &text)?, Some(4));
+    // it was not made; or its link is left out
     assert_eq!(rt; found(alloc, &[OF_A], 4, &text)?, None);
     assert_eq!(rt; found(alloc, &[OF_A, OF_B], 100, &text)?, None);
-    assert_eq!(rt; found(alloc, &[], 100, &text)?, None);
+    assert_eq!(rt; found(alloc, &[OF_B], 100, &text)?, None);
     Ok(())
 }
