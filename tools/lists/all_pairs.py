@@ -27,10 +27,12 @@ AT_ONCE = 200  # data units, then all are acknowledged
 
 
 class Conversation:
-    """Both captures while they are written. By side: the lines, how many units were sent, and how many packets were given and kept."""
+    """Both captures while they are written. By side: the lines, the nodes of the head, how many units were sent, and how many packets were given and
+    kept."""
 
     def __init__(self):
         self.lines = {'a': [], 'b': []}
+        self.nodes = {letter: SIDES[letter].addresses for letter in 'ab'}
         self.sent, self.given, self.kept = [dict.fromkeys('ab', 0) for _ in range(3)]
 
     def item(self, letter, words):
@@ -40,6 +42,8 @@ class Conversation:
             self.line(letter, words[2:])
         elif sent:
             self.sends(letter, packet_of(sent[2], HEADERS[letter]), sent[1])
+        elif words.startswith('nodes '):
+            self.nodes[letter] = words.removeprefix('nodes ')
         elif words == 'no record':
             self.lines[letter].append(words)
         elif calls:
@@ -78,7 +82,7 @@ class Conversation:
 
     def text(self, letter):
         form = 3 if any(NEAR.match(line) for line in self.lines[letter]) else 1
-        return '\n'.join(['ddcap %d %s' % (form, SIDES[letter].addresses), *self.lines[letter]]) + '\n'
+        return '\n'.join(['ddcap %d %s' % (form, self.nodes[letter]), *self.lines[letter]]) + '\n'
 
 
 def texts_of(items):

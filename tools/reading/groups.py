@@ -78,23 +78,25 @@ class Grouping:
     # -- groups
 
     def bound(self, letter, record, verbs):
-        """Both ends that a record binds, or None: an answer to a call, a CC by one of these verbs, or address 0 of both ends a call from there."""
+        """Both ends that a record binds, or None: an answer to a call, a CC by one of these verbs, or address 0 of both ends an answer to a call
+        from there."""
         if record[0] == 'u' and record[1] in ('accept', 'reject'):
             return (letter, int(record[3])), (OTHER[letter], int(record[2]))
         message = message_of(record) if record[0] in verbs else None
         comes = record[0] in RECEIPTS
-        if self.is_from_0(message):
+        if self.is_at_0(message, comes):
             return (letter, 0), (OTHER[letter], 0)
         if message is None or message.kind != 'CC' or not (message.source and message.destination):
             return None
         ends = (letter, message.source), (OTHER[letter], message.destination)
         return ((letter, message.destination), (OTHER[letter], message.source)) if comes else ends
 
-    def is_from_0(self, message):
-        """Whether a call, or its confirmation, is from address 0: the connect ack that answers it names address 0, as one of its sender would."""
+    def is_at_0(self, message, comes):
+        """Whether a message puts address 0 of both ends together: a connect ack that is sent to address 0, which is as if it were of its sender's 0;
+        where an end is alone also the call from there that comes, or its confirmation."""
         if message is None or message.source:
             return False
-        return message.kind in ('CI', 'CC')
+        return message.kind in ('CI', 'CC') if comes else message.kind == 'connect ack' and not message.destination
 
     def bindings(self, letter, text, verbs):
         """What the records of a text bind, as far as it can be read: of each that does the letter, the place, and both ends."""

@@ -60,12 +60,12 @@ def is_data(digits):
 
 
 def records_of(side, text):
-    """The records of a capture in format 1 or 3."""
+    """The records of a capture in format 1 or 3; a line that departs is the last one, with the letter `!`."""
     units = 0
     for number, line in enumerate(text.splitlines()[1:]):
         letter, *words = line.split(' ')
         hint = int(words[0]) if letter in 'rkd' else None
-        digits = words[-1].replace('-', '') if letter != 'u' else ''
+        digits = words[-1].replace('-', '') if letter not in 'u!' else ''
         yield Record(side, number + 2, letter, hint, digits, words if letter == 'u' else None, units if letter == 's' else None)
         units += letter == 's'
 
@@ -73,7 +73,8 @@ def records_of(side, text):
 # ---- the order in which records are drawn
 
 def told(sides, refused):
-    """The records in the order in which the judge makes them, to the refused one: of a as long as none of its units is missing, else one of b."""
+    """The records in the order in which the judge makes them, to the refused one or a line that departs: of a as long as none of its units is missing,
+    else one of b."""
     places, sent, passed, order = [0, 0], [0, 0], [-1, -1], []
     while True:
         nexts = [sides[side][places[side]] if places[side] < len(sides[side]) else None for side in (0, 1)]
@@ -81,6 +82,8 @@ def told(sides, refused):
         if not ready:
             return order + ([sides[refused[0]][refused[1]]] if refused else [])
         record = ready[0]
+        if record.letter == '!':
+            return order
         side = record.side
         order.append(record)
         if (side, places[side]) == refused:
@@ -227,8 +230,9 @@ def middle(sides, row, last, made):
         return ('-%s-|' % words).ljust(34) if record.side == 0 else ('|-%s-' % words).rjust(34)
     if record.letter == 's':
         comes = [other.hint for other in sides[1 - record.side] if other.hint is not None and other.hint >= record.unit]
-        # the refused record is told before those after it
-        mark = '.' if comes[:1] == [record.unit] or record is last and not comes else 'x'
+        # the refused record is told before those after it; and of a text that departs it is not known what it does not have
+        departs = any(other.letter == '!' for side in sides for other in side[-1:])
+        mark = '.' if comes[:1] == [record.unit] or (record is last or departs) and not comes else 'x'
         return sent_middle(sides, row, mark)
     words = 'noise ~' + said(record.digits) if record.letter == 'n' else came_words(sides, record, made)
     return '<' + centred(words, '.') if record.side == 0 else centred(words, '.') + '>'

@@ -3,12 +3,9 @@
 its end; `rows_of_all` are its rows, each as its records."""
 import re
 
-from reading.alone import message_in
-from reading.ladder import RECORDS_PER_ROW, is_data, records_of, rows_of, text_of, told, woven
-from reading.packets import read_unit
+from reading.ladder import RECORDS_PER_ROW, records_of, rows_of, text_of, told, woven
 
 REFUSED = re.compile(r'refused ([ab]) (\d+) line \d+: (\d+ \w+)')
-OF_LINE = '5 Undetected', '10 Changed'
 SIGN, MARKED = '  <== refused', 80  # and the column behind which it is
 
 
@@ -19,30 +16,6 @@ def refusals_of(listing):
     places = [('ab'.index(each[1]), int(each[2])) for each in found if each]
     told = {place: '%s: %s' % (each[1], each[3]) for place, each in zip(places[:listing.refusals + 1], found)}
     return told, places[-1] if len(places) > listing.refusals else None
-
-
-def as_left(sender, digits, listing):
-    """What all DI and DC messages of this sender have that become the same message, since they are left out there alone; None of other bytes."""
-    unit = read_unit(digits)
-    packet, message = message_in(unit.packet) if unit.kind == 'data' else (None, None)
-    if message is None or message.kind not in ('DI', 'DC'):
-        return None
-    left, letters = listing.steps[-1].left, ('ab'[sender], 'ab'[1 - sender])
-    if [listing.grouping.end_of(letter, message, comes) in left for letter, comes in zip(letters, (False, True))] != [True, False]:
-        return None
-    return packet._replace(nsp=None), message._replace(kind='DC', flag=None, rest=b'')
-
-
-def is_of_line(sides, record, listing):
-    """Whether a last refusal is told by the line alone, after all has been read: a DI of what is left out comes, or is sent again, with other user
-    data."""
-    if record.letter == 's':
-        number, before = read_unit(record.digits).num, sides[record.side][:record.line - 2]
-        first = next(other for other in reversed(before) if other.letter == 's' and is_data(other.digits) and read_unit(other.digits).num == number)
-    else:
-        first = next(other for other in sides[1 - record.side] if other.unit == record.hint)
-    became = as_left(first.side, first.digits, listing)
-    return became is not None and became == as_left(first.side, record.digits, listing)
 
 
 def range_of(order, first, from_, rows):
@@ -58,8 +31,6 @@ def range_of(order, first, from_, rows):
 def rows_and_more(a, b, listing, from_, rows):
     sides = [list(records_of(0, a)), list(records_of(1, b))]
     refusals, final = refusals_of(listing)
-    if final and refusals.get(final, '').endswith(OF_LINE) and is_of_line(sides, sides[final[0]][final[1]], listing):
-        final = None
     order = told(sides, final)
     kept, is_pinned = range_of(order, next(iter(refusals)), from_, rows)
     last = sides[final[0]][final[1]] if final else None

@@ -5,14 +5,15 @@ ghost use Rattle.drawing.specs.declared.range.TheConstants.{MAX_ROWS};
 
 use crate::all_judged::{AllFault, find_all, in_memory, read_again};
 use crate::all_left::NotJudged;
-use crate::all_pair::{PairCaptures, judge_texts};
+use crate::all_pair::{Left, LeftTexts, PairCaptures, judge_texts, stopped_at};
+use crate::all_stops::put_end;
 use crate::all_told::{AllTold, Refusal};
 use crate::last_rows::LastRows;
 use crate::onlooker::{Onlooker, Originals};
 use crate::telling::Form;
 use drawing::{DrawnPair, Range, tell_behind};
 use ladder::{Drawn, Fate, Keep, Ladder, Marked, Row};
-use pair_judge::Verdict;
+use pair_judge::{JudgeFault, TextFault, Verdict, Watched};
 use std::alloc::{AllocError, Global};
 use std::io::{Read, Seek};
 use why::LinkPast;
@@ -47,20 +48,71 @@ pub fn all_found<A: Read + Seek, B: Read + Seek>(
     }))
 }
 
-/// The rows of this range, as the captures have them, while what is left of both is judged. Where no start is named they begin so far before the
-/// first refusal that it is in their middle.
+/// Rows that were drawn while what is left was judged.
+#[derive(Drop)]
+pub struct AllDrawn {
+    pub pair: DrawnPair,
+    /// How the judgement ends; at a line that departs it ends as if that were refused.
+    pub verdict: Verdict,
+    /// Whether what is left shows why.
+    pub is_shown: bool,
+}
+
+/// The rows of this range, as the captures have them, while what is left of both is judged: up to a line that departs, where one does. Where no start
+/// is named they begin so far before the first refusal that it is in their middle.
 pub fn all_drawn<A: Read + Seek, B: Read + Seek>(
     alloc: Global,
     captures: &mut PairCaptures<'_, '_, '_, A, B>,
     range: Range,
     all: &AllFound,
-) -> Result<DrawnPair, AllFault>
+) -> Result<AllDrawn, AllFault>
     requires low { 1 ≤ range.rows }
     requires high { range.rows ≤ MAX_ROWS }
 {
-    let not_judged = &all.not_judged;
     let whole = captures.whole(alloc)?;
-    let texts = captures.left(alloc, not_judged)?;
+    let Left { mut texts, stops } = captures.left(alloc, Side::B, &all.not_judged)?;
+    let (watched, stopped, is_shown) = match watched_rows(
+        alloc, captures, range, all, &whole, &texts,
+    ) {
+        Ok(watched) => {
+            let stopped = stopped_at(watched.ends.verdict(), stops);
+            let is_shown = stopped.is_none() && all.not_judged.heads_fit();
+            (watched, stopped, is_shown)
+        }
+        Err(
+            AllFault::Judge(
+                JudgeFault::Capture {
+                    side,
+                    fault: TextFault::Departs { line, .. },
+                },
+            ),
+        ) => {
+            in_memory(put_end(texts.of_mut(side), line))?;
+            let watched = watched_rows(alloc, captures, range, all, &whole, &texts)?;
+            (watched, None, false)
+        }
+        Err(fault) => return Err(fault),
+    };
+    let (pair, verdict) = end_drawn(alloc, captures, watched, stopped)?;
+    Ok(AllDrawn {
+        pair,
+        verdict,
+        is_shown,
+    })
+}
+
+// The rows that are told of the captures themselves while these texts of what is left are judged.
+fn watched_rows<'t, A: Read + Seek, B: Read + Seek>(
+    alloc: Global,
+    captures: &PairCaptures<'_, '_, '_, A, B>,
+    range: Range,
+    all: &AllFound,
+    whole: &'t LeftTexts,
+    texts: &LeftTexts,
+) -> Result<Watched<Onlooker<'t>>, AllFault>
+    requires low { 1 ≤ range.rows }
+    requires high { range.rows ≤ MAX_ROWS }
+{
     let keep = kept(range, all.refusals.as_slice());
     let rows = LastRows {
         ladder: in_memory(Ladder::new(alloc, keep, range.rows))?,
@@ -68,33 +120,45 @@ pub fn all_drawn<A: Read + Seek, B: Read + Seek>(
     };
     let originals = in_memory(Originals::new(alloc, rows, &whole.a, &whole.b))?;
     let layers = captures.printout.layers;
+    let any_period = all.not_judged.any_period();
     let onlooker = Onlooker::Originals(originals);
-    let watched = match judge_texts(alloc, layers, not_judged.any_period(), onlooker, &texts) {
-        Ok(watched) => watched,
-        Err(fault) => return Err(AllFault::Judge(fault)),
-    };
+    match judge_texts(alloc, layers, any_period, onlooker, texts) {
+        Ok(watched) => Ok(watched),
+        Err(fault) => Err(AllFault::Judge(fault)),
+    }
+}
+
+// The rows, with the refused record in the last one; and how the judgement ends, which is at this refusal if it stops there.
+fn end_drawn<A: Read + Seek, B: Read + Seek>(
+    alloc: Global,
+    captures: &mut PairCaptures<'_, '_, '_, A, B>,
+    watched: Watched<Onlooker<'_>>,
+    stopped: Option<Refusal>,
+) -> Result<(DrawnPair, Verdict), AllFault> {
     let ends = watched.ends;
     let Onlooker::Originals(mut originals) = watched.observer else {
         return Err(AllFault::OUT_OF_MEMORY);
     };
-    match ends.verdict() {
+    let verdict = match stopped {
+        Some(refusal) => Verdict::Refused {
+            side: refusal.side,
+            place: refusal.place,
+            reason: refusal.reason,
+        },
+        None => ends.verdict(),
+    };
+    match verdict {
         Verdict::Accepted(_) => originals.rows.ladder.end(),
         Verdict::Refused { side, reason, .. } => {
             in_memory(originals.refused(side, reason.is_of_changed_bytes()))?;
-            let told = tell_behind(
-                alloc,
-                &mut originals.rows.ladder,
-                &ends,
-                captures.a,
-                captures.b,
-            );
-            if let Err(fault) = told {
+            let ladder = &mut originals.rows.ladder;
+            if let Err(fault) = tell_behind(alloc, ladder, &ends, captures.a, captures.b) {
                 return Err(AllFault::Judge(fault));
             }
         }
     }
     let drawn = in_memory(originals.rows.ladder.drawn(alloc))?;
-    Ok(DrawnPair { ends, drawn })
+    Ok((DrawnPair { ends, drawn }, verdict))
 }
 
 // Which rows are kept.

@@ -8,7 +8,8 @@ ghost use Rattle.ddcap.specs.PrintedAlone.{end_of};
 use crate::all_judged::{AllFault, Captures, in_memory, of_text, read_again, read_on};
 use crate::all_left::{Beyond, NotJudged};
 use crate::all_pair::Telling;
-use crate::all_read::{address_of, head_of, text_left, wrong_node_of};
+use crate::all_read::{address_of, head_of, text_left, text_whole, wrong_node_of};
+use crate::all_stops::{OfLine, put_stop, stop_of};
 use crate::all_told::{Answer, Refusal};
 use crate::end_telling::{EndPrintout, end_refused_text};
 use crate::end_text::{end_status, end_text};
@@ -23,7 +24,7 @@ use crate::text::{FAULTY, line_fault_text};
 use capture::CaptureFault;
 use leaving_out::{Head, bind_all};
 use link_groups::{Groups, OwnAddress};
-use pair_judge::{Accused, EndVerdict, Reason, WatchedEnd, judge_line_end};
+use pair_judge::{Accused, EndVerdict, WatchedEnd, judge_line_end};
 use std::alloc::{AllocError, Global};
 use std::io::{Read, Seek};
 use wire_base::{Side, Tally};
@@ -33,6 +34,8 @@ use wire_base::{Side, Tally};
 pub struct EndCapture<'n, 'a, A: Read + Seek> {
     pub printout: EndPrintout<'n>,
     pub telling: Telling,
+    /// What its line is refused for, once that was asked.
+    pub of_line: OfLine,
     pub a: &'a mut A,
 }
 
@@ -54,18 +57,20 @@ impl<A: Read + Seek> Captures for EndCapture<'_, '_, A> {
     }
 
     fn judged(&mut self, alloc: Global, not_judged: &NotJudged) -> Result<Answer, AllFault> {
-        let text = text_left(alloc, Side::A, not_judged, self.a)?;
+        let stop = self.stop(alloc, not_judged)?;
+        let mut text = text_left(alloc, Side::A, Side::A, not_judged, self.a)?;
+        in_memory(put_stop(&mut text, stop))?;
         match self.telling {
             Telling::Explained => {
                 let groups = in_memory(Groups::new(alloc))?;
                 let judges_all = self.all_judged(alloc, groups)?;
-                let whole = text_left(alloc, Side::A, &judges_all, self.a)?;
+                let whole = text_whole(alloc, Side::A, &judges_all, self.a)?;
                 let rows = in_memory(LastRows::new(alloc))?;
                 let originals = in_memory(Originals::new(alloc, rows, &whole, &[]))?;
-                self.answer_left(alloc, not_judged, Onlooker::Originals(originals), &text)
+                self.answer_left(alloc, Onlooker::Originals(originals), &text, stop)
             }
             Telling::Answers | Telling::Nothing => {
-                self.answer_left(alloc, not_judged, Onlooker::Nobody, &text)
+                self.answer_left(alloc, Onlooker::Nobody, &text, stop)
             }
         }
     }
@@ -128,20 +133,60 @@ impl<A: Read + Seek> EndCapture<'_, '_, A> {
     fn answer_left(
         &mut self,
         alloc: Global,
-        not_judged: &NotJudged,
         onlooker: Onlooker<'_>,
         text: &[u8],
+        stop: Option<Refusal>,
     ) -> Result<Answer, AllFault> {
         match judge_text(alloc, self.printout.layers, onlooker, text) {
-            Ok(watched) => {
-                let made = watched.end.records();
-                match wrong_node_of(alloc, Side::A, not_judged, made, self.a)? {
-                    Some(place) => self.answer(alloc, wrong_node(place)),
-                    None => self.answer_watched(alloc, watched),
-                }
-            }
+            Ok(watched) => match stopped_at(watched.verdict, stop) {
+                Some(refusal) => self.answer_stopped(alloc, refusal),
+                None => self.answer_watched(alloc, watched),
+            },
             Err(CaptureFault::OutOfMemory) => Err(AllFault::OUT_OF_MEMORY),
             Err(fault) => self.answer_departed(alloc, fault),
+        }
+    }
+
+    // At which record the judgement stops, if it comes to that.
+    fn stop(&mut self, alloc: Global, not_judged: &NotJudged) -> Result<Option<Refusal>, AllFault> {
+        if self.is_of_line() {
+            return Ok(None);
+        }
+        let of_line = self.refusal_of_line(alloc)?;
+        let wrong = wrong_node_of(alloc, Side::A, not_judged, true, self.a)?;
+        Ok(stop_of(Side::A, of_line, wrong))
+    }
+
+    // What the capture's own line is refused for. A text that departs is no refusal.
+    fn refusal_of_line(&mut self, alloc: Global) -> Result<Option<Refusal>, AllFault> {
+        if let Some(known) = self.of_line.known(false) {
+            return Ok(known);
+        }
+        let of_line = judge_line_end(alloc, &mut read_again(Side::A, self.a)?);
+        let refusal = match of_line {
+            Err(CaptureFault::Departs { .. }) => None,
+            judged => end_refusal_of(of_text(Side::A, judged)?),
+        };
+        self.of_line = OfLine::Asked {
+            any_period: false,
+            refusal,
+        };
+        Ok(refusal)
+    }
+
+    // The refusal of a record at which the judgement of what is left stops.
+    fn answer_stopped(&mut self, alloc: Global, refusal: Refusal) -> Result<Answer, AllFault> {
+        let verdict = EndVerdict::Refused {
+            place: refusal.place,
+            accused: match refusal.by_other_end {
+                true => Accused::OtherEnd,
+                false => Accused::ThisEnd,
+            },
+            reason: refusal.reason,
+        };
+        match Beyond::of(refusal.reason) {
+            Beyond::Ends => self.answer_of_line(alloc, verdict),
+            _ => self.answer(alloc, verdict),
         }
     }
 
@@ -221,12 +266,11 @@ impl<A: Read + Seek> EndCapture<'_, '_, A> {
     }
 }
 
-// This record is refused for the nodes of its packet, which came.
-fn wrong_node(place: u64) -> EndVerdict {
-    EndVerdict::Refused {
-        place,
-        accused: Accused::OtherEnd,
-        reason: Reason::WrongNode,
+// The refusal at which this text stops, where it is refused there.
+fn stopped_at(verdict: EndVerdict, stop: Option<Refusal>) -> Option<Refusal> {
+    match (verdict, stop) {
+        (EndVerdict::Refused { place, .. }, Some(stop)) if stop.place == place => Some(stop),
+        _ => None,
     }
 }
 

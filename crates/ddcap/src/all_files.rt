@@ -3,6 +3,7 @@
 use crate::all_end::EndCapture;
 use crate::all_judged::{AllFault, Captures, print_all, print_read_once};
 use crate::all_pair::{PairCaptures, Telling};
+use crate::all_stops::OfLine;
 use crate::all_told::{AllTold, Answer};
 use crate::answers::{print_name, print_told};
 use crate::check::{print_fault, print_out_of_memory};
@@ -58,6 +59,7 @@ pub fn check_all_pair<R: Files + AllocGlobal, O: Write, E: Write>(
             name_b: paths.b,
         },
         telling: Telling::Answers,
+        of_line: OfLine::NotAsked,
         a: &mut a,
         b: &mut b,
     };
@@ -90,6 +92,7 @@ pub fn alone_all_file<R: Files + AllocGlobal, O: Write, E: Write>(
             name: path,
         },
         telling: Telling::Answers,
+        of_line: OfLine::NotAsked,
         a: &mut a,
     };
     let first = captures.first(rt.alloc());

@@ -42,7 +42,7 @@ pub trait Captures {
         refusal: Refusal,
     ) -> Result<Option<OwnAddress>, AllFault>;
 
-    /// The answer on what is still judged. A text that departs is an answer too.
+    /// The answer on what is still judged, with the bytes that the captures themselves have. A text that departs is an answer too.
     fn judged(&mut self, alloc: Global, not_judged: &NotJudged) -> Result<Answer, AllFault>;
 
     /// The word for captures that are not refused.
@@ -80,7 +80,7 @@ pub fn find_all<C: Captures>(
         let goes_on = left.leave(beyond, address);
         answer = captures.judged(alloc, &left)?;
         if !goes_on {
-            tell_last(alloc, captures, told, &left, answer)?;
+            in_memory(told.ends(&answer))?;
             return Ok(left);
         }
         not_judged = Some(left);
@@ -91,39 +91,9 @@ pub fn find_all<C: Captures>(
     };
     match answer.leads_beyond() {
         Some((refusal, _)) => in_memory(told.goes_on(refusal))?,
-        None => tell_last(alloc, captures, told, &left, answer)?,
+        None => in_memory(told.ends(&answer))?,
     }
     Ok(left)
-}
-
-// Tells what is answered once no more is left out.
-fn tell_last<C: Captures>(
-    alloc: Global,
-    captures: &mut C,
-    told: &mut AllTold,
-    not_judged: &NotJudged,
-    answer: Answer,
-) -> Result<(), AllFault> {
-    let last = beside_line(alloc, captures, not_judged, answer)?;
-    in_memory(told.ends(&last))
-}
-
-// This answer on what is left; but that of the line where what is left is a run and the captures' own line is refused: what is left out may hide that
-// the packet of a DI came, or was sent again, with other user data.
-fn beside_line<C: Captures>(
-    alloc: Global,
-    captures: &mut C,
-    not_judged: &NotJudged,
-    answer: Answer,
-) -> Result<Answer, AllFault> {
-    if answer.status != 0 || captures.is_of_line() {
-        return Ok(answer);
-    }
-    let of_line = captures.line(alloc, not_judged.any_period())?;
-    match of_line.status {
-        0 => Ok(answer),
-        _ => Ok(of_line),
-    }
 }
 
 /// The answer without the links that this refusal is about; `None` where it is about none.
@@ -140,8 +110,7 @@ pub fn judge_without<C: Captures>(
     if !left.leave(Beyond::Links, address) {
         return Ok(None);
     }
-    let answer = captures.judged(alloc, &left)?;
-    Ok(Some(beside_line(alloc, captures, &left, answer)?))
+    Ok(Some(captures.judged(alloc, &left)?))
 }
 
 /// Prints this first answer and, where it leads on, all refusals and what is left; and answers the status. Where a file can't be read again from its

@@ -5,7 +5,7 @@ ghost use Rattle.link_groups.specs.Groups.{AreGroupsOf, Binding};
 ghost use Rattle.link_groups.specs.LeftOut.{AreWhole};
 ghost use Rattle.ddcap.specs.inner.AllLeft.{JudgesAll, Leaves, beyond_of};
 
-use leaving_out::{Head, Leaving};
+use leaving_out::{Head, Leaving, heads_fit};
 use link_groups::{Groups, LeftGroups, OwnAddress};
 use pair_judge::{Matter, Reason};
 use std::alloc::{AllocError, Global};
@@ -93,9 +93,12 @@ impl NotJudged {
         })
     }
 
-    /// What is left out of the texts: of links whole groups.
+    /// What is left out of the texts: of links the groups that [`NotJudged::leave`] left out, each as a whole, and no others.
     pub fn leaving(&self) -> Leaving<'_>
-        ensures { (bindings : List Binding) → AreGroupsOf bindings self.now.left.labels → AreWhole bindings result.left_out.now }
+        ensures whole { (bindings : List Binding) → AreGroupsOf bindings self.now.left.labels → AreWhole bindings result.left_out.now }
+        ensures groups { result.left_out.now ≡ self.now.left.left_out }
+        ensures unread { (result.unread_packets ≡ self.now.unread_packets) × (result.unread_messages ≡ self.now.unread_messages) }
+        ensures heads { (result.head_of_a ≡ self.now.head_of_a) × (result.head_of_b ≡ self.now.head_of_b) }
     {
         Leaving {
             left_out: self.left.left_out(),
@@ -106,8 +109,15 @@ impl NotJudged {
         }
     }
 
+    /// Whether both heads fit each other.
+    pub fn heads_fit(&self) -> bool {
+        heads_fit(&self.leaving())
+    }
+
     /// Whether stations are not asked for periods any more.
-    pub fn any_period(&self) -> bool {
+    pub fn any_period(&self) -> bool
+        ensures { result ≡ self.now.any_period }
+    {
         self.any_period
     }
 

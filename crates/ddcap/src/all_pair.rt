@@ -10,7 +10,9 @@ ghost use Rattle.ddcap.specs.inner.AllLeft.{AreBoundByBoth};
 
 use crate::all_judged::{AllFault, Captures, in_memory, of_text, read_again, read_on};
 use crate::all_left::NotJudged;
-use crate::all_read::{address_of, head_of, text_left, wrong_node_of};
+use crate::all_pair_told::refusal_of;
+use crate::all_read::{address_of, head_of, text_left, text_whole, wrong_node_of};
+use crate::all_stops::{OfLine, Stops, put_stop, stop_of};
 use crate::all_told::{Answer, Refusal};
 use crate::last_rows::LastRows;
 use crate::layers::{Layers, judge_over, watch_any_period_over, watch_over};
@@ -18,7 +20,7 @@ use crate::onlooker::{Onlooker, Originals};
 use crate::telling::Printout;
 use leaving_out::bind_all;
 use link_groups::{Groups, OwnAddress};
-use pair_judge::{JudgeFault, Reason, Verdict, Watched, judge_line, judge_line_any_period};
+use pair_judge::{JudgeFault, TextFault, Verdict, Watched, judge_line, judge_line_any_period};
 use std::alloc::Global;
 use std::io::{Read, Seek};
 use wire_base::{Side, Tally};
@@ -39,6 +41,8 @@ pub enum Telling {
 pub struct PairCaptures<'n, 'a, 'b, A: Read + Seek, B: Read + Seek> {
     pub printout: Printout<'n>,
     pub telling: Telling,
+    /// What their line is refused for, once that was asked.
+    pub of_line: OfLine,
     pub a: &'a mut A,
     pub b: &'b mut B,
 }
@@ -48,6 +52,24 @@ pub struct PairCaptures<'n, 'a, 'b, A: Read + Seek, B: Read + Seek> {
 pub struct LeftTexts {
     pub a: Vec<u8>,
     pub b: Vec<u8>,
+}
+
+/// What is left of both captures.
+#[derive(Drop)]
+pub struct Left {
+    pub texts: LeftTexts,
+    /// Where each text ends, if it does so before its capture.
+    pub stops: Stops,
+}
+
+impl LeftTexts {
+    /// That of this side.
+    pub fn of_mut(&mut self, side: Side) -> &mut Vec<u8> {
+        match side {
+            Side::A => &mut self.a,
+            Side::B => &mut self.b,
+        }
+    }
 }
 
 impl<A: Read + Seek, B: Read + Seek> Captures for PairCaptures<'_, '_, '_, A, B> {
@@ -71,18 +93,19 @@ impl<A: Read + Seek, B: Read + Seek> Captures for PairCaptures<'_, '_, '_, A, B>
     }
 
     fn judged(&mut self, alloc: Global, not_judged: &NotJudged) -> Result<Answer, AllFault> {
-        let texts = self.left(alloc, not_judged)?;
-        match self.telling {
-            Telling::Explained => {
-                let whole = self.whole(alloc)?;
-                let rows = in_memory(LastRows::new(alloc))?;
-                let originals = in_memory(Originals::new(alloc, rows, &whole.a, &whole.b))?;
-                self.answer_left(alloc, not_judged, Onlooker::Originals(originals), &texts)
-            }
-            Telling::Answers | Telling::Nothing => {
-                self.answer_left(alloc, not_judged, Onlooker::Nobody, &texts)
-            }
+        if self.telling != Telling::Explained {
+            let left = self.left(alloc, Side::B, not_judged)?;
+            return self.answer_left(alloc, not_judged, Onlooker::Nobody, &left);
         }
+        let kept = match not_judged.heads_fit() {
+            true => Side::B,
+            false => self.refused_side(alloc, not_judged)?,
+        };
+        let left = self.left(alloc, kept, not_judged)?;
+        let whole = self.whole(alloc)?;
+        let rows = in_memory(LastRows::new(alloc))?;
+        let originals = in_memory(Originals::new(alloc, rows, &whole.a, &whole.b))?;
+        self.answer_left(alloc, not_judged, Onlooker::Originals(originals), &left)
     }
 
     fn passed(&self) -> &'static str {
@@ -94,13 +117,7 @@ impl<A: Read + Seek, B: Read + Seek> Captures for PairCaptures<'_, '_, '_, A, B>
     }
 
     fn line(&mut self, alloc: Global, any_period: bool) -> Result<Answer, AllFault> {
-        let mut reader_a = read_again(Side::A, self.a)?;
-        let mut reader_b = read_again(Side::B, self.b)?;
-        let of_line = match any_period {
-            true => judge_line_any_period(alloc, &mut reader_a, &mut reader_b),
-            false => judge_line(alloc, &mut reader_a, &mut reader_b),
-        };
-        match of_line {
+        match self.verdict_of_line(alloc, any_period)? {
             Ok(verdict) => self.answer_of_line(alloc, verdict),
             Err(fault) => Err(AllFault::Judge(fault)),
         }
@@ -125,58 +142,132 @@ impl<A: Read + Seek, B: Read + Seek> PairCaptures<'_, '_, '_, A, B> {
         in_memory(NotJudged::nothing(alloc, groups, head_of_a, head_of_b))
     }
 
-    /// The texts of what is left of both captures.
-    pub fn left(&mut self, alloc: Global, not_judged: &NotJudged) -> Result<LeftTexts, AllFault> {
-        let a = text_left(alloc, Side::A, not_judged, self.a)?;
-        let b = text_left(alloc, Side::B, not_judged, self.b)?;
-        Ok(LeftTexts { a, b })
+    /// What is left of both captures, each to its stop. Where the heads do not fit, this side's is kept: what its own records have, they have there.
+    pub fn left(
+        &mut self,
+        alloc: Global,
+        kept: Side,
+        not_judged: &NotJudged,
+    ) -> Result<Left, AllFault> {
+        let stops = self.stops(alloc, not_judged)?;
+        let mut a = text_left(alloc, kept, Side::A, not_judged, self.a)?;
+        let mut b = text_left(alloc, kept, Side::B, not_judged, self.b)?;
+        in_memory(put_stop(&mut a, stops.a))?;
+        in_memory(put_stop(&mut b, stops.b))?;
+        Ok(Left {
+            texts: LeftTexts { a, b },
+            stops,
+        })
     }
 
-    // The answer on these texts of what is left, while this one looks on.
+    // Of which side a record of what is left is refused; b where none is.
+    fn refused_side(&mut self, alloc: Global, not_judged: &NotJudged) -> Result<Side, AllFault> {
+        let Left { texts, .. } = self.left(alloc, Side::B, not_judged)?;
+        let layers = self.printout.layers;
+        let any_period = not_judged.any_period();
+        match judge_texts(alloc, layers, any_period, Onlooker::Nobody, &texts) {
+            Ok(watched) => match watched.ends.verdict() {
+                Verdict::Accepted(_) => Ok(Side::B),
+                Verdict::Refused { side, .. } => Ok(side),
+            },
+            Err(JudgeFault::OutOfMemory) => Err(AllFault::OUT_OF_MEMORY),
+            Err(_) => Ok(Side::B),
+        }
+    }
+
+    // At which records the judgement stops. Of the line alone there are none: nothing is left out of that.
+    fn stops(&mut self, alloc: Global, not_judged: &NotJudged) -> Result<Stops, AllFault> {
+        if self.is_of_line() {
+            return Ok(Stops { a: None, b: None });
+        }
+        let of_line = self.refusal_of_line(alloc, not_judged.any_period())?;
+        let wrong_a = wrong_node_of(alloc, Side::A, not_judged, false, self.a)?;
+        let wrong_b = wrong_node_of(alloc, Side::B, not_judged, false, self.b)?;
+        Ok(Stops {
+            a: stop_of(Side::A, of_line, wrong_a),
+            b: stop_of(Side::B, of_line, wrong_b),
+        })
+    }
+
+    // What the captures' own line is refused for. A text that departs is no refusal.
+    fn refusal_of_line(
+        &mut self,
+        alloc: Global,
+        any_period: bool,
+    ) -> Result<Option<Refusal>, AllFault> {
+        if let Some(known) = self.of_line.known(any_period) {
+            return Ok(known);
+        }
+        let refusal = match self.verdict_of_line(alloc, any_period)? {
+            Ok(verdict) => refusal_of(verdict),
+            Err(
+                JudgeFault::Capture {
+                    fault: TextFault::Departs { .. },
+                    ..
+                },
+            ) => None,
+            Err(fault) => return Err(AllFault::Judge(fault)),
+        };
+        self.of_line = OfLine::Asked {
+            any_period,
+            refusal,
+        };
+        Ok(refusal)
+    }
+
+    fn verdict_of_line(
+        &mut self,
+        alloc: Global,
+        any_period: bool,
+    ) -> Result<Result<Verdict, JudgeFault>, AllFault> {
+        let mut reader_a = read_again(Side::A, self.a)?;
+        let mut reader_b = read_again(Side::B, self.b)?;
+        Ok(match any_period {
+            true => judge_line_any_period(alloc, &mut reader_a, &mut reader_b),
+            false => judge_line(alloc, &mut reader_a, &mut reader_b),
+        })
+    }
+
+    // The answer on what is left, while this one looks on.
     fn answer_left(
         &mut self,
         alloc: Global,
         not_judged: &NotJudged,
         onlooker: Onlooker<'_>,
-        texts: &LeftTexts,
+        left: &Left,
     ) -> Result<Answer, AllFault> {
         let layers = self.printout.layers;
-        match judge_texts(alloc, layers, not_judged.any_period(), onlooker, texts) {
-            Ok(watched) => {
-                let made_a = watched.ends.records(Side::A);
-                let made_b = watched.ends.records(Side::B);
-                match self.wrong_nodes(alloc, not_judged, made_a, made_b)? {
-                    Some(verdict) => self.answer(alloc, verdict),
-                    None => self.answer_watched(alloc, watched),
-                }
-            }
+        match judge_texts(
+            alloc,
+            layers,
+            not_judged.any_period(),
+            onlooker,
+            &left.texts,
+        ) {
+            Ok(watched) => match stopped_at(watched.ends.verdict(), left.stops) {
+                Some(refusal) => self.answer_stopped(alloc, refusal),
+                None => self.answer_watched(alloc, watched),
+            },
             Err(JudgeFault::OutOfMemory) => Err(AllFault::OUT_OF_MEMORY),
             Err(fault) => self.answer_departed(alloc, fault),
-        }
-    }
-
-    // The refusal of a message of a link that is left out, among so many records that were made, which the texts that are made don't show.
-    fn wrong_nodes(
-        &mut self,
-        alloc: Global,
-        not_judged: &NotJudged,
-        made_a: u64,
-        made_b: u64,
-    ) -> Result<Option<Verdict>, AllFault> {
-        if let Some(place) = wrong_node_of(alloc, Side::A, not_judged, made_a, self.a)? {
-            return Ok(Some(wrong_node(Side::A, place)));
-        }
-        match wrong_node_of(alloc, Side::B, not_judged, made_b, self.b)? {
-            Some(place) => Ok(Some(wrong_node(Side::B, place))),
-            None => Ok(None),
         }
     }
 
     /// The texts of both captures, with nothing left out.
     pub fn whole(&mut self, alloc: Global) -> Result<LeftTexts, AllFault> {
         let groups = in_memory(Groups::new(alloc))?;
-        let not_judged = self.all_judged(alloc, groups)?;
-        self.left(alloc, &not_judged)
+        let judges_all = self.all_judged(alloc, groups)?;
+        let a = text_whole(alloc, Side::A, &judges_all, self.a)?;
+        let b = text_whole(alloc, Side::B, &judges_all, self.b)?;
+        Ok(LeftTexts { a, b })
+    }
+}
+
+/// The refusal at which these texts stop, where they are refused there.
+pub fn stopped_at(verdict: Verdict, stops: Stops) -> Option<Refusal> {
+    match verdict {
+        Verdict::Accepted(_) => None,
+        Verdict::Refused { side, place, .. } => stops.at(side, place),
     }
 }
 
@@ -197,15 +288,6 @@ fn groups_of_both<A: Read + Drop, B: Read + Drop>(
     let of_b = bind_all(alloc, Side::B, false, &mut reader_b, &mut groups);
     of_text(Side::B, of_b)?;
     Ok(groups)
-}
-
-// This record is refused for the nodes of its packet.
-fn wrong_node(side: Side, place: u64) -> Verdict {
-    Verdict::Refused {
-        side,
-        place,
-        reason: Reason::WrongNode,
-    }
 }
 
 /// The answer on the texts that were made of both captures, while this one looks on.

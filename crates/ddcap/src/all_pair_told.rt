@@ -77,6 +77,19 @@ impl<A: Read + Seek, B: Read + Seek> PairCaptures<'_, '_, '_, A, B> {
         }
     }
 
+    /// The refusal of a record at which the judgement of what is left stops.
+    pub fn answer_stopped(&mut self, alloc: Global, refusal: Refusal) -> Result<Answer, AllFault> {
+        let verdict = Verdict::Refused {
+            side: refusal.side,
+            place: refusal.place,
+            reason: refusal.reason,
+        };
+        match Beyond::of(refusal.reason) {
+            Beyond::Ends => self.answer_of_line(alloc, verdict),
+            _ => self.answer(alloc, verdict),
+        }
+    }
+
     /// The answer on what is left, explained where that is asked for.
     pub fn answer_watched(
         &mut self,
@@ -130,8 +143,8 @@ fn ends_it(verdict: Verdict) -> bool {
     }
 }
 
-// The refused record, if one is.
-fn refusal_of(verdict: Verdict) -> Option<Refusal> {
+/// The refused record, if one is.
+pub fn refusal_of(verdict: Verdict) -> Option<Refusal> {
     match verdict {
         Verdict::Accepted(_) => None,
         Verdict::Refused {

@@ -4,6 +4,7 @@ use crate::all_end::{EndCapture, end_answer_of};
 use crate::all_judged::{Captures, print_all};
 use crate::all_pair::{PairCaptures, Telling};
 use crate::all_pair_told::answer_of;
+use crate::all_stops::OfLine;
 use crate::all_told::{AllTold, Answer};
 use crate::alone::print_end_fault;
 use crate::check::{print_fault, print_out_of_memory};
@@ -63,6 +64,7 @@ pub fn why_all_to<A: Read + Seek, B: Read + Seek, O: Write, E: Write>(
     let mut captures = PairCaptures {
         printout,
         telling: Telling::Explained,
+        of_line: OfLine::NotAsked,
         a,
         b,
     };
@@ -115,6 +117,7 @@ pub fn why_all_end_to<A: Read + Seek, O: Write, E: Write>(
     let mut captures = EndCapture {
         printout,
         telling: Telling::Explained,
+        of_line: OfLine::NotAsked,
         a,
     };
     let first = end_answer_of(verdict, text.into_bytes());

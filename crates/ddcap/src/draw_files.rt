@@ -3,9 +3,12 @@
 ghost use Rattle.std.specs.Prelude.{◌≤◌};
 ghost use Rattle.drawing.specs.declared.range.TheConstants.{MAX_ROWS};
 
-use crate::all_draw::{AllFound, all_drawn, all_found, all_marked, all_words, marked_rows};
+use crate::all_draw::{
+    AllDrawn, AllFound, all_drawn, all_found, all_marked, all_words, marked_rows,
+};
 use crate::all_judged::{AllFault, print_read_once};
 use crate::all_pair::{PairCaptures, Telling};
+use crate::all_stops::OfLine;
 use crate::all_told::Refusal;
 use crate::check::{print, print_failed_read, print_fault, print_out_of_memory};
 use crate::draw::draw_rows_to;
@@ -16,8 +19,9 @@ use crate::picture::{Above, NoPicture, layers_of, picture_of, svg_below};
 use crate::telling::{Form, Printout, REFUSED};
 use crate::text::{FAILED, verdict_status};
 use crate::written::written_beside_pair;
-use drawing::{DrawnPair, Range};
+use drawing::Range;
 use ladder::Marked;
+use pair_judge::Verdict;
 use std::alloc::{AllocError, Global};
 use std::io::{Read, Seek, Write};
 use std::rt::Files;
@@ -98,18 +102,18 @@ fn draw_all<R: Files + AllocGlobal, O: Write, E: Write>(
         asked.range,
         all,
     );
-    let pair = match drawn {
-        Ok(pair) => pair,
+    let drawn = match drawn {
+        Ok(drawn) => drawn,
         Err(AllFault::ReadOnce(side)) => return Ok(print_read_once(err, side)),
         Err(AllFault::Judge(fault)) => return Ok(print_fault(alloc, fault, err)),
     };
     let Some(path) = asked.svg else {
-        return match marked_rows(alloc, &pair.drawn, all.refusals.as_slice()) {
+        return match marked_rows(alloc, &drawn.pair.drawn, all.refusals.as_slice()) {
             Ok(text) => Ok(print(out, text.as_bytes(), REFUSED)),
             Err(_) => Ok(print_out_of_memory(err)),
         };
     };
-    match all_picture(alloc, asked, &pair, a, b, all.refusals.as_slice()) {
+    match all_picture(alloc, asked, &drawn, a, b, all.refusals.as_slice()) {
         Ok(picture) => write_picture(rt, a, b, path, picture.as_slice(), REFUSED, err),
         Err(NoPicture::Memory) => Ok(print_out_of_memory(err)),
         Err(NoPicture::Read(side)) => Ok(print_failed_read(err, side)),
@@ -127,15 +131,15 @@ struct AboveAll {
 fn above_all(
     alloc: Global,
     asked: Asked<'_>,
-    pair: &DrawnPair,
+    verdict: Verdict,
     refusals: &[Refusal],
 ) -> Result<AboveAll, AllocError> {
     let title = format!(in alloc; "{}  {}", asked.a, asked.b)?;
-    let verdict = all_words(alloc, refusals, pair.ends.verdict())?;
-    let marked = all_marked(alloc, refusals, pair.ends.verdict())?;
+    let words = all_words(alloc, refusals, verdict)?;
+    let marked = all_marked(alloc, refusals, verdict)?;
     Ok(AboveAll {
         title,
-        verdict,
+        verdict: words,
         marked,
     })
 }
@@ -144,12 +148,12 @@ fn above_all(
 fn all_picture<A: Read + Seek, B: Read + Seek>(
     alloc: Global,
     asked: Asked<'_>,
-    pair: &DrawnPair,
+    all: &AllDrawn,
     a: &mut A,
     b: &mut B,
     refusals: &[Refusal],
 ) -> Result<Vec<u8>, NoPicture> {
-    let Ok(words) = above_all(alloc, asked, pair, refusals) else {
+    let Ok(words) = above_all(alloc, asked, all.verdict, refusals) else {
         return Err(NoPicture::Memory);
     };
     let AboveAll {
@@ -161,8 +165,9 @@ fn all_picture<A: Read + Seek, B: Read + Seek>(
         title: title.as_str(),
         verdict: verdict.as_str(),
         marked: marked.as_slice(),
+        is_checked: all.is_shown,
     };
-    svg_below(alloc, asked.range.judging, pair, a, b, above)
+    svg_below(alloc, asked.range.judging, &all.pair, a, b, above)
 }
 
 // The captures of these files.
@@ -181,6 +186,7 @@ fn captures_of<'n, 'a, 'b, A: Read + Seek, B: Read + Seek>(
     PairCaptures {
         printout,
         telling: Telling::Nothing,
+        of_line: OfLine::NotAsked,
         a,
         b,
     }

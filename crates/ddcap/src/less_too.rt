@@ -3,6 +3,7 @@
 use crate::all_end::EndCapture;
 use crate::all_judged::{AllFault, Captures, in_memory, judge_without, read_again};
 use crate::all_pair::{PairCaptures, Telling};
+use crate::all_stops::OfLine;
 use crate::all_told::{Answer, Refusal};
 use crate::check::{print, print_fault};
 use crate::end_telling::EndPrintout;
@@ -63,6 +64,7 @@ pub fn with_less_too<A: Read + Seek, B: Read + Seek>(
             ..printout
         },
         telling: Telling::Answers,
+        of_line: OfLine::NotAsked,
         a,
         b,
     };
@@ -104,6 +106,7 @@ fn end_less_text<A: Read + Seek>(
             ..printout
         },
         telling: Telling::Answers,
+        of_line: OfLine::NotAsked,
         a,
     };
     let first = captures.first(alloc)?;

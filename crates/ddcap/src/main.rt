@@ -18,6 +18,7 @@ mod all_left;
 mod all_pair;
 mod all_pair_told;
 mod all_read;
+mod all_stops;
 mod all_told;
 mod all_why;
 mod alone;

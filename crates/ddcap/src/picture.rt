@@ -87,6 +87,7 @@ fn svg_of<A: Read + Seek, B: Read + Seek>(
         title,
         verdict: verdict.as_str(),
         marked: &[],
+        is_checked: true,
     };
     svg_below(alloc, judging, pair, a, b, above)
 }
@@ -97,6 +98,8 @@ pub struct Above<'t> {
     pub title: &'t str,
     pub verdict: &'t str,
     pub marked: &'t [Marked],
+    /// Whether the check that the refused record does not pass is told.
+    pub is_checked: bool,
 }
 
 /// The rows of a pair as a picture below these words. `Err`: memory was wanting, or a read failed.
@@ -110,12 +113,9 @@ pub fn svg_below<A: Read + Seek, B: Read + Seek>(
 ) -> Result<Vec<u8>, NoPicture>
     ensures { IfOk result (λ text. IsDocument text.items) }
 {
-    let unit = match unit_named(alloc, a, b, &pair.ends) {
-        Ok(unit) => unit,
-        Err(why) => return Err(why),
-    };
-    let Ok(check) = check_words(alloc, judging, &pair.ends, &unit) else {
-        return Err(NoPicture::Memory);
+    let check = match above.is_checked {
+        true => checked(alloc, judging, pair, a, b)?,
+        false => String::new(alloc),
     };
     let (seen, allowed) = seen_and_allowed(check.as_str());
     let caption = Caption {
@@ -127,6 +127,24 @@ pub fn svg_below<A: Read + Seek, B: Read + Seek>(
     };
     match pair.drawn.svg(alloc, caption) {
         Ok(svg) => Ok(svg),
+        Err(_) => Err(NoPicture::Memory),
+    }
+}
+
+// What is said of the check that the refused record does not pass. `Err`: memory was wanting, or a read failed.
+fn checked<A: Read + Seek, B: Read + Seek>(
+    alloc: Global,
+    judging: Judging,
+    pair: &DrawnPair,
+    a: &mut A,
+    b: &mut B,
+) -> Result<String, NoPicture> {
+    let unit = match unit_named(alloc, a, b, &pair.ends) {
+        Ok(unit) => unit,
+        Err(why) => return Err(why),
+    };
+    match check_words(alloc, judging, &pair.ends, &unit) {
+        Ok(words) => Ok(words),
         Err(_) => Err(NoPicture::Memory),
     }
 }

@@ -36,7 +36,7 @@ pub record IsKept (old new : List ℕ) : Type 0 where
   pub short : length new ≤ max 1 (length old)
   pub bytes : IsBytes new
 
-same_kept : (old : List ℕ) → IsBytes old → IsKept old old
+pub same_kept : (old : List ℕ) → IsBytes old → IsKept old old
 same_kept old fits = record { some = λ h. h; short = omega arith; bytes = fits }
 
 carried_bytes : (old : List ℕ) → IsBytes old → IsBytes (carried old)
@@ -59,7 +59,7 @@ unmet_kept : (old : List ℕ) → IsBytes old → IsKept old (unmet old)
 unmet_kept [] fits = record { some = λ h. omega arith; short = omega arith; bytes = unmet_bytes [] fits }
 unmet_kept (first ∷ rest) fits = record { some = λ h. omega arith; short = omega arith; bytes = unmet_bytes (first ∷ rest) fits }
 
-if_kept : (b : Bool) (old x y : List ℕ) → IsKept old x → IsKept old y → IsKept old (cond b x y)
+pub if_kept : (b : Bool) (old x y : List ℕ) → IsKept old x → IsKept old y → IsKept old (cond b x y)
 if_kept true old x y one other = one
 if_kept false old x y one other = other
 
@@ -70,7 +70,7 @@ each_byte (b ∷ bytes) all zero = all.0
 each_byte (b ∷ bytes) all (suc i) = each_byte bytes all.1 i
 
 -- a byte of a word
-low_fits : (n : ℕ) → n % 256 < 256
+pub low_fits : (n : ℕ) → n % 256 < 256
 low_fits n = omega arith
 
 confirmed_bytes : (route : Route) (dst src reason : ℕ) → route.rtflg < 128 → route.forward < 256 →
@@ -175,7 +175,7 @@ pub record IsBody (flags : Flags) (resp num : ℕ) (body : List ℕ) : Type 0 wh
   pub resp_fits : resp < 256
   pub num_fits : num < 256
 
-body_of : (unit : List ℕ) (flags : Flags) (resp num : ℕ) (body : List ℕ) → IsBytes unit → reading unit ≡ Sound (messages.Data flags resp num body) →
+pub body_of : (unit : List ℕ) (flags : Flags) (resp num : ℕ) (body : List ℕ) → IsBytes unit → reading unit ≡ Sound (messages.Data flags resp num body) →
     IsBody flags resp num body
 unfolding spelling
 body_of unit flags resp num body fits e =
@@ -195,7 +195,7 @@ pub record IsUnitKept (new : List ℕ) : Type 0 where
   pub short : length new ≤ 16393
   pub bytes : IsBytes new
 
-spelled_kept : (flags : Flags) (resp num : ℕ) (body : List ℕ) → IsBody flags resp num body → IsUnitKept (spelling (messages.Data flags resp num body))
+pub spelled_kept : (flags : Flags) (resp num : ℕ) (body : List ℕ) → IsBody flags resp num body → IsUnitKept (spelling (messages.Data flags resp num body))
 unfolding spelling
 spelled_kept flags resp num body h =
     let head = numbered (length body) flags resp num in

@@ -2,6 +2,7 @@ pub mod Returned
 pub mod Kept
 pub mod Walk
 pub mod Made
+pub mod FittedKept
 pub mod Fits
 pub mod Alike
 pub mod Unmet

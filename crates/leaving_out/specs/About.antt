@@ -56,8 +56,24 @@ bound side here there = (own side here, own (other_side side) there)
 abbrev pub bound_if_named : Side → (here there : ℕ) → Option Binding
 bound_if_named side here there = if there == 0 then None else Some (bound side here there)
 
--- What a message that this side sent binds: a CC its addresses. A call from address 0, and its confirmation, bind that of both ends: a connect ack
--- names no link of its sender, so the one that answers such a call is about the sender's own address 0
+-- What a message that this side sent binds: a CC its addresses, where neither is 0. A connect ack names no link of its sender, so one to address 0
+-- is about the sender's own address 0: it binds that of both ends
+abbrev pub answered : Side → Option NspValue → Option Binding
+answered sender None = None
+answered sender (Some (DataSegment s)) = None
+answered sender (Some (LinkService interrupt dst src rest)) = None
+answered sender (Some (DataAck dst src acks)) = None
+answered sender (Some (OtherDataAck dst src rest)) = None
+answered sender (Some (ConnectAck dst)) = if dst == 0 then Some (bound sender 0 0) else None
+answered sender (Some (NoOperation rest)) = None
+answered sender (Some (ConnectInitiate retransmitted src services info segsize user_data)) = None
+answered sender (Some (ConnectConfirm dst src services info segsize user_data)) =
+    if src == 0 then None else bound_if_named sender src dst
+answered sender (Some (DisconnectInitiate dst src reason user_data)) = None
+answered sender (Some (DisconnectConfirm dst src reason)) = None
+
+-- And one that came from this side, to an end that is alone: there a call from address 0, and its confirmation, bind that of both ends, for the
+-- connect ack that may answer it
 abbrev pub confirmed : Side → Option NspValue → Option Binding
 confirmed sender None = None
 confirmed sender (Some (DataSegment s)) = None
@@ -90,7 +106,7 @@ event_binding side (events.Interrupted link bytes) = None
 
 -- what a record of this side binds; what came binds only where the end is `alone`
 abbrev pub binding_of : Side → (alone : Bool) → Record → Option Binding
-binding_of side alone (Sent unit) = confirmed side (message_in_unit unit)
+binding_of side alone (Sent unit) = answered side (message_in_unit unit)
 binding_of side alone (Received hint fate unit) = if alone then confirmed (other_side side) (message_in_unit unit) else None
 binding_of side alone (Noise bytes) = None
 binding_of side alone (User event) = event_binding side event

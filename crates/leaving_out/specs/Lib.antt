@@ -6,3 +6,4 @@ pub mod Packets
 pub mod Records
 pub mod WrongNodes
 pub mod Texts
+pub mod Fitted

@@ -1,5 +1,5 @@
--- A message of a link that is left out, which comes between wrong nodes to a link that is judged. That link would refuse it (16), but in the texts
--- that are made no link meets it.
+-- A message that comes between wrong nodes to a link that is judged. That link would refuse it (16), but in the texts that are made no link meets
+-- one of a link that is left out, and where the heads do not fit all go between the same nodes.
 use Rattle.std.specs.Prelude.{ℕ, ◌==◌, ◌&&◌, not, Bool, false, Option, Some, None, List, Result, Ok, Err}
 use Rattle.wire_base.specs.declared.side.Side.{Side}
 use Rattle.wire_base.specs.Side.{other_side}
@@ -13,7 +13,7 @@ use Rattle.dna_packet.specs.ReadingPacket.{packet_at}
 use Rattle.dna_packet.specs.Nsp.{NspValue}
 use Rattle.leaving_out.specs.declared.leaving.Head.{Head}
 use Rattle.leaving_out.specs.declared.leaving.Leaving.{Leaving}
-use Rattle.leaving_out.specs.Addresses.{at_receiver, at_sender, head_of, is_left}
+use Rattle.leaving_out.specs.Addresses.{at_receiver, head_of, is_left}
 use Rattle.leaving_out.specs.Messages.{destination_of, message_in_unit, packet_of, source_of}
 
 -- a packet that was read goes from the peer of this head to its own node
@@ -27,10 +27,9 @@ abbrev pub comes_to : Head → Option (List ℕ) → Bool
 comes_to head (Some packet) = goes_to head (packet_at packet)
 comes_to head None = false
 
--- a message that this side sent is of a link that is left out, for one that is judged
+-- a message that this side sent is for a link that is judged
 abbrev pub is_for_judged : Leaving → Side → Option NspValue → Bool
-is_for_judged leaving sender (Some m) =
-    is_left leaving (at_sender sender (source_of m) (destination_of m)) && not (is_left leaving (at_receiver sender (source_of m) (destination_of m)))
+is_for_judged leaving sender (Some m) = not (is_left leaving (at_receiver sender (source_of m) (destination_of m)))
 is_for_judged leaving sender None = false
 
 -- this record of a side keeps such a message, between other nodes than those of the head

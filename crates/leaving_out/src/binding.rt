@@ -21,8 +21,9 @@ use wire_base::{Side, Tally};
 type Binding = (OwnAddress, OwnAddress);
 
 /// The binding that this side's record of an entry and these bytes makes, if it makes one: accept and reject bind the link to the partner, and a CC
-/// that was sent binds SRCADDR, which is of its sender, to DSTADDR, of the other side, where neither is 0. A CI or CC with SRCADDR 0 binds address 0
-/// of both ends. One that came binds only where the text is the one of an end alone. Takes no memory.
+/// that was sent binds SRCADDR, which is of its sender, to DSTADDR, of the other side, where neither is 0. A connect ack to address 0 binds address 0
+/// of both ends, and nothing else does in a text of a pair. One that came binds only where the text is the one of an end alone; there a CI or CC from
+/// address 0 binds address 0 of both ends too. Takes no memory.
 pub fn binding_of(side: Side, alone: bool, entry: Entry, bytes: &[u8]) -> Option<Binding>
     ensures { result ≡ spec.binding_of side alone (record_with entry bytes.now) }
 {
@@ -30,7 +31,7 @@ pub fn binding_of(side: Side, alone: bool, entry: Entry, bytes: &[u8]) -> Option
         Entry::Accept { partner, link } | Entry::Reject { partner, link } => {
             Some(bound(side, link, partner))
         }
-        Entry::Sent => confirmed_by(side, bytes),
+        Entry::Sent => answered_by(side, bytes),
         Entry::Received { .. } => {
             if alone {
                 confirmed_by(side.other(), bytes)
@@ -54,7 +55,33 @@ fn bound(side: Side, own: u16, far: u16) -> Binding
     (one, other)
 }
 
-// What the CC or CI in a unit that this side sent binds, if there is one.
+// What the CC or the connect ack in a unit that this side sent binds, if there is one.
+fn answered_by(sender: Side, unit: &[u8]) -> Option<Binding>
+    ensures { result ≡ spec.answered sender (message_in_unit unit.now) }
+{
+    match message_in_unit(unit) {
+        Some(Nsp::ConnectAck(m)) => {
+            if m.dstaddr == 0 {
+                Some(bound(sender, 0, 0))
+            } else {
+                None
+            }
+        }
+        Some(Nsp::ConnectConfirm(m)) => {
+            if m.srcaddr == 0 {
+                return None;
+            }
+            if m.dstaddr == 0 {
+                None
+            } else {
+                Some(bound(sender, m.srcaddr, m.dstaddr))
+            }
+        }
+        _ => None,
+    }
+}
+
+// What the CC or CI in a unit that came from this side binds, if there is one.
 fn confirmed_by(sender: Side, unit: &[u8]) -> Option<Binding>
     ensures { result ≡ spec.confirmed sender (message_in_unit unit.now) }
 {

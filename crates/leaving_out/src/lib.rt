@@ -6,6 +6,7 @@
 
 mod binding;
 mod carried;
+mod fitting;
 mod laws;
 mod leaving;
 mod located;
@@ -18,6 +19,7 @@ mod unit_left;
 mod wrong_nodes;
 
 pub use binding::{bind_all, binding_of};
+pub use fitting::{fitted, head_fitted, heads_fit};
 pub use laws::{
     left_is_a_record, made_is_read_alike, no_link_meets_it, no_two_become_one, nothing_left_out,
 };

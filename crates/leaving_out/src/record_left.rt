@@ -70,8 +70,8 @@ fn own(side: Side, address: u16) -> OwnAddress
     OwnAddress { side, address }
 }
 
-// The line of an entry with the bytes that became of these.
-fn put_changed(
+/// The line of an entry with the bytes that became of these.
+pub(crate) fn put_changed(
     text: &mut Vec<u8>,
     entry: Entry,
     left: Option<Vec<u8>>,

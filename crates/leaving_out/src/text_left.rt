@@ -54,8 +54,12 @@ pub fn left_out<R: Read>(
     unreachable!()
 }
 
-// A line that departs in this way, as one behind the most that a text has departs whatever it is.
-fn put_departure(alloc: Global, text: &mut Vec<u8>, kind: Departure) -> Result<(), AllocError>
+/// A line that departs in this way, as one behind the most that a text has departs whatever it is.
+pub(crate) fn put_departure(
+    alloc: Global,
+    text: &mut Vec<u8>,
+    kind: Departure,
+) -> Result<(), AllocError>
     ensures { OnOk result (text.new.items ≡ text.old.items ++ departing kind) }
 {
     match kind {

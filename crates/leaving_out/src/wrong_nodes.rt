@@ -1,5 +1,5 @@
-//! Messages of links that are left out, which come between wrong nodes to links that are judged. Those would refuse them (16), but in the texts
-//! that are made no link meets them.
+//! Messages that come between wrong nodes to links that are judged. Those would refuse them (16), but in the texts that are made no link meets those
+//! of links that are left out, and where the heads do not fit all go between the same nodes.
 
 ghost use Rattle.std.specs.Prelude.{◌≡◌};
 ghost use Rattle.ddcmp_msg.specs.Reading.{reading};
@@ -13,7 +13,7 @@ ghost use Rattle.leaving_out.specs.WrongNodes as spec;
 
 use crate::leaving::{Head, Leaving};
 use crate::message::{ends_of, message_in_unit};
-use crate::naming::{at_receiver, at_sender};
+use crate::naming::at_receiver;
 use capture::{CaptureFault, CaptureReader, Entry, Fate};
 use ddcmp_msg::{Message, Reading, read_unit};
 use dna_packet::{Packet, read_packet};
@@ -21,8 +21,8 @@ use std::alloc::Global;
 use std::io::Read;
 use wire_base::{Side, Tally};
 
-/// The place of the first record of this side's text, among the first `made`, that keeps a message of a link that is left out, for a link that is
-/// judged, between other nodes than those of the head; the first record is at place 0. None where no such record keeps one, as far as the text can
+/// The place of the first record of this side's text, among the first `made`, that keeps a message for a link that is judged, between other nodes
+/// than those of the head; the first record is at place 0. None where no such record keeps one, as far as the text can
 /// be read.
 ///
 /// `Departs` names no line but the head's; `Read` and `OutOfMemory` are those of the reader.
@@ -70,18 +70,14 @@ fn is_wrong_node(leaving: &Leaving<'_>, side: Side, entry: Entry, bytes: &[u8]) 
     }
 }
 
-// Whether the message in a unit that this side sent is of a link that is left out, for one that is judged.
+// Whether the message in a unit that this side sent is for a link that is judged.
 fn is_for_judged(leaving: &Leaving<'_>, sender: Side, unit: &[u8]) -> bool
     ensures { result ≡ spec.is_for_judged leaving.now sender (message_in_unit unit.now) }
 {
     let Some(message) = message_in_unit(unit) else {
         return false;
     };
-    let ends = ends_of(&message);
-    if !leaving.has(at_sender(sender, ends)) {
-        return false;
-    }
-    !leaving.has(at_receiver(sender, ends))
+    !leaving.has(at_receiver(sender, ends_of(&message)))
 }
 
 // Whether the packet in a unit goes from the peer of this head to its own node.

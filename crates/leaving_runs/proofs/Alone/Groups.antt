@@ -17,7 +17,7 @@ use Rattle.dna_packet.specs.declared.fault.NspFault.{NspFault}
 use Rattle.dna_packet.specs.declared.fault.PacketFault.{PacketFault}
 use Rattle.dna_packet.specs.Packet.{PacketValue, Data, Control, packet_bytes}
 use Rattle.dna_packet.specs.ReadingPacket.{packet_at}
-use Rattle.dna_packet.specs.Nsp.{FieldsFit, NspValue, ConnectInitiate}
+use Rattle.dna_packet.specs.Nsp.{FieldsFit, NspValue, ConnectAck, ConnectInitiate}
 use Rattle.dna_packet.specs.Nsp.{ConnectConfirm}
 use Rattle.dna_packet.specs.ReadingNsp.{nsp_at}
 use Rattle.dna_packet.proofs.NspTakes.{nsp_takes}
@@ -25,7 +25,7 @@ use Rattle.dna_packet.proofs.PacketLemmas.{packet_takes}
 use Rattle.link_groups.specs.Groups.{Binding}
 use Rattle.link_groups.specs.LeftOut.{AreWhole}
 use Rattle.leaving_out.specs.declared.leaving.Leaving.{Leaving}
-use Rattle.leaving_out.specs.About.{binding_of, bindings_of, confirmed, bound, bound_if_named, if_bound}
+use Rattle.leaving_out.specs.About.{answered, binding_of, bindings_of, confirmed, bound, bound_if_named, if_bound}
 use Rattle.leaving_out.specs.Messages.{if_read, is_returned, message_in_unit, message_of, message_within, packet_of}
 use Rattle.leaving_runs.specs.Tied.{IsAlike}
 use Rattle.leaving_runs.specs.OneEnd.{AreAlikeAlone, AreAmongAlone}
@@ -80,8 +80,18 @@ message_small sender (Some (ConnectConfirm dst src services info segsize user_da
     at_zero sender (src == 0) (bound_if_named sender src dst) (if_named sender src dst fits.0.1 fits.0.0 (dst == 0))
 message_small sender (Some m) fits = tt
 
+answered_small : (sender : Side) (o : Option NspValue) → IfSome o FieldsFit → IfSome (answered sender o) AreSmall
+answered_small sender None fits = tt
+answered_small sender (Some (ConnectAck dst)) fits = at_zero sender (dst == 0) None tt
+answered_small sender (Some (ConnectConfirm dst src services info segsize user_data)) fits = of_link (src == 0)
+  where
+    of_link : (b : Bool) → IfSome (cond b None (bound_if_named sender src dst)) AreSmall
+    of_link true = tt
+    of_link false = if_named sender src dst fits.0.1 fits.0.0 (dst == 0)
+answered_small sender (Some m) fits = tt
+
 record_small : (side : Side) (r : Record) → IsRecord r → IfSome (binding_of side true r) AreSmall
-record_small side (Sent unit) is = message_small side (message_in_unit unit) (unit_fields unit is.spelling.bytes (reading unit) refl)
+record_small side (Sent unit) is = answered_small side (message_in_unit unit) (unit_fields unit is.spelling.bytes (reading unit) refl)
 record_small side (Received hint fate unit) is =
     message_small (other_side side) (message_in_unit unit) (unit_fields unit is.spelling.bytes (reading unit) refl)
 record_small side (Noise bytes) is = tt
