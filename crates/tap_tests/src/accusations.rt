@@ -1,12 +1,21 @@
 use std::alloc::Global;
 use wire_base::{Side, Tally};
-use wire_tap::{Accused, Passed, TapFault, find_accused};
+use wire_tap::{Accusation, Accused, Broken, Exception, Passed, TapFault, find_accused};
 
 // An ACK of a message that side b did not send.
 const WRONG_RESPONSE: &str = "ddwire 1 1.1 1.2
 a 0506c00000017595
 b 96960507c00000014855
 a 050100010001ad95
+";
+
+// The same in two pieces, with a unit of b between them.
+const IN_TWO_PIECES: &str = "ddwire 1 1.1 1.2
+a 0506c00000017595
+b 96960507c00000014855
+a 050100
+b 0506c00000017595
+a 010001ad95
 ";
 
 // The same with RESP 0.
@@ -79,6 +88,30 @@ a 810e00010301e7200202040104004009000700020062b8bf
 a 810e00010401e5100202040104006009000700040064daa4
 ";
 
+// A link sends segments 1, 2, 4 and 6.
+const TWO_GAPS: &str = "ddwire 1 1.1 1.2
+a 0506c00000017595
+b 0507c00000014855
+a 810f000001018a40020204010400180000070001020002edfe
+b 8110000101014e4202010402040028070009000102000200b180
+a 810e00010201e6b002020401040060090007000100610aa6
+a 810e00010301e7200202040104006009000700020062baa7
+a 810e00010401e5100202040104006009000700040064daa4
+a 810e00010501e4800202040104006009000700060066faa5
+";
+
+// A link sends segments 1, 2 and 4, and then its station a response to what never passed.
+const GAP_AND_WRONG: &str = "ddwire 1 1.1 1.2
+a 0506c00000017595
+b 0507c00000014855
+a 810f000001018a40020204010400180000070001020002edfe
+b 8110000101014e4202010402040028070009000102000200b180
+a 810e00010201e6b002020401040060090007000100610aa6
+a 810e00010301e7200202040104006009000700020062baa7
+a 810e00010401e5100202040104006009000700040064daa4
+a 0501000200015d95
+";
+
 // A link sends two data bytes, and then three, to one with SEGSIZE 2.
 const TOO_LONG: &str = "ddwire 1 1.1 1.2
 a 0506c00000017595
@@ -102,6 +135,14 @@ a 810d0003030102e002020401040004090007000280cc5d
 a 810d0003040100d002020401040004090007000180ccad
 ";
 
+// No node sends this unit.
+fn plainly(passed: Passed) -> Option<Accusation> {
+    Some(Accusation {
+        passed,
+        unless: None,
+    })
+}
+
 fn found(alloc: Global, text: &str) -> Result<Accused, TapFault> {
     found_over(alloc, text, false)
 }
@@ -120,20 +161,23 @@ fn a_unit_that_no_right_station_sent_is_found(rt: HostRuntime) {
     assert_eq!(rt;
         found(rt.alloc(), WRONG_RESPONSE),
         Ok(Accused {
-            a: Some(of_a),
+            a: plainly(of_a),
+            ..Accused::NOBODY
+        })
+    );
+    assert_eq!(rt;
+        found(rt.alloc(), IN_TWO_PIECES),
+        Ok(Accused {
+            a: plainly(of_a),
             ..Accused::NOBODY
         })
     );
     assert_eq!(rt; found(rt.alloc(), RIGHT), Ok(Accused::NOBODY));
-    let of_b = Passed {
-        side: Side::B,
-        unit: 0,
-        line: 2,
-    };
+    let begins = Broken::Begins { side: Side::B };
     assert_eq!(rt;
         found(rt.alloc(), NO_START),
         Ok(Accused {
-            b: Some(of_b),
+            broken: Some(begins),
             ..Accused::NOBODY
         })
     );
@@ -149,7 +193,7 @@ fn a_packet_that_no_right_node_sent_is_found(rt: HostRuntime) {
     assert_eq!(rt;
         found(rt.alloc(), BAD_NSP),
         Ok(Accused {
-            a: Some(of_a),
+            a: plainly(of_a),
             ..Accused::NOBODY
         })
     );
@@ -157,7 +201,7 @@ fn a_packet_that_no_right_node_sent_is_found(rt: HostRuntime) {
     assert_eq!(rt;
         found(rt.alloc(), NO_LINK),
         Ok(Accused {
-            a: Some(of_a),
+            a: plainly(of_a),
             ..Accused::NOBODY
         })
     );
@@ -169,7 +213,7 @@ fn a_packet_that_no_right_node_sent_is_found(rt: HostRuntime) {
     assert_eq!(rt;
         found(rt.alloc(), WRONG_ACK),
         Ok(Accused {
-            a: Some(of_link),
+            a: plainly(of_link),
             ..Accused::NOBODY
         })
     );
@@ -185,7 +229,7 @@ fn a_called_link_that_does_not_run_yet_is_found(rt: HostRuntime) {
     assert_eq!(rt;
         found(rt.alloc(), NOT_RUNNING),
         Ok(Accused {
-            b: Some(of_called),
+            b: plainly(of_called),
             ..Accused::NOBODY
         })
     );
@@ -202,7 +246,10 @@ fn an_acknowledgement_that_goes_back_is_found(rt: HostRuntime) {
     assert_eq!(rt;
         found(rt.alloc(), BACK),
         Ok(Accused {
-            a: Some(of_a),
+            a: Some(Accusation {
+                passed: of_a,
+                unless: Some(Exception::AcknowledgementQueue),
+            }),
             ..Accused::NOBODY
         })
     );
@@ -219,7 +266,7 @@ fn a_segment_that_is_too_long_is_found(rt: HostRuntime) {
     assert_eq!(rt;
         found(rt.alloc(), TOO_LONG),
         Ok(Accused {
-            a: Some(of_segment),
+            a: plainly(of_segment),
             ..Accused::NOBODY
         })
     );
@@ -241,4 +288,23 @@ fn a_segment_out_of_order_is_found(rt: HostRuntime) {
         })
     );
     assert_eq!(rt; found_over(rt.alloc(), GAP, true), Ok(Accused::NOBODY));
+    assert_eq!(rt;
+        found(rt.alloc(), TWO_GAPS),
+        Ok(Accused {
+            segment_a: Some(of_segment),
+            ..Accused::NOBODY
+        })
+    );
+    let of_a = Passed {
+        side: Side::A,
+        unit: 5,
+        line: 9,
+    };
+    assert_eq!(rt;
+        found(rt.alloc(), GAP_AND_WRONG),
+        Ok(Accused {
+            a: plainly(of_a),
+            ..Accused::NOBODY
+        })
+    );
 }

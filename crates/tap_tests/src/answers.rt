@@ -9,7 +9,7 @@ use tap_answer::{
     unexplained_end_text, unexplained_text, units_before,
 };
 use wire_base::{Side, Tally};
-use wire_tap::{Accused, Ending, Passed, Skipped, Tapped, Units};
+use wire_tap::{Accusation, Accused, Ending, Exception, Passed, Skipped, Tapped, Units};
 
 const CAPTURE: &str = "ddcap 1 1.1 1.2
 u start
@@ -63,14 +63,17 @@ ddcap why shows the unit, but whom it accuses depends on what tap assumed
 "
     );
     let accused = Accused {
-        a: Some(UNPLACED),
+        a: Some(Accusation {
+            passed: UNPLACED,
+            unless: Some(Exception::IsRouter),
+        }),
         ..Accused::NOBODY
     };
     let text = unexplained_text(rt.alloc(), UNPLACED, Reason::WrongNumber, accused)?;
     assert_eq!(rt;
         text.as_str(),
         "unexplained a unit 7 line 16: 7 WrongNumber
-whatever came to it, no right node sends a unit 7 line 16
+side a is at fault at its unit 7 (line 16), if the recording is whole, and it is no router: no correct node sends this, whatever it received
 ddcap why shows the unit, but whom it accuses depends on what tap assumed
 "
     );
@@ -83,7 +86,7 @@ ddcap why shows the unit, but whom it accuses depends on what tap assumed
         text.as_str(),
         "unexplained a unit 7 line 16: 7 WrongNumber
 no consistent explanation was found; this alone accuses neither node
-a right node sends a unit 7 line 16 only if it dropped packets that it had composed
+side a, unit 7 (line 16), if the recording is whole: a correct node sends this only if it discarded packets that it had composed
 ddcap why shows the unit, but whom it accuses depends on what tap assumed
 "
     );
@@ -117,7 +120,7 @@ fn what_was_skipped_stands_behind_the_premise(rt: HostRuntime) -> Result<(), All
     assert_eq!(rt;
         text.as_str(),
         "more bytes were skipped than read: these may not be two directions of a DDCMP line
-this holds only if every unit sent passed this point, starting before the first STRT
+this holds only if every unit sent passed this point once, undamaged and in order, starting before the first STRT
 a skipped maintenance messages 1 bytes between units 12
 b skipped maintenance messages 0 bytes between units 0
 "

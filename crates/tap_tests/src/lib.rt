@@ -5,11 +5,15 @@
 #[cfg(test)]
 mod accusations;
 #[cfg(test)]
+mod accused_unless;
+#[cfg(test)]
 mod accuser_told;
 #[cfg(test)]
 mod acks_told;
 #[cfg(test)]
 mod answers;
+#[cfg(test)]
+mod broken_recordings;
 #[cfg(test)]
 mod captures;
 #[cfg(test)]

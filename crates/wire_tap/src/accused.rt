@@ -220,11 +220,11 @@ impl Told {
         let (passed, goes) = match at.side {
             Side::A => {
                 let passed = self.a.pass(unit, at.line, order, &mut self.b)?;
-                (passed, self.a.addressed(unit))
+                (passed, self.a.goes_where(unit))
             }
             Side::B => {
                 let passed = self.b.pass(unit, at.line, order, &mut self.a)?;
-                (passed, self.b.addressed(unit))
+                (passed, self.b.goes_where(unit))
             }
         };
         self.evidence.pass(unit, passed, goes, at.order);

@@ -31,7 +31,7 @@ impl Addressed {
 }
 
 /// Where this unit's packet goes, if the nodes of its side and of the other one have these addresses. It takes no memory.
-pub(crate) fn addressed(own: u16, peer: u16, unit: &[u8]) -> Addressed {
+pub(crate) fn goes_where(own: u16, peer: u16, unit: &[u8]) -> Addressed {
     match read_unit(unit) {
         Reading::Sound(message) => match message {
             Message::Data { body, .. } => packet_addressed(own, peer, body),

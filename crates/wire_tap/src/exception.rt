@@ -19,7 +19,7 @@ pub(crate) enum Charge {
 }
 
 /// What a correct node may do that sends a unit which is accused by this charge, and whose packet goes there.
-pub(crate) fn exception(charge: Charge, addressed: Addressed) -> Option<Exception> {
+pub(crate) fn exception_of(charge: Charge, addressed: Addressed) -> Option<Exception> {
     match charge {
         Charge::Station | Charge::TooLong => None,
         Charge::Packet => of_packet(addressed),

@@ -36,8 +36,8 @@ impl Suspects {
         let a = stop.keep(self.a);
         let b = stop.keep(self.b);
         Accused {
-            a: accusation(a),
-            b: accusation(b),
+            a: accusation_of(a),
+            b: accusation_of(b),
             segment_a: segment_alone(a, stop.keep(self.segment_a)),
             segment_b: segment_alone(b, stop.keep(self.segment_b)),
             broken: stop.broken,
@@ -73,7 +73,7 @@ impl Stop {
     }
 }
 
-fn accusation(suspect: Option<Suspect>) -> Option<Accusation> {
+fn accusation_of(suspect: Option<Suspect>) -> Option<Accusation> {
     let found = suspect?;
     Some(Accusation {
         passed: found.passed,

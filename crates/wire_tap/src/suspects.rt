@@ -2,8 +2,8 @@
 
 use crate::accusation::Exception;
 use crate::accusers::Accusers;
-use crate::addressed::{Addressed, addressed};
-use crate::exception::{Charge, exception};
+use crate::addressed::{Addressed, goes_where};
+use crate::exception::{Charge, exception_of};
 use crate::tapped::Passed;
 use std::alloc::{AllocError, Global};
 use wire_base::Side;
@@ -77,7 +77,7 @@ impl SideAccused {
     // Whether the side, which is not accused yet, can have sent this unit.
     fn ask(&mut self, unit: &[u8], passed: Passed, order: u64) -> Result<(), AllocError> {
         if let Some(charge) = self.accusers.accuse(unit)? {
-            self.first = Some(self.suspect(charge, unit, passed, order));
+            self.first = Some(self.made_suspect(charge, unit, passed, order));
             return Ok(());
         }
         if self.segment.is_none() && self.accusers.doubt_segment(unit) {
@@ -92,18 +92,18 @@ impl SideAccused {
     }
 
     // This unit is accused by this charge.
-    fn suspect(&self, charge: Charge, unit: &[u8], passed: Passed, order: u64) -> Suspect {
-        let goes = self.addressed(unit);
+    fn made_suspect(&self, charge: Charge, unit: &[u8], passed: Passed, order: u64) -> Suspect {
+        let goes = self.goes_where(unit);
         Suspect {
             passed,
-            unless: exception(charge, goes),
+            unless: exception_of(charge, goes),
             is_misaddressed: charge == Charge::Packet && goes.is_wrong(),
             order,
         }
     }
 
     /// Where the packet in this unit of the side goes.
-    pub(crate) fn addressed(&self, unit: &[u8]) -> Addressed {
-        addressed(self.own, self.peer, unit)
+    pub(crate) fn goes_where(&self, unit: &[u8]) -> Addressed {
+        goes_where(self.own, self.peer, unit)
     }
 }
