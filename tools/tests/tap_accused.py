@@ -152,10 +152,10 @@ def broken():
     line = Line().say('a', None, '0b01040000').say('b', None, '0205040704' + '00' + CONFIRM)
     yield 'a line that joins routers', line.text(), unexplained('b', 1, 6, '16 WrongNode', not_between('b')), none, none
     line = linked()
-    line.units += [('a', data_of(9, 1)), ('b', data_of(2, 2)), ('b', data_of(3, 2))]
+    line.units += [('a', data_of(9, 1)), *(('b', data_of(number, 2)) for number in range(2, 5))]
     size = len(line.units[-2][1]) // 2
-    yield ('a wrong number, and then a header that was damaged', line.turn(7, 2).text(), unexplained(
-        'a', 4, 8, '7 WrongNumber', at_fault('a', 4, 8), skipped(size, 'b', 'b', 2, 10, ' of anything else')), none, none)
+    yield ('a wrong number, and then a header that was damaged', line.turn(8, 2).text(), unexplained(
+        'a', 4, 8, '7 WrongNumber', at_fault('a', 4, 8), skipped(size, 'b', 'b', 3, 11, ' of anything else')), none, none)
 
 
 CASES = [*((*case, (0, 0), (0, 0)) for case in (*excepted(), *named())), *broken()]

@@ -14,15 +14,15 @@ pub fn put_accused(
     put_both_accused(
         alloc,
         object,
-        conditional(accused.a),
-        conditional(accused.b),
+        with_exception(accused.a),
+        with_exception(accused.b),
     )?;
     put(object, "], \"accused_unless_dropped\": [")?;
     put_both_accused(
         alloc,
         object,
-        undiscarded(accused.segment_a),
-        undiscarded(accused.segment_b),
+        with_packets_kept(accused.segment_a),
+        with_packets_kept(accused.segment_b),
     )?;
     put(object, "]")
 }
@@ -34,7 +34,7 @@ struct Conditional {
     word: Option<&'static str>,
 }
 
-fn conditional(accusation: Option<Accusation>) -> Option<Conditional> {
+fn with_exception(accusation: Option<Accusation>) -> Option<Conditional> {
     let Accusation { passed, unless } = accusation?;
     let word = match unless {
         None => None,
@@ -47,7 +47,7 @@ fn conditional(accusation: Option<Accusation>) -> Option<Conditional> {
     Some(Conditional { passed, word })
 }
 
-fn undiscarded(passed: Option<Passed>) -> Option<Conditional> {
+fn with_packets_kept(passed: Option<Passed>) -> Option<Conditional> {
     Some(Conditional {
         passed: passed?,
         word: Some("no packets discarded"),

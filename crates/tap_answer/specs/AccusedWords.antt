@@ -2,7 +2,8 @@
 use Rattle.std.specs.Prelude.{Bool, true, false, if◌then◌else◌, ℕ, Option, Some, None, List, [], ◌++◌, codes}
 use Rattle.std.specs.Fmt.{decimal}
 use Rattle.wire_base.specs.declared.side.Side.{Side}
-use Rattle.wire_base.specs.Side.{other_side, side_letter}
+use Rattle.wire_base.specs.declared.side.Side.TheVariants.{A, B}
+use Rattle.wire_base.specs.Side.{side_letter}
 use Rattle.wire_tap.specs.declared.accusation.Accusation.{Accusation}
 use Rattle.wire_tap.specs.declared.accusation.Accused.{Accused}
 use Rattle.wire_tap.specs.declared.accusation.Broken.{Broken}
@@ -15,7 +16,8 @@ use Rattle.wire_tap.specs.declared.tapped.Passed.{Passed}
 abbrev pub exception_words : Side → Exception → List ℕ
 exception_words side AcknowledgementQueue = codes ", and its acknowledgements do not wait in a queue of their own"
 exception_words side IsRouter = codes ", and it is no router"
-exception_words side OtherIsRouter = codes ", and side " ++ (side_letter (other_side side) ++ codes " is no router")
+exception_words A OtherIsRouter = codes ", and side b is no router"
+exception_words B OtherIsRouter = codes ", and side a is no router"
 exception_words side GaveUpCall = codes ", and its user did not give up the call"
 exception_words side OtherSubchannel = codes ", and no message of the other subchannel acknowledged data"
 
@@ -58,17 +60,18 @@ discarded_words (Some passed) =
 abbrev pub stray_words : Side → ℕ → List ℕ
 stray_words side bytes = decimal bytes ++ (codes " bytes of side " ++ (side_letter side ++ codes " that belong to no unit were skipped"))
 
+-- `side a's unit 4 (line 12)`
+abbrev pub unit_of_words : Passed → List ℕ
+unit_of_words passed =
+    codes "side " ++ (side_letter passed.side ++ (codes "'s unit " ++ (decimal passed.unit ++ (codes " (line " ++ (decimal passed.line ++ codes ")")))))
+
 -- what shows that a recording is not whole
 abbrev pub seen_words : Broken → List ℕ
 seen_words (Begins side) =
     codes "side " ++ (side_letter side ++ (codes "'s recording begins in the middle of a running line, or side " ++ (side_letter side
     ++ codes " began without a start")))
-seen_words (Skipped side bytes before) =
-    stray_words side bytes ++ (codes " before side " ++ (side_letter before.side ++ (codes "'s unit " ++ (decimal before.unit
-    ++ (codes " (line " ++ (decimal before.line ++ codes ")"))))))
-seen_words (Damaged passed) =
-    codes "the data of side " ++ (side_letter passed.side ++ (codes "'s unit " ++ (decimal passed.unit ++ (codes " (line " ++ (decimal passed.line
-    ++ codes ") fail their block check")))))
+seen_words (Skipped side bytes before) = stray_words side bytes ++ (codes " before " ++ unit_of_words before)
+seen_words (Damaged passed) = codes "the data of " ++ (unit_of_words passed ++ codes " fail their block check")
 seen_words Exchanged = codes "the packets of both sides have the addresses of the head exchanged"
 seen_words (NotBetween side) = codes "no packet of side " ++ (side_letter side ++ codes " is between the two nodes of the head")
 

@@ -48,10 +48,10 @@ impl fmt::Display for ExceptionWords {
                 f.write_str(", and its acknowledgements do not wait in a queue of their own")
             }
             Exception::IsRouter => f.write_str(", and it is no router"),
-            Exception::OtherIsRouter => {
-                let other = self.side.other();
-                write!(f, ", and side {other} is no router")
-            }
+            Exception::OtherIsRouter => match self.side {
+                Side::A => f.write_str(", and side b is no router"),
+                Side::B => f.write_str(", and side a is no router"),
+            },
             Exception::GaveUpCall => f.write_str(", and its user did not give up the call"),
             Exception::OtherSubchannel => {
                 f.write_str(", and no message of the other subchannel acknowledged data")

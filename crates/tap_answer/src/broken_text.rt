@@ -26,6 +26,24 @@ impl fmt::Display for StrayWords {
     }
 }
 
+// A unit, as it is named in a sentence.
+#[derive(Clone, Copy)]
+struct UnitOfWords {
+    passed: Passed,
+}
+
+impl fmt::Display for UnitOfWords {
+    ghost use Rattle.std.specs.Prelude.{Some};
+    ghost use Rattle.tap_answer.specs.AccusedWords.{unit_of_words};
+
+    ghost output = { λ words. Some (unit_of_words words.passed) };
+
+    fn fmt<W: fmt::Write>(&self, f: &mut fmt::Formatter<W>) -> fmt::Result {
+        let Passed { side, unit, line } = self.passed;
+        write!(f, "side {side}'s unit {unit} (line {line})")
+    }
+}
+
 // What was seen.
 #[derive(Clone, Copy)]
 struct SeenWords {
@@ -50,15 +68,12 @@ impl fmt::Display for SeenWords {
                 before,
             } => {
                 let stray = StrayWords { side, bytes };
-                let Passed { side, unit, line } = before;
-                write!(f, "{stray} before side {side}'s unit {unit} (line {line})")
+                let unit = UnitOfWords { passed: before };
+                write!(f, "{stray} before {unit}")
             }
             Broken::Damaged { passed } => {
-                let Passed { side, unit, line } = passed;
-                write!(
-                    f,
-                    "the data of side {side}'s unit {unit} (line {line}) fail their block check"
-                )
+                let unit = UnitOfWords { passed };
+                write!(f, "the data of {unit} fail their block check")
             }
             Broken::Exchanged => {
                 f.write_str("the packets of both sides have the addresses of the head exchanged")
