@@ -6,17 +6,18 @@ use crate::seeker::Seeker;
 use std::alloc::{AllocError, Global};
 use wire_base::Side;
 
-// So many events back from the record something is assumed at most; and at so many of the last starts of a side, and packets before them.
-const BACK: u64 = 16_384;
+// So many points back from the record something is assumed at most; of each kind at so many that are nearest to it.
+const BACK: usize = 8_192;
 
-const MOST_STARTS: usize = 16;
+const MOST: usize = 16;
 
-// What is assumed at this place, where that is not what is assumed now.
+/// What is assumed at this place, which is not what is assumed there now. Of two that mend the one of the lower rank is taken.
 #[derive(Clone, Copy, Debug)]
 pub(crate) struct Candidate {
     pub(crate) number: u64,
     pub(crate) key: u64,
     pub(crate) choice: Option<Choice>,
+    pub(crate) rank: u8,
 }
 
 // The record that is refused: its side, which message it is, and the addresses as that side sees them.
@@ -51,15 +52,14 @@ impl Seeker {
         for point in &self.refused {
             self.put_point(*point, refused, &mut sorted)?;
         }
-        for behind in 0..self.points.len() {
+        for behind in 0..self.points.len().min(BACK) {
             let place = self.points.len() - behind - 1;
-            let Some(point) = self.points.get(place).copied() else {
-                break;
-            };
-            if point.number.saturating_add(BACK) < number as u64 {
+            if sorted.is_full() {
                 break;
             }
-            self.put_point(point, refused, &mut sorted)?;
+            if let Some(point) = self.points.get(place) {
+                self.put_point(*point, refused, &mut sorted)?;
+            }
         }
         sorted.all()
     }
@@ -190,10 +190,14 @@ fn put(
     point: Point,
     choice: Option<Choice>,
 ) -> Result<(), AllocError> {
+    if candidates.len() >= MOST {
+        return Ok(());
+    }
     candidates.push(Candidate {
         number: point.number,
         key: point.key,
         choice,
+        rank: 0,
     })?;
     Ok(())
 }
@@ -219,9 +223,6 @@ impl Sorted {
             true => &mut self.own_boots,
             false => &mut self.other_boots,
         };
-        if boots.len() >= MOST_STARTS {
-            return Ok(());
-        }
         match now {
             Some(_) => put(boots, point, None),
             None => put(boots, point, Some(Choice::Boots)),
@@ -229,9 +230,6 @@ impl Sorted {
     }
 
     fn put_kept(&mut self, point: Point, now: Option<Choice>, most: u64) -> Result<(), AllocError> {
-        if self.kept.len() >= MOST_STARTS.saturating_mul(2) {
-            return Ok(());
-        }
         let choice = Some(Choice::Keeps { most });
         match choice == now {
             true => put(&mut self.kept, point, None),
@@ -249,22 +247,37 @@ impl Sorted {
             other_boots,
         } = self;
         let mut all = meant;
-        for candidate in &kept {
-            all.push(*candidate)?;
-        }
-        for candidate in &given_up {
-            all.push(*candidate)?;
-        }
-        put_reversed(&mut all, own_boots)?;
-        put_reversed(&mut all, other_boots)?;
+        put_ranked(&mut all, kept.as_slice(), 1)?;
+        put_ranked(&mut all, given_up.as_slice(), 2)?;
+        put_reversed(&mut all, own_boots, 3)?;
+        put_reversed(&mut all, other_boots, 3)?;
         Ok(all)
+    }
+
+    // Whether there is no room for another.
+    fn is_full(&self) -> bool {
+        if self.meant.len() < MOST || self.kept.len() < MOST || self.given_up.len() < MOST {
+            return false;
+        }
+        self.own_boots.len() >= MOST && self.other_boots.len() >= MOST
     }
 }
 
-fn put_reversed(all: &mut Vec<Candidate>, mut of: Vec<Candidate>) -> Result<(), AllocError> {
+fn put_ranked(all: &mut Vec<Candidate>, of: &[Candidate], rank: u8) -> Result<(), AllocError> {
+    for candidate in of {
+        all.push(Candidate { rank, ..*candidate })?;
+    }
+    Ok(())
+}
+
+fn put_reversed(
+    all: &mut Vec<Candidate>,
+    mut of: Vec<Candidate>,
+    rank: u8,
+) -> Result<(), AllocError> {
     for _ in 0..of.len() {
         if let Some(candidate) = of.pop() {
-            all.push(candidate)?;
+            all.push(Candidate { rank, ..candidate })?;
         }
     }
     Ok(())

@@ -9,8 +9,13 @@ use std::alloc::{AllocError, Global};
 use std::collections::BTreeMap;
 use wire_base::Side;
 
-// So far past a refused record is looked, before something is assumed for it.
+// So far past a refused record is looked, before something is assumed for it; if something mends so many records, none of a higher rank is tried.
 const LOOK: usize = 64;
+
+const FEW: usize = 4;
+
+// So many points back the boot before another is sought.
+const BACK: usize = 8_192;
 
 // Two things are assumed at once only of so many that come first.
 const PAIRED: usize = 24;
@@ -218,11 +223,16 @@ impl Seeker {
         let enough = number.saturating_add(LOOK).min(self.log.order.len());
         let mut furthest = number;
         let mut best = None;
+        let mut rank = u8::MAX;
         for candidate in &candidates {
+            if candidate.rank > rank && furthest >= number.saturating_add(FEW) {
+                break;
+            }
             let reached = self.attempt(*candidate, enough)?;
             if reached > furthest {
                 furthest = reached;
                 best = Some(*candidate);
+                rank = candidate.rank;
             }
             if furthest >= enough {
                 break;
@@ -289,19 +299,7 @@ impl Seeker {
         let Some((side, _, _)) = self.log.at(boot.number as usize) else {
             return Ok(());
         };
-        let mut earlier = None;
-        for point in &self.points {
-            if point.kind == Kind::Starts && point.side == side && point.number < boot.number {
-                if self.choice(point.key) == Some(Choice::Boots) {
-                    earlier = Some(Candidate {
-                        number: point.number,
-                        key: point.key,
-                        choice: None,
-                    });
-                }
-            }
-        }
-        let Some(earlier) = earlier else {
+        let Some(earlier) = self.boot_before(side, boot.number) else {
             return Ok(());
         };
         let wanted = number.saturating_add(1);
@@ -310,5 +308,22 @@ impl Seeker {
         }
         let _ = self.go(wanted)?;
         Ok(())
+    }
+
+    // The last boot of this node that is assumed before this place, as it is assumed no longer.
+    fn boot_before(&self, side: Side, number: u64) -> Option<Candidate> {
+        for behind in 0..self.points.len().min(BACK) {
+            let point = self.points.get(self.points.len() - behind - 1).copied()?;
+            let is_boot = point.kind == Kind::Starts && point.side == side;
+            if is_boot && point.number < number && self.choice(point.key) == Some(Choice::Boots) {
+                return Some(Candidate {
+                    number: point.number,
+                    key: point.key,
+                    choice: None,
+                    rank: 3,
+                });
+            }
+        }
+        None
     }
 }
