@@ -77,14 +77,20 @@ def lines_wanted(texts, step, way):
     return lines, rows
 
 
-def fault_of_refusal(group, part, wanted):
+def may_be_accused(number, kind, queued):
+    """Whom a refusal may accuse: where nodes act at once, only if the node has no queue."""
+    named = {'other end', accused(number, kind)}
+    return named | {'nobody'} | (set() if queued else {name.replace(' ', '_') + '_without_queue' for name in named})
+
+
+def fault_of_refusal(group, part, wanted, queued):
     """What is wrong with the objects and the blocks of a refusal that is explained, or None."""
     refused, record, check, *others = group
     lines, rows = wanted
     told = [record] + [found for found in others if found['what'] in ('state', 'link')]
     if [{key: found.get(key) for key in line} for found, line in zip(told, lines)] != lines or len(told) != len(lines):
         return 'objects %r, where %r is wanted' % (told, lines)
-    if refused['accuses'] not in ('other end', 'nobody', accused(refused['number'], record['kind'])) or check['what'] != 'check':
+    if refused['accuses'] not in may_be_accused(refused['number'], record['kind'], queued) or check['what'] != 'check':
         return 'who is accused, or no check: %r, %r' % (refused, check)
     rule = [check['rule'], check['table']]
     if rule != list(rules()[refused['number']]) or check['seen'] == check['allowed'] or part[2].splitlines() != rows_of_check(check):
@@ -163,7 +169,7 @@ def fault_of_others(words, texts, refusals, explained):
             lines, rows = lines_wanted(read, step, way)
             if each.text.startswith('else '):  # by the line alone, without links
                 lines, rows = [line for line in lines if line['what'] != 'link'], None
-            fault = fault_of_refusal(group, part, (lines, None if way.queued else rows)) or are_short(texts) and \
+            fault = fault_of_refusal(group, part, (lines, None if way.queued else rows), way.queued) or are_short(texts) and \
                 fault_of_ladder(part[4].splitlines(), group[0], read)
             if fault:
                 return 'the explanation of %r: %s' % (each.text, fault)
