@@ -84,11 +84,8 @@ pub fn put_stop(text: &mut Vec<u8>, stop: Option<Refusal>) -> Result<(), AllocEr
         return Ok(());
     };
     let line = line_at(text.as_slice(), stop.place.saturating_add(2));
-    let words = match text.as_slice().get(line..) {
-        Some(words) => words,
-        None => &[],
-    };
-    text.truncate(line.saturating_add(unit_at(words)));
+    let unit = unit_at(text.as_slice(), line);
+    text.truncate(unit);
     text.extend_from_slice(REFUSED_UNIT)
 }
 
@@ -113,10 +110,10 @@ fn line_at(text: &[u8], number: u64) -> usize {
     text.len()
 }
 
-// Where the last word of the first line begins.
-fn unit_at(text: &[u8]) -> usize {
-    let mut unit = 0;
-    for at in 0..text.len() {
+// Where the last word of the line begins that begins there.
+fn unit_at(text: &[u8], line: usize) -> usize {
+    let mut unit = line;
+    for at in line..text.len() {
         match text[at] {
             b'\n' => return unit,
             b' ' => unit = at + 1,
