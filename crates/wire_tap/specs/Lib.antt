@@ -1,3 +1,4 @@
 pub mod Units
 pub mod Tapping
+pub mod Accusing
 pub mod inner

@@ -1,5 +1,8 @@
 //! Which units no correct node sent, whatever came to it.
 
+ghost use Rattle.std.specs.Prelude.{IfOk};
+ghost use Rattle.wire_tap.specs.Accusing.{AreEither};
+
 use crate::accusation::Accused;
 use crate::begun::Begun;
 use crate::evidence::Evidence;
@@ -22,7 +25,9 @@ pub fn find_accused<W: Read>(
     alloc: Global,
     wire: &mut Tally<W>,
     line_alone: bool,
-) -> Result<Accused, TapFault> {
+) -> Result<Accused, TapFault>
+    ensures { IfOk result AreEither }
+{
     let mut reader = match WireReader::open(alloc, wire) {
         Ok(reader) => reader,
         Err(fault) => return Err(reading_fault(fault)),
@@ -114,7 +119,9 @@ impl Line {
     }
 
     // Whom they accuse, where what the framers hold at last is no unit.
-    fn accused(&mut self) -> Accused {
+    fn accused(&mut self) -> Accused
+        ensures { AreEither result }
+    {
         self.a.end(&mut self.told.evidence);
         self.b.end(&mut self.told.evidence);
         let suspects = Suspects {

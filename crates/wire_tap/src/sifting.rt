@@ -1,5 +1,7 @@
 //! Who stays accused, where the recording may not be whole.
 
+ghost use Rattle.wire_tap.specs.Accusing.{AreEither, IsEither};
+
 use crate::accusation::{Accusation, Accused, Broken};
 use crate::evidence::Evidence;
 use crate::suspects::Suspect;
@@ -23,7 +25,9 @@ struct Stop {
 
 impl Suspects {
     /// Those that passed before anything accuses the recording.
-    pub(crate) fn sift(self, evidence: &Evidence) -> Accused {
+    pub(crate) fn sift(self, evidence: &Evidence) -> Accused
+        ensures { AreEither result }
+    {
         let none = Stop {
             order: u64::MAX,
             broken: None,
@@ -33,13 +37,13 @@ impl Suspects {
             .or_at(self.b, evidence)
             .or_at(self.segment_a, evidence)
             .or_at(self.segment_b, evidence);
-        let a = stop.keep(self.a);
-        let b = stop.keep(self.b);
+        let (a, segment_a) = named(stop.keep(self.a), stop.keep(self.segment_a));
+        let (b, segment_b) = named(stop.keep(self.b), stop.keep(self.segment_b));
         Accused {
-            a: accusation_of(a),
-            b: accusation_of(b),
-            segment_a: segment_alone(a, stop.keep(self.segment_a)),
-            segment_b: segment_alone(b, stop.keep(self.segment_b)),
+            a,
+            b,
+            segment_a,
+            segment_b,
             broken: stop.broken,
         }
     }
@@ -73,19 +77,23 @@ impl Stop {
     }
 }
 
-fn accusation_of(suspect: Option<Suspect>) -> Option<Accusation> {
-    let found = suspect?;
-    Some(Accusation {
-        passed: found.passed,
-        unless: found.unless,
-    })
+// What is said of a side; of a segment only where the side is not accused.
+fn named(accused: Option<Suspect>, segment: Option<Suspect>) -> (Option<Accusation>, Option<Passed>)
+    ensures { IsEither result.0 result.1 }
+{
+    match accused {
+        Some(found) => {
+            let accusation = Accusation {
+                passed: found.passed,
+                unless: found.unless,
+            };
+            (Some(accusation), None)
+        }
+        None => (None, passed_of(segment)),
+    }
 }
 
-// The segment, where the side is not accused.
-fn segment_alone(accused: Option<Suspect>, segment: Option<Suspect>) -> Option<Passed> {
-    if accused.is_some() {
-        return None;
-    }
+fn passed_of(segment: Option<Suspect>) -> Option<Passed> {
     let found = segment?;
     Some(found.passed)
 }
