@@ -6,7 +6,7 @@
 //! that are written of what it assumes are judged.
 #![tactic(auto)]
 
-mod assume;
+mod assumptions;
 mod book;
 mod candidates;
 mod event;
@@ -20,5 +20,5 @@ mod seeker;
 mod sending;
 mod turns;
 
-pub use assume::{Assumptions, assume};
+pub use assumptions::{Assumptions, assume};
 pub use lines::tell_lines;

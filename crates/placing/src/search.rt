@@ -178,6 +178,7 @@ impl Search {
 
     // What all states of the side share is settled, and what they all use up is let go.
     fn settle(&mut self, side: Side) -> Result<(), AllocError> {
+        let alloc = self.alloc;
         let mut least = u64::MAX;
         self.ends.clear();
         for at in 0..self.hypotheses.len() {
@@ -190,8 +191,8 @@ impl Search {
             }
         }
         match side {
-            Side::A => self.a.way.settle_shared(&mut self.ends)?,
-            Side::B => self.b.way.settle_shared(&mut self.ends)?,
+            Side::A => self.a.way.settle_shared(alloc, self.ends.as_slice())?,
+            Side::B => self.b.way.settle_shared(alloc, self.ends.as_slice())?,
         }
         match side {
             Side::A => self.b.let_go(least),

@@ -1,7 +1,7 @@
 //! One side of a line, as a tap places its units.
 
 use ddcmp_msg::{Reading, read_unit};
-use placing::{Assumed, Explained, Placing, Reached, Search, Turn, own_address, turns_a_link};
+use placing::{Assumed, Explained, Placing, Reached, Search, Turn, message_of};
 use std::alloc::{AllocError, Global};
 use wire_base::Side;
 
@@ -177,8 +177,7 @@ fn a_start_that_is_turned_keeps_fewer_packets(rt: HostRuntime) -> Result<(), All
         let (_, lines) = passed(rt.alloc(), &[at_unit(1, Assumed::Keeps { most })], &units)?;
         assert_eq!(rt; is_kept(lines.as_slice()), wanted);
     }
-    assert!(rt; !turns_a_link(&HELLO));
-    assert_eq!(rt; own_address(&HELLO), None);
+    assert!(rt; message_of(&HELLO).is_none());
     Ok(())
 }
 

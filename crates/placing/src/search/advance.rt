@@ -194,8 +194,11 @@ impl View<'_> {
                 Said::Strt => self.restart(way, room, standing)?,
                 Said::Stack => {
                     self.go_started(way, room, standing)?;
+                    if !self.has_strt(self.seen, self.limit) {
+                        return Ok(());
+                    }
                     self.restart(way, room, standing)?;
-                    room.drop_begun_with(standing.kept);
+                    self.drop_begun(room, standing.kept);
                 }
                 _ => return self.go_started(way, room, standing),
             },

@@ -57,6 +57,31 @@ impl View<'_> {
         self.begin(way, room, stands)
     }
 
+    /// Drops where it may have begun anew with no more packets kept than so many, or where it may have done so before its last unit: a STRT that it
+    /// may answer had passed by then.
+    pub(super) fn drop_begun(&self, room: &mut Room, kept: u64) {
+        let mut at: usize = 0;
+        for _ in 0..room.begun.len() {
+            match room.begun.get(at) {
+                Some(begun) if begun.kept <= kept || self.has_strt(begun.come, self.seen) => {
+                    let _ = room.begun.swap_remove(at);
+                }
+                _ => at = at.saturating_add(1),
+            }
+        }
+    }
+
+    /// Whether a STRT is among these units of the other side.
+    pub(super) fn has_strt(&self, from: u64, to: u64) -> bool {
+        for number in from..to {
+            match self.units.get(number.saturating_sub(self.gone) as usize) {
+                Some(said) if said.is_strt() => return true,
+                _ => {}
+            }
+        }
+        false
+    }
+
     // The first unit from this one on that answers this period.
     fn first_answering(&self, from: u64, period: u64) -> u64 {
         for at in epoch_of(self.epochs, from)..self.epochs.len() {

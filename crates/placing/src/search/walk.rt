@@ -58,19 +58,6 @@ impl Room {
             next: Vec::new(alloc),
         }
     }
-
-    /// Drops where it may have begun anew with no more packets kept than so many.
-    pub(super) fn drop_begun_with(&mut self, kept: u64) {
-        let mut at: usize = 0;
-        for _ in 0..self.begun.len() {
-            match self.begun.get(at) {
-                Some(begun) if begun.kept <= kept => {
-                    let _ = self.begun.swap_remove(at);
-                }
-                _ => at = at.saturating_add(1),
-            }
-        }
-    }
 }
 
 /// The tag of all units where the periods are not asked.

@@ -52,21 +52,41 @@ impl Way {
     }
 
     /// What is on the way to all of these is taken back no more. `AllocError` as for `settle`.
-    pub(crate) fn settle_shared(&mut self, ends: &mut Vec<u64>) -> Result<(), AllocError> {
-        let last = self.shared(ends);
+    pub(crate) fn settle_shared(&mut self, alloc: Global, ends: &[u64]) -> Result<(), AllocError> {
+        let last = self.shared(alloc, ends)?;
         self.settle(last)
     }
 
-    // The last step that is on the way to all of these, which are used up.
-    fn shared(&self, ends: &mut Vec<u64>) -> u64 {
-        for _ in 0..self.steps.len() {
-            let last = highest(ends);
-            let before = self.before(last);
-            if last <= self.gone || !take_back(ends, last, before) {
-                return last.max(self.gone);
+    // The last step that is on the way to all of these: each step before another has a lower number.
+    fn shared(&self, alloc: Global, ends: &[u64]) -> Result<u64, AllocError> {
+        let all = ends.len() as u64;
+        let count = self.steps.len();
+        let mut on_way = vec![in alloc; 0u64; count]?;
+        for end in ends {
+            self.pass_way(&mut on_way, *end, 1);
+        }
+        for behind in 0..count {
+            let place = count - behind - 1;
+            let Some(ways) = on_way.get(place).copied() else {
+                break;
+            };
+            if ways == all && all > 0 {
+                return Ok(self.gone.saturating_add(place as u64).saturating_add(1));
+            }
+            if let Some(step) = self.steps.get(place).copied() {
+                self.pass_way(&mut on_way, step.before, ways);
             }
         }
-        self.gone
+        Ok(self.gone)
+    }
+
+    // So many ways lead over this step.
+    fn pass_way(&self, on_way: &mut Vec<u64>, number: u64, ways: u64) {
+        if number > self.gone {
+            if let Some(count) = on_way.get_mut((number - self.gone - 1) as usize) {
+                *count = count.saturating_add(ways);
+            }
+        }
     }
 
     /// The way to this step is taken back no more. `AllocError` where there is no memory for its moves.
@@ -176,13 +196,6 @@ impl Way {
         self.steps.get(place).copied()
     }
 
-    fn before(&self, number: u64) -> u64 {
-        match self.at(number) {
-            Some(step) => step.before,
-            None => 0,
-        }
-    }
-
     // The moves of a step: what was not taken before it was lost.
     fn put(&mut self, made: Made) -> Result<(), AllocError> {
         match made {
@@ -222,25 +235,4 @@ fn is_marked(marks: &[u64], place: usize) -> bool {
         Some(mark) => *mark != 0,
         None => false,
     }
-}
-
-fn highest(ends: &[u64]) -> u64 {
-    let mut highest = 0;
-    for end in ends {
-        highest = highest.max(*end);
-    }
-    highest
-}
-
-// Takes back all of these that end with the last step; whether any others are left.
-fn take_back(ends: &mut [u64], last: u64, before: u64) -> bool {
-    let mut are_others = false;
-    for end in ends {
-        if *end == last {
-            *end = before;
-        } else {
-            are_others = true;
-        }
-    }
-    are_others
 }
