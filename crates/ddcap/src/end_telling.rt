@@ -13,7 +13,7 @@ use crate::last_rows::LastRows;
 use crate::layers::{Layers, failed_end_over, watch_end_over};
 use crate::queued_too::{end_with_queues, unasked};
 use crate::rows_before::ladder_text;
-use crate::telling::{Form, REFUSED};
+use crate::telling::{Form, REFUSED, accusation_knowing};
 use capture::CaptureFault;
 use ladder::Ladder;
 use pair_judge::{EndVerdict, Reason, SideEnd, SideSummary, WatchedEnd};
@@ -172,13 +172,13 @@ fn refusal_of<'t>(
     else {
         return None;
     };
-    let by_table = Accusation::of_end(accused, reason, entry);
-    let has_begun = past.has_begun(Side::A, reason);
     let excuse = queued.excuse(Side::A, place).of_end();
+    let has_begun = past.has_begun(Side::A, reason);
+    let by_table = Accusation::of_end(accused, reason, entry);
     Some(EndRefusal {
         place,
         reason,
-        accusation: by_table.knowing(reason, has_begun, excuse),
+        accusation: accusation_knowing(by_table, reason, has_begun, excuse),
         failed: failed_end_over(layers, end, reason),
         says: entry,
         bytes,

@@ -20,7 +20,7 @@ use pair_judge::{JudgedEnds, Reason, Summary, Verdict, Watched};
 use std::alloc::{AllocError, Global};
 use std::io::{Read, Seek, Write};
 use why::{
-    Accusation, Lines, LinkPast, QueuedAnswer, Refusal, Shown, addresses_of, why_json, why_rows,
+    Accusation, Excuse, Lines, LinkPast, QueuedAnswer, Refusal, Shown, addresses_of, why_json, why_rows,
 };
 use wire_base::{Side, Tally, write_whole};
 
@@ -236,7 +236,19 @@ fn accusation_of(
     } = refused;
     let excuse = queued.excuse(side, place);
     let has_begun = past.has_begun(side, reason);
-    Accusation::of(reason, entry).knowing(reason, has_begun, excuse)
+    accusation_knowing(Accusation::of(reason, entry), reason, has_begun, excuse)
+}
+
+/// Who is accused for this reason, where the table says this, and that is known of the side's line and of nodes with queues.
+pub fn accusation_knowing(
+    by_table: Accusation,
+    reason: Reason,
+    has_begun: bool,
+    excuse: Excuse,
+) -> Accusation
+    ensures { IsAccused reason by_table result }
+{
+    by_table.knowing(reason, has_begun, excuse)
 }
 
 // The unit that the refused record names.
