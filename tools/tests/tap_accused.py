@@ -1,6 +1,6 @@
-"""Whom `ddcap tap` accuses, and with which exception, and in which recordings nobody, for `tools/tests/test_tap`: lines of two nodes that are linked,
-with a unit that a rule forbids, and recordings of a right line that are not whole; then recordings that are cut anywhere, and the nodes that do nothing
-wrong and are refused (tools/tests/nodes/small_right_nodes.py)."""
+"""Whom `ddcap tap` accuses, and with which exception, and in which recordings nobody, for `tools/tests/test_tap`: lines of two nodes that are
+linked, with a unit that a rule forbids, and recordings of a right line that are not whole; then recordings that are cut anywhere, and the nodes that
+do nothing wrong and are refused (tools/tests/nodes/small_right_nodes.py)."""
 import os
 import random
 import re
@@ -102,7 +102,8 @@ def excepted():
 def named():
     """Cases, likewise: which units are named beside each other."""
     line = linked().say('a', segment('a', 1)).say('a', segment('a', 3)).say('a', segment('a', 6))
-    yield 'two segments that are out of order: the first is named', line.text(), unexplained('a', 5, 9, '20 WrongSegment', NOBODY, discarded('a', 5, 9))
+    yield ('two segments that are out of order: the first is named', line.text(),
+           unexplained('a', 5, 9, '20 WrongSegment', NOBODY, discarded('a', 5, 9)))
     line.units.append(('a', data_of(9, 1)))
     yield ('a segment out of order, and then a number: the number alone is named', line.text(),
            unexplained('a', 5, 9, '20 WrongSegment', at_fault('a', 7, 11)))
@@ -122,8 +123,8 @@ def begins(side):
 
 
 def skipped(size, of, side, unit, line, else_=''):
-    return broken_words("%d bytes of side %s that belong to no unit were skipped before side %s's unit %d (line %d)" % (size, of, side, unit, line),
-                        AGAIN, else_)
+    seen = "%d bytes of side %s that belong to no unit were skipped before side %s's unit %d (line %d)" % (size, of, side, unit, line)
+    return broken_words(seen, AGAIN, else_)
 
 
 def damaged(side, unit, line):
@@ -131,7 +132,8 @@ def damaged(side, unit, line):
 
 
 def not_between(side):
-    return broken_words('no packet of side %s is between the two nodes of the head' % side, 'correct the head, or use tap --line if the line joins routers')
+    return broken_words('no packet of side %s is between the two nodes of the head' % side,
+                        'correct the head, or use tap --line if the line joins routers')
 
 
 EXCHANGED = broken_words('the packets of both sides have the addresses of the head exchanged', 'exchange them in the head')
@@ -193,8 +195,8 @@ def bare(digits):
 
 
 def without_bytes(text, first, last):
-    """The text of a recording that lacks these bytes of it, where each unit has a piece of its own; and whether some unit lacks a part, but for parts
-    that make a unit together."""
+    """The text of a recording that lacks these bytes of it, where each unit has a piece of its own; and whether some unit lacks a part, but for
+    parts that make a unit together."""
     head, *lines = text.splitlines()
     left, at, parts = [head], 0, []
     for line in lines:
@@ -210,7 +212,8 @@ def without_bytes(text, first, last):
 
 
 def faults_of_cuts(tap, cuts):
-    """For each of so many recordings that begin at a byte of a right line, or have a hole that cuts a unit in two, how somebody is accused, or None."""
+    """For each of so many recordings that begin at a byte of a right line, or have a hole that cuts a unit in two, how somebody is accused, or
+    None."""
     texts, seen = list(right_wires(tap)), set()
     for seed in share(range(cuts)):
         chance = random.Random('cut %d' % seed)
@@ -271,4 +274,5 @@ def faults_of_right_nodes(tap):
             excused |= {bug.node for _ in accused}
             fine = status in (0, 1) and is_right and may_discard
             yield None if fine else '%s (%s) at %s, %d: printed %r %r' % (bug.node.__name__, bug.words, sides, seed, out, err)
-    yield None if excused >= {right.GivesUp, right.AcknowledgesLate} else 'accused with an exception are %s' % sorted(each.__name__ for each in excused)
+    names = sorted(each.__name__ for each in excused)
+    yield None if excused >= {right.GivesUp, right.AcknowledgesLate} else 'accused with an exception are %s' % names

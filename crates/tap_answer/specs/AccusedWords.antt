@@ -32,7 +32,8 @@ none_sends_words = codes "no correct node sends this, whatever it received"
 abbrev pub at_fault_words_of : Passed → Option Exception → List ℕ
 at_fault_words_of passed unless =
     codes "\nside " ++ (side_letter passed.side ++ (codes " is at fault at its unit " ++ (decimal passed.unit
-    ++ (codes " (line " ++ (decimal passed.line ++ (codes "), if the recording is whole" ++ (unless_words passed.side unless ++ (codes ": " ++ none_sends_words))))))))
+    ++ (codes " (line " ++ (decimal passed.line ++ (codes "), if the recording is whole" ++ (unless_words passed.side unless
+    ++ (codes ": " ++ none_sends_words))))))))
 
 abbrev pub at_fault_words : Option Accusation → List ℕ
 at_fault_words None = []
@@ -63,7 +64,8 @@ stray_words side bytes = decimal bytes ++ (codes " bytes of side " ++ (side_lett
 -- `side a's unit 4 (line 12)`
 abbrev pub unit_of_words : Passed → List ℕ
 unit_of_words passed =
-    codes "side " ++ (side_letter passed.side ++ (codes "'s unit " ++ (decimal passed.unit ++ (codes " (line " ++ (decimal passed.line ++ codes ")")))))
+    codes "side " ++ (side_letter passed.side ++ (codes "'s unit " ++ (decimal passed.unit
+    ++ (codes " (line " ++ (decimal passed.line ++ codes ")")))))
 
 -- what shows that a recording is not whole
 abbrev pub seen_words : Broken → List ℕ
@@ -88,7 +90,8 @@ abbrev pub of_words : Bool → List ℕ
 of_words is_after_others = if is_after_others then codes " of anything else" else []
 
 abbrev pub broken_words : Bool → Broken → List ℕ
-broken_words is_after_others broken = seen_words broken ++ (codes ", so neither node is accused" ++ (of_words is_after_others ++ (codes ": " ++ mend_words broken)))
+broken_words is_after_others broken =
+    seen_words broken ++ (codes ", so neither node is accused" ++ (of_words is_after_others ++ (codes ": " ++ mend_words broken)))
 
 -- a unit is named
 abbrev pub names_unit : (a b : Option Accusation) → (segment_a segment_b : Option Passed) → Bool
