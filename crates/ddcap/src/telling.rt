@@ -20,7 +20,8 @@ use pair_judge::{JudgedEnds, Reason, Summary, Verdict, Watched};
 use std::alloc::{AllocError, Global};
 use std::io::{Read, Seek, Write};
 use why::{
-    Accusation, Excuse, Lines, LinkPast, QueuedAnswer, Refusal, Shown, addresses_of, why_json, why_rows,
+    Accusation, Excuse, Lines, LinkPast, QueuedAnswer, Refusal, Shown, addresses_of, why_json,
+    why_rows,
 };
 use wire_base::{Side, Tally, write_whole};
 

@@ -8,7 +8,7 @@ returns c = record {
   accused = c.in-Refused.accused;
   is_refused = c.in-Refused.is;
   accusation = subst (λ (by_table : Accusation). IsAccused c.in-Refused.reason by_table c.accusation_knowing.result)
-  c.of_end-by_table.ensures c.accusation_knowing.ensures;
+      c.of_end-by_table.ensures c.accusation_knowing.ensures;
   ahead = c.in-Some.ensures.some;
   failed = c.failed_end_over.ensures;
 }

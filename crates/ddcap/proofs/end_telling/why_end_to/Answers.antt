@@ -11,6 +11,11 @@ pub returns-in-Err : goal.returns-in-Err
 returns-in-Err g c = explains_end_fault c.args.printout.layers c.args.printout.form _ _ _ c.in-Err.fault c.in-Err.ensures.judged
     c.in-Err.ensures.reads c.print_end_fault.ensures refl
 
+pub returns-in-Err-queued : goal.returns-in-Err-queued
+returns-in-Err-queued g c =
+    let told = c.in-Ok-watch_end_over in
+    explains_no_end c.args.printout.layers c.args.printout.form _ _ _ told.ensures.reads c.print_out_of_memory-in-Err-queued.ensures refl
+
 pub returns-in-Err-end_refused_text : goal.returns-in-Err-end_refused_text
 returns-in-Err-end_refused_text g c =
     let told = c.in-Ok-watch_end_over in
