@@ -5,15 +5,16 @@ ghost use Rattle.drawing.specs.declared.range.TheConstants.{MAX_ROWS};
 
 use crate::all_judged::{AllFault, find_all, in_memory, read_again};
 use crate::all_left::NotJudged;
-use crate::all_pair::{Left, LeftTexts, PairCaptures, judge_texts, stopped_at};
+use crate::all_pair::{LeftTexts, PairCaptures, judge_texts, stopped_at};
 use crate::all_stops::put_end;
 use crate::all_told::{AllTold, Refusal};
 use crate::last_rows::LastRows;
+use crate::layers::Layers;
 use crate::onlooker::{Onlooker, Originals};
 use crate::telling::Form;
 use drawing::{DrawnPair, Range, tell_behind};
 use ladder::{Drawn, Fate, Keep, Ladder, Marked, Row};
-use pair_judge::{JudgeFault, TextFault, Verdict, Watched};
+use pair_judge::{JudgeFault, TextFault, Verdict};
 use std::alloc::{AllocError, Global};
 use std::io::{Read, Seek};
 use why::LinkPast;
@@ -69,84 +70,27 @@ pub fn all_drawn<A: Read + Seek, B: Read + Seek>(
     requires low { 1 ≤ range.rows }
     requires high { range.rows ≤ MAX_ROWS }
 {
+    let any_period = all.not_judged.any_period();
+    let layers = captures.printout.layers;
     let whole = captures.whole(alloc)?;
-    let Left { mut texts, stops } = captures.left(alloc, Side::B, &all.not_judged)?;
-    let (watched, stopped, is_shown) = match watched_rows(
-        alloc, captures, range, all, &whole, &texts,
-    ) {
-        Ok(watched) => {
-            let stopped = stopped_at(watched.ends.verdict(), stops);
-            let is_shown = stopped.is_none() && all.not_judged.heads_fit();
-            (watched, stopped, is_shown)
-        }
-        Err(
-            AllFault::Judge(
-                JudgeFault::Capture {
-                    side,
-                    fault: TextFault::Departs { line, .. },
-                },
-            ),
-        ) => {
-            in_memory(put_end(texts.of_mut(side), line))?;
-            let watched = watched_rows(alloc, captures, range, all, &whole, &texts)?;
-            (watched, None, false)
-        }
-        Err(fault) => return Err(fault),
-    };
-    let (pair, verdict) = end_drawn(alloc, captures, watched, stopped)?;
-    Ok(AllDrawn {
-        pair,
-        verdict,
-        is_shown,
-    })
-}
-
-// The rows that are told of the captures themselves while these texts of what is left are judged.
-fn watched_rows<'t, A: Read + Seek, B: Read + Seek>(
-    alloc: Global,
-    captures: &PairCaptures<'_, '_, '_, A, B>,
-    range: Range,
-    all: &AllFound,
-    whole: &'t LeftTexts,
-    texts: &LeftTexts,
-) -> Result<Watched<Onlooker<'t>>, AllFault>
-    requires low { 1 ≤ range.rows }
-    requires high { range.rows ≤ MAX_ROWS }
-{
-    let keep = kept(range, all.refusals.as_slice());
+    let mut left = captures.left(alloc, Side::B, &all.not_judged)?;
+    let departs = end_before_fault(alloc, layers, any_period, &mut left.texts)?;
     let rows = LastRows {
-        ladder: in_memory(Ladder::new(alloc, keep, range.rows))?,
+        ladder: in_memory(Ladder::new(alloc, kept(range, all.refusals.as_slice()), range.rows))?,
         past: LinkPast::new(alloc),
     };
     let originals = in_memory(Originals::new(alloc, rows, &whole.a, &whole.b))?;
-    let layers = captures.printout.layers;
-    let any_period = all.not_judged.any_period();
     let onlooker = Onlooker::Originals(originals);
-    match judge_texts(alloc, layers, any_period, onlooker, texts) {
-        Ok(watched) => Ok(watched),
-        Err(fault) => Err(AllFault::Judge(fault)),
-    }
-}
-
-// The rows, with the refused record in the last one; and how the judgement ends, which is at this refusal if it stops there.
-fn end_drawn<A: Read + Seek, B: Read + Seek>(
-    alloc: Global,
-    captures: &mut PairCaptures<'_, '_, '_, A, B>,
-    watched: Watched<Onlooker<'_>>,
-    stopped: Option<Refusal>,
-) -> Result<(DrawnPair, Verdict), AllFault> {
+    let watched = match judge_texts(alloc, layers, any_period, onlooker, &left.texts) {
+        Ok(watched) => watched,
+        Err(fault) => return Err(AllFault::Judge(fault)),
+    };
     let ends = watched.ends;
     let Onlooker::Originals(mut originals) = watched.observer else {
         return Err(AllFault::OUT_OF_MEMORY);
     };
-    let verdict = match stopped {
-        Some(refusal) => Verdict::Refused {
-            side: refusal.side,
-            place: refusal.place,
-            reason: refusal.reason,
-        },
-        None => ends.verdict(),
-    };
+    let stopped = stopped_at(ends.verdict(), left.stops);
+    let verdict = verdict_of(ends.verdict(), stopped);
     match verdict {
         Verdict::Accepted(_) => originals.rows.ladder.end(),
         Verdict::Refused { side, reason, .. } => {
@@ -158,7 +102,45 @@ fn end_drawn<A: Read + Seek, B: Read + Seek>(
         }
     }
     let drawn = in_memory(originals.rows.ladder.drawn(alloc))?;
-    Ok((DrawnPair { ends, drawn }, verdict))
+    Ok(AllDrawn {
+        pair: DrawnPair { ends, drawn },
+        verdict,
+        is_shown: stopped.is_none() && !departs && all.not_judged.heads_fit(),
+    })
+}
+
+// Ends these texts before the line that departs, if the judgement comes to one; whether it does.
+fn end_before_fault(
+    alloc: Global,
+    layers: Layers,
+    any_period: bool,
+    texts: &mut LeftTexts,
+) -> Result<bool, AllFault> {
+    match judge_texts(alloc, layers, any_period, Onlooker::Nobody, texts) {
+        Ok(_) => Ok(false),
+        Err(
+            JudgeFault::Capture {
+                side,
+                fault: TextFault::Departs { line, .. },
+            },
+        ) => {
+            in_memory(put_end(texts.of_mut(side), line))?;
+            Ok(true)
+        }
+        Err(fault) => Err(AllFault::Judge(fault)),
+    }
+}
+
+// How the judgement ends, which is at this refusal if it stops there.
+fn verdict_of(verdict: Verdict, stopped: Option<Refusal>) -> Verdict {
+    match stopped {
+        Some(refusal) => Verdict::Refused {
+            side: refusal.side,
+            place: refusal.place,
+            reason: refusal.reason,
+        },
+        None => verdict,
+    }
 }
 
 // Which rows are kept.
