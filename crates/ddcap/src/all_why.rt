@@ -7,17 +7,18 @@ use crate::all_pair_told::answer_of;
 use crate::all_stops::OfLine;
 use crate::all_told::{AllTold, Answer};
 use crate::alone::print_end_fault;
-use crate::check::{print_fault, print_out_of_memory};
+use crate::check::{print_failed_read, print_fault, print_out_of_memory};
 use crate::end_telling::{EndPrintout, end_refused_text, print_passed};
 use crate::last_rows::LastRows;
 use crate::layers::{watch_end_over, watch_over};
 use crate::queued_too::{end_with_queues, with_queues_too};
 use crate::recorder::{Tried, try_edits};
 use crate::telling::{Form, Printout, Refused, print_accepted, print_refusal, refused_text};
+use capture::CaptureFault;
 use pair_judge::{EndVerdict, JudgedEnds, Verdict};
 use std::alloc::{AllocError, Global};
 use std::io::{Read, Seek, Write};
-use wire_base::Tally;
+use wire_base::{Side, Tally};
 
 /// Judges the captures of both files as `why_to` does, and prints what that prints, but for the lines on what is answered where less is judged. Where
 /// the refusal leads on, more follow as of `check --all`, each with what is said of it; small edits are judged for the first one alone.
@@ -109,7 +110,8 @@ pub fn why_all_end_to<A: Read + Seek, O: Write, E: Write>(
     };
     let queued = match end_with_queues(alloc, printout.layers, a, reason) {
         Ok(queued) => queued,
-        Err(fault) => return print_end_fault(alloc, fault, err),
+        Err(CaptureFault::Read) => return print_failed_read(err, Side::A),
+        Err(_) => return print_out_of_memory(err),
     };
     let Ok(text) = end_refused_text(alloc, printout, watched, queued) else {
         return print_out_of_memory(err);
