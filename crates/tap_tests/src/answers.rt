@@ -5,8 +5,8 @@ use pair_judge::{Reason, Verdict};
 use placing::{Assumed, Turn};
 use std::alloc::AllocError;
 use tap_answer::{
-    Told, apart_text, assumed_text, choices_of, premise_text, said_of, too_wide_text,
-    unexplained_end_text, unexplained_text, units_before,
+    Told, apart_text, assumed_text, premise_text, said_of, too_wide_text, unexplained_end_text,
+    unexplained_text, units_before,
 };
 use wire_base::{Side, Tally};
 use wire_tap::{Accused, Ending, Passed, Skipped, Tapped, Units};
@@ -168,39 +168,5 @@ fn what_is_assumed_has_a_line_each(rt: HostRuntime) -> Result<(), AllocError> {
 this assumes an abort of the call in b unit 4 line 9
 "
     );
-    Ok(())
-}
-
-// A DC comes after the second unit, and then the user starts the station anew.
-const RESTARTED: &str = "ddcap 1 1.1 1.2
-u start
-s 0506c00000017595
-r 0 0507c00000014855
-s 050100000001fc55
-k 1 810d00000101f38002010402040048010002002a00abb6
-u halt
-u start
-s 0506c00000017595
-";
-
-#[test]
-fn at_a_start_fewer_may_be_kept_or_the_node_boots(rt: HostRuntime) -> Result<(), CaptureFault> {
-    let mut capture = Tally::new(RESTARTED.as_bytes());
-    let mut choices = choices_of(rt.alloc(), &mut capture, Side::A)?;
-    let keeps = Turn {
-        side: Side::A,
-        unit: 2,
-        line: 0,
-        what: Assumed::Keeps { most: 0 },
-    };
-    assert_eq!(rt; choices.keeps.pop_front(), Some(keeps));
-    assert_eq!(rt; choices.keeps.pop_front(), None);
-    assert_eq!(rt; choices.gives_up, None);
-    let boots = Turn {
-        what: Assumed::Boots,
-        ..keeps
-    };
-    assert_eq!(rt; choices.boots.pop_front(), Some(boots));
-    assert_eq!(rt; choices.boots.pop_front(), None);
     Ok(())
 }

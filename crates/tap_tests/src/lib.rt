@@ -1,5 +1,5 @@
-//! From what passed on a line to the answer: a case of each public call of `accusing`, `accusing_links`, `accusing_segments`, `placing`, `wire_tap`
-//! and `tap_answer`. They are in a crate of their own, which is proved in its tests alone.
+//! From what passed on a line to the answer: a case of each public call of `accusing`, `accusing_links`, `accusing_segments`, `placing`, `wire_tap`,
+//! `assuming` and `tap_answer`. They are in a crate of their own, which is proved in its tests alone.
 #![tactic(auto)]
 
 #[cfg(test)]
@@ -10,6 +10,8 @@ mod accuser_told;
 mod acks_told;
 #[cfg(test)]
 mod answers;
+#[cfg(test)]
+mod assumed;
 #[cfg(test)]
 mod captures;
 #[cfg(test)]
