@@ -18,10 +18,8 @@ const BEGINNINGS = [
 const WHAT_IS_WANTED = 'A capture is a text whose first line is like “ddcap 1 1.1 1.2”; what passed on a line begins with “ddwire 1”.';
 const CURES = {
   gzip: {words: 'It can be unpacked here.', cure: 'unpack', button: 'Unpack it and judge'},
-  pcap: {words: 'ddcap reads text. If it holds a DDCMP line over TCP, recorded from its start, tshark makes the text of it. Then drop line.wire.',
-    recipe: name => `(echo 'ddwire 1 1.1 1.2'
- tshark -r '${name.replaceAll("'", "'\\''")}' -q -z follow,tcp,raw,0 |
-   sed -n 's/^\\t\\([0-9a-f]*\\)$/b \\1/p; s/^\\([0-9a-f][0-9a-f]*\\)$/a \\1/p') > line.wire`},
+  pcap: {words: 'ddcap reads text. If it holds a DDCMP line over TCP or UDP, recorded from its start, tools/wire_pcap makes the text of it. Then drop line.wire.',
+    recipe: name => `tools/wire_pcap '${name.replaceAll("'", "'\\''")}' > line.wire`},
   packed: {words: 'Unpack it, and drop the text that is in it.'},
   other: {words: WHAT_IS_WANTED},
   utf16: {words: 'A capture is plain ASCII.', cure: 'utf16', button: 'Turn it into ASCII and judge'},

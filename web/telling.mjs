@@ -6,14 +6,14 @@ const decode = bytes => new TextDecoder().decode(bytes);
 export const printed = answer => decode(answer.out) + decode(answer.err);
 
 // A line of the program as a sentence.
-const sentence = line => `${line[0].toUpperCase()}${line.slice(1)}.`;
+const asSentence = line => `${line[0].toUpperCase()}${line.slice(1)}.`;
 
 // The lines of `tap` on whom it accuses, under which conditions, or on what shows that nobody can be.
 const ACCUSES = /^(?:side [ab] is at fault |side [ab], unit |both sides are accused: |.*, so neither node is accused).*$/gm;
 
 // What it means that `tap` found no explanation.
 function unexplained(text) {
-  const lines = [...text.matchAll(ACCUSES)].map(([line]) => sentence(line));
+  const lines = [...text.matchAll(ACCUSES)].map(([line]) => asSentence(line));
   return lines.length ? lines.join(' ') : 'No way was found in which two correct nodes would send this. This alone accuses neither node.';
 }
 
@@ -97,7 +97,7 @@ export function countsOf(text) {
 // On what an answer of `tap` rests, and what it skipped, in sentences; of another answer nothing.
 export function conditionsOf(text) {
   const lines = [...text.matchAll(/^(?:this assumes|this holds only|more bytes were skipped) .*$/gm)];
-  const rests = lines.map(([line]) => sentence(line));
+  const rests = lines.map(([line]) => asSentence(line));
   const rows = [...text.matchAll(/^([ab]) skipped maintenance messages (\d+) bytes between units (\d+)$/gm)];
   return [...rests, ...rows.filter(([, , messages, bytes]) => messages !== '0' || bytes !== '0')
     .map(([, side, messages, bytes]) => `Skipped of what ${side} sent: ${messages} maintenance messages, ${bytes} bytes between units.`)];

@@ -262,10 +262,10 @@ def strange_files(use):
             said = use.said()
             use.expect('%s, mended: %s' % (name, said), after in said)
     with open(os.path.join(TOP, 'docs', 'WIRE.md')) as page:
-        recipe = re.search(r"\(echo 'ddwire 1 1.1 1.2'\n tshark [^\n]* follow,tcp[^`]*line\.wire", page.read())[0]
+        recipe = re.search(r'^tools/wire_pcap line\.pcap > line\.wire', page.read(), re.M)[0]
     use.clear()
     use.choose('a', use.file("it's.pcap", STRANGE[3][1]))
-    use.expect('the commands for a packet capture', use.text('#note pre') == recipe.replace('line.pcap', "'it'\\''s.pcap'"))
+    use.expect('the command for a packet capture', use.text('#note pre') == recipe.replace('line.pcap', "'it'\\''s.pcap'"))
     use.clear()
     large = use.file('large.a', b'')
     os.truncate(large, 2 << 30)
