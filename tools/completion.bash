@@ -2,7 +2,8 @@
 
 _ddcap_words() { command ddcap help 2> /dev/null | sed -n 's/^  ddcap \([a-z]*\).*/\1/p'; }
 
-_ddcap_options() { command ddcap help "$1" 2> /dev/null | grep -oE '(^|[[:space:]([])--[a-z]+' | grep -oE -- '--[a-z]+' | sort -u; }
+# The options that the page of a word names, without those of other words after it, as in `ddcap why --queued A B`.
+_ddcap_options() { command ddcap help "$1" 2> /dev/null | sed 's/ddcap .*//' | grep -oE '(^|[[:space:]([])--[a-z]+' | grep -oE -- '--[a-z]+' | sort -u; }
 
 # The numbers of the reasons.
 _ddcap_reasons() { command ddcap help explain 2> /dev/null | sed -n 's/.*\<1 to \([0-9]*\).*/\1/p' | head -n 1 | xargs -r seq; }

@@ -3,11 +3,12 @@ nor when it composed a message that is sent. So a link goes on after its end, an
 record: what a node can have done by acting later, it can have done by acting at once. The rows here take the place of those of
 tools/reading/links.py; the others are the same. A part of tools/reading/judging.py, which judges pairs apart from the program.
 
-After a boot nothing waits any more, and nothing of a call that was given up: both leave a link dead. A call is given up where all that came for it
-was acted on.
+After a boot nothing waits any more: it leaves a link dead. A call is given up where all that came for it was acted on. Its CI may have been composed
+before that, and is all that may be sent of it: the link is ending, and no longer its user's.
 
-A link knows besides: whether it `ran`, that is has been in RUN; whether it was `accepted` by its user; what it `said`, 1 once a message of RUN was
-sent and 2 once a DI was; and how it is: live; ending, once a DI or a DC ended it; or dead. Its phase stays what it was at its end. It is dead when
+A link knows besides: whether it `ran`, that is has been in RUN; whether it was `accepted` by its user; whether he has `given_up` his call; what it
+`said`, 1 once a message of RUN was sent and 2 once a DI was; and how it is: live; ending, once a DI, a DC or its user ended it; or dead. Its phase
+stays what it was at its end. It is dead when
 a DC was sent from its address or its address is given again: then nothing of it waits any more."""
 from reading.flow import Flow, distance, wire
 from reading.links import ARRIVING, IN_RUN, LINK, NODES, OF_SEGMENTS, PHASES, TESTS, USER, Link, Links
@@ -21,19 +22,21 @@ LOOK_UPS = {
     'CallingAt': ['own', 'calling', 'live'],
     'CalledBy': ['far', 'called', 'live'],
     'ActedOn': ['own', 'far', 'connected', 'live'],
+    'UsedAt': ['own', 'not dead', 'not given up'],
     'StillAt': ['own', 'not dead'],
     'StillOpenedAt': ['own', 'opened', 'not dead'],
     'StillTheLink': ['own', 'far', 'not dead'],
     'StillBegunBy': ['far', 'begun by a CI', 'not dead'],
 }
 TESTS['not dead'] = lambda link, own, far: not link.is_dead()
+TESTS['not given up'] = lambda link, own, far: not link.given_up
 
 # what the user does: the look-up of the link, the checks in their order, the phases, and the effects
 ANSWERED = {'accept': ['GiveAddress', 'GoTo Confirming', 'Accept'], 'reject': ['GiveAddress', 'GoTo DI']}
 QUEUED_USER = {
     'open': USER['open'],
     **{verb: (*USER[verb][:3], effects) for verb, effects in ANSWERED.items()},
-    **{verb: ('StillAt', *USER[verb][1:]) for verb in ('in', 'close', 'abort')},
+    **{verb: ('UsedAt', *USER[verb][1:]) for verb in ('in', 'close', 'abort')},
 }
 
 # What may be sent: the look-up, the checks, the phases, how much the link may have said, and the effects. The phases of a CI are those of all links
@@ -95,7 +98,7 @@ class QueuedLink(Link):
 
     def __init__(self, place, rules, phase, opened):
         super().__init__(place, rules, phase, opened)
-        self.ran = self.accepted = False
+        self.ran = self.accepted = self.given_up = False
         self.said, self.end = 0, 'live'
 
     def new_flow(self, rules):
@@ -161,6 +164,6 @@ class QueuedLinks(Links):
         if effect == 'Accept':
             link.accepted = True
         elif effect == 'GiveUp':
-            link.end = 'dead'
+            link.end, link.given_up = 'ending', True
         else:
             super().do_user(row, effect, link, own, data)

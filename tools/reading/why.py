@@ -1,6 +1,6 @@
 """What `ddcap why` says of a refused pair, by the reading of tools/reading/judging.py, apart from the program. `said(a, b)` gives it, or None where
-nothing is refused: the JSON `lines` `refused`, `record` without the fields of its bytes, `state`, `link`, `begins_running`, `queued`, `without_link`
-and `line_alone` (tools/reading/less.py); the `rows` of both sides; how many records are `behind` it; and the `check` where bytes are compared
+nothing is refused: the JSON `lines` `refused`, `record` without the fields of its bytes, `state`, `link`, `begins_running`, `dc_waited`, `queued`,
+`without_link` and `line_alone` (tools/reading/less.py); the `rows` of both sides; how many records are `behind` it; and the `check` where bytes are compared
 (tools/reading/bytes.py), else None. `said_alone(a, line)` gives the lines and rows of one end without the other (tools/reading/alone.py), with `line`
 of its station alone; as `check`, what the other end could have sent, where that is told by numbers. `lines_with_queues(a, b)` gives the lines of `why
 --queued`, of the pair as one of nodes with queues."""
@@ -9,6 +9,7 @@ from collections import namedtuple
 from lists.why_rules import INDENT, wrapped
 from reading.alone import FREE, Alone, ByOther, StationAlone, judged_alone
 from reading.bytes import check_of, counted
+from reading.calls import dc_waited
 from reading.judging import NAMES, RECEIPTS, RULES, Side, judged
 from reading.less import lines_of_end, lines_of_pair
 from reading.packets import read_nsp, read_packet, read_unit
@@ -96,7 +97,7 @@ def queued_link_of(letter, link):
     line = link_of(letter, link)
     if not link.is_live():
         line = {key: line[key] for key in ('what', 'side', 'own', 'far')}
-        line['phase'], come['ending'] = 'ended', link.phase
+        line['phase'], come['ending'] = 'ended', 'given up' if link.given_up else link.phase
     return {**line, **(come if any(come.values()) else {})}
 
 
@@ -196,14 +197,18 @@ def queued_line(printed):
             'number': int(number), 'name': name, **accuses}
 
 
-def known_lines(refused, records, queued):
-    """What is known of the state of the line and, where that is asked, of nodes with queues; and the refused line says who is accused by that."""
-    lines = [queued] if queued else []
+def known_lines(refused, records, queued, is_pair=True):
+    """What is known of the state of the line and, where that is asked, of nodes with queues; and the refused line says who is accused by that.
+    `records` are those of its side, up to the refused one."""
+    lines, number = [queued] if queued else [], refused['number']
     if queued:
         refused['accuses'] = excused(refused['accuses'], refused, queued)
-    if begins_running(refused['number'], records):
+    is_excused = is_pair and queued and queued['answer'] == 'accepted'
+    excuses = [('begins_running', begins_running(number, records[:-1])),
+               ('dc_waited', number == 18 and not is_excused and dc_waited(records[:-1], records[-1]))]
+    for excuse in [what for what, is_so in excuses if is_so][:1]:
         refused['accuses'] = 'nobody'
-        lines.insert(0, {'what': 'begins_running', 'side': refused['side']})
+        lines.insert(0, {'what': excuse, 'side': refused['side']})
     return lines
 
 
@@ -226,7 +231,7 @@ def said(a, b):
         lines += [link_of(other, link) for link in sides[other].links.links if link.phase != 'Ended']
         rows += side_rows(other, sides[other], named_by(words)[::1 if other == letter else -1])
     queued = queued_line(judged(RULES, a, b, queued=True)) if number in BY_QUEUES else None
-    lines += known_lines(lines[0], side.records[:place], queued)
+    lines += known_lines(lines[0], side.records[:place + 1], queued)
     lines += lines_of_pair((a, b), number)
     behind = sum(len(each.records) - each.next for each in sides) - 1
     return Said(lines, rows, behind, check_of(number, side, sides[1 - letter], 'ba'[letter], words))
@@ -248,7 +253,7 @@ def lines_with_queues(a, b):
     for other in (letter, 1 - letter):
         lines.append(state_of(other, sides[other]))
         lines += [queued_link_of(other, link) for link in sides[other].links.links if not link.is_dead()]
-    return lines + known_lines(lines[0], sides[letter].records[:place], None)
+    return lines + known_lines(lines[0], sides[letter].records[:place + 1], None)
 
 
 # ---- one end alone
@@ -279,7 +284,7 @@ def said_alone(text, line):
     }, record_of(words), state_of(0, side)]
     lines += [link_of(0, link) for link in side.links.links if link.phase != 'Ended']
     queued = queued_line(judged_alone(text, queued=True)) if number in BY_QUEUES and not line else None
-    lines += known_lines(lines[0], side.records[:place], queued) + lines_of_end(text, number, line=line)
+    lines += known_lines(lines[0], side.records[:place + 1], queued, is_pair=False) + lines_of_end(text, number, line=line)
     allowed = allowed_there(number, side, text.split()[2:4], named_by(words)) if accuses == 'other end' else None
     return Said(lines, list(side_rows(0, side, named_by(words))), None, allowed)
 

@@ -5,11 +5,21 @@ from collections import namedtuple
 
 from sources.items import all_code, all_definitions
 
-NAMED = {'judge': 'pair_judge', 'judge_line': 'pair_judge', 'judge_end': 'pair_judge',
-         'judge_line_end': 'pair_judge', 'play': 'pair_player', 'convert': 'capture',
-         **dict.fromkeys(('check_to', 'check_line_to', 'alone_to', 'alone_line_to', 'why_to', 'why_end_to', 'show_to', 'convert_to', 'play_to',
-                          'help_to', 'explain_to', 'tap_to', 'tap_line_to'), 'ddcap'),
-         'tap': 'wire_tap', 'judge_covered': 'coverage', 'cover_pair': 'ddcap', 'print_covered': 'ddcap', 'draw_rows_to': 'ddcap'}
+NAMED = {name: crate for crate, names in {
+    'pair_judge': 'judge judge_line judge_end judge_line_end',
+    'pair_player': 'play',
+    'capture': 'convert',
+    'wire_tap': 'tap',
+    'coverage': 'judge_covered',
+    'printing': 'check_to check_line_to alone_to alone_line_to',
+    'why_answer': 'why_end_to',
+    'text_commands': 'show_to convert_to play_to',
+    'why_command': 'why_to',
+    'cover_command': 'cover_pair print_covered',
+    'draw_command': 'draw_rows_to',
+    'tap_command': 'tap_to tap_line_to',
+    'ddcap': 'help_to explain_to',
+}.items() for name in names.split()}
 Closure = namedtuple('Closure', 'definitions lines files whole used used_lines')
 
 
@@ -102,7 +112,7 @@ class Sources:
             return None
         modules, names = self.exports[function.crate]
         is_out = function.module.split('.')[0] in modules or (function.owner or function.name) in names
-        if not function.owner and NAMED.get(function.name) == function.crate or function.is_law and (is_out or code.crate == 'ddcap'):
+        if not function.owner and NAMED.get(function.name) == function.crate or function.is_law and is_out:
             return 1
         return 2 if is_out else None
 

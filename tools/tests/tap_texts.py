@@ -35,6 +35,10 @@ ANSWERS = (
      'b records 8 sent 3 received 3 damaged 0 kept 2 periods 1 links 1 up 0\n'),
     # a NAK came before the unit, which goes by it and has a wrong RESP besides
     ('wrong_response_behind_a_nak', unexplained('a', 4, 9, '8 WrongResponse', at_fault('a', 4, 9))),
+    # a packet goes again with other bytes, and a response that is right only if what passed was kept: the packet is wrong, not the response
+    ('changed_with_its_response', unexplained('b', 2, 8, '10 Changed', at_fault('b', 2, 8))),
+    # a packet was refused for want of a buffer, was kept when the next unit brought it again, and the NAK of that goes after its ACK
+    ('refused_buffer_told_late', 'accepted\n'),
     # a NAK of damaged data, of a data message and of an ACK
     ('nak2', 'accepted\n'),
     ('nak_of_data', 'accepted\n'),
@@ -225,6 +229,7 @@ PILES = (
     ('NAKs, then data, then data', lambda count: UP + [('b', nak_of(9, 0))] * count + [('b', data_of(1, 0)), ('a', data_of(1, 1))]),
     ('ACKs, then data, then data', lambda count: UP + [('b', ack_of(0))] * count + [('b', data_of(1, 0)), ('a', data_of(1, 1))]),
     ('NAKs, then data, then an ACK', lambda count: UP + [('b', nak_of(9, 0))] * count + [('b', data_of(1, 0)), ('a', ack_of(1))]),
+    ('STRTs, then STACKs', lambda count: [('a', STRT)] * count + [('b', STACK)] * count + [('a', ack_of(0))]),
     ('REPs that are answered', lambda count: UP + [('b', data_of(1, 0))] + [('b', rep_of(1)), ('a', nak_of(3, 0))] * count),
 )
 

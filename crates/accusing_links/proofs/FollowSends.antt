@@ -14,7 +14,7 @@ use Rattle.dna_station.specs.declared.link_refusal.LinkRefusal.TheVariants.{NoLi
 use Rattle.dna_links.specs.declared.port.Phase.{Phase}
 use Rattle.dna_links.specs.declared.port.Phase.TheVariants.{Called, Running}
 use Rattle.dna_links.specs.declared.port.Port.{Port}
-use Rattle.dna_links.specs.declared.port.LinkTest.TheVariants.{TheLink}
+use Rattle.dna_links.specs.declared.port.LinkTest.TheVariants.{TheLink, CalledBy}
 use Rattle.dna_links.specs.declared.queue.Queues.{Queues}
 use Rattle.dna_links.specs.declared.queue.Queues.TheVariants.{Without, With}
 use Rattle.dna_links.specs.declared.queue.LinkQueue.{LinkQueue}
@@ -24,22 +24,24 @@ use Rattle.dna_links.specs.LookUps.{is_live, is_in, is_at, has_both, passes}
 use Rattle.dna_links.specs.SegmentBook.{wire, wider, is_of_data}
 use Rattle.dna_links.specs.Links.{LinkOf, Carried, changed, with_segments}
 use Rattle.dna_links.specs.Queues.{in_use, port_of_waiting, may_send, with_queue, is_over, has_waiting}
-use Rattle.dna_links.specs.Table.{Effect, Say, Keep, sending_row}
+use Rattle.dna_links.specs.Table.{Ask, Finds, FindsNone, OrElse, Effect, Drop, Settle, Say, Keep, sending_row}
 use Rattle.dna_links.specs.WireSegments.{WireSegments, wire_segments}
 use Rattle.dna_links.specs.WireSegments as made_by
 use Rattle.dna_links.specs.WireLinks.{WireLinks, wire_links_sent}
-use Rattle.dna_links.specs.LinkBook.{kept, asked, by_row, after, of_none, does, sends_segment, sends_acks}
+use Rattle.dna_links.specs.LinkBook.{blank, kept, asked, by_row, after, of_none, does, sends_segment, sends_acks}
 use Rattle.dna_links.specs.Sending.{Sent, sent_as}
-use Rattle.accusing_links.proofs.Answered.{Good, good_ok, good_err, good_check, good_on, in_use_good}
+use Rattle.accusing_links.proofs.Answered.{Good, good_ok, good_err, good_check, good_on, link_good, in_use_good}
 use Rattle.accusing_links.proofs.Received.{Received}
 use Rattle.accusing_links.proofs.Sends.{AreSaid, AreOnward, sends_acks_good, sends_segment_good, sends_late_good}
 use Rattle.accusing_links.proofs.RightLinks.{Numbers, AreRight, right_at}
 use Rattle.accusing_links.proofs.LinkSteps.{at_is}
 use Rattle.accusing_links.proofs.LinkSends.{good_always}
 use Rattle.accusing_links.proofs.Tied.{AreTied, tied_at}
-use Rattle.accusing_links.proofs.Follows.{live_keeps, keeps, all_follow, NoneTo, OneTo, none_at, AreKnown, known_at, all_by_one}
-use Rattle.accusing_links.proofs.FollowRows.{Are, kept_calm, IsCalmRow, after_follows, calm_row}
-use Rattle.accusing_links.proofs.FollowSteps.{in_live, not_both}
+use Rattle.accusing_links.proofs.Follows.{IsCalm, drops_follows, live_keeps, keeps, all_follow, NoneTo, OneTo, none_at, AreKnown, known_at}
+use Rattle.accusing_links.proofs.Follows.{all_by_one}
+use Rattle.accusing_links.proofs.Rows.{kept_each}
+use Rattle.accusing_links.proofs.FollowRows.{Are, IsCalmRow, blank_now, after_follows, calm_row}
+use Rattle.accusing_links.proofs.FollowSteps.{in_live, kept_drop, not_both}
 
 -- ---- ports
 
@@ -155,6 +157,31 @@ module _ (N P : Numbers) (queues : Queues) (own far : ℕ) (s : WireLinks) where
         calm_row queues own far least Q s (λ test. test) (of_none queues wire_segments) (sent_as queues wire_segments s) (sending_row m) AreNow calm
         (after_follows queues own far least Q s)
 
+    -- a DC, which may end a call
+    abbrev ends_by : List Effect → List Ask → Result (Sent WireSegments (Unit {0})) LinkRefusal
+    ends_by es asks = asked queues wire_segments (λ test. test) (of_none queues wire_segments) s (sent_as queues wire_segments s) es asks None
+        (blank queues wire_segments) tt
+
+    refuses_follows : (dst src : ℕ) (es : List Effect) → es ≡ Drop ∷ [] → Good AreNow (ends_by es
+        (FindsNone (TheLink src dst) (Some LinkState) ∷ OrElse (eqb src 0) (Settle src ∷ []) ∷ Finds (CalledBy dst) None ∷ []))
+    refuses_follows dst src es same = subst (λ (x : List Effect). Good AreNow (ends_by x
+        (FindsNone (TheLink src dst) (Some LinkState) ∷ OrElse (eqb src 0) (Settle src ∷ []) ∷ Finds (CalledBy dst) None ∷ []))) (sym same)
+        (link_good AreNow (TheLink src dst) s _ _ (by_zero (eqb src 0)) (λ n l found. good_err AreNow LinkState))
+      where
+        by_zero : (zero : Bool) → Good AreNow (ends_by (Drop ∷ []) (OrElse zero (Settle src ∷ []) ∷ Finds (CalledBy dst) None ∷ []))
+        by_zero false =
+            good_ok AreNow _ (after_follows queues own far least Q s (kept queues (Settle src ∷ [])) None (blank queues wire_segments) tt
+            (blank_now queues own far least Q s))
+        by_zero true =
+            link_good AreNow (CalledBy dst) s _ _ (good_ok AreNow _ (after_follows queues own far least Q s [] None (blank queues wire_segments) tt
+            (blank_now queues own far least Q s)))
+            (λ n l found. good_ok AreNow _ (after_follows queues own far least Q s (Drop ∷ []) (Some n) _ tt (
+              l,
+              found.there,
+              drops_follows queues own far least Q queues refl l (live_keeps queues l (in_live Called l.port.phase
+                  (and_parts (is_in Called l.port.phase) (is_at l.port.far dst) found.passes).0 refl)),
+            )))
+
     message_follows : (m : NspValue) → IsInRange m → Good AreNow (by m)
     message_follows (DataSegment segment) small =
         sent_calm (DataSegment segment) (record { calm = (tt, (tt, tt)); small = (tt, (tt, (small.0, tt))) })
@@ -173,7 +200,7 @@ module _ (N P : Numbers) (queues : Queues) (own far : ℕ) (s : WireLinks) where
     message_follows (DisconnectInitiate dst src reason user_data) small =
         sent_calm (DisconnectInitiate dst src reason user_data) (record { calm = (tt, tt); small = (tt, (tt, tt)) })
     message_follows (DisconnectConfirm dst src reason) small =
-        sent_calm (DisconnectConfirm dst src reason) (record { calm = (tt, tt); small = (tt, (tt, (tt, tt))) })
+        refuses_follows dst src _ (kept_drop queues)
 
     pub sent_follows : (packet : Carried) → IsInRange packet.message → Good AreNow (wire_links_sent queues s packet)
     sent_follows packet small =
@@ -321,7 +348,7 @@ module _ (N P : Numbers) (queues : Queues) (own far : ℕ) (s : WireLinks) where
         same = this.same;
         known = all_by_one queues own far this.for Q s.links n l _ one is.there (here to far l.port.far is.to_far e)
             ((all_follow queues own far this.for Q (of_none queues wire_segments) (with_queue queue (with_segments f l)) said
-            (kept_calm queues own far this.for Q queues (Say OfRun ∷ Keep ∷ []) (tt, (tt, tt)))).known
+            (kept_each (IsCalm queues own far this.for Q) queues (Say OfRun ∷ Keep ∷ []) (tt, (tt, tt)))).known
             (λ h i. record { begun = run_begun queues l (tied_at P queues s.links n l tied is.there).not_yet is.may; received = λ o. this.held }));
       },
       words_known to from n l queue f words is e are.1,

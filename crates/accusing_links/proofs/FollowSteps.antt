@@ -1,7 +1,7 @@
 -- What the user does and what comes keeps it what is known of a link's last acknowledgement sent; and what comes first from a far address joins one
 -- link to it.
 use Rattle.std.proofs.Common.{◌≡◌, ℕ, ◌<◌, Bool, true, false, ◌&&◌, not, eqb, Option, Some, None, Result, Ok, List, [], ◌∷◌, refl, sym}
-use Rattle.std.proofs.Common.{subst, ◌∙◌, fold}
+use Rattle.std.proofs.Common.{subst, ap, ◌∙◌, ◌||◌, fold}
 use Rattle.std.specs.Prelude.{slice_get, is_some}
 use Rattle.std.proofs.lemmas.Bool.{and_parts}
 use Rattle.dna_packet.specs.Nsp.{SegmentValue, NspValue, DataSegment, LinkService, DataAck, OtherDataAck, ConnectAck, NoOperation, ConnectInitiate}
@@ -15,11 +15,11 @@ use Rattle.dna_links.specs.declared.queue.Queues.{Queues}
 use Rattle.dna_links.specs.declared.queue.Queues.TheVariants.{Without, With}
 use Rattle.dna_links.specs.declared.queue.Said.{Said}
 use Rattle.dna_links.specs.declared.tag.LinkTag.{LinkTag}
-use Rattle.dna_links.specs.LookUps.{is_live, is_in, is_connected, is_at, has_both}
+use Rattle.dna_links.specs.LookUps.{is_live, is_in, is_calling, is_connected, is_at, has_both}
 use Rattle.dna_links.specs.Links.{LinkOf, LinkTruth, Carried, with_segments}
 use Rattle.dna_links.specs.Queues.{in_use, port_of_waiting, has_waiting, is_over, goes_on, goes_to}
 use Rattle.dna_links.specs.Table.{Ask, Finds, FindsEither, FindsNone, ForThisLink, OfThisPair, InPhase, Effect, OpenHere, GiveAddress, Connect, GoTo}
-use Rattle.dna_links.specs.Table.{End, TakeSegment, TakeAcks, found_in, user_row, arrival_row}
+use Rattle.dna_links.specs.Table.{Drop, End, TakeSegment, TakeAcks, found_in, user_row, arrival_row}
 use Rattle.dna_links.specs.User.{LinkEventValue, Open, Accept, Reject, In, Up, Close, Abort, Boot}
 use Rattle.dna_links.specs.WireSegments.{WireSegments, wire_segments, takes_segment}
 use Rattle.dna_links.specs.WireLinks.{WireLinks, wire_links_user, wire_links_arrived}
@@ -30,7 +30,8 @@ use Rattle.accusing_links.proofs.Received.{segment_received}
 use Rattle.accusing_links.proofs.RightLinks.{Numbers}
 use Rattle.accusing_links.proofs.LinkSteps.{HasPassed, at_is, connected_live, in_run, kept_open, kept_answer, kept_connect, kept_confirm}
 use Rattle.accusing_links.proofs.TiedSteps.{kept_runs}
-use Rattle.accusing_links.proofs.Follows.{keeps, live_keeps, Follows, follows_itself, follows_on, goes_follows, ends_follows, requeued_follows}
+use Rattle.accusing_links.proofs.Follows.{keeps, live_keeps, Follows, follows_itself, follows_on, goes_follows, ends_follows, drops_follows}
+use Rattle.accusing_links.proofs.Follows.{requeued_follows}
 use Rattle.accusing_links.proofs.Follows.{all_follow, NoneTo, OneTo, all_same, one_pushed, one_changed, one_of_none}
 use Rattle.accusing_links.proofs.FollowRows.{Are, IsNow, after_follows, IsCalmRow, calm_row}
 
@@ -46,6 +47,31 @@ in_live wanted phase e f = absurd cc
 kept_end : (q : Queues) → kept q (End ∷ []) ≡ End ∷ []
 kept_end Without = refl
 kept_end With = refl
+
+pub kept_drop : (q : Queues) → kept q (Drop ∷ []) ≡ Drop ∷ []
+kept_drop Without = refl
+kept_drop With = refl
+
+-- a call in use keeps what has numbers
+open_before : (over : Bool) (phase : Phase) → is_in Calling phase ≡ true → not (over && is_in Disconnecting phase) ≡ true
+open_before true Calling e = refl
+open_before true phase e = absurd cc
+open_before false phase e = refl
+
+or_second : (a b : Bool) → b ≡ true → (a || b) ≡ true
+or_second true b e = refl
+or_second false b e = e
+
+calling_waits : (waits : Option Phase) (l : LinkOf WireSegments) → l.queue.waits ≡ waits →
+    is_in Calling (port_of_waiting waits l.port).phase ≡ true → keeps With l ≡ true
+calling_waits None l at calling = live_keeps With l (in_live Calling l.port.phase calling refl)
+calling_waits (Some phase) l at calling =
+    or_second (is_live l.port.phase) (has_waiting l.queue.waits l.queue.said)
+    (ap (λ (w : Option Phase). has_waiting w l.queue.said) at ∙ open_before (is_over l.queue.said) phase calling)
+
+calling_keeps : (q : Queues) (l : LinkOf WireSegments) → is_calling (in_use q l).phase ≡ true → keeps q l ≡ true
+calling_keeps Without l calling = live_keeps Without l (in_live Calling l.port.phase calling refl)
+calling_keeps With l calling = calling_waits l.queue.waits l refl calling
 
 kept_close : (q : Queues) → kept q (GoTo Disconnecting ∷ []) ≡ GoTo Disconnecting ∷ []
 kept_close Without = refl
@@ -174,8 +200,19 @@ module _ (N : Numbers) (queues : Queues) (own far least : ℕ) (s : WireLinks) w
             Good AreNow
             (asked queues wire_segments rule truth s to_links (GoTo Disconnecting ∷ []) (InPhase is_connected LinkState ∷ []) (Some n) l tt)
         by n l there =
-            good_check AreNow (is_connected (in_use queues l).phase) LinkState _ (λ e.
+            good_check AreNow (is_connected (in_use queues l).phase) _ _ (λ e.
             good_ok AreNow _ (each (GoTo Disconnecting ∷ []) (Some n) _ tt (at n l _ there (closes_follow queues refl l e))))
+
+    abort_good : (given : ℕ) (es : List Effect) → es ≡ Drop ∷ [] → Good AreNow (asks_by es (found_in (LiveAt given) is_calling))
+    abort_good given es same = subst (λ (x : List Effect). Good AreNow (asks_by x (found_in (LiveAt given) is_calling))) (sym same)
+        (in_use_good AreNow queues (LiveAt given) s _ _ (good_err AreNow NoLink) (λ n l found. by n l found.there) (λ n l found. by n l found.there))
+      where
+        by : (n : ℕ) (l : LinkOf WireSegments) → slice_get s.links n ≡ Some l →
+            Good AreNow (asked queues wire_segments rule truth s to_links (Drop ∷ []) (InPhase is_calling LinkState ∷ []) (Some n) l tt)
+        by n l there =
+            good_check AreNow (is_calling (in_use queues l).phase) _ _ (λ e.
+            good_ok AreNow _ (each (Drop ∷ []) (Some n) _ tt
+            (at n l _ there (drops_follows queues own far least Q queues refl l (calling_keeps queues l e)))))
 
     end_good : (given other : ℕ) (es : List Effect) → es ≡ End ∷ [] →
         Good AreNow (asks_by es (FindsEither (TheLink given other) (CallingAt given) None ∷ []))
@@ -284,7 +321,7 @@ module _ (N : Numbers) (queues : Queues) (own far least : ℕ) (s : WireLinks) w
   user_follows (In given message) = calm (In given message) (record { calm = (tt, tt); small = (tt, (tt, tt)) })
   user_follows (Up given message) = calm (Up given message) (record { calm = (tt, tt); small = (tt, (tt, tt)) })
   user_follows (Close given) = close_good (λ test. test) (of_none queues wire_segments) given _ (kept_close queues)
-  user_follows (Abort given) = calm (Abort given) (record { calm = (tt, tt); small = (tt, (tt, tt)) })
+  user_follows (Abort given) = abort_good (λ test. test) (of_none queues wire_segments) given _ (kept_drop queues)
   user_follows Boot = calm Boot (record { calm = (tt, tt); small = tt })
 
   module _ (rule : PartnerRule) (tag : LinkTag) where

@@ -13,11 +13,12 @@ use Rattle.dna_links.specs.declared.queue.Said.TheVariants.{Nothing, OfRun, Disc
 use Rattle.dna_links.specs.LookUps.{is_live, is_in}
 use Rattle.dna_links.specs.Links.{LinkOf, LinkTruth}
 use Rattle.dna_links.specs.Queues.{keeps_numbers, has_waiting, is_over, further, goes_on, goes_to, ends_by_message, drops, requeued, lets_go}
-use Rattle.dna_links.specs.Queues.{booted_link, forgotten}
+use Rattle.dna_links.specs.Queues.{booted_link, forgotten, call_of, drops_segments}
 use Rattle.dna_links.specs.Table.{Effect, OpenHere, GiveAddress, Connect, GoTo, End, Drop, EndAll, Say, Settle, Keep, HandIn, TakeSegment, TakeAcks}
 use Rattle.dna_links.specs.WireSegments.{WireSegments, wire_segments}
 use Rattle.dna_links.specs.LinkBook.{does}
 use Rattle.accusing_links.proofs.Received.{Received, weaker, acks_received}
+use Rattle.accusing_links.proofs.Rows.{Each}
 
 -- a link may yet send what has numbers
 abbrev pub keeps : Queues → LinkOf WireSegments → Bool
@@ -144,10 +145,6 @@ module _ (queues : Queues) (own far least : ℕ) (Q : ℕ → Type 0) where
         record { begun = refl; received = λ o. let_go (keeps_numbers l) _ l.segments may (was.received o) };
   }
 
-  dropped_keeps : (q : Queues) (l : LinkOf WireSegments) → keeps q (drops wire_segments q l) ≡ false
-  dropped_keeps Without l = refl
-  dropped_keeps With l = refl
-
   dropped_far : (q : Queues) (l : LinkOf WireSegments) → (drops wire_segments q l).port.far ≡ l.port.far
   dropped_far Without l = refl
   dropped_far With l = refl
@@ -155,12 +152,22 @@ module _ (queues : Queues) (own far least : ℕ) (Q : ℕ → Type 0) where
   never : {X : Type 0} → true ≡ false → X
   never e = absurd cc
 
-  pub drops_follows : (q : Queues) → q ≡ queues → (l : LinkOf WireSegments) → Follows l (drops wire_segments q l)
-  drops_follows q at l = record {
+  -- it keeps its segments where it was opened here
+  dropped_past : (q : Queues) (l : LinkOf WireSegments) → keeps q (drops wire_segments q l) ≡ true → IsPast l → IsPast (drops wire_segments q l)
+  dropped_past Without l g was = never (sym g)
+  dropped_past With l g was = record { begun = refl; received = λ o. go l.port.opened g (was.received o) }
+    where
+      go : (opened : Bool) → has_waiting (call_of opened) l.queue.said ≡ true → Received least Q l.segments →
+          Received least Q (drops_segments wire_segments opened l.segments)
+      go true g is = is
+      go false g is = absurd cc
+
+  pub drops_follows : (q : Queues) → q ≡ queues → (l : LinkOf WireSegments) → keeps q l ≡ true → Follows l (drops wire_segments q l)
+  drops_follows q at l kept = record {
     to = λ e. sym (dropped_far q l) ∙ e;
     known = λ k e g.
         let may : keeps q (drops wire_segments q l) ≡ true = subst (λ (x : Queues). keeps x (drops wire_segments q l) ≡ true) (sym at) g in
-        never (sym may ∙ dropped_keeps q l);
+        dropped_past q l may (k (sym (dropped_far q l) ∙ e) (subst (λ (x : Queues). keeps x l ≡ true) at kept));
   }
 
   -- ---- what it has said, and what waits
@@ -234,10 +241,19 @@ module _ (queues : Queues) (own far least : ℕ) (Q : ℕ → Type 0) where
         };
   }
 
+  booted_keeps : (q : Queues) (l : LinkOf WireSegments) → keeps q (booted_link wire_segments q l) ≡ false
+  booted_keeps Without l = refl
+  booted_keeps With l = refl
+
+  booted_far : (q : Queues) (l : LinkOf WireSegments) → (booted_link wire_segments q l).port.far ≡ l.port.far
+  booted_far Without l = refl
+  booted_far With l = refl
+
   pub booted_follows : (l : LinkOf WireSegments) → Follows l (booted_link wire_segments queues l)
-  booted_follows l =
-      follows_on l (drops wire_segments queues l) (booted_link wire_segments queues l) (drops_follows queues refl l)
-      (forgotten_follows queues refl (drops wire_segments queues l))
+  booted_follows l = record {
+    to = λ e. sym (booted_far queues l) ∙ e;
+    known = λ k e g. never (sym g ∙ booted_keeps queues l);
+  }
 
   -- ---- effects
 
@@ -248,16 +264,15 @@ module _ (queues : Queues) (own far least : ℕ) (Q : ℕ → Type 0) where
   IsCalm (Connect other segsize) = ⊥
   IsCalm (GoTo phase) = ⊥
   IsCalm End = ⊥
+  IsCalm Drop = ⊥
   IsCalm (TakeSegment segment) = ⊥
   IsCalm effect = Unit {0}
 
   abbrev pub AreCalm : List Effect → Type 0
-  AreCalm [] = Unit {0}
-  AreCalm (effect ∷ effects) = IsCalm effect × AreCalm effects
+  AreCalm effects = Each IsCalm effects
 
-  does_follows : (truth : LinkTruth (Unit {0})) (l : LinkOf WireSegments) (effect : Effect) → IsCalm effect →
+  pub does_follows : (truth : LinkTruth (Unit {0})) (l : LinkOf WireSegments) (effect : Effect) → IsCalm effect →
       Follows l (does queues wire_segments truth l effect)
-  does_follows truth l Drop calm = drops_follows queues refl l
   does_follows truth l EndAll calm = follows_itself l
   does_follows truth l (Say said) calm = says_follows said l
   does_follows truth l (Settle given) calm = follows_itself l
@@ -285,6 +300,7 @@ module _ (queues : Queues) (own far least : ℕ) (Q : ℕ → Type 0) where
   does_follows truth l (Connect other segsize) calm = absurd calm
   does_follows truth l (GoTo phase) calm = absurd calm
   does_follows truth l End calm = absurd calm
+  does_follows truth l Drop calm = absurd calm
   does_follows truth l (TakeSegment segment) calm = absurd calm
 
   pub all_follow : (truth : LinkTruth (Unit {0})) (l : LinkOf WireSegments) (effects : List Effect) → AreCalm effects →

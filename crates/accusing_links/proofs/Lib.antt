@@ -21,6 +21,7 @@ pub mod LinkSteps
 pub mod LinkSends
 -- a link has its far address by a CI or a CC that passed
 pub mod Tied
+pub mod Rows
 pub mod TiedRows
 pub mod TiedSteps
 pub mod TiedSends

@@ -9,11 +9,12 @@ use Rattle.dna_links.specs.declared.queue.Said.{Said}
 use Rattle.dna_links.specs.LookUps.{is_live}
 use Rattle.dna_links.specs.Links.{LinkOf, LinkTruth}
 use Rattle.dna_links.specs.Queues.{keeps_numbers, further, goes_on, goes_to, ends_by_message, drops, requeued, lets_go}
-use Rattle.dna_links.specs.Queues.{booted_link, forgotten}
+use Rattle.dna_links.specs.Queues.{booted_link, forgotten, drops_segments}
 use Rattle.dna_links.specs.Table.{Effect, OpenHere, GiveAddress, Connect, GoTo, End, Drop, EndAll, Say, Settle, Keep, HandIn, TakeSegment, TakeAcks}
 use Rattle.dna_links.specs.WireSegments.{WireSegments, wire_segments}
 use Rattle.dna_links.specs.LinkBook.{blank, does}
 use Rattle.accusing_links.proofs.Received.{Received, weaker, empty_received, ends_received, acks_received}
+use Rattle.accusing_links.proofs.Rows.{Each, all_done}
 
 -- a link that nothing may have come on yet
 abbrev pub is_early : Phase → Bool
@@ -64,7 +65,11 @@ module _ (Q : ℕ → Type 0) where
 
   pub drops_received : (queues : Queues) (l : LinkOf WireSegments) → Received 0 Q l.segments → Received 0 Q (drops wire_segments queues l).segments
   drops_received Without l is = ends_received Q l.segments
-  drops_received With l is = ends_received Q l.segments
+  drops_received With l is = go l.port.opened
+    where
+      go : (opened : Bool) → Received 0 Q (drops_segments wire_segments opened l.segments)
+      go true = is
+      go false = ends_received Q l.segments
 
 -- ---- links
 
@@ -114,10 +119,9 @@ module _ (Q : Numbers) (queues : Queues) where
   IsCalm effect = Unit {0}
 
   abbrev pub AreCalm : List Effect → Type 0
-  AreCalm [] = Unit {0}
-  AreCalm (effect ∷ effects) = IsCalm effect × AreCalm effects
+  AreCalm effects = Each IsCalm effects
 
-  does_right : (truth : LinkTruth (Unit {0})) (l : LinkOf WireSegments) (effect : Effect) → IsCalm effect → Is l →
+  pub does_right : (truth : LinkTruth (Unit {0})) (l : LinkOf WireSegments) (effect : Effect) → IsCalm effect → Is l →
       Is (does queues wire_segments truth l effect)
   does_right truth l (GoTo phase) calm is = goes_right queues phase l calm is
   does_right truth l End calm is = ended_right queues l is
@@ -138,9 +142,7 @@ module _ (Q : Numbers) (queues : Queues) where
 
   pub all_right : (truth : LinkTruth (Unit {0})) (l : LinkOf WireSegments) (effects : List Effect) → AreCalm effects → Is l →
       Is (fold (does queues wire_segments truth) l effects)
-  all_right truth l [] calm is = is
-  all_right truth l (effect ∷ effects) calm is =
-      all_right truth (does queues wire_segments truth l effect) effects calm.1 (does_right truth l effect calm.0 is)
+  all_right truth l effects calm is = all_done queues truth IsCalm Is (does_right truth) l effects calm is
 
   -- ---- all links of a node
 

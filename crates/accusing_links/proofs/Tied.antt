@@ -16,6 +16,7 @@ use Rattle.dna_links.specs.WireSegments.{WireSegments, wire_segments}
 use Rattle.dna_links.specs.LinkBook.{blank, does}
 use Rattle.accusing_links.specs.Connects.{CI, CC, RUN}
 use Rattle.accusing_links.proofs.Named.{IsAddress}
+use Rattle.accusing_links.proofs.Rows.{Each, all_done}
 use Rattle.accusing_links.proofs.RightLinks.{Numbers}
 
 -- a link in this phase was opened here, or begun by a CI
@@ -227,10 +228,9 @@ module _ (P : Numbers) (queues : Queues) where
   IsCalm effect = Unit {0}
 
   abbrev pub AreCalm : List Effect → Type 0
-  AreCalm [] = Unit {0}
-  AreCalm (effect ∷ effects) = IsCalm effect × AreCalm effects
+  AreCalm effects = Each IsCalm effects
 
-  does_tied : (truth : LinkTruth (Unit {0})) (l : LinkOf WireSegments) (effect : Effect) → IsCalm effect → Is l →
+  pub does_tied : (truth : LinkTruth (Unit {0})) (l : LinkOf WireSegments) (effect : Effect) → IsCalm effect → Is l →
       Is (does queues wire_segments truth l effect)
   does_tied truth l (GoTo phase) calm is = goes_tied queues phase l calm.0 (calm.1 l.port.opened) is
   does_tied truth l End calm is = ended_tied queues l is
@@ -248,9 +248,7 @@ module _ (P : Numbers) (queues : Queues) where
 
   pub all_tied : (truth : LinkTruth (Unit {0})) (l : LinkOf WireSegments) (effects : List Effect) → AreCalm effects → Is l →
       Is (fold (does queues wire_segments truth) l effects)
-  all_tied truth l [] calm is = is
-  all_tied truth l (effect ∷ effects) calm is =
-      all_tied truth (does queues wire_segments truth l effect) effects calm.1 (does_tied truth l effect calm.0 is)
+  all_tied truth l effects calm is = all_done queues truth IsCalm Is (does_tied truth) l effects calm is
 
   -- ---- all links of a node
 

@@ -1,31 +1,25 @@
 -- What holds of each link of a node, by its number, holds after every row by which no link begins, is called, answered or ended, and no segment is
 -- sent or comes: where the effects of those rows keep it of one link.
-use Rattle.std.proofs.Common.{◌≡◌, ℕ, Bool, true, false, ◌&&◌, Option, Some, None, Result, Ok, Err, List, [], ◌∷◌, ◌++◌, refl, sym, subst}
+use Rattle.std.proofs.Common.{◌≡◌, ℕ, Bool, Option, Some, None, Ok, List, [], ◌∷◌, ◌++◌, refl, sym, subst}
 use Rattle.std.proofs.Common.{map, zero, suc, fold, length, ap, ◌⊎◌, inl, inr}
-use Rattle.std.specs.Prelude.{slice_get, slice_set, ok_or, is_some}
+use Rattle.std.specs.Prelude.{slice_get, slice_set}
 use Rattle.dna_packet.specs.declared.ack_word.AckWord.{AckWord}
-use Rattle.dna_station.specs.declared.link_refusal.LinkRefusal.{LinkRefusal}
-use Rattle.dna_links.specs.declared.port.LinkTest.{LinkTest}
-use Rattle.dna_links.specs.declared.port.LinkTest.TheVariants.{HasAddress}
 use Rattle.dna_links.specs.declared.queue.Queues.{Queues}
-use Rattle.dna_links.specs.declared.queue.Queues.TheVariants.{Without, With}
 use Rattle.dna_links.specs.SegmentBook.{Sending}
-use Rattle.dna_links.specs.Links.{LinkOf, LinkTruth, at_number, on_link, number_of, with_link, with_segments}
-use Rattle.dna_links.specs.Queues.{in_use, may_send, with_queue, settled, forgotten, booted_link}
-use Rattle.dna_links.specs.Table.{Ask, Finds, FindsEither, FindsNone, FindsInUse, KnowsInUse, InPhase, InTurn, OrElse, ForThisLink, OfThisPair}
-use Rattle.dna_links.specs.Table.{Delivers}
-use Rattle.dna_links.specs.Table.{SendsSegment, SendsAcks, Effect, OpenHere, GiveAddress, Connect, GoTo, End, Drop, EndAll, Say, Settle, Keep, HandIn}
-use Rattle.dna_links.specs.Table.{TakeSegment, TakeAcks, Row, Asks}
+use Rattle.dna_links.specs.Links.{LinkOf, LinkTruth, with_segments}
+use Rattle.dna_links.specs.Queues.{with_queue, settled, forgotten, booted_link}
+use Rattle.dna_links.specs.Table.{Effect, Drop, EndAll, Say, Settle, Keep, HandIn, Row, Asks}
 use Rattle.dna_links.specs.WireSegments.{WireSegments, wire_segments, delivers}
 use Rattle.dna_links.specs.WireSegments as wire
 use Rattle.dna_links.specs.WireLinks.{WireLinks}
-use Rattle.dna_links.specs.LinkBook.{on_ok, are_same, blank, kept, does, otherwise, waits, sends_acks, asked, by_row, others, after}
-use Rattle.accusing_links.proofs.Answered.{Good, good_ok, good_err, good_check, good_on, link_good, in_use_good, seen_good}
-use Rattle.accusing_segments.proofs.LinkRows.{AreQuiet}
+use Rattle.dna_links.specs.LinkBook.{blank, does, by_row, after}
+use Rattle.accusing_links.proofs.Answered.{Good}
+use Rattle.accusing_links.proofs.Rows.{Each, IsKept, AreKept, row_kept}
+use Rattle.accusing_links.proofs.Rows as rows
+use Rattle.accusing_segments.proofs.LinkRows.{IsQuiet, AreQuiet}
 
 -- effects by which no link begins, is called, answered or ended, and nothing comes
 abbrev pub IsPlain : Effect → Type 0
-IsPlain Drop = Unit {0}
 IsPlain EndAll = Unit {0}
 IsPlain (Say said) = Unit {0}
 IsPlain (Settle own) = Unit {0}
@@ -34,18 +28,10 @@ IsPlain (HandIn message) = Unit {0}
 IsPlain effect = ⊥
 
 abbrev pub ArePlain : List Effect → Type 0
-ArePlain [] = Unit {0}
-ArePlain (effect ∷ effects) = IsPlain effect × ArePlain effects
+ArePlain effects = Each IsPlain effects
 
 abbrev pub IsPlainRow : Row → Type 0
 IsPlainRow (Asks asks effects) = ArePlain effects × AreQuiet asks
-
-kept_plain : (q : Queues) (effects : List Effect) → ArePlain effects → ArePlain (kept q effects)
-kept_plain Without [] plain = tt
-kept_plain Without (Say said ∷ effects) plain = kept_plain Without effects plain.1
-kept_plain Without (Settle own ∷ effects) plain = kept_plain Without effects plain.1
-kept_plain Without (effect ∷ effects) plain = (plain.0, kept_plain Without effects plain.1)
-kept_plain With effects plain = plain
 
 -- ---- places
 
@@ -128,131 +114,48 @@ module _ (queues : Queues) (Is : ℕ → LinkOf WireSegments → Type 0) where
         let found = mapped_place (booted_link wire_segments queues) links n m at in
         subst (Is n) found.1.1 (stays.booted n found.0 (are n found.0 found.1.0))
 
+    does_stay : (truth : LinkTruth (Unit {0})) (n : Option ℕ) (l : LinkOf WireSegments) (effect : Effect) → IsPlain effect → IsAt n l →
+        IsAt n (does queues wire_segments truth l effect)
+    does_stay truth n l effect plain is = at_any n l (does queues wire_segments truth l effect) (λ i here. stays.does truth i l effect plain here) is
+
     pub all_done : (truth : LinkTruth (Unit {0})) (n : Option ℕ) (l : LinkOf WireSegments) (effects : List Effect) → ArePlain effects → IsAt n l →
         IsAt n (fold (does queues wire_segments truth) l effects)
-    all_done truth n l [] plain is = is
-    all_done truth n l (effect ∷ effects) plain is =
-        all_done truth n (does queues wire_segments truth l effect) effects plain.1
-        (at_any n l (does queues wire_segments truth l effect) (λ i here. stays.does truth i l effect plain.0 here) is)
-
-    -- ---- what is left of all links
+    all_done truth n = rows.all_done queues truth IsPlain (IsAt n) (does_stay truth n)
 
     module _ (s : WireLinks) (are : All s.links) where
       abbrev Are : WireLinks → Type 0
       Are x = All x.links
 
-      by_found : (test : LinkTest) (otherwise : WireLinks) (next : ℕ → LinkOf WireSegments → WireLinks) → Are otherwise →
-          ((n : ℕ) (l : LinkOf WireSegments) → slice_get s.links n ≡ Some l → Are (next n l)) → Are (with_link test s otherwise next)
-      by_found test otherwise next none found = go (number_of test s)
-        where
-          one : (n : ℕ) (o : Option (LinkOf WireSegments)) → slice_get s.links n ≡ o → Are (on_link n o otherwise next)
-          one n None at = none
-          one n (Some l) at = found n l at
+      keeps : (truth : LinkTruth (Unit {0})) → IsKept queues s IsAt IsQuiet IsPlain truth
+      keeps truth = record {
+        none = stays.blank;
+        there = are;
+        delivered = λ message n l d made is. at_any n l (with_segments d l) (λ i here. stays.delivered message i l d made here) is;
+        sent = λ segment n l made quiet e is. absurd quiet;
+        late = λ segment n l made quiet e is. absurd quiet;
+        acks = λ acks n l sent quiet made is. at_any n l (with_segments sent.segments l) (λ i here. stays.acks acks i l sent made here) is;
+        gap = λ gap n l is. at_any n l (with_queue (record l.queue { gap = gap }) l) (λ i here. stays.gap gap i l here) is;
+        does = does_stay truth;
+      }
 
-          go : (o : Option ℕ) → Are (at_number s.links o otherwise next)
-          go None = none
-          go (Some n) = one n (slice_get s.links n) refl
-
-      pub others_stay : (effects : List Effect) → Are (others queues wire_segments effects s)
-      others_stay (GiveAddress own ∷ effects) =
-          by_found (HasAddress own) s _ are (λ n l at. all_changed s.links n _ are (stays.forgotten n l (are n l at)))
-      others_stay [] = are
-      others_stay (OpenHere ∷ effects) = are
-      others_stay (Connect far segsize ∷ effects) = are
-      others_stay (GoTo phase ∷ effects) = are
-      others_stay (End ∷ effects) = are
-      others_stay (Drop ∷ effects) = are
-      others_stay (EndAll ∷ effects) = are
-      others_stay (Say said ∷ effects) = are
-      others_stay (Keep ∷ effects) = are
-      others_stay (HandIn message ∷ effects) = are
-      others_stay (TakeSegment segment ∷ effects) = are
-      others_stay (TakeAcks acks ∷ effects) = are
-      others_stay (Settle own ∷ effects) = are
+      all_keep : AreKept queues s IsAt Are
+      all_keep = record {
+        same = are;
+        there = are;
+        forgets = stays.forgotten;
+        settles = λ n l is. stays.settled n l is;
+        pushes = λ x l all is. all_pushed x.links l all (is _);
+        changes = λ x n l all is. all_changed x.links n l all is;
+        boots = all_booted s.links are;
+      }
 
       pub after_stays : (effects : List Effect) (n : Option ℕ) (l : LinkOf WireSegments) (k : Unit {0}) → IsAt n l →
           Are (after queues wire_segments s effects n l k)
-      after_stays [] n l k is = are
-      after_stays (Settle own ∷ effects) n l k is =
-          by_found (HasAddress own) s _ are (λ m x at. all_changed s.links m _ are (stays.settled m x (are m x at)))
-      after_stays (EndAll ∷ effects) n l k is = all_booted s.links are
-      after_stays (effect ∷ effects) None l k is =
-          all_pushed (others queues wire_segments (effect ∷ effects) s).links l (others_stay (effect ∷ effects)) (is _)
-      after_stays (effect ∷ effects) (Some m) l k is = all_changed _ m l (others_stay (effect ∷ effects)) is
-
-      -- ---- rows whose effects are plain
-
-      module _ {R : Type 0} (rule : Bool → Bool) (truth : LinkTruth (Unit {0})) (answer : List Effect → Option ℕ → LinkOf WireSegments → Unit {0} → R)
-          (effects : List Effect) (plain : ArePlain effects) (G : R → Type 0)
-          (each : (es : List Effect) (n : Option ℕ) (l : LinkOf WireSegments) (k : Unit {0}) → IsAt n l → G (answer es n l k)) where
-        otherwise_stays : (refusal : Option LinkRefusal) → Good G (otherwise queues wire_segments rule truth s answer effects refusal)
-        otherwise_stays None = good_ok G _ (each [] None (blank queues wire_segments) truth.known stays.blank)
-        otherwise_stays (Some refusal) = good_err G refusal
-
-        acks_stay : (n : Option ℕ) (l : LinkOf WireSegments) (acks : List AckWord) (sent : Sending WireSegments (Unit {0})) →
-            wire.sends_acks acks l.segments ≡ Ok sent → IsAt n l → IsAt n (with_segments sent.segments l)
-        acks_stay n l acks sent made is = at_any n l (with_segments sent.segments l) (λ i here. stays.acks acks i l sent made here) is
-
-        sends_acks_stay : (q : Queues) (acks : List AckWord) (n : Option ℕ) (l : LinkOf WireSegments)
-            (next : LinkOf WireSegments → Unit {0} → Result R LinkRefusal) → IsAt n l →
-            ((x : LinkOf WireSegments) (k : Unit {0}) → IsAt n x → Good G (next x k)) →
-            Good G (sends_acks queues wire_segments rule truth s answer effects q acks l next)
-        sends_acks_stay Without acks n l next is then =
-            good_on G (wire.sends_acks acks l.segments) _ (λ sent made. then _ _ (acks_stay n l acks sent made is))
-        sends_acks_stay With acks n l next is then =
-            good_on G (wire.sends_acks acks l.segments) _ (λ sent made.
-            then _ _ (at_any n (with_segments sent.segments l) _ (λ i here. stays.gap _ i (with_segments sent.segments l) here)
-            (acks_stay n l acks sent made is)))
-
-        waits_stays : (q : Queues) (test : LinkTest) (refusal : LinkRefusal) (next : Result R LinkRefusal) → Good G next →
-            Good G (waits queues wire_segments rule truth s answer effects q test refusal next)
-        waits_stays Without test refusal next is = good_err G refusal
-        waits_stays With test refusal next is = seen_good G (in_use With) test s (Err refusal) (λ n l. next) (good_err G refusal) (λ n l found. is)
-
-        asked_stays : (asks : List Ask) (n : Option ℕ) (l : LinkOf WireSegments) (k : Unit {0}) → AreQuiet asks → IsAt n l →
-            Good G (asked queues wire_segments rule truth s answer effects asks n l k)
-        asked_stays [] n l k quiet is = good_ok G _ (each _ _ _ _ (all_done truth n l effects plain is))
-        asked_stays (Finds test refusal ∷ asks) n l k quiet is =
-            link_good G test s _ _ (otherwise_stays refusal) (λ m x found. asked_stays asks (Some m) x tt quiet.1 (are m x found.there))
-        asked_stays (FindsEither first second refusal ∷ asks) n l k quiet is =
-            link_good G first s _ _
-            (link_good G second s _ _ (otherwise_stays refusal) (λ m x found. asked_stays asks (Some m) x tt quiet.1 (are m x found.there)))
-            (λ m x found. asked_stays asks (Some m) x tt quiet.1 (are m x found.there))
-        asked_stays (FindsNone test refusal ∷ asks) n l k quiet is =
-            link_good G test s _ _ (asked_stays asks n l k quiet.1 is) (λ m x found. otherwise_stays refusal)
-        asked_stays (FindsInUse test refusal ∷ asks) n l k quiet is =
-            in_use_good G queues test s _ _ (good_err G refusal) (λ m x found. asked_stays asks (Some m) x tt quiet.1 (are m x found.there))
-            (λ m x found. asked_stays asks (Some m) x tt quiet.1 (are m x found.there))
-        asked_stays (KnowsInUse test refusal ∷ asks) n l k quiet is =
-            link_good G test s _ _ (waits_stays queues test refusal _ (asked_stays asks n l k quiet.1 is))
-            (λ m x found. asked_stays asks (Some m) x tt quiet.1 (are m x found.there))
-        asked_stays (InPhase phases refusal ∷ asks) n l k quiet is =
-            good_check G (phases (in_use queues l).phase) refusal _ (λ e. asked_stays asks n l k quiet.1 is)
-        asked_stays (InTurn phase refusal ∷ asks) n l k quiet is =
-            good_check G (may_send queues phase l) refusal _ (λ e. asked_stays asks n l k quiet.1 is)
-        asked_stays (OrElse true others ∷ asks) n l k quiet is = asked_stays asks n l k quiet.1 is
-        asked_stays (OrElse false others ∷ asks) n l k quiet is = good_ok G _ (each _ None (blank queues wire_segments) truth.known stays.blank)
-        asked_stays (ForThisLink refusal ∷ asks) n l k quiet is =
-            good_check G (rule (is_some truth.tag.link && are_same n truth.tag.partner)) refusal _ (λ e. asked_stays asks n l k quiet.1 is)
-        asked_stays (OfThisPair refusal ∷ asks) n l k quiet is =
-            good_check G (rule (are_same l.partner truth.tag.link && are_same n truth.tag.partner)) refusal _ (λ e. asked_stays asks n l k quiet.1 is)
-        asked_stays (Delivers message refusal ∷ asks) n l k quiet is = go (delivers message l.segments) refl (λ x. asked_stays asks n x k quiet.1)
-          where
-            go : (o : Option WireSegments) → delivers message l.segments ≡ o →
-                ((x : LinkOf WireSegments) → IsAt n x → Good G (asked queues wire_segments rule truth s answer effects asks n x k)) →
-                Good G (on_ok (ok_or o refusal) (λ d. asked queues wire_segments rule truth s answer effects asks n (with_segments d l) k))
-            go None e later = good_err G refusal
-            go (Some d) e later =
-                later (with_segments d l) (at_any n l (with_segments d l) (λ i here. stays.delivered message i l d e here) is)
-        asked_stays (SendsSegment segment ∷ asks) n l k quiet is = absurd quiet.0
-        asked_stays (SendsAcks acks ∷ asks) n l k quiet is =
-            sends_acks_stay queues acks n l (asked queues wire_segments rule truth s answer effects asks n) is
-            (λ x y right. asked_stays asks n x y quiet.1 right)
+      after_stays = rows.after_kept queues s IsAt Are all_keep
 
       pub plain_row : {R : Type 0} (rule : Bool → Bool) (truth : LinkTruth (Unit {0}))
           (answer : List Effect → Option ℕ → LinkOf WireSegments → Unit {0} → R) (row : Row) (G : R → Type 0) → IsPlainRow row →
           ((es : List Effect) (n : Option ℕ) (l : LinkOf WireSegments) (k : Unit {0}) → IsAt n l → G (answer es n l k)) →
           Good G (by_row queues wire_segments rule truth s answer row)
       plain_row {R} rule truth answer (Asks asks effects) G plain each =
-          asked_stays rule truth answer (kept queues effects) (kept_plain queues effects plain.0) G each asks None (blank queues wire_segments)
-          truth.known plain.1 stays.blank
+          row_kept queues s IsAt IsQuiet IsPlain truth (keeps truth) rule answer asks effects G plain.0 plain.1 each

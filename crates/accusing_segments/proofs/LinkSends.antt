@@ -29,8 +29,10 @@ use Rattle.accusing_links.proofs.LinkSteps.{at_is}
 use Rattle.accusing_links.proofs.RightLinks.{is_early}
 use Rattle.accusing_segments.proofs.Gave.{More, Gave}
 use Rattle.accusing_segments.proofs.SegmentSends.{IsFine, Gone, sends_segment_good, sends_late_good}
+use Rattle.accusing_segments.proofs.RightLinks.{IsCalm}
 use Rattle.accusing_segments.proofs.RightLinks.{Links, IsLinkRight, all_right, AreRight, right_at, right_more}
-use Rattle.accusing_segments.proofs.LinkRows.{IsCalmRow, kept_calm, after_right, calm_row, gap_right}
+use Rattle.accusing_segments.proofs.LinkRows.{IsCalmRow, after_right, calm_row, gap_right}
+use Rattle.accusing_links.proofs.Rows.{kept_each}
 
 -- a segment in what is sent was sent
 abbrev pub HasGone : Links → NspValue → Type 0
@@ -151,7 +153,7 @@ module _ (Q R : Links) (queues : Queues) (more : (own far : ℕ) → More (Q own
       left_good x k right fine =
           good_ok Done _ (
             each said (Some n) _ tt
-                (all_right R queues (of_none queues wire_segments) x said (kept_calm R queues queues (Say OfRun ∷ Keep ∷ []) (tt, (tt, tt))) right),
+                (all_right R queues (of_none queues wire_segments) x said (kept_each (IsCalm R queues) queues (Say OfRun ∷ Keep ∷ []) (tt, (tt, tt))) right),
             fine,
           )
 

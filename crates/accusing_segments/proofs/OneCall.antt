@@ -14,7 +14,7 @@ use Rattle.dna_links.specs.LookUps.{is_live, is_in}
 use Rattle.dna_links.specs.SegmentBook.{REACH}
 use Rattle.dna_links.specs.Links.{LinkOf, LinkTruth, with_segments}
 use Rattle.dna_links.specs.Queues.{is_over, has_waiting, keeps_numbers, further, goes_on, goes_to, ends_by_message, drops, requeued, lets_go, shows_by}
-use Rattle.dna_links.specs.Queues.{settled, forgotten, with_queue, port_of_waiting}
+use Rattle.dna_links.specs.Queues.{settled, booted_link, forgotten, with_queue, port_of_waiting, call_of, drops_segments}
 use Rattle.dna_links.specs.Table.{Effect, OpenHere, GiveAddress, Connect, GoTo, End, Drop, EndAll, Say, Settle, Keep, HandIn, TakeSegment, TakeAcks}
 use Rattle.dna_links.specs.WireSegments.{WireSegments, wire_segments, delivers}
 use Rattle.dna_links.specs.WireSegments as wire
@@ -59,10 +59,6 @@ dead_segments With d l dead = dead
 dead_gap : (q : Queues) (gap : ℕ) (l : LinkOf WireSegments) → IsDead q l → IsDead q (with_queue (record l.queue { gap = gap }) l)
 dead_gap Without gap l dead = dead
 dead_gap With gap l dead = dead
-
-dead_dropped : (q : Queues) (l : LinkOf WireSegments) → IsDead q (drops wire_segments q l)
-dead_dropped Without l = refl
-dead_dropped With l = (refl, inl refl)
 
 dead_said : (q : Queues) (said : Said) (l : LinkOf WireSegments) → IsDead q l →
     IsDead q (requeued wire_segments l.queue.waits (further said l.queue.said) l)
@@ -138,6 +134,31 @@ fresh_small f gave = go (leb 1 (gave.acked + length f.variables.outstanding)) re
     go true e = absurd (gave.all 1 (omega arith) (leb-true 1 (gave.acked + length f.variables.outstanding) e)).1
     go false e = let l = leb-false 1 (gave.acked + length f.variables.outstanding) e in omega (arith, l)
 
+-- a link in use that its own node ends: where it was opened here its segments stay as they were
+unused : {X : Type 0} (l : LinkOf WireSegments) → IsUsed With l → is_live l.port.phase ≡ false → l.queue.waits ≡ None → X
+unused l (inr live) over none = absurd cc
+unused l (inl waiting) over none =
+    let same : is_live (port_of_waiting l.queue.waits l.port).phase ≡ is_live l.port.phase =
+    ap (λ (w : Option Phase). is_live (port_of_waiting w l.port).phase) none in
+    let live : is_live l.port.phase ≡ true = sym same ∙ waiting in
+    absurd cc
+
+dropped_kept : (q : Queues) (S : Shown) (Q : Passings) (l : LinkOf WireSegments) → IsUsed q l → IsDead q l ⊎ Fits S Q.word l.segments →
+    IsDead q (drops wire_segments q l) ⊎ Fits S Q.word (drops wire_segments q l).segments
+dropped_kept Without S Q l used kept = inl refl
+dropped_kept With S Q l used (inl (over, inl none)) = unused l used over none
+dropped_kept With S Q l used (inl (over, inr said)) = inl (refl, inr said)
+dropped_kept With S Q l used (inr fits) = go l.port.opened
+  where
+    go : (opened : Bool) → ((is_live Ended ≡ false) × ((call_of opened ≡ None) ⊎ (is_over l.queue.said ≡ true)))
+        ⊎ Fits S Q.word (drops_segments wire_segments opened l.segments)
+    go true = inr fits
+    go false = inl (refl, inl refl)
+
+booted_port : (q : Queues) (l : LinkOf WireSegments) → (booted_link wire_segments q l).port ≡ record l.port { phase = Ended; own = None }
+booted_port Without l = refl
+booted_port With l = refl
+
 -- `one` is the number of the link that the CI or the CC was for, if it came; `S` what was sent from its own address to its far one
 module _ (queues : Queues) (own far : ℕ) (S : Shown) (Q : Passings) (one : Option ℕ) where
   abbrev pub NoneSent : Type 0
@@ -200,8 +221,14 @@ module _ (queues : Queues) (own far : ℕ) (S : Shown) (Q : Passings) (one : Opt
       changed_mine n l m (λ f. sym (ap (λ (p : Port). p.far) same) ∙ f) (λ o. sym (ap (λ (p : Port). p.own) same) ∙ o) (ended_called l m same)
       keeps is
 
-  dropped_mine : (n : ℕ) (l : LinkOf WireSegments) → IsMine n l → IsMine n (drops wire_segments queues l)
-  dropped_mine n l is = over_mine n l (drops wire_segments queues l) (dropped_port queues l) (λ kept. inl (dead_dropped queues l)) is
+  pub dropped_mine : (n : ℕ) (l : LinkOf WireSegments) → IsUsed queues l → IsMine n l → IsMine n (drops wire_segments queues l)
+  dropped_mine n l used is = over_mine n l (drops wire_segments queues l) (dropped_port queues l) (dropped_kept queues S Q l used) is
+
+  booted_mine : (n : ℕ) (l : LinkOf WireSegments) → IsMine n (booted_link wire_segments queues l)
+  booted_mine n l = record {
+    called = λ f c. let over = ap (λ (p : Port). p.phase) (booted_port queues l) in absurd cc;
+    able = λ f o. let none = ap (λ (p : Port). p.own) (booted_port queues l) in absurd cc;
+  }
 
   forgotten_mine : (n : ℕ) (l : LinkOf WireSegments) → IsMine n l → IsMine n (forgotten wire_segments queues l)
   forgotten_mine n l is = record {
@@ -227,7 +254,6 @@ module _ (queues : Queues) (own far : ℕ) (S : Shown) (Q : Passings) (one : Opt
 
   does_mine : (truth : LinkTruth (Unit {0})) (n : ℕ) (l : LinkOf WireSegments) (effect : Effect) → IsPlain effect → IsMine n l →
       IsMine n (does queues wire_segments truth l effect)
-  does_mine truth n l Drop plain is = dropped_mine n l is
   does_mine truth n l EndAll plain is = is
   does_mine truth n l (Say said) plain is = said_mine said n l is
   does_mine truth n l (Settle own) plain is = is
@@ -239,6 +265,7 @@ module _ (queues : Queues) (own far : ℕ) (S : Shown) (Q : Passings) (one : Opt
   does_mine truth n l (Connect far segsize) plain is = absurd plain
   does_mine truth n l (GoTo phase) plain is = absurd plain
   does_mine truth n l End plain is = absurd plain
+  does_mine truth n l Drop plain is = absurd plain
   does_mine truth n l (TakeSegment segment) plain is = absurd plain
   does_mine truth n l (TakeAcks acks) plain is = absurd plain
 
@@ -254,7 +281,7 @@ module _ (queues : Queues) (own far : ℕ) (S : Shown) (Q : Passings) (one : Opt
     gap = gap_mine;
     acks = λ acks n l sent made is. segments_mine n l sent.segments (λ fits. acks_sent_fit S Q acks l.segments fits sent made) is;
     forgotten = forgotten_mine;
-    booted = λ n l is. forgotten_mine n (drops wire_segments queues l) (dropped_mine n l is);
+    booted = λ n l is. booted_mine n l;
     settled = λ n l is. settled_mine n l l.queue.waits is;
   }
 

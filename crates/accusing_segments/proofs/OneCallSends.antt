@@ -1,5 +1,5 @@
 -- What is sent keeps it that one link alone has these addresses; and a segment of it agrees with what was sent under its number, or may be acknowledged.
-use Rattle.std.proofs.Common.{◌≡◌, ℕ, ◌<◌, Bool, true, false, ◌&&◌, eqb, Option, Some, Result, List, [], ◌∷◌, refl, sym, subst, ap, ◌∙◌, not}
+use Rattle.std.proofs.Common.{◌≡◌, ℕ, ◌<◌, Bool, true, false, ◌&&◌, eqb, Option, Some, None, Result, List, [], ◌∷◌, refl, sym, subst, ap, ◌∙◌, not}
 use Rattle.std.proofs.Common.{eqb-true, fold, ◌⊎◌, inl, inr}
 use Rattle.std.specs.Prelude.{slice_get, slice_set}
 use Rattle.std.proofs.lemmas.Bool.{and_parts, and_from, eq-eqb}
@@ -9,7 +9,7 @@ use Rattle.dna_station.specs.declared.link_refusal.LinkRefusal.{LinkRefusal}
 use Rattle.dna_station.specs.declared.link_refusal.LinkRefusal.TheVariants.{NoLink, LinkState, WrongNode}
 use Rattle.dna_links.specs.declared.port.Phase.{Phase}
 use Rattle.dna_links.specs.declared.port.Phase.TheVariants.{Called, Running}
-use Rattle.dna_links.specs.declared.port.LinkTest.TheVariants.{TheLink}
+use Rattle.dna_links.specs.declared.port.LinkTest.TheVariants.{TheLink, CalledBy}
 use Rattle.dna_links.specs.declared.queue.Queues.{Queues}
 use Rattle.dna_links.specs.declared.queue.Queues.TheVariants.{Without, With}
 use Rattle.dna_links.specs.declared.queue.Said.TheVariants.{OfRun}
@@ -18,13 +18,13 @@ use Rattle.dna_links.specs.Links.{LinkOf, Carried, with_segments}
 use Rattle.dna_links.specs.Queues.{may_send, is_over, port_of_waiting}
 use Rattle.dna_links.specs.Segmentation.{Piece, piece_of}
 use Rattle.dna_links.specs.SegmentBook.{Sending, Late}
-use Rattle.dna_links.specs.Table.{Effect, Say, Keep, InTurn, SendsSegment, sending_row}
+use Rattle.dna_links.specs.Table.{Ask, Finds, FindsNone, OrElse, Effect, Drop, Settle, Say, Keep, InTurn, SendsSegment, sending_row}
 use Rattle.dna_links.specs.WireSegments.{WireSegments, wire_segments}
 use Rattle.dna_links.specs.WireSegments as wire
 use Rattle.dna_links.specs.WireLinks.{WireLinks, wire_links_sent}
-use Rattle.dna_links.specs.LinkBook.{kept, asked, by_row, after, of_none, sends_segment, does}
+use Rattle.dna_links.specs.LinkBook.{blank, kept, asked, by_row, after, of_none, sends_segment, does}
 use Rattle.dna_links.specs.Sending.{Sent, sent_as}
-use Rattle.accusing_links.proofs.Answered.{Good, good_ok, good_err, good_check, good_on}
+use Rattle.accusing_links.proofs.Answered.{Good, good_ok, good_err, good_check, good_on, link_good}
 use Rattle.accusing_links.proofs.LinkSteps.{at_is}
 use Rattle.accusing_links.proofs.RightLinks.{is_early}
 use Rattle.accusing_segments.proofs.Gave.{Gave}
@@ -33,9 +33,9 @@ use Rattle.accusing_segments.proofs.SentPieces.{Shown, Covered, Fits}
 use Rattle.accusing_segments.proofs.SentAgain.{Agrees, segment_kept, late_kept}
 use Rattle.accusing_segments.proofs.RightLinks.{Links, IsLinkRight, AreRight, right_at}
 use Rattle.accusing_segments.proofs.LinkSends.{running_late, late_of}
-use Rattle.accusing_segments.proofs.EachLink.{ArePlain, IsPlainRow, set_place, All, after_stays, all_done, plain_row}
-use Rattle.accusing_segments.proofs.OneCall.{IsUsed, IsDead, IsMine, stays}
-use Rattle.accusing_segments.proofs.Used.{IsFoundBy, used_good, late_not_called}
+use Rattle.accusing_segments.proofs.EachLink.{ArePlain, IsPlainRow, IsAt, set_place, All, after_stays, all_done, plain_row}
+use Rattle.accusing_segments.proofs.OneCall.{IsUsed, used_live, IsDead, IsMine, none_mine, dropped_mine, stays}
+use Rattle.accusing_segments.proofs.Used.{IsFoundBy, used_good, late_not_called, called_live, kept_drop}
 
 -- this message is such a segment
 abbrev pub IsOf : (own far : ℕ) → NspValue → Shown
@@ -103,6 +103,41 @@ module _ (queues : Queues) (own far : ℕ) (S T : Shown) (Qs : Links) (one : Opt
       where
         now : All queues Then s.links
         now n l at = mine_less less n l (are n l at)
+
+    -- a DC, which may end a call
+    module _ (less : (n : ℕ) (p : Piece) → T n p → S n p) where
+      now : All queues Then s.links
+      now n l at = mine_less less n l (are n l at)
+
+      abbrev ends_by : List Effect → List Ask → Result (Sent WireSegments (Unit {0})) LinkRefusal
+      ends_by es asks = asked queues wire_segments (λ test. test) (of_none queues wire_segments) s (sent_as queues wire_segments s) es asks None
+          (blank queues wire_segments) tt
+
+      abbrev AreThen : Sent WireSegments (Unit {0}) → Type 0
+      AreThen made = Are made.links
+
+      done : (es : List Effect) (n : Option ℕ) (l : LinkOf WireSegments) → IsAt queues Then n l → Are (after queues wire_segments s es n l tt)
+      done es n l is = after_stays queues Then (stays queues own far T (Qs own far) one) s now es n l tt is
+
+      refuses_good : (dst src : ℕ) (es : List Effect) → es ≡ Drop ∷ [] → Good AreThen (ends_by es
+          (FindsNone (TheLink src dst) (Some LinkState) ∷ OrElse (eqb src 0) (Settle src ∷ []) ∷ Finds (CalledBy dst) None ∷ []))
+      refuses_good dst src es same = subst (λ (x : List Effect). Good AreThen (ends_by x
+          (FindsNone (TheLink src dst) (Some LinkState) ∷ OrElse (eqb src 0) (Settle src ∷ []) ∷ Finds (CalledBy dst) None ∷ []))) (sym same)
+          (link_good AreThen (TheLink src dst) s _ _ (by_zero (eqb src 0)) (λ n l found. good_err AreThen LinkState))
+        where
+          blank_then : IsAt queues Then None (blank queues wire_segments)
+          blank_then n = none_mine queues own far T (Qs own far) one n (blank queues wire_segments) (λ f. absurd cc)
+
+          by_zero : (zero : Bool) → Good AreThen (ends_by (Drop ∷ []) (OrElse zero (Settle src ∷ []) ∷ Finds (CalledBy dst) None ∷ []))
+          by_zero false = good_ok AreThen _ (done (kept queues (Settle src ∷ [])) None (blank queues wire_segments) blank_then)
+          by_zero true =
+              link_good AreThen (CalledBy dst) s _ _ (good_ok AreThen _ (done [] None (blank queues wire_segments) blank_then))
+              (λ n l found. good_ok AreThen _ (done (Drop ∷ []) (Some n) _ (dropped_mine queues own far T (Qs own far) one n l
+              (used_live queues l (called_live l.port.phase (and_parts (is_in Called l.port.phase) (is_at l.port.far dst) found.passes).0))
+              (now n l found.there))))
+
+      ends_good : (dst src reason : ℕ) → Good (IsDone (DisconnectConfirm dst src reason)) (row_made (DisconnectConfirm dst src reason))
+      ends_good dst src reason made e = (refuses_good dst src _ (kept_drop queues) made e, tt)
 
     -- ---- a segment
 
@@ -314,8 +349,7 @@ module _ (queues : Queues) (own far : ℕ) (S T : Shown) (Qs : Links) (one : Opt
         sent_plain (less (DisconnectInitiate dst src reason user_data) grows (λ n p this. this)) (DisconnectInitiate dst src reason user_data)
         ((tt, tt), (tt, (tt, tt))) tt
     message_good (DisconnectConfirm dst src reason) small grows =
-        sent_plain (less (DisconnectConfirm dst src reason) grows (λ n p this. this)) (DisconnectConfirm dst src reason)
-        ((tt, tt), (tt, (tt, (tt, tt)))) tt
+        ends_good (less (DisconnectConfirm dst src reason) grows (λ n p this. this)) dst src reason
 
     pub mine_sent : (packet : Carried) → IsInRange packet.message →
         ((n : ℕ) (p : Piece) → T n p → S n p ⊎ IsOf own far packet.message n p) →

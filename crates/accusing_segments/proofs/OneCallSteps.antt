@@ -12,11 +12,11 @@ use Rattle.dna_links.specs.declared.port.Phase.TheVariants.{Calling, Called, Con
 use Rattle.dna_links.specs.declared.port.LinkTest.TheVariants.{TheLink, LiveAt, LiveTo, CallingAt, CalledBy, ActedOn}
 use Rattle.dna_links.specs.declared.queue.Queues.{Queues}
 use Rattle.dna_links.specs.declared.tag.LinkTag.{LinkTag}
-use Rattle.dna_links.specs.LookUps.{is_live, is_in, is_connected, is_at, has_both}
+use Rattle.dna_links.specs.LookUps.{is_live, is_in, is_calling, is_connected, is_at, has_both}
 use Rattle.dna_links.specs.Links.{LinkOf, LinkTruth, Carried, with_segments}
 use Rattle.dna_links.specs.Queues.{goes_to, in_use}
 use Rattle.dna_links.specs.Table.{Ask, Finds, FindsEither, FindsNone, FindsInUse, InPhase, ForThisLink, OfThisPair, Effect, OpenHere, GiveAddress}
-use Rattle.dna_links.specs.Table.{Connect, GoTo, End, TakeSegment, TakeAcks, user_row, arrival_row}
+use Rattle.dna_links.specs.Table.{Connect, GoTo, Drop, End, TakeSegment, TakeAcks, user_row, arrival_row}
 use Rattle.dna_links.specs.User.{LinkEventValue, Open, Accept, Reject, In, Up, Close, Abort, Boot}
 use Rattle.dna_links.specs.WireSegments.{WireSegments, wire_segments, takes_segment, takes_acks}
 use Rattle.dna_links.specs.WireLinks.{WireLinks, wire_links_user, wire_links_arrived}
@@ -32,8 +32,8 @@ use Rattle.accusing_segments.proofs.LinkSteps.{HasCome, kept_open, kept_answer, 
 use Rattle.accusing_segments.proofs.LinkSteps.{called_early, connected_live}
 use Rattle.accusing_segments.proofs.EachLink.{IsPlainRow, IsAt, All, after_stays, plain_row}
 use Rattle.accusing_segments.proofs.OneCall.{used_live, IsDead, goes_own, goes_far, goes_live, fresh_small, IsMine, none_mine, stays}
-use Rattle.accusing_segments.proofs.OneCall.{goes_mine, ended_mine}
-use Rattle.accusing_segments.proofs.Used.{used_good, not_live, late_not_called, calling_live, called_live, kept_close, kept_end}
+use Rattle.accusing_segments.proofs.OneCall.{goes_mine, ended_mine, dropped_mine}
+use Rattle.accusing_segments.proofs.Used.{used_good, not_live, late_not_called, calling_live, called_live, kept_close, kept_drop, kept_end}
 
 -- a CI or a CC by which a link gets these addresses
 abbrev pub IsCall : (own far : ℕ) → NspValue → Type 0
@@ -125,9 +125,19 @@ module _ (queues : Queues) (own far : ℕ) (S : Shown) (Qs : Links) where
             subst (λ (x : List Effect). Good Are (asks_by x (FindsInUse (LiveAt at) NoLink ∷ InPhase is_connected LinkState ∷ []))) (sym same)
             (used_good Are queues (LiveAt at) s _ _ (good_err Are NoLink) (λ n l found.
             let live = (and_parts (is_live found.port.phase) (is_at found.port.own at) found.passes).0 in
-            good_check Are (is_connected (in_use queues l).phase) LinkState _ (λ e.
+            good_check Are (is_connected (in_use queues l).phase) _ _ (λ e.
             good_ok Are _ (each (GoTo Disconnecting ∷ []) (Some n) _ tt
             (goes_mine queues own far S (Qs own far) one n Disconnecting l refl (found.used live) (are n l found.there))))))
+
+        abort_mine : (at : ℕ) (es : List Effect) → es ≡ Drop ∷ [] →
+            Good Are (asks_by es (FindsInUse (LiveAt at) NoLink ∷ InPhase is_calling LinkState ∷ []))
+        abort_mine at es same =
+            subst (λ (x : List Effect). Good Are (asks_by x (FindsInUse (LiveAt at) NoLink ∷ InPhase is_calling LinkState ∷ []))) (sym same)
+            (used_good Are queues (LiveAt at) s _ _ (good_err Are NoLink) (λ n l found.
+            let live = (and_parts (is_live found.port.phase) (is_at found.port.own at) found.passes).0 in
+            good_check Are (is_calling (in_use queues l).phase) _ _ (λ e.
+            good_ok Are _ (each (Drop ∷ []) (Some n) _ tt
+            (dropped_mine queues own far S (Qs own far) one n l (found.used live) (are n l found.there))))))
 
         -- ---- what comes, and is no call
 
@@ -262,7 +272,7 @@ module _ (queues : Queues) (own far : ℕ) (S : Shown) (Qs : Links) where
       user_mine (In at message) = calm (In at message) ((tt, tt), (tt, (tt, tt)))
       user_mine (Up at message) = calm (Up at message) ((tt, tt), (tt, (tt, tt)))
       user_mine (Close at) = close_mine (λ test. test) (of_none queues wire_segments) at _ (kept_close queues Disconnecting)
-      user_mine (Abort at) = calm (Abort at) ((tt, tt), (tt, (tt, tt)))
+      user_mine (Abort at) = abort_mine (λ test. test) (of_none queues wire_segments) at _ (kept_drop queues)
       user_mine Boot = calm Boot ((tt, tt), tt)
 
       module _ (rule : PartnerRule) (tag : LinkTag) where

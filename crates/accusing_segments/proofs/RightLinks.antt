@@ -11,12 +11,13 @@ use Rattle.dna_links.specs.declared.queue.Said.{Said}
 use Rattle.dna_links.specs.LookUps.{is_live, is_in}
 use Rattle.dna_links.specs.Links.{LinkOf, LinkTruth}
 use Rattle.dna_links.specs.Queues.{keeps_numbers, further, goes_on, goes_to, ends_by_message, drops, requeued, lets_go}
-use Rattle.dna_links.specs.Queues.{booted_link, forgotten}
+use Rattle.dna_links.specs.Queues.{booted_link, forgotten, drops_segments}
 use Rattle.dna_links.specs.Table.{Effect, OpenHere, GiveAddress, Connect, GoTo, End, Drop, EndAll, Say, Settle, Keep, HandIn, TakeSegment, TakeAcks}
 use Rattle.dna_links.specs.WireSegments.{WireSegments, wire_segments}
 use Rattle.dna_links.specs.LinkBook.{blank, does}
 use Rattle.accusing_links.proofs.RightLinks.{is_early}
 use Rattle.accusing_segments.proofs.Gave.{Passings, never, More, Gave, gave_more, never_less, empty_gave, ends_gave}
+use Rattle.accusing_links.proofs.Rows.{Each, all_done}
 
 -- what passed of each link: by its own address and the far one
 abbrev pub Links : Type 1
@@ -84,9 +85,13 @@ module _ (Q : Passings) where
   ends_by_gave Without l is = ends_gave Q l.segments
   ends_by_gave With l is = let_go (keeps_numbers l) _ l.segments is
 
-  drops_gave : (queues : Queues) (l : LinkOf WireSegments) → Gave Q (drops wire_segments queues l).segments
-  drops_gave Without l = ends_gave Q l.segments
-  drops_gave With l = ends_gave Q l.segments
+  drops_gave : (queues : Queues) (l : LinkOf WireSegments) → Gave Q l.segments → Gave Q (drops wire_segments queues l).segments
+  drops_gave Without l is = ends_gave Q l.segments
+  drops_gave With l is = go l.port.opened
+    where
+      go : (opened : Bool) → Gave Q (drops_segments wire_segments opened l.segments)
+      go true = is
+      go false = ends_gave Q l.segments
 
 -- ---- links
 
@@ -134,12 +139,12 @@ module _ (Q : Links) (queues : Queues) where
   pub dropped_right : (q : Queues) (l : LinkOf WireSegments) → Is l → Is (drops wire_segments q l)
   dropped_right Without l is = record {
     early = λ e. absurd cc;
-    both = λ own far e f. drops_gave (Q own far) Without l;
+    both = λ own far e f. drops_gave (Q own far) Without l (is.both own far e f);
     room = room_later Q l.port Ended l.segsize refl is.room;
   }
   dropped_right With l is = record {
     early = λ e. absurd cc;
-    both = λ own far e f. drops_gave (Q own far) With l;
+    both = λ own far e f. drops_gave (Q own far) With l (is.both own far e f);
     room = room_later Q l.port Ended l.segsize refl is.room;
   }
 
@@ -161,10 +166,9 @@ module _ (Q : Links) (queues : Queues) where
   IsCalm effect = Unit {0}
 
   abbrev pub AreCalm : List Effect → Type 0
-  AreCalm [] = Unit {0}
-  AreCalm (effect ∷ effects) = IsCalm effect × AreCalm effects
+  AreCalm effects = Each IsCalm effects
 
-  does_right : (truth : LinkTruth (Unit {0})) (l : LinkOf WireSegments) (effect : Effect) → IsCalm effect → Is l →
+  pub does_right : (truth : LinkTruth (Unit {0})) (l : LinkOf WireSegments) (effect : Effect) → IsCalm effect → Is l →
       Is (does queues wire_segments truth l effect)
   does_right truth l (GoTo phase) calm is = goes_right queues phase l calm is
   does_right truth l End calm is = ended_right queues l is
@@ -183,9 +187,7 @@ module _ (Q : Links) (queues : Queues) where
 
   pub all_right : (truth : LinkTruth (Unit {0})) (l : LinkOf WireSegments) (effects : List Effect) → AreCalm effects → Is l →
       Is (fold (does queues wire_segments truth) l effects)
-  all_right truth l [] calm is = is
-  all_right truth l (effect ∷ effects) calm is =
-      all_right truth (does queues wire_segments truth l effect) effects calm.1 (does_right truth l effect calm.0 is)
+  all_right truth l effects calm is = all_done queues truth IsCalm Is (does_right truth) l effects calm is
 
   -- ---- all links of a node
 

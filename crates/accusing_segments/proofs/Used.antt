@@ -12,7 +12,7 @@ use Rattle.dna_links.specs.declared.queue.Queues.TheVariants.{Without, With}
 use Rattle.dna_links.specs.LookUps.{is_live, is_in, passes}
 use Rattle.dna_links.specs.Links.{LinkOf, with_seen}
 use Rattle.dna_links.specs.Queues.{in_use, port_of_waiting, with_in_use}
-use Rattle.dna_links.specs.Table.{GoTo, End}
+use Rattle.dna_links.specs.Table.{GoTo, End, Drop}
 use Rattle.dna_links.specs.WireSegments.{WireSegments}
 use Rattle.dna_links.specs.WireLinks.{WireLinks}
 use Rattle.dna_links.specs.LinkBook.{kept}
@@ -89,6 +89,10 @@ called_live Ended e = absurd cc
 pub kept_close : (q : Queues) (phase : Phase) → kept q (GoTo phase ∷ []) ≡ GoTo phase ∷ []
 kept_close Without phase = refl
 kept_close With phase = refl
+
+pub kept_drop : (q : Queues) → kept q (Drop ∷ []) ≡ Drop ∷ []
+kept_drop Without = refl
+kept_drop With = refl
 
 pub kept_end : (q : Queues) → kept q (End ∷ []) ≡ End ∷ []
 kept_end Without = refl

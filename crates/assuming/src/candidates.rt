@@ -42,7 +42,7 @@ struct Sorted {
     other_boots: Vec<Candidate>,
 }
 
-impl Seeker {
+impl Seeker<'_> {
     /// What may be assumed for the record at this place, in that order. `AllocError` where there is no memory for it.
     pub(crate) fn candidates(&self, number: usize) -> Result<Vec<Candidate>, AllocError> {
         let mut sorted = Sorted::new(self.alloc);

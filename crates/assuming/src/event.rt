@@ -27,12 +27,13 @@ pub(crate) struct Said {
     pub(crate) ends: bool,
 }
 
-/// A packet that may not have been kept before a start: of those that may, the place of the first one among the side's events, and how many were kept
-/// before this one.
+/// A packet that may not have been kept before a start: of those that may, the place of the first one among the side's events; how many were kept
+/// before this one; and the place of the start among the spots of the side.
 #[derive(Clone, Copy, Debug, PartialEq, Eq)]
 pub(crate) struct Gap {
     pub(crate) first: u64,
     pub(crate) place: u64,
+    pub(crate) start: u64,
 }
 
 /// What a side did.
@@ -50,12 +51,14 @@ pub(crate) enum Act {
     Starts,
 }
 
-/// What a side did, how many units it had sent before, and how many the other side had to have sent.
+/// What a side did, how many units it had sent before, how many the other side had to have sent, and the place of its record among the spots of the
+/// side, if it has one.
 #[derive(Clone, Copy, Debug, PartialEq, Eq)]
 pub(crate) struct Event {
     pub(crate) act: Act,
     pub(crate) before: u64,
     pub(crate) needs: u64,
+    pub(crate) spot: u64,
 }
 
 /// What links go by in this message; nothing in a no operation.

@@ -1,9 +1,15 @@
 //! From the records of a capture to what its side did with links.
 
+ghost use Rattle.std.specs.Prelude.{List, IfOk};
+ghost use Rattle.wire_base.specs.Tally.{tally_lent};
+ghost use Rattle.capture.specs.declared.record.Record.{Record as Line};
+ghost use Rattle.assuming.specs.Assuming.{IsWhole};
+ghost use Rattle.assuming.specs.inner.Spots.{AreOf};
+
 use crate::event::{Act, Event, Gap, said_in};
-use crate::link::NO_LINK;
 use crate::log::SideLog;
-use capture::{CaptureFault, CaptureReader, Entry};
+use crate::spots::Spots;
+use capture::{CaptureFault, CaptureReader, Entry, MAX_RECORDS, text_read_on};
 use ddcmp_msg::{Message, Reading, read_unit};
 use placing::message_of;
 use std::alloc::{AllocError, Global};
@@ -14,7 +20,7 @@ use wire_base::Tally;
 const NUMBERS: usize = 256;
 
 // What is read so far: of the last start, the place of the first sending by numbers, and the last number; the packets that were kept since the last
-// unit; and how many units of the other side are known to have been sent.
+// unit; how many units of the other side are known to have been sent; and the place of the last spot.
 #[derive(Drop)]
 struct Loading {
     log: SideLog,
@@ -23,6 +29,7 @@ struct Loading {
     gap: Vec<Open>,
     kept: u64,
     needs: u64,
+    spot: u64,
 }
 
 // A packet that was kept since the last unit: the place of its event, and how many were kept before it.
@@ -32,27 +39,43 @@ struct Open {
     place: u64,
 }
 
-/// What the side of this capture did with links. The faults are those of the reader.
-pub(crate) fn load<R: Read>(
-    alloc: Global,
-    capture: &mut Tally<R>,
-) -> Result<SideLog, CaptureFault> {
+/// What the side of a capture did with links, and what its records give spot for.
+#[derive(Drop)]
+pub(crate) struct Loaded {
+    pub(crate) log: SideLog,
+    pub(crate) spots: Spots,
+}
+
+/// What is told of the side of this capture. The faults are those of the reader.
+pub(crate) fn load<R: Read>(alloc: Global, capture: &mut Tally<R>) -> Result<Loaded, CaptureFault>
+    ensures { IfOk result (λ loaded. (rs : List Line) × IsWhole (R.remaining (tally_lent capture.old)) rs × AreOf rs loaded.spots) }
+{
+    text_read_on();
     let mut reader = CaptureReader::open(alloc, capture)?;
     let Ok(mut loading) = Loading::new(alloc) else {
         return Err(CaptureFault::OutOfMemory);
     };
-    for _ in 0..u64::MAX {
+    let mut spots = Spots::new(alloc);
+    for number in 0..MAX_RECORDS + 1 {
         match reader.advance(capture) {
             Ok(Some(entry)) => {
-                let Ok(()) = loading.pass(entry, reader.bytes()) else {
+                let Ok(()) = spots.pass(entry, reader.bytes()) else {
+                    return Err(CaptureFault::OutOfMemory);
+                };
+                let Ok(()) = loading.pass(entry, reader.bytes(), spots.last()) else {
                     return Err(CaptureFault::OutOfMemory);
                 };
             }
-            Ok(None) => break,
+            Ok(None) => {
+                return Ok(Loaded {
+                    log: loading.log,
+                    spots,
+                });
+            }
             Err(fault) => return Err(fault),
         }
     }
-    Ok(loading.log)
+    unreachable!()
 }
 
 impl Loading {
@@ -64,11 +87,13 @@ impl Loading {
             gap: Vec::new(alloc),
             kept: 0,
             needs: 0,
+            spot: 0,
         })
     }
 
-    // The next record, of these bytes.
-    fn pass(&mut self, entry: Entry, bytes: &[u8]) -> Result<(), AllocError> {
+    // The next record, of these bytes, with this last spot.
+    fn pass(&mut self, entry: Entry, bytes: &[u8], spot: u64) -> Result<(), AllocError> {
+        self.spot = spot;
         match entry {
             Entry::Sent => self.send(bytes),
             Entry::Received { fate, hint } => {
@@ -86,11 +111,11 @@ impl Loading {
     fn put(&mut self, act: Act) -> Result<u64, AllocError> {
         let at = self.log.events.len() as u64;
         let before = self.log.sendings.len() as u64;
-        self.log.tags.push(NO_LINK)?;
         self.log.events.push(Event {
             act,
             before,
             needs: self.needs,
+            spot: self.spot,
         })?;
         Ok(at)
     }
@@ -169,6 +194,7 @@ impl Loading {
                     let gap = Some(Gap {
                         first: first.at,
                         place: open.place,
+                        start: self.spot,
                     });
                     event.act = Act::Keeps { said, came, gap };
                 }

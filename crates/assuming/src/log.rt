@@ -1,7 +1,6 @@
 //! What both sides did with links, in an order in which it can have been.
 
 use crate::event::Event;
-use crate::link::{NO_LINK, Tag};
 use std::alloc::{AllocError, Global};
 use std::collections::BTreeSet;
 use wire_base::Side;
@@ -10,8 +9,6 @@ use wire_base::Side;
 #[derive(Drop)]
 pub(crate) struct SideLog {
     pub(crate) events: Vec<Event>,
-    // for each of these the tag that it was sent with
-    pub(crate) tags: Vec<Tag>,
     // for each unit the place of the event in which its packet was first sent since the start, if it is one
     pub(crate) sendings: Vec<Option<u64>>,
     // for each event its place in the order of both sides
@@ -39,7 +36,6 @@ impl SideLog {
     pub(crate) fn new(alloc: Global) -> SideLog {
         SideLog {
             events: Vec::new(alloc),
-            tags: Vec::new(alloc),
             sendings: Vec::new(alloc),
             numbers: Vec::new(alloc),
             used: BTreeSet::new(alloc),
@@ -67,21 +63,11 @@ impl SideLog {
         }
     }
 
-    /// The tag of the packet in this unit.
-    pub(crate) fn tag_of(&self, unit: u64) -> Tag {
-        match self.sendings.get(unit as usize).copied() {
-            Some(Some(at)) => match self.tags.get(at as usize) {
-                Some(tag) => *tag,
-                None => NO_LINK,
-            },
-            _ => NO_LINK,
-        }
-    }
-
-    /// This event was sent with this tag.
-    pub(crate) fn tell_tag(&mut self, at: u64, tag: Tag) {
-        if let Some(told) = self.tags.get_mut(at as usize) {
-            *told = tag;
+    /// The event in which the packet of this unit was first sent since the start, if it is one.
+    pub(crate) fn first_sending(&self, unit: u64) -> Option<u64> {
+        match self.sendings.get(unit as usize) {
+            Some(first) => *first,
+            None => None,
         }
     }
 
@@ -138,14 +124,6 @@ impl Log {
         match side {
             Side::A => &self.a,
             Side::B => &self.b,
-        }
-    }
-
-    /// The same, to be changed.
-    pub(crate) fn side_mut(&mut self, side: Side) -> &mut SideLog {
-        match side {
-            Side::A => &mut self.a,
-            Side::B => &mut self.b,
         }
     }
 

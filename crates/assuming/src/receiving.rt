@@ -6,7 +6,7 @@ use crate::point::{Choice, Kind};
 use crate::seeker::{Here, Seeker};
 use std::alloc::AllocError;
 
-impl Seeker {
+impl Seeker<'_> {
     /// The side keeps this, which was sent with this tag; whether it belongs to the link that acts on it.
     pub(crate) fn receives(
         &mut self,

@@ -1,13 +1,12 @@
 //! What a node may send of its links.
 
 use crate::event::{Said, What};
-use crate::link::{Called, Link, Phase, Sent, Tag, is_after};
+use crate::link::{Called, Link, Phase, Sent, Tag};
 use crate::point::{Choice, Kind, key_of};
 use crate::seeker::{Here, Seeker};
-use capture::MAX_MESSAGE;
 use std::alloc::AllocError;
 
-impl Seeker {
+impl Seeker<'_> {
     /// The side sends this, if its links may; whether they may.
     pub(crate) fn sends(&mut self, here: Here, said: Said) -> Result<bool, AllocError> {
         let link = match said.from {
@@ -25,9 +24,9 @@ impl Seeker {
         }
     }
 
-    // It was sent on this link, which is now as given.
-    fn sent_on(&mut self, here: Here, own: u16, link: Link) -> Result<bool, AllocError> {
-        self.log.side_mut(here.side).tell_tag(here.at, link.tag);
+    /// It was sent on this link, which is now as given.
+    pub(crate) fn sent_on(&mut self, here: Here, own: u16, link: Link) -> Result<bool, AllocError> {
+        self.tags.tell(here.side, here.at, link.tag);
         self.book.put(here.side, own, Some(link))?;
         Ok(true)
     }
@@ -108,7 +107,7 @@ impl Seeker {
 
     fn sends_connect_ack(&mut self, here: Here, far: u16) -> Result<bool, AllocError> {
         if let Some(called) = self.book.called(here.side, far) {
-            self.log.side_mut(here.side).tell_tag(here.at, called.tag);
+            self.tags.tell(here.side, here.at, called.tag);
             return Ok(true);
         }
         let Some(own) = self.book.answered(here.side, far) else {
@@ -248,7 +247,7 @@ impl Seeker {
     ) -> Result<bool, AllocError> {
         if said.from == 0 {
             if let Some(called) = self.book.called(here.side, said.to) {
-                self.log.side_mut(here.side).tell_tag(here.at, called.tag);
+                self.tags.tell(here.side, here.at, called.tag);
                 self.book.call(here.side, said.to, None)?;
             }
             return Ok(true);
@@ -270,62 +269,5 @@ impl Seeker {
         };
         self.book.put(here.side, said.from, Some(settled))?;
         Ok(true)
-    }
-
-    // ---- messages of RUN
-
-    fn sends_of_run(
-        &mut self,
-        here: Here,
-        said: Said,
-        link: Option<Link>,
-    ) -> Result<bool, AllocError> {
-        match running(said, link) {
-            Some(link) => self.sent_on(here, said.from, link.ran()),
-            None => Ok(false),
-        }
-    }
-
-    fn sends_segment(
-        &mut self,
-        here: Here,
-        said: Said,
-        link: Option<Link>,
-    ) -> Result<bool, AllocError> {
-        let Some(link) = running(said, link) else {
-            return Ok(false);
-        };
-        if said.number != link.given.wrapping_add(1) % 4096 {
-            let is_repeat = !is_after(said.number, link.given);
-            if !is_repeat {
-                return Ok(false);
-            }
-            return self.sent_on(here, said.from, link.ran());
-        }
-        if said.size > link.size {
-            return Ok(false);
-        }
-        let length = link.length.saturating_add(said.size);
-        if length > MAX_MESSAGE as u64 && self.too_long.is_none() {
-            self.too_long = Some((here.side, here.unit));
-        }
-        let link = Link {
-            given: said.number,
-            length: if said.ends { 0 } else { length },
-            ..link.ran()
-        };
-        self.sent_on(here, said.from, link)
-    }
-}
-
-// The link of a message of RUN, if it may be sent: what it acknowledges was received.
-fn running(said: Said, link: Option<Link>) -> Option<Link> {
-    let link = link?;
-    if link.far != said.to || !link.has_run || link.sent == Sent::Disconnect {
-        return None;
-    }
-    match said.ack {
-        Some(ack) if is_after(ack, link.received) => None,
-        _ => Some(link),
     }
 }

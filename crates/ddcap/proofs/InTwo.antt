@@ -3,9 +3,9 @@ use Rattle.std.proofs.Common.{ℕ, inl, inr, List, ◌++◌, Option, sym, subst,
 use Rattle.std.specs.Io.KnownBytes.{Appends}
 use Rattle.std.proofs.lemmas.List.{take-append-le}
 use Rattle.wire_base.specs.Tally.{AppendsBeginning}
-use Rattle.ddcap.proofs.Listing.{all_on, some_on}
-use Rattle.ddcap.specs.Printed.{Stream, Writes}
-use Rattle.ddcap.specs.Showing.{WritesAll}
+use Rattle.text_commands.proofs.Listing.{all_on, some_on}
+use Rattle.printing.specs.Printed.{Stream, Writes}
+use Rattle.text_commands.specs.Showing.{WritesAll}
 
 -- the first piece is on the stream, and the second was written behind it
 pub behind : (a b c : Stream) (xs ys : List ℕ) (meant status : ℕ) → WritesAll a b xs → Writes b c ys meant status → Writes a c (xs ++ ys) meant status

@@ -4,7 +4,7 @@ use Rattle.std.specs.Fmt.{decimal}
 use Rattle.pair_judge.specs.Reason.{reason_name, reason_number}
 use Rattle.pair_judge.specs.declared.fault.JudgeFault.TheVariants as judge
 use Rattle.why.specs.declared.explanations.Explanation.{Explanation}
-use Rattle.ddcap.specs.Printed.{Moved, Writes, fault_text}
+use Rattle.printing.specs.Printed.{Moved, Writes, fault_text}
 
 -- `6 WrongState`, what was seen, the rule, what is allowed, and by whose fault it is
 abbrev pub explanation_head : Explanation → List ℕ

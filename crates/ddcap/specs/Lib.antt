@@ -1,16 +1,3 @@
-pub mod Printed
-pub mod Covering
-pub mod Shown
-pub mod Showing
-pub mod PrintedAlone
-pub mod Layers
-pub mod Conversion
-pub mod Playing
-pub mod Accepting
 pub mod Explaining
 pub mod Helping
-pub mod PrintedDrawing
-pub mod PrintedWhy
-pub mod PrintedWhyEnd
-pub mod PrintedTap
 pub mod inner

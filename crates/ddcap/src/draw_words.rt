@@ -3,28 +3,13 @@
 ghost use Rattle.std.specs.Prelude.{◌≤◌, IfSome};
 ghost use Rattle.drawing.specs.declared.range.TheConstants.{MAX_ROWS};
 
-use crate::commands::{all_refusals, line_alone, with_queues};
-use crate::draw_files::Asked;
 use crate::judging_words::refusals_of;
 use crate::words::WordsFault;
 use capture::{MAX_RECORDS, positive_of};
-use clap::{Arg, ArgMatches, Command};
+use clap::ArgMatches;
+use draw_command::draw_files::Asked;
 use drawing::{Judging, MAX_ROWS, ROWS, Range, Start};
-use std::alloc::{AllocError, Global};
 use wire_base::Side;
-
-/// `draw A B [--all] [--line | --queued] [--from SIDE:LINE] [--rows N] [--svg FILE]`
-pub fn draw<'a>(alloc: Global) -> Result<Command<'a>, AllocError> {
-    Command::new(alloc, "draw")
-        .arg(Arg::new(alloc, "A").required(true))?
-        .arg(Arg::new(alloc, "B").required(true))?
-        .arg(line_alone(alloc))?
-        .arg(with_queues(alloc))?
-        .arg(all_refusals(alloc))?
-        .arg(Arg::new(alloc, "from").long("from"))?
-        .arg(Arg::new(alloc, "rows").long("rows"))?
-        .arg(Arg::new(alloc, "svg").long("svg"))
-}
 
 /// What the words ask for: a line from 2 on, of side a or b, and 1 to 200 rows.
 pub fn drawing_asked<'a>(found: &ArgMatches<'a>) -> Result<Asked<'a>, WordsFault> {

@@ -2,9 +2,9 @@
 
 ghost use Rattle.std.specs.Prelude.{◌≡◌, IfOk, string_bytes};
 ghost use Rattle.ddcap.specs.Explaining.{Explains, explanation_head, explanation_text};
-ghost use Rattle.ddcap.specs.Printed.{moved};
+ghost use Rattle.printing.specs.Printed.{moved};
 
-use crate::check::{print, print_out_of_memory};
+use printing::check::{print, print_out_of_memory};
 use std::alloc::{AllocError, Global};
 use std::io::Write;
 use why::Explanation;

@@ -2,17 +2,16 @@
 
 ghost use Rattle.std.specs.Prelude.{◌++◌};
 ghost use Rattle.ddcap.specs.Helping.{help_text};
-ghost use Rattle.ddcap.specs.Printed.{Writes, stream_of};
+ghost use Rattle.printing.specs.Printed.{Writes, stream_of};
 
-use crate::check::print;
-use crate::help_pages::{ALIGN, CONVERT, EXPLAIN, HELP, PLAY, PROGRAM, SHOW, TAP};
-use crate::judging_pages::{ALONE, CHECK, COVER, DRAW, WHY};
-use crate::text::FAILED;
+use command_words::{PROGRAM, Word};
+use printing::check::print;
+use printing::text::FAILED;
 use std::io::Write;
 use wire_base::{Tally, write_whole};
 
 /// The version of the program: this place alone has it.
-pub const VERSION: &str = "1.11";
+pub const VERSION: &str = "1.12";
 
 /// The status where the page was printed.
 const HELPED: u8 = 0;
@@ -22,18 +21,8 @@ const HELPED: u8 = 0;
 pub enum Topic {
     /// The program as a whole.
     Program,
-    Check,
-    Alone,
-    Why,
-    Cover,
-    Draw,
-    Show,
-    Play,
-    Convert,
-    Align,
-    Tap,
-    Help,
-    Explain,
+    /// One of its words.
+    Of(&'static Word),
 }
 
 /// Prints the page of this topic, and answers the status: 0, or 3 where a write failed. It takes no memory.
@@ -42,18 +31,7 @@ pub fn help_to<W: Write>(stream: &mut Tally<W>, topic: Topic) -> u8
 {
     match topic {
         Topic::Program => print_program(stream),
-        Topic::Check => print(stream, CHECK.as_bytes(), HELPED),
-        Topic::Alone => print(stream, ALONE.as_bytes(), HELPED),
-        Topic::Why => print(stream, WHY.as_bytes(), HELPED),
-        Topic::Cover => print(stream, COVER.as_bytes(), HELPED),
-        Topic::Draw => print(stream, DRAW.as_bytes(), HELPED),
-        Topic::Show => print(stream, SHOW.as_bytes(), HELPED),
-        Topic::Play => print(stream, PLAY.as_bytes(), HELPED),
-        Topic::Convert => print(stream, CONVERT.as_bytes(), HELPED),
-        Topic::Align => print(stream, ALIGN.as_bytes(), HELPED),
-        Topic::Tap => print(stream, TAP.as_bytes(), HELPED),
-        Topic::Help => print(stream, HELP.as_bytes(), HELPED),
-        Topic::Explain => print(stream, EXPLAIN.as_bytes(), HELPED),
+        Topic::Of(word) => print(stream, word.page.text().as_bytes(), HELPED),
     }
 }
 

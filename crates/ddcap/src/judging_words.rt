@@ -1,14 +1,14 @@
 //! The words after those that judge captures.
 
-use crate::cover_files::Listed;
-use crate::end_telling::EndPrintout;
-use crate::how::{How, Refusals};
-use crate::layers::Layers;
-use crate::tap_files::TapPaths;
-use crate::telling::{Form, Printout};
 use crate::words::{Task, WordsFault};
 use clap::ArgMatches;
+use cover_command::cover_files::Listed;
+use printing::how::{Form, How, Refusals};
+use printing::layers::Layers;
 use std::alloc::{AllocError, Global};
+use tap_command::tap_files::TapPaths;
+use why_answer::end_telling::EndPrintout;
+use why_answer::telling::Printout;
 
 /// The pairs of captures that the words after `check` name.
 pub fn checked_of<'a>(alloc: Global, found: &ArgMatches<'a>) -> Result<Task<'a>, WordsFault> {

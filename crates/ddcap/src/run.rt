@@ -1,37 +1,39 @@
 //! The program between its words and its status.
 
-ghost use Rattle.ddcap.specs.Printed.{Writes, stream_of, words_fault_status, words_fault_text};
-ghost use Rattle.ddcap.specs.inner.Statuses.{EndsWith};
+ghost use Rattle.printing.specs.Printed.{Writes, stream_of};
+ghost use Rattle.ddcap.specs.inner.PrintedWords.{words_fault_status, words_fault_text};
+ghost use Rattle.printing.specs.Statuses.{EndsWith};
 
-use crate::align_files::align_files;
-use crate::all_why::{why_all_end_to, why_all_to};
-use crate::check::{print, print_failed_read, print_out_of_memory};
-use crate::check_files::{alone_file, check_files};
-use crate::convert::convert_to;
-use crate::cover_files::cover_files;
-use crate::departure::{explain_departure_of_end, explain_departure_of_pair};
-use crate::draw_files::draw_files;
-use crate::end_telling::{EndAgain, EndPrintout, why_end_to};
 use crate::explain::explain_to;
-use crate::fault_told::FaultTold;
-use crate::files::{Named, Wanted, another_of, opened, opened_plain};
 use crate::help::help_to;
-use crate::how::Refusals;
-use crate::less_too::end_with_less;
-use crate::play_files::{PlayPaths, play_files};
-use crate::show::show_to;
-use crate::tap_files::tap_files;
-use crate::telling::{Printout, REFUSED, why_to};
-use crate::text::FAULTY;
-use crate::usages::advice_on;
 use crate::words::{Task, WordsFault, task_of};
-use crate::written::{Beside, written};
 use capture::Format;
+use check_command::check_files::{alone_file, check_files};
+use command_words::{WORDS, advice_on};
+use cover_command::cover_files::cover_files;
+use draw_command::draw_files::draw_files;
 use pair_judge::Reason;
+use printing::check::{print, print_failed_read, print_out_of_memory};
+use printing::fault_told::FaultTold;
+use printing::files::{Named, Wanted, another_of, opened, opened_plain};
+use printing::how::Refusals;
+use printing::text::FAULTY;
+use printing::written::{Beside, written};
 use std::env;
 use std::io::{ErrorKind, Write};
 use std::rt::{Env, Files};
+use tap_command::tap_files::tap_files;
+use text_commands::align_files::align_files;
+use text_commands::convert::convert_to;
+use text_commands::play_files::{PlayPaths, play_files};
+use text_commands::show::show_to;
 use why::explanation_of;
+use why_answer::end_telling::{EndAgain, EndPrintout, why_end_to};
+use why_answer::telling::{Printout, REFUSED};
+use why_command::all_why::{why_all_end_to, why_all_to};
+use why_command::departure::{explain_departure_of_end, explain_departure_of_pair};
+use why_command::less_too::end_with_less;
+use why_command::why_pair::why_to;
 use wire_base::{Side, Tally};
 
 // The status of words that are no task.
@@ -49,7 +51,7 @@ pub fn run<R: Env + Files + AllocGlobal, O: Write, E: Write>(
     };
     let task = match task_of(rt.alloc(), words.as_slice()) {
         Ok(task) => task,
-        Err(fault) => return print_slip(err, fault, advice_on(words.as_slice())),
+        Err(fault) => return print_slip(err, fault, advice_on(&WORDS, words.as_slice())),
     };
     let mut program = Program { rt, out, err };
     match program.do_task(task) {

@@ -1,23 +1,23 @@
 //! The words that the program is given.
 
-use crate::align_files::AlignPaths;
-use crate::commands::program;
-use crate::cover_files::Listed;
-use crate::draw_files::Asked;
 use crate::draw_words::drawing_asked;
-use crate::end_telling::EndPrintout;
 use crate::help::Topic;
-use crate::how::{How, Refusals};
 use crate::judging_words::{checked_of, covered_of, explained_of, judged_alone_of, tapped_of};
 use crate::named::{reason_named, reason_spelled};
-use crate::tap_files::TapPaths;
-use crate::telling::{Form, Printout};
 use capture::Format;
 use clap::ArgMatches;
 use clap::error::ErrorKind;
+use command_words::{WORDS, command_of, word_named};
+use cover_command::cover_files::Listed;
+use draw_command::draw_files::Asked;
 use pair_judge::Reason;
+use printing::how::{Form, How, Refusals};
 use std::alloc::Global;
 use std::convert::AsStr;
+use tap_command::tap_files::TapPaths;
+use text_commands::align_files::AlignPaths;
+use why_answer::end_telling::EndPrintout;
+use why_answer::telling::Printout;
 
 /// What the program is asked to do.
 #[derive(Drop)]
@@ -94,32 +94,49 @@ pub enum WordsFault {
 
 /// What the words ask for; the first is the program's name.
 pub fn task_of<'a, S: AsStr>(alloc: Global, words: &'a [S]) -> Result<Task<'a>, WordsFault> {
-    let Ok(program) = program(alloc) else {
+    let Ok(program) = command_of(alloc, "ddcap", &WORDS) else {
         return Err(WordsFault::OutOfMemory);
     };
     match program.try_get_matches_from(words) {
         Ok(matches) => match matches.subcommand() {
-            Some(("check", found)) => checked_of(alloc, found),
-            Some(("alone", found)) => judged_alone_of(found),
-            Some(("why", found)) => explained_of(found),
-            Some(("cover", found)) => covered_of(alloc, found),
-            Some(("draw", found)) => drawn_of(found),
-            Some(("show", found)) => match found.get_str("A") {
-                Some(a) => Ok(Task::Show { a }),
-                None => Err(WordsFault::BadWords),
-            },
-            Some(("play", found)) => played_of(found),
-            Some(("convert", found)) => conversion_of(found),
-            Some(("align", found)) => alignment_asked(found),
-            Some(("tap", found)) => tapped_of(found),
-            Some(("help", found)) => help_of(found),
-            Some(("explain", found)) => explanation_asked(alloc, found),
-            _ => Err(WordsFault::BadWords),
+            Some((word, found)) => task_after(alloc, word, found),
+            None => Err(WordsFault::BadWords),
         },
         Err(error) => match error.kind() {
             ErrorKind::OutOfMemory => Err(WordsFault::OutOfMemory),
             _ => Err(WordsFault::BadWords),
         },
+    }
+}
+
+// What a word asks for, by what was found after it.
+fn task_after<'a>(
+    alloc: Global,
+    word: &str,
+    found: &ArgMatches<'a>,
+) -> Result<Task<'a>, WordsFault> {
+    match word {
+        "check" => checked_of(alloc, found),
+        "alone" => judged_alone_of(found),
+        "why" => explained_of(found),
+        "cover" => covered_of(alloc, found),
+        "draw" => drawn_of(found),
+        "show" => shown_of(found),
+        "play" => played_of(found),
+        "convert" => conversion_of(found),
+        "align" => alignment_asked(found),
+        "tap" => tapped_of(found),
+        "help" => help_of(found),
+        "explain" => explanation_asked(alloc, found),
+        _ => Err(WordsFault::BadWords),
+    }
+}
+
+// The capture that the word after `show` names.
+fn shown_of<'a>(found: &ArgMatches<'a>) -> Result<Task<'a>, WordsFault> {
+    match found.get_str("A") {
+        Some(a) => Ok(Task::Show { a }),
+        None => Err(WordsFault::BadWords),
     }
 }
 
@@ -192,23 +209,17 @@ fn alignment_asked<'a>(found: &ArgMatches<'a>) -> Result<Task<'a>, WordsFault> {
 
 // The page that the word after `help` asks for; with no word, that of the whole.
 fn help_of<'a>(found: &ArgMatches<'a>) -> Result<Task<'a>, WordsFault> {
-    let topic = match found.get_str("WORD") {
-        None => Topic::Program,
-        Some("check") => Topic::Check,
-        Some("alone") => Topic::Alone,
-        Some("why") => Topic::Why,
-        Some("cover") => Topic::Cover,
-        Some("draw") => Topic::Draw,
-        Some("show") => Topic::Show,
-        Some("play") => Topic::Play,
-        Some("convert") => Topic::Convert,
-        Some("align") => Topic::Align,
-        Some("tap") => Topic::Tap,
-        Some("help") => Topic::Help,
-        Some("explain") => Topic::Explain,
-        Some(_) => return Err(WordsFault::BadWords),
+    let Some(name) = found.get_str("WORD") else {
+        return Ok(Task::Help {
+            topic: Topic::Program,
+        });
     };
-    Ok(Task::Help { topic })
+    match word_named(&WORDS, name) {
+        Some(word) => Ok(Task::Help {
+            topic: Topic::Of(word),
+        }),
+        None => Err(WordsFault::BadWords),
+    }
 }
 
 // The reason that the word after `explain` names, by its number, which has one spelling, or by its name.

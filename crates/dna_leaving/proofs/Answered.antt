@@ -127,7 +127,7 @@ module _ {D K R : Type 0} (queues : Queues) (book : SegmentBook D K) (rule : Boo
         (waits_holds test names.0 refusal queues (comes_to asks number link known) (asked_holds asks number link known names.1 all is fits))
         (λ n l at of_n. asked_holds asks (Some n) l (book.sends_other l.segments) names.1 all of_n (there_fits n l at of_n))
     asked_holds (InPhase phases refusal ∷ asks) number link known names all is fits =
-        check_holds P (phases (in_use queues link).phase) refusal (comes_to asks number link known)
+        check_holds P (phases (in_use queues link).phase) _ (comes_to asks number link known)
         (asked_holds asks number link known names.1 all is fits)
     asked_holds (InTurn phase refusal ∷ asks) number link known names all is fits =
         check_holds P (may_send queues phase link) refusal (comes_to asks number link known)

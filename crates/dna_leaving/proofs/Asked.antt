@@ -23,6 +23,7 @@ use Rattle.dna_leaving.specs.LeftOut.{LeftOut}
 use Rattle.dna_leaving.specs.Left.{Judged, link_left, links_left, truth_left, left_of_result}
 use Rattle.dna_leaving.specs.Right.{IsOfJudged, AreFit, NamesJudged}
 use Rattle.dna_leaving.proofs.Judged.{rank_one}
+use Rattle.dna_links.specs.LookUps.{refused_in}
 use Rattle.dna_leaving.proofs.LookUps.{Tests, IsPort, its_port, port_is, seen_left}
 use Rattle.dna_leaving.proofs.Effects.{AllFit, kept_fit, all_left}
 
@@ -212,9 +213,9 @@ module _ {D K R R' : Type 0} (queues : Queues) (book : SegmentBook D K) (rule : 
         (asked_left asks number link known fits.1 all is partner))
         (λ n l at of_n. asked_left asks (Some n) l (book.sends_other l.segments) fits.1 all of_n ((fit n l at).partner of_n))
     asked_left (InPhase phases refusal ∷ asks) number link known fits all is partner =
-        check_left g (phases (in_use queues link).phase) refusal (here asks number link known) _
+        check_left g (phases (in_use queues link).phase) _ (here asks number link known) _
         (asked_left asks number link known fits.1 all is partner)
-        ∙ ap (λ (p : Port). check (phases p.phase) refusal (there asks (option_map (rank judged.here) number) (link_left judged.there link) known))
+        ∙ ap (λ (p : Port). check (phases p.phase) (refused_in p.phase refusal) (there asks (option_map (rank judged.here) number) (link_left judged.there link) known))
         (sym (in_use_left judged.there queues link))
     asked_left (InTurn phase refusal ∷ asks) number link known fits all is partner =
         check_left g (may_send queues phase link) refusal (here asks number link known) _ (asked_left asks number link known fits.1 all is partner)

@@ -10,7 +10,7 @@ use Rattle.dna_links.specs.declared.port.LinkTest.{LinkTest}
 use Rattle.dna_links.specs.declared.port.LinkTest.TheVariants.{HasAddress}
 use Rattle.dna_links.specs.declared.queue.Queues.{Queues}
 use Rattle.dna_links.specs.declared.queue.Queues.TheVariants.{Without, With}
-use Rattle.dna_links.specs.LookUps.{is_at}
+use Rattle.dna_links.specs.LookUps.{is_at, refused_in}
 use Rattle.dna_links.specs.SegmentBook.{SegmentBook, Sending, Late, wider}
 use Rattle.dna_links.specs.Links.{LinkOf, LinksOf, LinkTruth, check, with_link, with_seen, begun, changed, in_phase, with_segments}
 use Rattle.dna_links.specs.Queues.{fresh, in_use, with_in_use, may_send, with_queue, goes_to, ends_by_message, drops, freed, booted, shows, settled}
@@ -108,7 +108,8 @@ module _ {D K R : Type 0} (queues : Queues) (book : SegmentBook D K) (rule : Boo
       with_in_use queues test s (Err refusal) (λ n l. asked asks (Some n) l (book.sends_other l.segments))
   asked (KnowsInUse test refusal ∷ asks) number link known =
       with_link test s (waits queues test refusal (asked asks number link known)) (λ n l. asked asks (Some n) l (book.sends_other l.segments))
-  asked (InPhase phases refusal ∷ asks) number link known = check (phases (in_use queues link).phase) refusal (asked asks number link known)
+  asked (InPhase phases refusal ∷ asks) number link known =
+      check (phases (in_use queues link).phase) (refused_in (in_use queues link).phase refusal) (asked asks number link known)
   asked (InTurn phase refusal ∷ asks) number link known = check (may_send queues phase link) refusal (asked asks number link known)
   asked (OrElse so others ∷ asks) number link known =
       if so then asked asks number link known else Ok (answer (kept queues others) None (blank queues book) truth.known)

@@ -1,5 +1,7 @@
 -- Which link of a node a message or an event is about: nine look-ups, each a test on ports (NSP 4.0, ports).
 use Rattle.std.specs.Prelude.{ℕ, Bool, true, false, ◌&&◌, not, ◌==◌, Option, Some, None}
+use Rattle.dna_station.specs.declared.link_refusal.LinkRefusal.{LinkRefusal}
+use Rattle.dna_station.specs.declared.link_refusal.LinkRefusal.TheVariants.{NoLink}
 use Rattle.dna_links.specs.declared.port.Phase.{Phase}
 use Rattle.dna_links.specs.declared.port.Phase.TheVariants.{Calling, Called, Confirming, Running, Disconnecting, Ended}
 use Rattle.dna_links.specs.declared.port.Port.{Port}
@@ -46,6 +48,11 @@ is_connected phase = false
 abbrev pub takes_messages : Phase → Bool
 takes_messages Calling = true
 takes_messages phase = is_connected phase
+
+-- a link in Called has no own address yet: one that has, and is seen so, is a call that its user gave up, and there is none for him
+abbrev pub refused_in : Phase → LinkRefusal → LinkRefusal
+refused_in Called refusal = NoLink
+refused_in phase refusal = refusal
 
 -- ---- addresses
 

@@ -2,7 +2,7 @@
 -- first sent. With queues a link may act later and compose earlier, each in order: a message is right if it was when it may have been composed.
 use Rattle.std.specs.Prelude.{Bool, true, false, ◌&&◌, ◌||◌, not, ℕ, Option, Some, None, map}
 use Rattle.dna_links.specs.declared.port.Phase.{Phase}
-use Rattle.dna_links.specs.declared.port.Phase.TheVariants.{Calling, Confirming, Running, Disconnecting, Ended}
+use Rattle.dna_links.specs.declared.port.Phase.TheVariants.{Calling, Called, Confirming, Running, Disconnecting, Ended}
 use Rattle.dna_links.specs.declared.port.Port.{Port}
 use Rattle.dna_links.specs.declared.port.LinkTest.{LinkTest}
 use Rattle.dna_links.specs.declared.port.LinkTest.TheVariants.{HasAddress}
@@ -55,6 +55,11 @@ is_in_turn Confirming queue port = queue.accepted && is_silent queue.said
 is_in_turn Running queue port = queue.ran && not (is_over queue.said)
 is_in_turn phase queue port = is_in phase (port_of_waiting queue.waits port).phase
 
+-- what waits of a link once its own node ended it
+abbrev pub call_of : (opened : Bool) → Option Phase
+call_of true = Some Called
+call_of false = None
+
 -- what is remembered of a phase
 abbrev pub reached : Phase → LinkQueue → LinkQueue
 reached Running queue = record queue { ran = true }
@@ -95,6 +100,11 @@ module _ {D K : Type 0} (book : SegmentBook D K) where
   lets_go true false segments = book.ends segments
   lets_go before now segments = segments
 
+  -- those of a call that was opened here stay, while its CI may be sent
+  abbrev pub drops_segments : (opened : Bool) → D → D
+  drops_segments true segments = segments
+  drops_segments false segments = book.ends segments
+
   abbrev pub kept_as : (before now : LinkOf D) → LinkOf D
   kept_as before now = with_segments (lets_go (keeps_numbers before) (keeps_numbers now) before.segments) now
 
@@ -118,10 +128,15 @@ module _ {D K : Type 0} (book : SegmentBook D K) where
   ends_by_message With link =
       kept_as link (record link { port = record link.port { phase = Ended }; queue = record link.queue { waits = Some link.port.phase } })
 
-  -- its own DC ends it
+  -- Its own node ends it, by a DC or since its user gives it up. With queues nothing of it waits then, but the CI of a call that was opened here:
+  -- that may yet be sent, and its user has no part in it any more. So it waits as in Called, in which no link is that was opened here
   abbrev pub drops : Queues → LinkOf D → LinkOf D
   drops Without link = ended link
-  drops With link = with_queue (record link.queue { waits = None }) (ended link)
+  drops With link = record link {
+    port = record link.port { phase = Ended };
+    segments = drops_segments link.port.opened link.segments;
+    queue = record link.queue { waits = call_of link.port.opened };
+  }
 
   -- An own address that is given again is no longer that of the ended link which had it: `Up` goes by the link that got it last
   abbrev pub forgotten : Queues → LinkOf D → LinkOf D

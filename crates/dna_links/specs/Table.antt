@@ -24,7 +24,7 @@ pub data Effect : Type 0 where
   Connect : (far segsize : ℕ) → Effect  -- its partner is the sender, with this address and SEGSIZE
   GoTo : Phase → Effect
   End : Effect  -- it is over, by what came
-  Drop : Effect  -- it is over, and nothing of it waits
+  Drop : Effect  -- it is over, and nothing of it waits but the CI of a call that was opened here
   EndAll : Effect  -- all links are over, and none has an address any more
   Say : Said → Effect  -- it has come so far in what it sends
   Keep : Effect  -- what becomes of its segments as was asked is kept

@@ -25,8 +25,8 @@ pub enum Said {
 /// What the queues of its node leave open of a link (NSP 4.0, port states). Without queues it stays as it begins.
 #[derive(Clone, Copy, Debug, PartialEq, Eq)]
 pub struct LinkQueue {
-    /// The phase in which the link ended, while what was composed before that may still be sent. `None` of a live link, and of one of which
-    /// nothing waits any more.
+    /// The phase in which the link ended, while what was composed before that may still be sent; `Called` of a call that was opened here and given
+    /// up, whose CI may still be sent. `None` of a live link, and of one of which nothing waits any more.
     pub waits: Option<Phase>,
     /// Whether it has been in RUN.
     pub ran: bool,

@@ -1,63 +1,101 @@
--- A call is given up by its user: nothing is composed of it before.
-use Rattle.std.proofs.Common.{◌≡◌, ℕ, true, Some, List, ◌∷◌, Ok, Err, refl, sym, ap, ◌∙◌, subst}
+-- A call is given up by its user: what it says of it until then is composed before, and its CI may go after that.
+use Rattle.std.proofs.Common.{◌≡◌, ℕ, Bool, true, false, Option, Some, None, List, ◌∷◌, Ok, Err, refl, sym, ap, ap₂, ◌∙◌, subst}
 use Rattle.std.specs.Prelude.{slice_get}
 use Rattle.dna_station.specs.declared.link_refusal.LinkRefusal.TheVariants.{NoLink, LinkState}
-use Rattle.dna_links.specs.declared.port.Phase.TheVariants.{Ended}
+use Rattle.dna_links.specs.declared.port.Phase.{Phase}
+use Rattle.dna_links.specs.declared.port.Phase.TheVariants.{Calling, Called, Ended}
 use Rattle.dna_links.specs.declared.port.Port.{Port}
 use Rattle.dna_links.specs.declared.port.LinkTest.TheVariants.{LiveAt}
 use Rattle.dna_links.specs.declared.queue.Queues.TheVariants.{With}
-use Rattle.dna_links.specs.LookUps.{is_calling}
-use Rattle.dna_links.specs.Links.{Carried, changed}
-use Rattle.dna_links.specs.Queues.{ended, drops}
+use Rattle.dna_links.specs.LookUps.{passes, is_live, is_called, is_calling}
+use Rattle.dna_links.specs.Links.{changed}
+use Rattle.dna_links.specs.Queues.{in_use, ended, drops, drops_segments, call_of}
 use Rattle.dna_links.specs.LinkBook.{user_step}
 use Rattle.dna_links.specs.User.{Abort}
-use Rattle.dna_links.specs.TrueSegments.{true_segments}
+use Rattle.dna_links.specs.TrueSegments.{TrueSegments, true_segments}
 use Rattle.dna_links.specs.TrueLinks as machine
 use Rattle.dna_links.proofs.Tables.Outcomes.{checked}
 use Rattle.dna_queues.proofs.Facts.{passed_check, same_Ok}
 use Rattle.dna_queues.specs.Records.{LinkRecord, OfUser}
 use Rattle.dna_queues.specs.Hidden.{late_segments, Node}
 use Rattle.dna_queues.specs.Made.{UserDoes}
-use Rattle.dna_queues.proofs.Goes.{Link, phase_of, use_port}
+use Rattle.dna_queues.proofs.Goes.{Link, phase_of, test_of, use_port, at_node, node_port, uncalled_use}
+use Rattle.dna_queues.proofs.Delivered.{given_user}
 use Rattle.dna_queues.proofs.LinkLists.{IsUnique, IsSet, set_changed, at_found}
 use Rattle.dna_queues.proofs.Sending.{live_owns}
-use Rattle.dna_queues.proofs.Early.{CanGo, none_before}
+use Rattle.dna_queues.proofs.Turns.{Began, CanWait, is_in_same}
+use Rattle.dna_queues.proofs.Moved.{moved, gone_before}
 use Rattle.dna_queues.proofs.Hide.{LateLink, hide, found}
 use Rattle.dna_queues.proofs.MachineSends.{IsUsed, used, live_at}
-use Rattle.dna_queues.proofs.Dues.{none_link, AreSane}
+use Rattle.dna_queues.proofs.Dues.{Went, went_node, AreSane}
 use Rattle.dna_queues.proofs.SentTimed.{Sound}
 use Rattle.dna_queues.proofs.UserTimed.{Changes, one_sound}
+use Rattle.dna_queues.proofs.ClosedTimed.{passes_phase}
 
 module _ (s : machine.Links) (sane : AreSane s) (later : List LinkRecord) (left : machine.Links) (rest : AreSane left → Sound left later) where
   pub abort_sound : (own : ℕ) → user_step With true_segments s (Abort own) ≡ Ok left → Sound s (OfUser (Abort own) ∷ later)
   abort_sound own e =
       used s sane.each (LiveAt own) (live_at own) (Err NoLink) _ (Ok left) e (λ e. absurd cc)
-      (λ i l u e. let c = checked (is_calling (phase_of l)) LinkState _ left e in by_link i l u c.0 (same_Ok _ left c.1))
+      (λ i l u e. let c = checked (is_calling (phase_of l)) _ _ left e in by_link i l u c.0 (same_Ok _ left c.1))
     where
       by_link : (i : ℕ) (l : Link) → IsUsed s sane.each (LiveAt own) i l → is_calling (phase_of l) ≡ true →
           changed i (drops true_segments With l) s ≡ left → Sound s (OfUser (Abort own) ∷ later)
       by_link i l u calling same =
-          let k = drops true_segments With l in
-          one_sound s sane later (OfUser (Abort own)) i l u.there left k
-          (subst (λ (x : machine.Links). IsSet s x i k) same (set_changed s i l k u.there)) refl (λ x y. (x ≡ l) × (k ≡ y))
-          (record { began = tt; opened = (sane.each i l u.there).opened; called = λ e. absurd cc; waits = λ p e. absurd cc })
-          (λ due d. let none = none_before s.node s.peer due.packets k (λ x. x ≡ due.link) refl d.early d.can in
-          subst (λ (ps : List Carried). CanGo s.node s.peer ps l (λ x. (x ≡ l) × (k ≡ due.link))) (sym none)
-          (refl, none_link s.node s.peer k due d none))
+          one_sound s sane later (OfUser (Abort own)) i l u.there left (given_up l)
+          (subst (λ (x : machine.Links). IsSet s x i (given_up l)) (ap (λ (x : Link). changed i x s) (sym drops_is) ∙ same)
+          (set_changed s i l (given_up l) u.there)) refl (λ x y. given_up x ≡ y)
+          (record {
+            began = ((sane.each i l u.there).opened began.0, began.1);
+            opened = (sane.each i l u.there).opened;
+            called = λ e. absurd cc;
+            waits = λ p e. (refl, waits_so p e);
+          })
+          (λ due d. gone_before over (Some Called) l.segments.delivered l.segments.passed s.node s.peer due.packets l Called (λ x. x ≡ due.link)
+          (λ m e. passes_phase m (in_use With l) Called (phase_of l) (ap is_live phase_is)
+          (subst (λ (p : Port). passes (test_of m) p ≡ true) (sym (use_port l.queue.waits l.port Called)) e)) d.early d.can)
           (λ kept a. record { live = λ e. absurd cc; over = λ p e. absurd cc })
-          (λ n x y unique went q there. step n x y unique q there) rest
+          (λ n x y unique went q there. step n x y unique went q there) rest
         where
-          step : (n : Node) (x y : Link) → IsUnique n.links → (x ≡ l) × (drops true_segments With l ≡ y) →
-              slice_get n.links.links i ≡ Some (hide x) → Changes (OfUser (Abort own)) i n (hide y)
-          step n x y unique q there =
-              let here = there ∙ ap (λ (z : Link). Some (hide z)) q.0 in
-              let h = ended late_segments (hide l) in
-              let is : h ≡ hide (drops true_segments With l) =
-              ap (λ (p : Port). record (hide l) { port = p }) (use_port l.queue.waits l.port Ended) in
+          over : Port
+          over = record l.port { phase = Ended }
+
+          given_up : Link → Link
+          given_up x = moved over (Some Called) l.segments.delivered l.segments.passed x
+
+          phase_is : phase_of l ≡ Calling
+          phase_is = is_in_same Calling (phase_of l) calling
+
+          began : Began Calling l.port.opened l.queue.accepted l.queue.ran
+          began = subst (λ (p : Phase). Began p l.port.opened l.queue.accepted l.queue.ran) phase_is (sane.each i l u.there).began
+
+          drops_is : drops true_segments With l ≡ given_up l
+          drops_is = ap (λ (o : Bool). record l {
+            port = over;
+            segments = drops_segments true_segments o l.segments;
+            queue = record l.queue { waits = call_of o };
+          }) began.0
+
+          waits_so : (p : Phase) → ◌≡◌ {A = Option Phase} (Some Called) (Some p) → CanWait p l.port.opened
+          waits_so Called e = began.0
+          waits_so p e = absurd cc
+
+          node_is : node_port l ≡ in_use With l
+          node_is = uncalled_use l (ap is_called phase_is)
+
+          step : (n : Node) (x y : Link) → IsUnique n.links → Went l x → given_up x ≡ y → slice_get n.links.links i ≡ Some (hide x) →
+              Changes (OfUser (Abort own)) i n (hide y)
+          step n x y unique went q there =
+              let h = ended late_segments (hide x) in
+              let use_x = went_node l x went ∙ node_is in
+              let is : h ≡ hide (given_up x) =
+              ap₂ (λ (p : Port) (f : TrueSegments). record (hide x) { port = p; segments = record { segments = f; gap = x.queue.gap } })
+              (use_port (at_node x.queue.waits) x.port Ended ∙ ap (λ (p : Port). record p { phase = Ended }) went.port)
+              (ap₂ (λ (ms : List (List ℕ)) (m : ℕ). given_user ms m x.segments) went.leaves.delivered went.leaves.passed) in
               record {
                 links = changed i h n.links;
                 makes = UserDoes (Abort own) (changed i h n.links) tt
-                    (at_found (LiveAt own) n.links i (hide l) _ _ (found n.links unique i l here (LiveAt own) own (live_owns own) u.passed)
-                    ∙ passed_check (is_calling (phase_of l)) LinkState _ calling);
-                set = subst (λ (g : LateLink). IsSet n.links (changed i h n.links) i g) (is ∙ ap hide q.1) (set_changed n.links i (hide l) h here);
+                    (at_found (LiveAt own) n.links i (hide x) _ _
+                    (found n.links unique i x there (LiveAt own) own (live_owns own) (ap (passes (LiveAt own)) use_x ∙ u.passed))
+                    ∙ passed_check (is_calling (node_port x).phase) _ _ (ap (λ (p : Port). is_calling p.phase) use_x ∙ calling));
+                set = subst (λ (g : LateLink). IsSet n.links (changed i h n.links) i g) (is ∙ ap hide q) (set_changed n.links i (hide x) h there);
               }

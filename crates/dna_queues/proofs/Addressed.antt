@@ -10,20 +10,20 @@ use Rattle.dna_links.specs.declared.port.LinkTest.TheVariants.{HasAddress, Calle
 use Rattle.dna_links.specs.declared.queue.Queues.TheVariants.{With}
 use Rattle.dna_links.specs.LookUps.{passes, is_in, is_live, is_at}
 use Rattle.dna_links.specs.Links.{Carried, number_of, with_link, changed}
-use Rattle.dna_links.specs.Queues.{in_use, port_of_waiting}
+use Rattle.dna_links.specs.Queues.{port_of_waiting}
 use Rattle.dna_links.specs.TrueLinks as machine
 use Rattle.dna_links.specs.Runs.{SentMessage}
 use Rattle.dna_links.proofs.Tables.Outcomes.{IsFound, looked}
 use Rattle.dna_queues.proofs.Facts.{dead_phase, by_test}
 use Rattle.dna_queues.specs.Hidden.{Links, Node, waiting, link_it_is_for, link_it_is_of}
 use Rattle.dna_queues.specs.Made.{IsFree}
-use Rattle.dna_queues.proofs.Goes.{Link, phase_of, use_own}
+use Rattle.dna_queues.proofs.Goes.{Link, phase_of, at_node, node_port, node_own, at_node_some}
 use Rattle.dna_queues.proofs.Acting.{ended_late}
 use Rattle.dna_queues.proofs.LinkLists.{IsSet, set_changed, none_passes, number_same, there_too}
-use Rattle.dna_queues.proofs.Turns.{Sane, can_end}
+use Rattle.dna_queues.proofs.Turns.{Sane}
 use Rattle.dna_queues.proofs.Early.{CanGo, AreEarly}
 use Rattle.dna_queues.proofs.Hide.{LateLink, hide}
-use Rattle.dna_queues.proofs.Dues.{put_packets, none_link, Due, put, put_here, Went, went_use, AreDue, AreSane}
+use Rattle.dna_queues.proofs.Dues.{put_packets, none_link, Due, put, put_here, Went, went_node, AreDue, AreSane}
 use Rattle.dna_queues.proofs.Timed.{Awaits, kept_as, is_end, packets_of, Timed, unique_hidden}
 use Rattle.dna_queues.proofs.Prepared.{due_none, set_timed_but}
 use Rattle.dna_queues.proofs.Pending.{AreGood, GoodFor, then_ended, Flushed, flush}
@@ -36,60 +36,60 @@ stripped l x = record (hide x) { port = l.port }
 module _ (l x : Link) (sane : Sane l) (went : Went l x) where
   pub good_link : (kept : List SentMessage) → Awaits l kept → GoodFor (hide x) kept
   good_link [] a = tt
-  good_link (unit ∷ units) a = λ live. go live l.queue.waits refl
+  good_link (unit ∷ units) a = λ live. go live (at_node l.queue.waits) refl
     where
-      go : is_live (in_use With x).phase ≡ true → (w : Option Phase) → l.queue.waits ≡ w → is_end unit.packet.message (in_use With x) ≡ true
+      go : is_live (node_port x).phase ≡ true → (w : Option Phase) → at_node l.queue.waits ≡ w → is_end unit.packet.message (node_port x) ≡ true
       go live None e =
-          let in_use_is = went_use l x went ∙ ap (λ (w : Option Phase). port_of_waiting w l.port) e in
-          let never : unit ∷ units ≡ [] = a.live (ap (λ (p : Port). is_live p.phase) (sym in_use_is) ∙ live) in absurd cc
-      go live (Some p) e = ap (is_end unit.packet.message) (went_use l x went) ∙ a.over p e
+          let node_is = went_node l x went ∙ ap (λ (w : Option Phase). port_of_waiting w l.port) e in
+          let never : unit ∷ units ≡ [] = a.live (ap (λ (p : Port). is_live p.phase) (sym node_is) ∙ live) in absurd cc
+      go live (Some p) e = ap (is_end unit.packet.message) (went_node l x went) ∙ a.over p e
 
   pub stripped_is : (kept : List SentMessage) → Awaits l kept → then_ended kept (hide x) ≡ stripped l x
-  stripped_is kept a = go l.queue.waits refl kept a
+  stripped_is kept a = go (at_node l.queue.waits) refl kept a
     where
-      of_port : (p : Port) → in_use With x ≡ p → p ≡ l.port → hide x ≡ stripped l x
-      of_port p in_use_is same = ap (λ (q : Port). record (hide x) { port = q }) (in_use_is ∙ same)
+      of_port : (p : Port) → node_port x ≡ p → p ≡ l.port → hide x ≡ stripped l x
+      of_port p node_is same = ap (λ (q : Port). record (hide x) { port = q }) (node_is ∙ same)
 
-      ended : (p : Port) → in_use With x ≡ p → record p { phase = Ended } ≡ l.port → ended_late (hide x) ≡ stripped l x
-      ended p in_use_is same = ap (λ (q : Port). record (hide x) { port = q }) (ap (λ (q : Port). record q { phase = Ended }) in_use_is ∙ same)
+      ended : (p : Port) → node_port x ≡ p → record p { phase = Ended } ≡ l.port → ended_late (hide x) ≡ stripped l x
+      ended p node_is same = ap (λ (q : Port). record (hide x) { port = q }) (ap (λ (q : Port). record q { phase = Ended }) node_is ∙ same)
 
       over : (unit : SentMessage) (kept : List SentMessage) → Awaits l (unit ∷ kept) → record l.port { phase = Ended } ≡ l.port
       over unit kept a = ap (λ (p : Phase). record l.port { phase = p }) (sym (dead_phase l.port.phase (false_from_ne_true _ (λ e.
           let never : unit ∷ kept ≡ [] = a.live e in absurd cc))))
 
-      go : (w : Option Phase) → l.queue.waits ≡ w → (kept : List SentMessage) → Awaits l kept → then_ended kept (hide x) ≡ stripped l x
-      go None e [] a = of_port l.port (went_use l x went ∙ ap (λ (w : Option Phase). port_of_waiting w l.port) e) refl
+      go : (w : Option Phase) → at_node l.queue.waits ≡ w → (kept : List SentMessage) → Awaits l kept → then_ended kept (hide x) ≡ stripped l x
+      go None e [] a = of_port l.port (went_node l x went ∙ ap (λ (w : Option Phase). port_of_waiting w l.port) e) refl
       go None e (unit ∷ units) a =
-          ended l.port (went_use l x went ∙ ap (λ (w : Option Phase). port_of_waiting w l.port) e) (over unit units a)
+          ended l.port (went_node l x went ∙ ap (λ (w : Option Phase). port_of_waiting w l.port) e) (over unit units a)
       go (Some p) e [] a = absurd (a.over p e)
       go (Some p) e (unit ∷ units) a =
-          ended (record l.port { phase = p }) (went_use l x went ∙ ap (λ (w : Option Phase). port_of_waiting w l.port) e)
-          (ap (λ (q : Phase). record l.port { phase = q }) (sym (sane.waits p e).0))
+          ended (record l.port { phase = p }) (went_node l x went ∙ ap (λ (w : Option Phase). port_of_waiting w l.port) e)
+          (ap (λ (q : Phase). record l.port { phase = q }) (sym (sane.waits p (at_node_some l.queue.waits p e)).0))
 
 -- a link of which nothing waits
 pub awaits_nothing : (l : Link) (kept : List SentMessage) → l.queue.waits ≡ None → kept ≡ [] → Awaits l kept
 awaits_nothing l kept none nothing = record {
   live = λ e. nothing;
-  over = λ p e. let never : None ≡ Some p = sym none ∙ e in absurd cc;
+  over = λ p e. let never : None ≡ Some p = sym none ∙ at_node_some l.queue.waits p e in absurd cc;
 }
 
 pub no_packets : (units : List SentMessage) → packets_of units ≡ [] → units ≡ []
 no_packets [] e = refl
 no_packets (unit ∷ units) e = absurd cc
 
-pub called_use : (far : ℕ) (l : Link) → Sane l → passes (CalledBy far) (in_use With l) ≡ passes (CalledBy far) l.port
+pub called_use : (far : ℕ) (l : Link) → Sane l → passes (CalledBy far) (node_port l) ≡ passes (CalledBy far) l.port
 called_use far l sane = go l.queue.waits refl
   where
-    not_called : (p : Phase) → can_end p ≡ true → is_in Called p ≡ false
-    not_called Called e = absurd cc
-    not_called p e = refl
+    over : (p : Phase) → l.queue.waits ≡ Some p → is_in Called p ≡ false → passes (CalledBy far) (record l.port { phase = p })
+        ≡ passes (CalledBy far) l.port
+    over p e not_called =
+        ap (λ (b : Bool). b && is_at l.port.far far) not_called
+        ∙ sym (ap (λ (q : Phase). is_in Called q && is_at l.port.far far) (sane.waits p e).0)
 
-    go : (w : Option Phase) → l.queue.waits ≡ w → passes (CalledBy far) (port_of_waiting w l.port) ≡ passes (CalledBy far) l.port
+    go : (w : Option Phase) → l.queue.waits ≡ w → passes (CalledBy far) (port_of_waiting (at_node w) l.port) ≡ passes (CalledBy far) l.port
     go None e = refl
-    go (Some p) e =
-        let w = sane.waits p e in
-        ap (λ (b : Bool). b && is_at l.port.far far) (not_called p w.1)
-        ∙ sym (ap (λ (q : Phase). is_in Called q && is_at l.port.far far) w.0)
+    go (Some Called) e = refl
+    go (Some p) e = over p e refl
 
 -- ---- the node
 
@@ -99,7 +99,7 @@ module _ (s : machine.Links) (sane : AreSane s) where
       let l = there_too s.links n.links.links i h (sym t.size) at in
       let went = t.went i l.0 l.1 in
       let same : hide (dues i).link ≡ h = same_Some _ h (sym (t.all i l.0 l.1) ∙ at) in
-      let own : (hide (dues i).link).port.own ≡ l.0.port.own = use_own (dues i).link ∙ ap (λ (p : Port). p.own) went.port in
+      let own : (hide (dues i).link).port.own ≡ l.0.port.own = node_own (dues i).link ∙ ap (λ (p : Port). p.own) went.port in
       subst (λ (g : LateLink). GoodFor g (waiting link_it_is_for g.port.own n.kept)) same
       (subst (λ (o : Option ℕ). GoodFor (hide (dues i).link) (waiting link_it_is_for o n.kept)) (sym own)
       (good_link l.0 (dues i).link (sane.each i l.0 l.1) went _ (t.awaits i l.0 l.1)))
@@ -111,7 +111,7 @@ module _ (s : machine.Links) (sane : AreSane s) where
 
   module _ (dues : ℕ → Due) (n : Node) (t : Timed s dues n) (address : ℕ) (i : ℕ) (l : Link) (at : slice_get s.links i ≡ Some l) where
     hidden_own : (hide (dues i).link).port.own ≡ l.port.own
-    hidden_own = use_own (dues i).link ∙ ap (λ (p : Port). p.own) (t.went i l at).port
+    hidden_own = node_own (dues i).link ∙ ap (λ (p : Port). p.own) (t.went i l at).port
 
     pub flushed_here : is_at l.port.own address ≡ true → slice_get (flushed dues n t address).next.links.links i ≡ Some (stripped l (dues i).link)
     flushed_here own =
@@ -130,17 +130,17 @@ module _ (s : machine.Links) (sane : AreSane s) where
   module _ (dues : ℕ → Due) (n : Node) (t : Timed s dues n) (address : ℕ) where
     -- what a test finds then
     pub flushed_number : (test : LinkTest) → ((j : ℕ) (l : Link) → slice_get s.links j ≡ Some l → is_at l.port.own address ≡ false →
-        passes test (in_use With l) ≡ passes test l.port) → number_of test (flushed dues n t address).next.links ≡ number_of test s
+        passes test (node_port l) ≡ passes test l.port) → number_of test (flushed dues n t address).next.links ≡ number_of test s
     flushed_number test same =
         number_same (flushed dues n t address).next.links s ((flushed dues n t address).size ∙ t.size) test
         (λ j h l at_h at_l. by_test (is_at l.port.own address)
         (λ own. ap (λ (g : LateLink). passes test g.port) (same_Some h (stripped l (dues j).link) (sym at_h
         ∙ flushed_here dues n t address j l at_l own)))
         (λ own. ap (λ (g : LateLink). passes test g.port) (same_Some h (hide (dues j).link) (sym at_h
-        ∙ flushed_other dues n t address j l at_l own)) ∙ ap (passes test) (went_use l (dues j).link (t.went j l at_l)) ∙ same j l at_l own))
+        ∙ flushed_other dues n t address j l at_l own)) ∙ ap (passes test) (went_node l (dues j).link (t.went j l at_l)) ∙ same j l at_l own))
 
     pub flushed_owner : number_of (HasAddress address) (flushed dues n t address).next.links ≡ number_of (HasAddress address) s
-    flushed_owner = flushed_number (HasAddress address) (λ j l at own. ap (λ (o : Option ℕ). is_at o address) (use_own l))
+    flushed_owner = flushed_number (HasAddress address) (λ j l at own. ap (λ (o : Option ℕ). is_at o address) (node_own l))
 
   -- where no link has it nothing but what waits for it changes
   pub flushed_none : (dues : ℕ → Due) (n : Node) (t : Timed s dues n) (address : ℕ) → number_of (HasAddress address) s ≡ None →

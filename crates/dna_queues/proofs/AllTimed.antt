@@ -9,7 +9,7 @@ use Rattle.dna_links.specs.Links.{number_of}
 use Rattle.dna_links.specs.TrueLinks as machine
 use Rattle.dna_links.specs.Runs.{SentMessage}
 use Rattle.dna_queues.specs.Hidden.{Node, waiting, link_it_is_for}
-use Rattle.dna_queues.proofs.Goes.{Link, use_own}
+use Rattle.dna_queues.proofs.Goes.{Link, node_own}
 use Rattle.dna_queues.proofs.LinkLists.{number_same, there_too}
 use Rattle.dna_queues.proofs.Hide.{LateLink, hide}
 use Rattle.dna_queues.proofs.Dues.{Due, AreSane}
@@ -26,7 +26,7 @@ module _ (s : machine.Links) (sane : AreSane s) (dues : ℕ → Due) (n : Node) 
   all_is i l at =
       all_come.all i (hide (dues i).link) (t.all i l at)
       ∙ ap (λ (o : Option ℕ). Some (then_ended (waiting link_it_is_for o n.kept) (hide (dues i).link)))
-      (use_own (dues i).link ∙ ap (λ (p : Port). p.own) (t.went i l at).port)
+      (node_own (dues i).link ∙ ap (λ (p : Port). p.own) (t.went i l at).port)
       ∙ ap Some (stripped_is l (dues i).link (sane.each i l at) (t.went i l at) _ (t.awaits i l at))
 
   -- each of its links is the machine's, as it is seen

@@ -21,10 +21,10 @@ use Rattle.dna_queues.proofs.Facts.{not_both, same_Ok}
 use Rattle.dna_queues.specs.Records.{LinkRecord, OfUser}
 use Rattle.dna_queues.specs.Hidden.{late_segments, Links, Node}
 use Rattle.dna_queues.specs.Made.{IsFree, MayBe, UserDoes, MadeByHidden, Makes}
-use Rattle.dna_queues.proofs.Goes.{Link, phase_of, use_own}
+use Rattle.dna_queues.proofs.Goes.{Link, phase_of, at_node, node_port, node_own}
 use Rattle.dna_queues.proofs.Given.{freed_changed}
 use Rattle.dna_queues.proofs.LinkLists.{IsSet, set_changed, at_none, at_found}
-use Rattle.dna_queues.proofs.Turns.{Began, has_run, IsMute, live_waits, live_use, called_phase}
+use Rattle.dna_queues.proofs.Turns.{Began, has_past, IsMute, live_waits, live_use, live_node, called_phase}
 use Rattle.dna_queues.proofs.Early.{CanGo, AreEarly, none_before, none_refused}
 use Rattle.dna_queues.proofs.Hide.{LateLink, hide}
 use Rattle.dna_queues.proofs.Dues.{put_packets, none_link, Due, put, put_here, AreSane}
@@ -58,11 +58,14 @@ module _ (s : machine.Links) (sane : AreSane s) (own : ℕ) (one : 1 ≤ own) (n
     in_use_is : in_use With l ≡ l.port
     in_use_is = live_use l (sane.each i l found.there) (ap is_live phase_is)
 
+    node_is : node_port l ≡ l.port
+    node_is = live_node l (sane.each i l found.there) (ap is_live phase_is)
+
     pub mute : IsMute l
     mute =
         let b = subst (λ (p : Phase). Began p l.port.opened l.queue.accepted l.queue.ran)
         (ap (λ (p : Port). p.phase) in_use_is ∙ phase_is) (sane.each i l found.there).began in
-        record { opened = b.0; accepted = b.1; ran = b.2 }
+        record { opened = ((sane.each i l found.there).called (ap is_called phase_is)).1; accepted = b.0; ran = b.1 }
 
     module _ (event : LinkEventValue) (phase : Phase) (queue : LinkQueue)
         (may : (n : Node) → IsFree own n → MayBe event n)
@@ -120,7 +123,7 @@ module _ (s : machine.Links) (sane : AreSane s) (own : ℕ) (one : 1 ≤ own) (n
                   ∙ ap (λ (d : Due). Some (hide d.link)) (put_here i i mine r.dues refl) in
                   let at_f = flushed_other s sane g.before n t own i l found.there not_own in
                   let same = sym ((freed_changed late_segments Without own f.next.links f.unique).other i (hide (g.before i).link) at_f
-                  (ap (λ (o : Option ℕ). is_at o own) (use_own (g.before i).link ∙ ap (λ (p : Port). p.own) (t.went i l found.there).port) ∙ not_own))
+                  (ap (λ (o : Option ℕ). is_at o own) (node_own (g.before i).link ∙ ap (λ (p : Port). p.own) (t.went i l found.there).port) ∙ not_own))
                   ∙ at_m in
                   let found_h : IsFound (CalledBy far) f.next.links i (hide l) = record {
                     found = flushed_number s sane g.before n t own (CalledBy far) (λ j x at has. called_use far x (sane.each j x at)) ∙ found.found;
@@ -142,9 +145,9 @@ module _ (s : machine.Links) (sane : AreSane s) (own : ℕ) (one : 1 ≤ own) (n
                 where
                   hidden_is : answered late_segments phase own (hide l) ≡ hide answer
                   hidden_is =
-                      ap (λ (p : Port). record (hide l) { port = record p { phase = phase; own = Some own } }) in_use_is
+                      ap (λ (p : Port). record (hide l) { port = record p { phase = phase; own = Some own } }) node_is
                       ∙ ap₂ (λ (w : Option Phase) (m : ℕ). record (hide l) {
-                        port = port_of_waiting w (record l.port { phase = phase; own = Some own });
+                        port = port_of_waiting (at_node w) (record l.port { phase = phase; own = Some own });
                         segments = record { segments = l.segments; gap = m };
                       }) (sym (waits ∙ none_waits)) (sym gap)
 
@@ -179,7 +182,7 @@ module _ (s : machine.Links) (sane : AreSane s) (later : List LinkRecord) (resul
     accepts_sound e = answered_call (Accept far own) Confirming e (λ i l found free same.
         let quiet = mute s sane own one free later far i l found in
         answer_sound s sane own one free later far i l found (Accept far own) Confirming (record l.queue { accepted = true }) (λ n f. f) (λ t. refl)
-        refl refl refl (quiet.opened, quiet.ran) (λ packets P now early can. none_before _ _ packets _ P (ap has_run now) early can) (on _ same))
+        refl refl refl (quiet.opened, quiet.ran) (λ packets P now early can. none_before _ _ packets _ P (ap has_past now) early can) (on _ same))
 
     pub rejects_sound : user_step With true_segments s (Reject far own) ≡ Ok result → Sound s (OfUser (Reject far own) ∷ later)
     rejects_sound e = answered_call (Reject far own) Disconnecting e (λ i l found free same.

@@ -21,7 +21,7 @@ use Rattle.dna_links.specs.TrueLinks as machine
 use Rattle.dna_links.proofs.Tables.Outcomes.{IsFound}
 use Rattle.dna_queues.proofs.Facts.{connected_live, not_both}
 use Rattle.dna_queues.specs.Hidden.{late_segments, Links, dstaddr}
-use Rattle.dna_queues.proofs.Goes.{Link, phase_of}
+use Rattle.dna_queues.proofs.Goes.{Link, at_node, node_port, phase_of}
 use Rattle.dna_queues.proofs.Came.{confirmed_link, ended_link, run_link, came_as}
 use Rattle.dna_queues.proofs.Acting.{confirmed_late, ended_late, run_late, acts_as}
 use Rattle.dna_queues.proofs.LinkLists.{IsUnique, IsChanged, changed_as, found_one}
@@ -145,6 +145,9 @@ module _ (truth : LinkTruth Numbers) (l : Link) (sane : Sane l) (live : is_live 
   in_use_is : in_use With l ≡ l.port
   in_use_is = ap (λ (w : Option Phase). port_of_waiting w l.port) none
 
+  node_is : node_port l ≡ l.port
+  node_is = ap (λ (w : Option Phase). port_of_waiting (at_node w) l.port) none
+
   goes_on_as : (m : NspValue) (k : Link) → k.queue.waits ≡ None → k.port.phase ≡ Running → k.port.own ≡ l.port.own → k.port.opened ≡ l.port.opened →
       (k.port.opened ≡ false → l.port.far ≡ k.port.far) → k.queue.accepted ≡ l.queue.accepted → k.queue.said ≡ l.queue.said →
       acts_as m truth (hide l) ≡ hide k → CameTo m truth l k
@@ -172,12 +175,12 @@ module _ (truth : LinkTruth Numbers) (l : Link) (sane : Sane l) (live : is_live 
       (λ e. Still (λ h same. acts h ∙ ap (λ (b : Bool). cond b (g h) h) (ap test same ∙ e)))
 
   run_acts : (own far : ℕ) (takes : TrueSegments → TrueSegments) → passes (ActedOn own far) l.port ≡ true →
-      cond (passes (ActedOn own far) (in_use With l)) (run_late (takes l.segments) (hide l)) (hide l) ≡ hide (run_link (takes l.segments) l)
+      cond (passes (ActedOn own far) (node_port l)) (run_late (takes l.segments) (hide l)) (hide l) ≡ hide (run_link (takes l.segments) l)
   run_acts own far takes e =
-      ap (λ (b : Bool). cond b (run_late (takes l.segments) (hide l)) (hide l)) (ap (passes (ActedOn own far)) in_use_is ∙ e)
-      ∙ ap (λ (p : Port). record (run_late (takes l.segments) (hide l)) { port = record p { phase = Running } }) in_use_is
+      ap (λ (b : Bool). cond b (run_late (takes l.segments) (hide l)) (hide l)) (ap (passes (ActedOn own far)) node_is ∙ e)
+      ∙ ap (λ (p : Port). record (run_late (takes l.segments) (hide l)) { port = record p { phase = Running } }) node_is
       ∙ ap (λ (w : Option Phase). record (run_late (takes l.segments) (hide l)) {
-        port = port_of_waiting w (record l.port { phase = Running });
+        port = port_of_waiting (at_node w) (record l.port { phase = Running });
       }) (sym none)
 
   pub came_kind : (m : NspValue) → CameTo m truth l (came_as m truth l)
@@ -195,14 +198,14 @@ module _ (truth : LinkTruth Numbers) (l : Link) (sane : Sane l) (live : is_live 
       calling_opened p e b = absurd cc
 
       confirms : (dst src segsize : ℕ) → passes (CallingAt dst) l.port ≡ true →
-          cond (passes (CallingAt dst) (in_use With l)) (confirmed_late src segsize truth.tag.link (hide l)) (hide l)
+          cond (passes (CallingAt dst) (node_port l)) (confirmed_late src segsize truth.tag.link (hide l)) (hide l)
           ≡ hide (confirmed_link src segsize truth.tag.link l)
       confirms dst src segsize e =
-          ap (λ (b : Bool). cond b (confirmed_late src segsize truth.tag.link (hide l)) (hide l)) (ap (passes (CallingAt dst)) in_use_is ∙ e)
+          ap (λ (b : Bool). cond b (confirmed_late src segsize truth.tag.link (hide l)) (hide l)) (ap (passes (CallingAt dst)) node_is ∙ e)
           ∙ ap (λ (p : Port). record (hide l) { port = record p { phase = Running; far = Some src }; partner = truth.tag.link; segsize = segsize })
-          in_use_is
+          node_is
           ∙ ap (λ (w : Option Phase). record (hide l) {
-            port = port_of_waiting w (record l.port { phase = Running; far = Some src });
+            port = port_of_waiting (at_node w) (record l.port { phase = Running; far = Some src });
             partner = truth.tag.link;
             segsize = segsize;
           }) (sym none)

@@ -93,7 +93,7 @@ called_follows far size tag = record {
   used = Called;
   of_use = λ e. refl;
   fresh = λ e. absurd cc;
-  called = λ e. refl;
+  called = λ e. (refl, refl);
   ahead = record { port = refl; partner = refl; segsize = refl; received = tt; exact = λ e. refl; used = λ e. refl };
   acknowledged = omega arith;
   passed = refl;

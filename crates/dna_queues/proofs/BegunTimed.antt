@@ -4,12 +4,12 @@ use Rattle.std.proofs.Common.{refl, sym, ap, ◌∙◌, arith, length-append}
 use Rattle.std.specs.Prelude.{slice_get}
 use Rattle.two_nodes.proofs.NumberedSteps.{at_pushed}
 use Rattle.dna_links.specs.LookUps.{is_at}
-use Rattle.dna_links.specs.Links.{begun}
+use Rattle.dna_links.specs.Links.{Carried, begun}
 use Rattle.dna_links.specs.TrueLinks as machine
 use Rattle.dna_queues.specs.Hidden.{Node, waiting, link_it_is_for}
 use Rattle.dna_queues.proofs.Goes.{Link, phase_of}
-use Rattle.dna_queues.proofs.Turns.{Sane, has_run}
-use Rattle.dna_queues.proofs.Early.{none_before}
+use Rattle.dna_queues.proofs.Turns.{Sane}
+use Rattle.dna_queues.proofs.Early.{CanGo, AreEarly}
 use Rattle.dna_queues.proofs.Hide.{hide}
 use Rattle.dna_queues.proofs.Dues.{none_link, Due, went_can, IsDue, AreDue, AreSane}
 use Rattle.dna_queues.proofs.Timed.{Awaits, Timed}
@@ -41,13 +41,14 @@ module _ (s : machine.Links) (k : Link) where
       unique i j x y n own_x own_y (inr p) (inl q) = absurd (free j y n q own_y (ap (λ (z : Link). is_at z.port.own n) p.1 ∙ own_x))
       unique i j x y n own_x own_y (inr p) (inr q) = p.0 ∙ sym q.0
 
-  -- before RUN nothing is due of it
-  module _ (before : has_run (phase_of k) ≡ false) (dues : ℕ → Due) (due : AreDue (begun k s) dues) where
+  -- nothing is due of it
+  module _ (none : (packets : List Carried) (P : Link → Type 0) → AreEarly (phase_of k) packets → CanGo s.node s.peer packets k P → packets ≡ [])
+      (dues : ℕ → Due) (due : AreDue (begun k s) dues) where
     last_due : IsDue s.node s.peer k (dues (length s.links))
     last_due = due.each (length s.links) k (there_last s.links k)
 
     none_due : (dues (length s.links)).packets ≡ []
-    none_due = none_before s.node s.peer (dues (length s.links)).packets k (λ x. x ≡ (dues (length s.links)).link) before last_due.early last_due.can
+    none_due = none (dues (length s.links)).packets (λ x. x ≡ (dues (length s.links)).link) last_due.early last_due.can
 
     last_link : k ≡ (dues (length s.links)).link
     last_link = none_link s.node s.peer k (dues (length s.links)) last_due none_due
@@ -55,7 +56,7 @@ module _ (s : machine.Links) (k : Link) where
     pub begun_due : AreDue s dues
     begun_due = record {
       each = λ i x at. due.each i x (there_still s.links k x i at);
-      beyond = λ i none. go i none (slice_get (s.links ++ k ∷ []) i) refl;
+      beyond = λ i missing. go i missing (slice_get (s.links ++ k ∷ []) i) refl;
     }
       where
         go : (i : ℕ) → slice_get s.links i ≡ None → (o : Option Link) → slice_get (s.links ++ k ∷ []) i ≡ o → (dues i).packets ≡ []

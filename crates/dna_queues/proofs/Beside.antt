@@ -137,7 +137,8 @@ module _ (n : Node) (t : machine.Links) (b : Beside n t) (answered : AreAnswered
         used = f.used;
         of_use = λ live. f.of_use (ap (λ (p : Port). is_live p.phase) (sym port) ∙ live) ∙ ap (λ (p : Port). p.phase) (sym port);
         fresh = λ calling. ap (λ (p : Port). p.far) port ∙ f.fresh (ap (λ (p : Port). is_calling p.phase) (sym port) ∙ calling);
-        called = λ called. ap (λ (p : Port). p.own) port ∙ f.called (ap (λ (p : Port). is_called p.phase) (sym port) ∙ called);
+        called = λ called. let c = f.called (ap (λ (p : Port). is_called p.phase) (sym port) ∙ called) in
+            (ap (λ (p : Port). p.own) port ∙ c.0, ap (λ (p : Port). p.opened) port ∙ c.1);
         ahead = subst (λ (a : Seen). Ahead kept a l) (sym (same.seen f.used)) f.ahead;
         acknowledged = omega (arith, low, acknowledged);
         passed = f.passed ∙ sym same.passed;

@@ -1,5 +1,5 @@
 -- A boot: nothing that is composed before waits longer.
-use Rattle.std.proofs.Common.{◌≡◌, ℕ, true, false, Option, Some, None, List, [], ◌∷◌, map, option_map, Ok, refl, sym, ap, ◌∙◌, subst}
+use Rattle.std.proofs.Common.{◌≡◌, ℕ, true, false, Option, Some, None, List, [], ◌∷◌, map, option_map, Ok, refl, sym, ap, ap₂, ◌∙◌, subst}
 use Rattle.std.specs.Prelude.{slice_get}
 use Rattle.std.proofs.lemmas.List.{length-map}
 use Rattle.std.proofs.lemmas.Option.{slice_get-map}
@@ -11,14 +11,14 @@ use Rattle.dna_links.specs.LookUps.{is_at}
 use Rattle.dna_links.specs.Queues.{port_of_waiting, booted_link, booted}
 use Rattle.dna_links.specs.LinkBook.{blank, user_step}
 use Rattle.dna_links.specs.User.{Boot}
-use Rattle.dna_links.specs.TrueSegments.{true_segments}
+use Rattle.dna_links.specs.TrueSegments.{TrueSegments, true_segments}
 use Rattle.dna_links.specs.TrueLinks as machine
 use Rattle.dna_links.proofs.Runs.Sides.{all_map}
-use Rattle.dna_queues.proofs.Facts.{same_Ok, by_option}
+use Rattle.dna_queues.proofs.Facts.{same_Ok, by_option, drops_still}
 use Rattle.dna_queues.specs.Records.{LinkRecord, OfUser}
 use Rattle.dna_queues.specs.Hidden.{late_segments, Node, link_it_is_for, waiting}
 use Rattle.dna_queues.specs.Made.{MadeByHidden, Boots, Makes}
-use Rattle.dna_queues.proofs.Goes.{Link}
+use Rattle.dna_queues.proofs.Goes.{Link, at_node}
 use Rattle.dna_queues.proofs.Turns.{Sane}
 use Rattle.dna_queues.proofs.Early.{none_before}
 use Rattle.dna_queues.proofs.Hide.{LateLink, hide}
@@ -47,7 +47,9 @@ abbrev over_late : LateLink → LateLink
 over_late h = booted_link late_segments Without h
 
 hide_over : (l : Link) → over_late (hide l) ≡ hide (over l)
-hide_over l = ap (λ (p : Port). record (hide l) { port = p }) (use_over l.queue.waits)
+hide_over l =
+    ap₂ (λ (p : Port) (f : TrueSegments). record (hide l) { port = p; segments = record { segments = f; gap = l.queue.gap } })
+    (use_over (at_node l.queue.waits)) (sym (drops_still l.port.opened l.segments))
   where
     use_over : (waits : Option Phase) → record (port_of_waiting waits l.port) { phase = Ended; own = None } ≡
         record l.port { phase = Ended; own = None }

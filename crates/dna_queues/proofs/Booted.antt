@@ -14,6 +14,7 @@ use Rattle.dna_links.specs.TrueLinks as machine
 use Rattle.dna_links.proofs.Runs.Sides.{all_map}
 use Rattle.dna_queues.specs.Records.{LinkRecord, OfUser, AreAnswered, AreNear, next_links, MadeByMachine}
 use Rattle.dna_queues.specs.Hidden.{late_segments, Node}
+use Rattle.dna_queues.proofs.Facts.{drops_still}
 use Rattle.dna_queues.proofs.Pieces.{below_itself}
 use Rattle.dna_queues.proofs.Goes.{Link, Grows}
 use Rattle.dna_queues.proofs.WaitsToGo.{grows_itself}
@@ -89,7 +90,7 @@ module _ (n : Node) (t : machine.Links) (b : Beside n t) (answered : AreAnswered
     where
       x_gone : (i : ℕ) (x : Link) → slice_get (map (booted_link true_segments With) t.links) i ≡ Some x → IsGone x
       x_gone = all_map (λ (i : ℕ) (x : Link). IsGone x) (booted_link true_segments With) t.links
-          (λ i l at. record { phase = refl; own = refl; waits = refl; answered = answered i l at })
+          (λ i l at. record { phase = refl; own = refl; waits = refl; answered = subst IsAnswered (sym (drops_still l.port.opened l.segments)) (answered i l at) })
 
       y_gone : (i : ℕ) (y : Link) → slice_get (map (λ (h : LateLink). lift (over h)) n.links.links) i ≡ Some y → IsGone y
       y_gone = all_map (λ (i : ℕ) (y : Link). IsGone y) (λ (h : LateLink). lift (over h)) n.links.links

@@ -94,7 +94,7 @@ module _ (n : Node) (t : machine.Links) (b : Beside n t) where
   pub called_meets : (i : ℕ) (h : LateLink) (l : Link) (at_h : slice_get n.links.links i ≡ Some h) (at_l : slice_get t.links i ≡ Some l) →
       is_called h.port.phase ≡ true → waiting link_it_is_for h.port.own n.kept ≡ []
   called_meets i h l at_h at_l e =
-      ap (λ (o : Option ℕ). waiting link_it_is_for o n.kept) ((b.all i h l at_h at_l).called e) ∙ waiting_none link_it_is_for n.kept
+      ap (λ (o : Option ℕ). waiting link_it_is_for o n.kept) ((b.all i h l at_h at_l).called e).0 ∙ waiting_none link_it_is_for n.kept
 
   -- the same calls wait in both
   pub called_same : (far : ℕ) → number_of (CalledBy far) n.links ≡ number_of (CalledBy far) t
@@ -117,7 +117,7 @@ answer_follows own phase q h l composed near kind same accepted confirms called 
     let meets = meets_now h l [] composed f refl in
     let is = called_phase h.port.phase called in
     let is_l : l.port.phase ≡ Called = ap (λ (p : Port). p.phase) (sym meets.port) ∙ is in
-    let none : l.port.own ≡ None = ap (λ (p : Port). p.own) (sym meets.port) ∙ f.called called in
+    let none : l.port.own ≡ None = ap (λ (p : Port). p.own) (sym meets.port) ∙ (f.called called).0 in
     let waits : q.waits ≡ None = same.0 ∙ f.fits.waits (ap is_live is_l) in
     let now : phase_of y ≡ phase =
     ap (λ (w : Option Phase). (port_of_waiting w (record l.port { phase = phase; own = Some own })).phase) waits in
@@ -197,7 +197,7 @@ module _ (n : Node) (t : machine.Links) (b : Beside n t) (near : AreAnswered t) 
           let nothing = called_meets n t b number h l.0 found.there l.1 called in
           let meets = meets_now h l.0 _ _ f nothing in
           let is_l : l.0.port.phase ≡ Called = ap (λ (p : Port). p.phase) (sym meets.port) ∙ called_phase h.port.phase called in
-          let none_h : h.port.own ≡ None = f.called called in
+          let none_h : h.port.own ≡ None = (f.called called).0 in
           let none_l : l.0.port.own ≡ None = ap (λ (p : Port). p.own) (sym meets.port) ∙ none_h in
           let y : Link = record l.0 { port = record l.0.port { phase = phase; own = Some own }; queue = reached phase l.0.queue } in
           let as_y : goes_on true_segments (is_live l.0.port.phase) phase (record l.0 { port = record l.0.port { own = Some own } }) ≡ y =

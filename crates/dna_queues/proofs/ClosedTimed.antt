@@ -24,16 +24,16 @@ use Rattle.dna_queues.proofs.Facts.{dead_phase, passed_check, same_Ok, not_both}
 use Rattle.dna_queues.specs.Records.{LinkRecord, OfUser}
 use Rattle.dna_queues.specs.Hidden.{Node, over}
 use Rattle.dna_queues.specs.Made.{UserDoes}
-use Rattle.dna_queues.proofs.Goes.{Link, phase_of, test_of, use_port}
+use Rattle.dna_queues.proofs.Goes.{Link, phase_of, test_of, use_port, at_node, node_port, at_node_some, at_node_same, uncalled_use}
 use Rattle.dna_queues.proofs.Closed.{closed_link, closes_as}
 use Rattle.dna_queues.proofs.LinkLists.{IsUnique, IsSet, set_changed, at_found}
 use Rattle.dna_queues.proofs.Sending.{live_owns}
 use Rattle.dna_queues.proofs.Delivered.{given_user}
-use Rattle.dna_queues.proofs.Turns.{Began, can_end, live_use, live_waits}
+use Rattle.dna_queues.proofs.Turns.{Began, CanWait, live_use, live_waits}
 use Rattle.dna_queues.proofs.Moved.{moved, gone_before}
 use Rattle.dna_queues.proofs.Hide.{LateLink, hide, found}
 use Rattle.dna_queues.proofs.MachineSends.{IsUsed, used, live_at}
-use Rattle.dna_queues.proofs.Dues.{Went, went_use, AreSane}
+use Rattle.dna_queues.proofs.Dues.{Went, went_use, went_node, AreSane}
 use Rattle.dna_queues.proofs.Timed.{EndsFirst, is_end}
 use Rattle.dna_queues.proofs.SentTimed.{Sound}
 use Rattle.dna_queues.proofs.UserTimed.{Changes, one_sound}
@@ -46,9 +46,9 @@ pub passes_phase : (m : NspValue) (p : Port) (now other : Phase) → is_live oth
 passes_phase (NoOperation rest) p now other live e = e
 passes_phase m p now other live e = ap₂ (λ (a b : Bool). a && b) live (and_parts (is_live now) _ e).1
 
-connected_live : (p : Phase) → is_connected p ≡ true → (is_live p ≡ true) × (is_in Calling p ≡ false)
-connected_live Confirming e = (refl, refl)
-connected_live Running e = (refl, refl)
+connected_live : (p : Phase) → is_connected p ≡ true → (is_live p ≡ true) × (is_in Calling p ≡ false) × (is_called p ≡ false)
+connected_live Confirming e = (refl, refl, refl)
+connected_live Running e = (refl, refl, refl)
 connected_live p e = absurd cc
 
 module _ (dst src : ℕ) (p : Port) (connected : is_connected p.phase ≡ true) where
@@ -69,8 +69,8 @@ module _ (s : machine.Links) (sane : AreSane s) (later : List LinkRecord) (left 
   closes : (own i : ℕ) (l : Link) → IsUsed s sane.each (LiveAt own) i l → is_connected (phase_of l) ≡ true → (port : Port) (waits : Option Phase) →
       changed i (moved port waits l.segments.delivered l.segments.passed l) s ≡ left →
       port_of_waiting waits port ≡ record (in_use With l) { phase = Disconnecting } → port.own ≡ l.port.own → port.opened ≡ l.port.opened →
-      (is_live port.phase ≡ true → is_live l.port.phase ≡ true) → (is_called port.phase ≡ true → port.own ≡ None) →
-      ((p : Phase) → waits ≡ Some p → (port.phase ≡ Ended) × (can_end p ≡ true) × ((q : Phase) × (l.queue.waits ≡ Some q))) →
+      (is_live port.phase ≡ true → is_live l.port.phase ≡ true) → (is_called port.phase ≡ true → (port.own ≡ None) × (port.opened ≡ false)) →
+      ((p : Phase) → waits ≡ Some p → (port.phase ≡ Ended) × CanWait p port.opened × ((q : Phase) × (at_node l.queue.waits ≡ Some q))) →
       Sound s (OfUser (Close own) ∷ later)
   closes own i l u connected port waits same in_use_is own_same opened_same live_before called waits_before =
       let k = moved port waits l.segments.delivered l.segments.passed l in
@@ -89,37 +89,47 @@ module _ (s : machine.Links) (sane : AreSane s) (later : List LinkRecord) (left 
       (subst (λ (p : Port). passes (test_of m) p ≡ true) in_use_is e)) d.early d.can)
       (λ kept a. record {
         live = λ e. a.live (live_before e);
-        over = λ p e. first kept (let w = waits_before p e in a.over w.2.0 w.2.1);
+        over = λ p e. first kept (let w = waits_before p (at_node_some waits p e) in a.over w.2.0 w.2.1);
       })
       (λ n x y unique went q there. step n x y unique went q there) rest
     where
+      before : node_port l ≡ in_use With l
+      before = uncalled_use l (connected_live (phase_of l) connected).2
+
+      -- it is in DI then, in use and at the node
+      closed_node : (x : Link) → in_use With x ≡ in_use With l → node_port (moved port waits l.segments.delivered l.segments.passed x)
+          ≡ record (in_use With l) { phase = Disconnecting }
+      closed_node x same = uncalled_use (moved port waits l.segments.delivered l.segments.passed x) (ap (λ (p : Port). is_called p.phase) in_use_is)
+          ∙ in_use_is
+
       first : (kept : List SentMessage) → EndsFirst l kept → EndsFirst (moved port waits l.segments.delivered l.segments.passed l) kept
       first [] e = e
       first (unit ∷ units) e =
-          subst (λ (p : Port). is_end unit.packet.message p ≡ true) (sym in_use_is) (ends_closed unit.packet.message (in_use With l) connected e)
+          subst (λ (p : Port). is_end unit.packet.message p ≡ true) (sym (closed_node l refl))
+          (ends_closed unit.packet.message (in_use With l) connected (subst (λ (p : Port). is_end unit.packet.message p ≡ true) before e))
 
       step : (n : Node) (x y : Link) → IsUnique n.links → Went l x → moved port waits l.segments.delivered l.segments.passed x ≡ y →
           slice_get n.links.links i ≡ Some (hide x) → Changes (OfUser (Close own)) i n (hide y)
       step n x y unique went q there =
           let h = in_phase Disconnecting (hide x) in
-          let use_x = went_use l x went in
+          let use_x = went_node l x went ∙ before in
           let is : h ≡ hide (moved port waits l.segments.delivered l.segments.passed x) =
           ap₂ (λ (p : Port) (f : TrueSegments). record (hide x) { port = p; segments = record { segments = f; gap = x.queue.gap } })
-          (ap (λ (p : Port). record p { phase = Disconnecting }) use_x ∙ sym in_use_is)
+          (ap (λ (p : Port). record p { phase = Disconnecting }) use_x ∙ sym (closed_node x (went_use l x went)))
           (ap₂ (λ (ms : List (List ℕ)) (m : ℕ). given_user ms m x.segments) went.leaves.delivered went.leaves.passed) in
           record {
             links = changed i h n.links;
             makes = UserDoes (Close own) (changed i h n.links) tt
                 (at_found (LiveAt own) n.links i (hide x) _ _
                 (found n.links unique i x there (LiveAt own) own (live_owns own) (ap (passes (LiveAt own)) use_x ∙ u.passed))
-                ∙ passed_check (is_connected (phase_of x)) LinkState _ (ap (λ (p : Port). is_connected p.phase) use_x ∙ connected));
+                ∙ passed_check (is_connected (node_port x).phase) _ _ (ap (λ (p : Port). is_connected p.phase) use_x ∙ connected));
             set = subst (λ (g : LateLink). IsSet n.links (changed i h n.links) i g) (is ∙ ap hide q) (set_changed n.links i (hide x) h there);
           }
 
   pub close_sound : (own : ℕ) → user_step With true_segments s (Close own) ≡ Ok left → Sound s (OfUser (Close own) ∷ later)
   close_sound own e =
       used s sane.each (LiveAt own) (live_at own) (Err NoLink) _ (Ok left) e (λ e. absurd cc)
-      (λ i l u e. let c = checked (is_connected (phase_of l)) LinkState _ left e in
+      (λ i l u e. let c = checked (is_connected (phase_of l)) _ _ left e in
       by_live i l u c.0 (ap (λ (x : Link). changed i x s) (sym (closes_as l)) ∙ same_Ok _ left c.1) (is_live l.port.phase) refl)
     where
       by_live : (i : ℕ) (l : Link) → IsUsed s sane.each (LiveAt own) i l → is_connected (phase_of l) ≡ true → changed i (closed_link l) s ≡ left →
@@ -139,10 +149,18 @@ module _ (s : machine.Links) (sane : AreSane s) (later : List LinkRecord) (left 
           (ap (λ (x : Link). changed i x s) (sym (ap (λ (b : Bool). cond b (record l { port = record l.port { phase = Disconnecting } })
           (record l { queue = record l.queue { waits = Some Disconnecting } })) over)) ∙ same)
           (sym (use_port l.queue.waits l.port Disconnecting)) refl refl (λ e. e) (sane.each i l u.there).called
-          (λ p e. (dead_phase l.port.phase over, ap can_end (sym (same_Some Disconnecting p e)), waiting_phase l.queue.waits refl))
+          (λ p e. (
+            dead_phase l.port.phase over,
+            subst (λ (q : Phase). CanWait q l.port.opened) (same_Some Disconnecting p e) tt,
+            waiting_phase l.queue.waits refl,
+          ))
         where
-          waiting_phase : (w : Option Phase) → l.queue.waits ≡ w → (q : Phase) × (l.queue.waits ≡ Some q)
-          waiting_phase (Some q) e = (q, e)
+          waiting_phase : (w : Option Phase) → l.queue.waits ≡ w → (q : Phase) × (at_node l.queue.waits ≡ Some q)
+          waiting_phase (Some q) e = (
+            q,
+            ap at_node e ∙ at_node_same q
+                (ap (λ (w : Option Phase). is_called (port_of_waiting w l.port).phase) (sym e) ∙ (connected_live (phase_of l) connected).2),
+          )
           waiting_phase None e =
               let x : true ≡ false = sym (connected_live (phase_of l) connected).0
               ∙ ap (λ (w : Option Phase). is_live (port_of_waiting w l.port).phase) e ∙ over in absurd cc

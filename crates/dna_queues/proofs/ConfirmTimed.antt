@@ -9,22 +9,22 @@ use Rattle.dna_links.specs.declared.port.Phase.TheVariants.{Ended}
 use Rattle.dna_links.specs.declared.port.Port.{Port}
 use Rattle.dna_links.specs.declared.port.LinkTest.TheVariants.{HasAddress, TheLink, CalledBy}
 use Rattle.dna_links.specs.declared.queue.Queues.TheVariants.{Without, With}
-use Rattle.dna_links.specs.LookUps.{is_live, is_at}
+use Rattle.dna_links.specs.LookUps.{is_live, is_called, is_at}
 use Rattle.dna_links.specs.Links.{Carried, number_of, with_link, changed}
-use Rattle.dna_links.specs.Queues.{in_use, settled, drops, ended}
+use Rattle.dna_links.specs.Queues.{settled, drops, ended}
 use Rattle.dna_links.specs.inner.Forms.{of_no_link, truth_of, ending}
 use Rattle.dna_links.specs.Sending.{Sent, message_sent}
 use Rattle.dna_links.specs.TrueSegments.{TrueSegments, Numbers, sends_other, true_segments}
 use Rattle.dna_links.specs.TrueLinks as machine
 use Rattle.dna_links.specs.Runs.{SentMessage}
 use Rattle.dna_links.proofs.Tables.Outcomes.{IsFound, looked}
-use Rattle.dna_queues.proofs.Facts.{not_both, passed_check, same_links, by_option}
+use Rattle.dna_queues.proofs.Facts.{not_both, passed_check, same_links, by_option, refused_link, refused_is}
 use Rattle.dna_queues.specs.Records.{LinkRecord, Sends}
 use Rattle.dna_queues.specs.Hidden.{late_segments, Node, waiting, link_it_is_for, link_it_is_of}
 use Rattle.dna_queues.specs.Made.{IsFree, EndsCall, SendsConfirm, SendsNothing, MadeByHidden, Makes}
-use Rattle.dna_queues.proofs.Goes.{Link}
+use Rattle.dna_queues.proofs.Goes.{Link, node_port}
 use Rattle.dna_queues.proofs.LinkLists.{IsSet, set_changed, at_none, at_found}
-use Rattle.dna_queues.proofs.Turns.{live_use, called_phase}
+use Rattle.dna_queues.proofs.Turns.{Sane, live_node, called_phase}
 use Rattle.dna_queues.proofs.Early.{none_before}
 use Rattle.dna_queues.proofs.Hide.{LateLink, hide}
 use Rattle.dna_queues.proofs.Dues.{put_packets, none_link, Due, put, put_here, AreSane}
@@ -80,27 +80,33 @@ module _ (s : machine.Links) (sane : AreSane s) (later : List LinkRecord) (packe
 
       ends : (i : ℕ) (l : Link) → IsFound (CalledBy dst) s i l → changed i (drops true_segments With l) s ≡ made.links →
           Sound s (Sends packet ∷ later)
-      ends i l found same = go (rest left_sane)
+      ends i l found was = go (rest left_sane)
         where
-          set : IsSet s made.links i (drops true_segments With l)
-          set = subst (λ (x : machine.Links). IsSet s x i (drops true_segments With l)) same
-              (set_changed s i l (drops true_segments With l) found.there)
+          sane_called : Sane l
+          sane_called = sane.each i l found.there
+
+          same : changed i (refused_link l) s ≡ made.links
+          same = ap (λ (x : Link). changed i x s) (sym (refused_is l (sane_called.called (ap is_called (called_phase dst l.port found.passed))).1)) ∙ was
+
+          set : IsSet s made.links i (refused_link l)
+          set = subst (λ (x : machine.Links). IsSet s x i (refused_link l)) same
+              (set_changed s i l (refused_link l) found.there)
 
           left_sane : AreSane made.links
-          left_sane = set_sane s sane i l found.there made.links (drops true_segments With l) set refl (record {
+          left_sane = set_sane s sane i l found.there made.links (refused_link l) set refl (record {
             began = tt;
             opened = (sane.each i l found.there).opened;
             called = λ e. absurd cc;
             waits = λ p e. absurd cc;
           })
 
-          live : in_use With l ≡ l.port
-          live = live_use l (sane.each i l found.there) (ap is_live (called_phase dst l.port found.passed))
+          live : node_port l ≡ l.port
+          live = live_node l sane_called (ap is_live (called_phase dst l.port found.passed))
 
           go : Sound made.links later → Sound s (Sends packet ∷ later)
           go r = record {
             dues = put i mine r.dues;
-            due = due_none s sane i l found.there made.links (drops true_segments With l) set r.dues r.due;
+            due = due_none s sane i l found.there made.links (refused_link l) set r.dues r.due;
             made = λ n t. by_node n t;
           }
             where
@@ -108,13 +114,13 @@ module _ (s : machine.Links) (sane : AreSane s) (later : List LinkRecord) (packe
               mine = record { packets = []; link = l }
 
               nothing_due : (r.dues i).packets ≡ []
-              nothing_due = let d = r.due.each i (drops true_segments With l) set.here in
-                  none_before made.links.node made.links.peer (r.dues i).packets (drops true_segments With l) (λ x. x ≡ (r.dues i).link) refl
+              nothing_due = let d = r.due.each i (refused_link l) set.here in
+                  none_before made.links.node made.links.peer (r.dues i).packets (refused_link l) (λ x. x ≡ (r.dues i).link) refl
                   d.early d.can
 
-              link_is : drops true_segments With l ≡ (r.dues i).link
-              link_is = none_link made.links.node made.links.peer (drops true_segments With l) (r.dues i)
-                  (r.due.each i (drops true_segments With l) set.here) nothing_due
+              link_is : refused_link l ≡ (r.dues i).link
+              link_is = none_link made.links.node made.links.peer (refused_link l) (r.dues i)
+                  (r.due.each i (refused_link l) set.here) nothing_due
 
               by_node : (n : Node) → Timed s (put i mine r.dues) n → MadeByHidden n (Sends packet ∷ later)
               by_node n t =
@@ -135,7 +141,7 @@ module _ (s : machine.Links) (sane : AreSane s) (later : List LinkRecord) (packe
                   (subst (λ (z : Bool). EndsCall z (ending late_segments f.next.links i (hide l)) f.next) (sym zero)
                   (λ number e. says i number (same_Some i number e) f.next (u.composed i ∙ ap (λ (d : Due). d.packets) here))))
                   (r.made (record f.next { links = links })
-                  (set_timed s sane i l found.there made.links (drops true_segments With l) set r.dues r.due mine f.next
+                  (set_timed s sane i l found.there made.links (refused_link l) set r.dues r.due mine f.next
                   (record f.next { links = links }) u
                   (subst (λ (x : LateLink). IsSet f.next.links links i x)
                   (ap (λ (p : Port). record (hide l) { port = record p { phase = Ended } }) live ∙ ap hide link_is)
@@ -149,7 +155,7 @@ module _ (s : machine.Links) (sane : AreSane s) (later : List LinkRecord) (packe
                   says i number same n none =
                       subst (λ (m : ℕ). waiting link_it_is_of (Some m) n.composed ≡ []) same (no_packets _ none)
 
-                  awaits_on : (l : Link) (kept : List SentMessage) → Awaits l kept → Awaits (drops true_segments With l) kept
+                  awaits_on : (l : Link) (kept : List SentMessage) → Awaits l kept → Awaits (refused_link l) kept
                   awaits_on l kept a = record { live = λ e. absurd cc; over = λ p e. absurd cc }
 
 -- ---- by message

@@ -22,7 +22,7 @@ use Rattle.dna_queues.proofs.Facts.{same_Ok}
 use Rattle.dna_queues.specs.Records.{LinkRecord, OfUser}
 use Rattle.dna_queues.specs.Hidden.{late_segments, Node, over, delivered_over}
 use Rattle.dna_queues.specs.Made.{UserDoes}
-use Rattle.dna_queues.proofs.Goes.{Link, phase_of, use_own}
+use Rattle.dna_queues.proofs.Goes.{Link, phase_of, node_own, at_node}
 use Rattle.dna_queues.proofs.LinkLists.{IsUnique, IsSet, set_changed, at_found}
 use Rattle.dna_queues.proofs.Given.{own_owns}
 use Rattle.dna_queues.proofs.Delivered.{Leaves, given_user}
@@ -90,10 +90,10 @@ module _ (s : machine.Links) (sane : AreSane s) (later : List LinkRecord) (left 
                 makes = UserDoes (Up own message) (changed i h n.links) tt
                     (at_found (HasAddress own) n.links i (hide x) _ _
                     (found n.links unique i x there (HasAddress own) own (own_owns own)
-                    (ap (λ (o : Option ℕ). is_at o own) (use_own x ∙ ap (λ (p : Port). p.own) went.port) ∙ f.passed))
+                    (ap (λ (o : Option ℕ). is_at o own) (node_own x ∙ ap (λ (p : Port). p.own) went.port) ∙ f.passed))
                     ∙ ap (λ (o : Option TrueSegments). delivered late_segments i (hide x) n.links (delivered_over (hide x).segments o)) t.too);
                 set = subst (λ (y : LateLink). IsSet n.links (changed i h n.links) i y)
-                    (ap₂ (λ (p : Port) (w : Option Phase). record h { port = port_of_waiting w p }) went.port went.waits ∙ ap hide q)
+                    (ap₂ (λ (p : Port) (w : Option Phase). record h { port = port_of_waiting (at_node w) p }) went.port went.waits ∙ ap hide q)
                     (set_changed n.links i (hide x) h there);
               }
 

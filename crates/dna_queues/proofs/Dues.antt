@@ -10,7 +10,7 @@ use Rattle.dna_links.specs.LookUps.{is_at}
 use Rattle.dna_links.specs.Links.{Carried}
 use Rattle.dna_links.specs.Queues.{in_use}
 use Rattle.dna_links.specs.TrueLinks as machine
-use Rattle.dna_queues.proofs.Goes.{Link, phase_of, Goes}
+use Rattle.dna_queues.proofs.Goes.{Link, phase_of, Goes, node_port}
 use Rattle.dna_queues.proofs.LinkLists.{IsUnique}
 use Rattle.dna_queues.proofs.Beside.{eqb-same, eqb-other}
 use Rattle.dna_queues.proofs.Delivered.{Leaves}
@@ -78,6 +78,10 @@ went_can node peer packets l y can = went_all node peer packets l l y (went_itse
 
 pub went_use : (l x : Link) → Went l x → in_use With x ≡ in_use With l
 went_use l x w = ap₂ (λ (waits : Option Phase) (port : Port). in_use With (record l { port = port; queue = record l.queue { waits = waits } }))
+    w.waits w.port
+
+pub went_node : (l x : Link) → Went l x → node_port x ≡ node_port l
+went_node l x w = ap₂ (λ (waits : Option Phase) (port : Port). node_port (record l { port = port; queue = record l.queue { waits = waits } }))
     w.waits w.port
 
 pub record IsDue (node peer : ℕ) (l : Link) (due : Due) : Type 0 where

@@ -3,12 +3,12 @@ use Rattle.std.proofs.Common.{◌≡◌, ℕ, Bool, true, false, ◌&&◌, ◌||
 use Rattle.std.proofs.Common.{None, is_none, List, [], ◌∷◌, ◌++◌, refl, sym, ap, ◌∙◌, subst, inl, inr}
 use Rattle.dna_packet.specs.Nsp.{NspValue, IsInRange}
 use Rattle.dna_links.specs.declared.port.Phase.{Phase}
-use Rattle.dna_links.specs.declared.port.Phase.TheVariants.{Calling, Confirming, Running, Disconnecting}
+use Rattle.dna_links.specs.declared.port.Phase.TheVariants.{Calling, Called, Confirming, Running, Disconnecting}
 use Rattle.dna_links.specs.Links.{Carried}
 use Rattle.dna_queues.proofs.Goes.{Link, phase_of, Goes}
 use Rattle.dna_queues.proofs.Shapes.{Shape, goes_shape}
 use Rattle.dna_queues.proofs.Turns.{asks, is_past, is_now, is_in_same, Sane, sane_on, turn, HasSaid, said_on, said_now, nothing_past}
-use Rattle.dna_queues.proofs.Turns.{has_run, IsMute, mute_never, mute_on}
+use Rattle.dna_queues.proofs.Turns.{has_past, IsMute, mute_never, mute_on}
 use Rattle.dna_queues.proofs.Facts.{by_test, not_both}
 use Rattle.std.proofs.lemmas.Bool.{or_right, or_cases}
 
@@ -73,13 +73,14 @@ module _ (node peer : ℕ) where
   none_early packets l P said early can = no_early HasSaid nothing_past said_on packets l P said early can
 
   -- before RUN
-  pub none_before : (packets : List Carried) (l : Link) (P : Link → Type 0) → has_run (phase_of l) ≡ false → AreEarly (phase_of l) packets →
+  pub none_before : (packets : List Carried) (l : Link) (P : Link → Type 0) → has_past (phase_of l) ≡ false → AreEarly (phase_of l) packets →
       CanGo packets l P → packets ≡ []
-  none_before packets l P before early can = no_early (λ x. has_run (phase_of x) ≡ false)
+  none_before packets l P before early can = no_early (λ x. has_past (phase_of x) ≡ false)
       (λ x y m b g past. not_past (asks m) (phase_of x) b past)
-      (λ x y b s. ap has_run (same_phase x y s) ∙ b) packets l P before early can
+      (λ x y b s. ap has_past (same_phase x y s) ∙ b) packets l P before early can
     where
-      not_past : (a : Option Phase) (p : Phase) → has_run p ≡ false → is_past a p ≡ true → ⊥
+      not_past : (a : Option Phase) (p : Phase) → has_past p ≡ false → is_past a p ≡ true → ⊥
+      not_past a Called b past = absurd cc
       not_past (Some Calling) p b past = not_both _ past b
       not_past (Some Confirming) p b past = not_both _ past b
       not_past (Some Running) Disconnecting b past = absurd cc

@@ -6,6 +6,7 @@ use Rattle.std.proofs.lemmas.Bool.{and_parts}
 use Rattle.dna_packet.specs.Nsp.{NoOperation, DisconnectConfirm}
 use Rattle.dna_station.specs.declared.link_refusal.LinkRefusal.{LinkRefusal}
 use Rattle.dna_station.specs.declared.link_refusal.LinkRefusal.TheVariants.{WrongNode, LinkState}
+use Rattle.dna_links.specs.declared.port.Port.{Port}
 use Rattle.dna_links.specs.declared.port.LinkTest.TheVariants.{HasAddress, TheLink, CalledBy}
 use Rattle.dna_links.specs.declared.queue.Queues.TheVariants.{Without, With}
 use Rattle.dna_links.specs.LookUps.{passes, is_at, is_called}
@@ -16,7 +17,7 @@ use Rattle.dna_links.specs.Sending.{Sent, sent_step, message_sent}
 use Rattle.dna_links.specs.TrueSegments.{TrueSegments, Numbers, sends_other, true_segments}
 use Rattle.dna_links.specs.TrueLinks as machine
 use Rattle.dna_links.proofs.Tables.Outcomes.{IsFound, looked, checked}
-use Rattle.dna_queues.proofs.Facts.{passed_check, same_Ok}
+use Rattle.dna_queues.proofs.Facts.{passed_check, same_Ok, refused_is}
 use Rattle.dna_queues.specs.Records.{AreAnswered, links_left, next_links}
 use Rattle.dna_queues.specs.Records as records
 use Rattle.dna_queues.specs.Hidden.{LateSegments, late_segments, Links, Node, link_it_is_for, link_it_is_of, waiting}
@@ -127,8 +128,9 @@ module _ (n : Node) (t : machine.Links) (b : Beside n t) (near : AreAnswered t) 
                     (unique_set n.links (changed number (ended late_segments h) n.links) number h (ended late_segments h) set found.there refl
                     b.unique)
                     (follows_as _ _ _ _ _ _ (sym nothing) (sym quiet)
-                    (dead_follows h (ended late_segments h) l.0 (drops true_segments With l.0) refl refl (follows_as h l.0 _ _ _ _ nothing quiet
-                    f))));
+                    (dead_follows h (ended late_segments h) l.0 (drops true_segments With l.0) refl
+                    (refused_is l.0 (ap (λ (p : Port). p.opened) (sym m.port) ∙ (f.called called).1))
+                    (follows_as h l.0 _ _ _ _ nothing quiet f))));
               }
 
       go : number_of (TheLink src dst) t ≡ None → (z : Bool) → (src == 0) ≡ z →

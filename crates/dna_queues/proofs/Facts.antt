@@ -1,11 +1,12 @@
 -- Facts of tests, phases and refusals that many proofs name.
-use Rattle.std.proofs.Common.{◌≡◌, Bool, true, false, Result, Ok, refl, Option, Some, None, Err}
+use Rattle.std.proofs.Common.{◌≡◌, Bool, true, false, Result, Ok, refl, ap, Option, Some, None, Err}
 use Rattle.dna_station.specs.declared.link_refusal.LinkRefusal.{LinkRefusal}
 use Rattle.dna_links.specs.declared.port.Phase.{Phase}
 use Rattle.dna_links.specs.declared.port.Phase.TheVariants.{Calling, Confirming, Running, Ended}
 use Rattle.dna_links.specs.LookUps.{is_in, is_live, is_connected}
-use Rattle.dna_links.specs.Links.{check}
-use Rattle.dna_links.specs.Queues.{lets_go}
+use Rattle.dna_links.specs.Links.{LinkOf, check}
+use Rattle.dna_links.specs.declared.queue.Queues.TheVariants.{With}
+use Rattle.dna_links.specs.Queues.{lets_go, drops, drops_segments, call_of}
 use Rattle.dna_links.specs.TrueSegments.{TrueSegments, true_segments, Numbers}
 use Rattle.dna_links.specs.Sending.{Sent}
 use Rattle.dna_links.specs.LinkBook.{on_ok}
@@ -62,6 +63,21 @@ pub was_ok_first : {X Y R : Type 0} (r : Result X LinkRefusal) (next : X → Res
     on_ok (on_ok r next) last ≡ Ok y → (x : X) × (r ≡ Ok x) × (on_ok (next x) last ≡ Ok y)
 was_ok_first (Ok x) next last y e = (x, refl, e)
 was_ok_first (Err refusal) next last y e = absurd cc
+
+pub drops_still : (opened : Bool) (f : TrueSegments) → drops_segments true_segments opened f ≡ f
+drops_still true f = refl
+drops_still false f = refl
+
+-- a call that came is over by its own DC, and nothing of it waits
+abbrev pub refused_link : LinkOf TrueSegments → LinkOf TrueSegments
+refused_link l = record l { port = record l.port { phase = Ended }; queue = record l.queue { waits = None } }
+
+pub refused_is : (l : LinkOf TrueSegments) → l.port.opened ≡ false → drops true_segments With l ≡ refused_link l
+refused_is l came = ap (λ (o : Bool). record l {
+  port = record l.port { phase = Ended };
+  segments = drops_segments true_segments o l.segments;
+  queue = record l.queue { waits = call_of o };
+}) came
 
 -- on true numbers nothing is let go
 pub lets_still : (before now : Bool) (f : TrueSegments) → lets_go true_segments before now f ≡ f

@@ -20,7 +20,7 @@ pub record Follows (h : LateLink) (l : Link) (kept composed : List SentMessage) 
   pub used : Phase
   pub of_use : is_live h.port.phase ≡ true → used ≡ h.port.phase
   pub fresh : is_calling h.port.phase ≡ true → h.port.far ≡ None
-  pub called : is_called h.port.phase ≡ true → h.port.own ≡ None
+  pub called : is_called h.port.phase ≡ true → (h.port.own ≡ None) × (h.port.opened ≡ false)
   pub ahead : Ahead kept (seen_as used h) l
   pub acknowledged : h.segments.segments.acknowledged ≤ l.segments.acknowledged
   pub passed : l.segments.passed ≡ h.segments.segments.passed
@@ -58,7 +58,7 @@ act_follows h l unit kept composed answered f =
       used = a.then_used;
       of_use = a.of_use;
       fresh = a.fresh;
-      called = λ e. a.own ∙ f.called (a.called e);
+      called = λ e. let c = f.called (a.called e) in (a.own ∙ c.0, a.opened ∙ c.1);
       ahead = ahead;
       acknowledged = low;
       passed = f.passed ∙ sym a.passed;

@@ -133,7 +133,7 @@ module _ (s : Links) where
       record {
         links = changed number k s;
         does = at_found (LiveAt own) s number t.h _ _ t.found
-            ∙ passed_check (takes_messages t.h.port.phase) LinkState _ (ap (λ (x : Link). takes_messages x.port.phase) t.is ∙ may);
+            ∙ passed_check (takes_messages t.h.port.phase) _ _ (ap (λ (x : Link). takes_messages x.port.phase) t.is ∙ may);
         same = changed_forget number k s
             ∙ ap (λ (x : Link). changed number (with_segments (hands_in message x.segments) x) (forget_links s)) t.is;
       }
@@ -152,7 +152,7 @@ module _ (s : Links) where
       record {
         links = changed number (in_phase Disconnecting t.h) s;
         does = at_found (LiveAt own) s number t.h _ _ t.found
-            ∙ passed_check (is_connected t.h.port.phase) LinkState _ (ap (λ (x : Link). is_connected x.port.phase) t.is ∙ connected);
+            ∙ passed_check (is_connected t.h.port.phase) _ _ (ap (λ (x : Link). is_connected x.port.phase) t.is ∙ connected);
         same = changed_forget number (in_phase Disconnecting t.h) s
             ∙ ap (λ (x : Link). changed number (in_phase Disconnecting x) (forget_links s)) t.is;
       }
@@ -161,7 +161,7 @@ module _ (s : Links) where
       record {
         links = changed number (ended late_segments t.h) s;
         does = at_found (LiveAt own) s number t.h _ _ t.found
-            ∙ passed_check (is_calling t.h.port.phase) LinkState _ (ap (λ (x : Link). is_calling x.port.phase) t.is ∙ calling);
+            ∙ passed_check (is_calling t.h.port.phase) _ _ (ap (λ (x : Link). is_calling x.port.phase) t.is ∙ calling);
         same = changed_forget number (ended late_segments t.h) s
             ∙ ap (λ (x : Link). changed number (ended true_segments x) (forget_links s)) t.is;
       }

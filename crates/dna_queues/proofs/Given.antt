@@ -8,7 +8,7 @@ use Rattle.dna_links.specs.declared.port.LinkTest.{LinkTest}
 use Rattle.dna_links.specs.declared.port.LinkTest.TheVariants.{HasAddress, LiveAt}
 use Rattle.dna_links.specs.declared.queue.Queues.{Queues}
 use Rattle.dna_links.specs.declared.queue.Queues.TheVariants.{Without, With}
-use Rattle.dna_links.specs.LookUps.{passes, is_in, is_live, is_at}
+use Rattle.dna_links.specs.LookUps.{passes, is_in, is_live, is_called, is_at}
 use Rattle.dna_links.specs.SegmentBook.{SegmentBook}
 use Rattle.dna_links.specs.Links.{LinksOf, number_of, begun, changed}
 use Rattle.dna_links.specs.Queues.{forgotten, freed}
@@ -67,7 +67,7 @@ forgotten_follows h l over f =
       used = f.used;
       of_use = f.of_use;
       fresh = f.fresh;
-      called = λ e. refl;
+      called = λ e. let never : true ≡ false = sym e ∙ ap is_called over in absurd cc;
       ahead = record {
         port = ap (λ (p : Port). record p { own = None }) meets.port;
         partner = meets.partner;

@@ -1,14 +1,14 @@
 -- An address is given: what waits for it is acted on before, and the link that had it is forgotten. So where a link is opened.
-use Rattle.std.proofs.Common.{◌≡◌, ℕ, ◌≤◌, Bool, true, false, ◌&&◌, Option, Some, None, List, ◌∷◌, refl, sym, ap, ap₂, ◌∙◌, subst, eqb-true, arith}
+use Rattle.std.proofs.Common.{◌≡◌, ℕ, ◌≤◌, Bool, true, false, ◌&&◌, Option, Some, None, List, [], ◌∷◌, refl, sym, ap, ap₂, ◌∙◌, subst, eqb-true, arith}
 use Rattle.std.specs.Prelude.{slice_get}
 use Rattle.dna_links.specs.declared.port.Phase.{Phase}
 use Rattle.dna_links.specs.declared.port.Phase.TheVariants.{Ended}
 use Rattle.dna_links.specs.declared.port.Port.{Port}
 use Rattle.dna_links.specs.declared.port.LinkTest.TheVariants.{HasAddress, LiveAt}
 use Rattle.dna_links.specs.declared.queue.Queues.TheVariants.{Without, With}
-use Rattle.dna_links.specs.LookUps.{passes, is_live, is_at}
-use Rattle.dna_links.specs.Links.{number_of, begun, changed}
-use Rattle.dna_links.specs.Queues.{in_use, freed, forgotten}
+use Rattle.dna_links.specs.LookUps.{passes, is_live, is_called, is_at}
+use Rattle.dna_links.specs.Links.{Carried, number_of, begun, changed}
+use Rattle.dna_links.specs.Queues.{freed, forgotten}
 use Rattle.dna_links.specs.inner.Forms.{opened}
 use Rattle.dna_links.specs.User.{Open}
 use Rattle.dna_links.specs.TrueSegments.{true_segments}
@@ -18,12 +18,12 @@ use Rattle.dna_queues.proofs.Facts.{dead_phase, not_both}
 use Rattle.dna_queues.specs.Records.{LinkRecord, OfUser}
 use Rattle.dna_queues.specs.Hidden.{late_segments, Links, Node, link_it_is_for}
 use Rattle.dna_queues.specs.Made.{IsFree, UserDoes, Makes}
-use Rattle.dna_queues.proofs.Goes.{Link, use_own}
+use Rattle.dna_queues.proofs.Goes.{Link, phase_of, node_port, node_own}
 use Rattle.dna_queues.proofs.Given.{freed_changed}
 use Rattle.dna_queues.proofs.Lists.{waiting_none}
 use Rattle.dna_queues.proofs.LinkLists.{IsSet, IsChanged, set_changed, at_none, at_found, none_passes, changed_each}
-use Rattle.dna_queues.proofs.Turns.{Began, has_run}
-use Rattle.dna_queues.proofs.Early.{none_before}
+use Rattle.dna_queues.proofs.Turns.{Began, has_past}
+use Rattle.dna_queues.proofs.Early.{CanGo, AreEarly, none_before}
 use Rattle.dna_queues.proofs.Hide.{hide}
 use Rattle.dna_queues.proofs.Dues.{Due, AreDue, AreSane}
 use Rattle.dna_queues.proofs.Timed.{Timed}
@@ -60,7 +60,7 @@ module _ (s : machine.Links) (sane : AreSane s) (own : ℕ) (one : 1 ≤ own) (n
       (λ j x n differs at own_x own_k. absurd cc) refl (record {
         began = subst (λ (p : Phase). Began p l.port.opened l.queue.accepted l.queue.ran) (sym (over i l found.there found.passed)) tt;
         opened = (sane.each i l found.there).opened;
-        called = λ e. refl;
+        called = λ e. let x : true ≡ false = sym e ∙ ap is_called (over i l found.there found.passed) in absurd cc;
         waits = λ p e. absurd cc;
       }))
 
@@ -77,7 +77,7 @@ module _ (s : machine.Links) (sane : AreSane s) (own : ℕ) (one : 1 ≤ own) (n
   gives dues due =
       let a = addressed s sane own (forgotten true_segments With) (freed true_segments With own s) dues due refl
       (λ i l found packets P early can. none_before left.node left.peer packets (forgotten true_segments With l) P
-      (ap has_run (over i l found.there found.passed)) early can)
+      (ap has_past (over i l found.there found.passed)) early can)
       (λ i l found kept none. awaits_nothing (forgotten true_segments With l) _ refl (waiting_none link_it_is_for kept)) in
       record {
         before = a.before;
@@ -105,7 +105,7 @@ module _ (s : machine.Links) (sane : AreSane s) (own : ℕ) (one : 1 ≤ own) (n
 
   pub none_then : (dues : ℕ → Due) (n : Node) (t : Timed s dues n) → number_of (LiveAt own) (flushed s sane dues n t own).next.links ≡ None
   none_then dues n t =
-      flushed_number s sane dues n t own (LiveAt own) (λ j l at has. fails (in_use With l) (ap (λ (o : Option ℕ). is_at o own) (use_own l) ∙ has)
+      flushed_number s sane dues n t own (LiveAt own) (λ j l at has. fails (node_port l) (ap (λ (o : Option ℕ). is_at o own) (node_own l) ∙ has)
       ∙ sym (fails l.port has)) ∙ none_live
     where
       and_false : (b c : Bool) → c ≡ false → (b && c) ≡ false
@@ -133,9 +133,13 @@ module _ (s : machine.Links) (sane : AreSane s) (own : ℕ) (one : 1 ≤ own) (n
         k : Link
         k = opened true_segments own
 
+        none_early : (packets : List Carried) (P : Link → Type 0) → AreEarly (phase_of (opened true_segments own)) packets →
+            CanGo (freed true_segments With own s).node (freed true_segments With own s).peer packets (opened true_segments own) P → packets ≡ []
+        none_early packets P early can = none_before _ _ packets (opened true_segments own) P refl early can
+
         go : Sound (begun (opened true_segments own) left) later → Sound s (OfUser (Open own) ∷ later)
         go r =
-            let g = gives r.dues (begun_due left (opened true_segments own) refl r.dues r.due) in
+            let g = gives r.dues (begun_due left (opened true_segments own) none_early r.dues r.due) in
             record {
               dues = g.before;
               due = g.due;
@@ -146,6 +150,6 @@ module _ (s : machine.Links) (sane : AreSane s) (own : ℕ) (one : 1 ≤ own) (n
                   (UserDoes (Open own) (begun (opened late_segments own) fl) (g.free n t)
                   (at_none (LiveAt own) f.next.links _ _ (none_then g.before n t)))
                   (r.made (record f.next { links = begun (opened late_segments own) fl })
-                  (begun_timed left (opened true_segments own) refl r.dues r.due (record f.next { links = fl }) (g.timed n t)
+                  (begun_timed left (opened true_segments own) none_early r.dues r.due (record f.next { links = fl }) (g.timed n t)
                   (awaits_nothing (opened true_segments own) _ refl f.none))));
             }

@@ -5,13 +5,13 @@ use Rattle.dna_packet.specs.declared.ack_word.AckWord.{AckWord}
 use Rattle.dna_packet.specs.Nsp.{SegmentValue, NspValue, DataSegment, LinkService, DataAck, OtherDataAck, ConnectAck, NoOperation, ConnectInitiate}
 use Rattle.dna_packet.specs.Nsp.{ConnectConfirm, DisconnectInitiate, DisconnectConfirm, IsInRange}
 use Rattle.dna_links.specs.declared.port.Phase.{Phase}
-use Rattle.dna_links.specs.declared.port.Phase.TheVariants.{Calling, Confirming, Running, Disconnecting}
+use Rattle.dna_links.specs.declared.port.Phase.TheVariants.{Calling, Called, Confirming, Running, Disconnecting}
 use Rattle.dna_links.specs.declared.port.LinkTest.{LinkTest}
 use Rattle.dna_links.specs.declared.port.LinkTest.TheVariants.{HasAddress, TheLink, OpenedAt, BegunBy}
 use Rattle.dna_links.specs.declared.queue.Queues.TheVariants.{With}
 use Rattle.dna_links.specs.declared.queue.Said.{Said}
 use Rattle.dna_links.specs.declared.queue.Said.TheVariants.{Nothing, OfRun, Disconnect}
-use Rattle.dna_links.specs.LookUps.{passes, is_in, is_live, is_at, has_both}
+use Rattle.dna_links.specs.LookUps.{passes, is_in, is_live, is_called, is_at, has_both}
 use Rattle.dna_links.specs.SegmentBook.{Sending, Late, wider}
 use Rattle.dna_links.specs.Links.{LinkOf}
 use Rattle.dna_links.specs.Queues.{is_silent, is_over, further, in_use, may_send, port_of_waiting}
@@ -147,6 +147,41 @@ use_far l = ap (λ (p : Port). p.far) (use_port l.queue.waits l.port l.port.phas
 
 pub use_opened : (l : Link) → (in_use With l).opened ≡ l.port.opened
 use_opened l = ap (λ (p : Port). p.opened) (use_port l.queue.waits l.port l.port.phase)
+
+-- ---- ports at the node
+
+-- of a call that was given up nothing waits there: it is over
+abbrev pub at_node : Option Phase → Option Phase
+at_node (Some Called) = None
+at_node waits = waits
+
+abbrev pub node_port : Link → Port
+node_port l = port_of_waiting (at_node l.queue.waits) l.port
+
+pub node_own : (l : Link) → (node_port l).own ≡ l.port.own
+node_own l = ap (λ (p : Port). p.own) (use_port (at_node l.queue.waits) l.port l.port.phase)
+
+pub at_node_some : (w : Option Phase) (p : Phase) → at_node w ≡ Some p → w ≡ Some p
+at_node_some None p e = e
+at_node_some (Some Called) p e = absurd cc
+at_node_some (Some phase) p e = e
+
+pub at_node_same : (p : Phase) → is_called p ≡ false → at_node (Some p) ≡ Some p
+at_node_same Called e = absurd cc
+at_node_same p e = refl
+
+-- any other link is there by its port in use
+pub node_use : (l : Link) → (l.queue.waits ≡ Some Called → ⊥) → node_port l ≡ in_use With l
+node_use l not_called = go l.queue.waits not_called
+  where
+    go : (w : Option Phase) → (w ≡ Some Called → ⊥) → port_of_waiting (at_node w) l.port ≡ port_of_waiting w l.port
+    go None e = refl
+    go (Some Called) e = absurd (e refl)
+    go (Some p) e = refl
+
+pub uncalled_use : (l : Link) → is_called (phase_of l) ≡ false → node_port l ≡ in_use With l
+uncalled_use l uncalled = node_use l (λ e. let x : true ≡ false =
+    sym (ap (λ (w : Option Phase). is_called (port_of_waiting w l.port).phase) e) ∙ uncalled in absurd cc)
 
 -- ---- what is said
 

@@ -25,7 +25,7 @@ use Rattle.dna_links.specs.TrueLinks as machine
 use Rattle.dna_links.specs.CutSegments.{IsAnswered}
 use Rattle.dna_links.proofs.Tables.Outcomes.{position_passes}
 use Rattle.dna_links.proofs.Runs.Sides.{at_set}
-use Rattle.dna_queues.proofs.Facts.{not_both}
+use Rattle.dna_queues.proofs.Facts.{not_both, drops_still}
 use Rattle.dna_queues.proofs.Goes.{Link}
 use Rattle.dna_queues.proofs.LinkLists.{position_same, there_too}
 
@@ -158,9 +158,12 @@ booted_alike s t a = record {
     same : (x y : Link) → AreSameOrGone x y → AreSameOrGone (over x) (over y)
     same x y (inl e) = inl (ap over e)
     same x y (inr g) = inr (
-      record { phase = refl; own = refl; waits = refl; answered = g.0.answered },
-      record { phase = refl; own = refl; waits = refl; answered = g.1.answered },
+      record { phase = refl; own = refl; waits = refl; answered = still x g.0.answered },
+      record { phase = refl; own = refl; waits = refl; answered = still y g.1.answered },
     )
+      where
+        still : (l : Link) → IsAnswered l.segments → IsAnswered (over l).segments
+        still l answered = subst IsAnswered (sym (drops_still l.port.opened l.segments)) answered
 
     at : (i : ℕ) (x y : Link) (o p : Option Link) → slice_get s.links i ≡ o → slice_get t.links i ≡ p → option_map over o ≡ Some x →
         option_map over p ≡ Some y → AreSameOrGone x y
@@ -244,7 +247,7 @@ module _ {R : Type 0} (Rel : R → R → Type 0) where
         (use_alike s t a test (ResultsAlike Rel) (Err refusal) (Err refusal) _ _ refl (λ n l. asked_alike effects asks number link known))
         (λ n l. asked_alike effects asks (Some n) l _)
     asked_alike effects (InPhase phases refusal ∷ asks) number link known =
-        check_alike (phases (in_use With link).phase) refusal _ _ (asked_alike effects asks number link known)
+        check_alike (phases (in_use With link).phase) _ _ _ (asked_alike effects asks number link known)
     asked_alike effects (InTurn phase refusal ∷ asks) number link known =
         check_alike (may_send With phase link) refusal _ _ (asked_alike effects asks number link known)
     asked_alike effects (OrElse true others ∷ asks) number link known = asked_alike effects asks number link known

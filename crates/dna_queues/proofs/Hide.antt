@@ -1,5 +1,5 @@
 -- A link of the machine as the node with queues has it, and the messages that it composes then.
-use Rattle.std.proofs.Common.{◌≡◌, ℕ, true, Some, Result, Ok, Err, refl, sym, ap, ◌∙◌, subst}
+use Rattle.std.proofs.Common.{◌≡◌, ℕ, true, false, Some, Result, Ok, Err, refl, sym, ap, ◌∙◌, subst}
 use Rattle.std.specs.Prelude.{slice_get}
 use Rattle.dna_packet.specs.Nsp.{NspValue, DataSegment, LinkService, DataAck, OtherDataAck, ConnectAck, ConnectInitiate}
 use Rattle.dna_packet.specs.Nsp.{ConnectConfirm, DisconnectInitiate}
@@ -7,10 +7,11 @@ use Rattle.dna_station.specs.declared.link_refusal.LinkRefusal.{LinkRefusal}
 use Rattle.dna_station.specs.declared.link_refusal.LinkRefusal.TheVariants.{NoLink, LinkState}
 use Rattle.dna_links.specs.declared.port.Phase.{Phase}
 use Rattle.dna_links.specs.declared.port.Phase.TheVariants.{Calling, Confirming, Running, Disconnecting}
+use Rattle.dna_links.specs.declared.port.Port.{Port}
 use Rattle.dna_links.specs.declared.port.LinkTest.{LinkTest}
 use Rattle.dna_links.specs.declared.port.LinkTest.TheVariants.{TheLink, OpenedAt}
 use Rattle.dna_links.specs.declared.queue.Queues.TheVariants.{Without, With}
-use Rattle.dna_links.specs.LookUps.{passes, is_in}
+use Rattle.dna_links.specs.LookUps.{passes, is_in, is_called}
 use Rattle.dna_links.specs.SegmentBook.{Sending, Late}
 use Rattle.dna_links.specs.Links.{LinkOf, check, with_link, changed, with_segments}
 use Rattle.dna_links.specs.Queues.{in_use, fresh}
@@ -21,17 +22,17 @@ use Rattle.dna_links.specs.TrueSegments.{TrueSegments, Numbers}
 use Rattle.dna_links.proofs.Tables.Outcomes.{IsFound}
 use Rattle.dna_queues.proofs.Facts.{passed_check}
 use Rattle.dna_queues.specs.Hidden.{LateSegments, late_segments, late_sent, acks_sent, Links}
-use Rattle.dna_queues.proofs.Goes.{Link, phase_of, Goes}
+use Rattle.dna_queues.proofs.Goes.{Link, phase_of, Goes, node_port, uncalled_use}
 use Rattle.dna_queues.proofs.LinkLists.{still_set, IsUnique, IsSet, set_changed, found_one, at_found}
 use Rattle.dna_queues.proofs.Sending.{Owns, link_owns, opened_owns}
-use Rattle.dna_queues.proofs.Turns.{asks, is_now}
+use Rattle.dna_queues.proofs.Turns.{asks, is_now, is_in_same}
 
 abbrev pub LateLink : Type 0
 LateLink = LinkOf LateSegments
 
 abbrev pub hide : Link → LateLink
 hide l = record {
-  port = in_use With l;
+  port = node_port l;
   partner = l.partner;
   segsize = l.segsize;
   segments = record { segments = l.segments; gap = l.queue.gap };
@@ -45,21 +46,27 @@ module _ (s : Links) (unique : IsUnique s) (i : ℕ) (l : Link) (there : slice_g
     pub set : IsSet s made.links i (hide x)
     pub tag : made.truth.tag.link ≡ Some i
 
-  pub found : (test : LinkTest) (own : ℕ) → Owns test own → passes test (in_use With l) ≡ true → IsFound test s i (hide l)
+  pub found : (test : LinkTest) (own : ℕ) → Owns test own → passes test (node_port l) ≡ true → IsFound test s i (hide l)
   found test own owns passed = record {
     found = found_one s unique test own i (hide l) owns there passed;
     there = there;
     passed = passed;
   }
 
+  -- a link whose phase stands, which is not Called, is at the node by its port in use
+  stands_use : (phase : Phase) → is_called phase ≡ false → is_in phase (phase_of l) ≡ true → node_port l ≡ in_use With l
+  stands_use phase uncalled stands = uncalled_use l (ap is_called (is_in_same phase (phase_of l) stands) ∙ uncalled)
+
   -- one that changes nothing
-  stays : (m : NspValue) (x : Link) (test : LinkTest) (own : ℕ) (phase : Phase) → Owns test own →
+  stays : (m : NspValue) (x : Link) (test : LinkTest) (own : ℕ) (phase : Phase) → is_called phase ≡ false → Owns test own →
       message_sent Without late_segments s m ≡ with_link test s (Err NoLink)
       (λ n h. check (is_in phase h.port.phase) LinkState (Ok (unchanged late_segments s n h))) →
       passes test (in_use With l) ≡ true → is_in phase (phase_of l) ≡ true → hide x ≡ hide l → ComposesNow m x
-  stays m x test own phase owns row passed stands same = record {
+  stays m x test own phase uncalled owns row passed stands same = record {
     made = unchanged late_segments s i (hide l);
-    does = row ∙ at_found test s i (hide l) _ _ (found test own owns passed) ∙ passed_check (is_in phase (phase_of l)) LinkState _ stands;
+    does = row ∙ at_found test s i (hide l) _ _ (found test own owns (ap (passes test) (stands_use phase uncalled stands) ∙ passed))
+        ∙ passed_check (is_in phase (node_port l).phase) LinkState _ (ap (λ (p : Port). is_in phase p.phase) (stands_use phase uncalled stands)
+        ∙ stands);
     set = subst (λ (y : LateLink). IsSet s s i y) (sym same)
         (still_set _ _ _ there);
     tag = refl;
@@ -80,8 +87,10 @@ module _ (s : Links) (unique : IsUnique s) (i : ℕ) (l : Link) (there : slice_g
       links = changed i (with_segments sent.segments (hide l)) s;
       truth = truth_of late_segments i (hide l) sent.known;
     };
-    does = row ∙ at_found (TheLink src dst) s i (hide l) _ _ (found (TheLink src dst) src (link_owns src dst) passed)
-        ∙ passed_check (is_in Running (phase_of l)) LinkState _ stands
+    does = row ∙ at_found (TheLink src dst) s i (hide l) _ _ (found (TheLink src dst) src (link_owns src dst)
+        (ap (passes (TheLink src dst)) (stands_use Running refl stands) ∙ passed))
+        ∙ passed_check (is_in Running (node_port l).phase) LinkState _
+        (ap (λ (p : Port). is_in Running p.phase) (stands_use Running refl stands) ∙ stands)
         ∙ ap (λ (r : Result (Sending LateSegments Numbers) LinkRefusal). on_ok r (λ sent. let a : Result (Sent LateSegments Numbers) LinkRefusal =
         Ok (record {
           links = changed i (with_segments sent.segments (hide l)) s;
@@ -95,12 +104,12 @@ module _ (s : Links) (unique : IsUnique s) (i : ℕ) (l : Link) (there : slice_g
   pub composes_now : (m : NspValue) (x : Link) (phase : Phase) → asks m ≡ Some phase → Goes l m x → is_now (asks m) (phase_of l) ≡ true →
       ComposesNow m x
   composes_now (ConnectInitiate retransmitted src services info segsize user_data) x phase is g stands =
-      stays _ x (OpenedAt src) src Calling (opened_owns src) refl g.passed stands (ap hide g.moves.1)
+      stays _ x (OpenedAt src) src Calling refl (opened_owns src) refl g.passed stands (ap hide g.moves.1)
   composes_now (ConnectAck dst) x phase is g stands = absurd cc
   composes_now (ConnectConfirm dst src services info segsize user_data) x phase is g stands =
-      stays _ x (TheLink src dst) src Confirming (link_owns src dst) refl g.passed stands (ap hide g.moves.1)
+      stays _ x (TheLink src dst) src Confirming refl (link_owns src dst) refl g.passed stands (ap hide g.moves.1)
   composes_now (DisconnectInitiate dst src reason user_data) x phase is g stands =
-      stays _ x (TheLink src dst) src Disconnecting (link_owns src dst) refl g.passed stands (ap hide g.moves.1)
+      stays _ x (TheLink src dst) src Disconnecting refl (link_owns src dst) refl g.passed stands (ap hide g.moves.1)
   composes_now (DataSegment segment) x phase is g stands =
       let m = g.moves in
       carries (DataSegment segment) x segment.srcaddr segment.dstaddr (λ h. late_segments.sends_segment h.segsize segment h.segments)
@@ -116,7 +125,7 @@ module _ (s : Links) (unique : IsUnique s) (i : ℕ) (l : Link) (there : slice_g
       Ok (acks_sent (hide l).segments sent) in a)) m.does)
       (ap hide m.is)
   composes_now (LinkService interrupt dst src rest) x phase is g stands =
-      stays _ x (TheLink src dst) src Running (link_owns src dst) refl g.passed stands (ap hide g.moves.1)
+      stays _ x (TheLink src dst) src Running refl (link_owns src dst) refl g.passed stands (ap hide g.moves.1)
   composes_now (OtherDataAck dst src rest) x phase is g stands =
-      stays _ x (TheLink src dst) src Running (link_owns src dst) refl g.passed stands (ap hide g.moves.1)
+      stays _ x (TheLink src dst) src Running refl (link_owns src dst) refl g.passed stands (ap hide g.moves.1)
   composes_now m x phase is g stands = absurd g.moves

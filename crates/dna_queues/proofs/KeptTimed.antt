@@ -11,7 +11,7 @@ use Rattle.dna_links.specs.declared.port.LinkTest.TheVariants.{HasAddress}
 use Rattle.dna_links.specs.declared.queue.Queues.TheVariants.{Without, With}
 use Rattle.dna_links.specs.LookUps.{passes, is_live, is_called, is_at}
 use Rattle.dna_links.specs.LinkBook.{are_same}
-use Rattle.dna_links.specs.Queues.{in_use}
+use Rattle.dna_links.specs.Queues.{in_use, port_of_waiting}
 use Rattle.dna_links.specs.Arriving.{of_partner, message_arrived}
 use Rattle.dna_links.specs.TrueSegments.{TrueSegments, true_segments}
 use Rattle.dna_links.specs.TrueLinks as machine
@@ -21,18 +21,18 @@ use Rattle.dna_queues.proofs.Facts.{passed_check, by_test}
 use Rattle.dna_queues.specs.Records.{LinkRecord, Keeps}
 use Rattle.dna_queues.specs.Hidden.{late_segments, Node, Acts, dstaddr, waiting, link_it_is_for}
 use Rattle.dna_queues.specs.Made.{MakesStep, KeepsForLink, MadeByHidden, Hides, Makes}
-use Rattle.dna_queues.proofs.Goes.{Link, phase_of, test_of}
+use Rattle.dna_queues.proofs.Goes.{Link, phase_of, test_of, node_port, at_node_same}
 use Rattle.dna_queues.proofs.Came.{ended_link, came_as}
 use Rattle.dna_queues.proofs.Acting.{acts_as}
 use Rattle.dna_queues.proofs.Lists.{waiting_push}
 use Rattle.dna_queues.proofs.LinkLists.{still_set, IsUnique, IsSet, none_passes}
 use Rattle.dna_queues.proofs.Delivered.{given_user}
-use Rattle.dna_queues.proofs.Turns.{Sane, Began, can_end, live_use, live_waits}
+use Rattle.dna_queues.proofs.Turns.{Sane, Began, CanWait, live_use, live_waits, live_node}
 use Rattle.dna_queues.proofs.Early.{CanGo}
 use Rattle.dna_queues.proofs.Moved.{moved, gone_before}
 use Rattle.dna_queues.proofs.Starts.{started_before}
 use Rattle.dna_queues.proofs.Hide.{LateLink, hide}
-use Rattle.dna_queues.proofs.Dues.{put_packets, Due, put, put_here, Went, went_use, IsDue, AreSane}
+use Rattle.dna_queues.proofs.Dues.{put_packets, Due, put, put_here, Went, went_node, IsDue, AreSane}
 use Rattle.dna_queues.proofs.Timed.{Awaits, is_end, AreKept, Timed, unique_hidden}
 use Rattle.dna_queues.proofs.Prepared.{prepare_set, set_timed, set_sane}
 use Rattle.dna_queues.proofs.SentTimed.{Sound}
@@ -113,6 +113,9 @@ module _ (s : machine.Links) (sane : AreSane s) (unit : SentMessage) (address : 
     in_use_is : in_use With l ≡ l.port
     in_use_is = live_use l (sane.each i l at) live
 
+    node_is : node_port l ≡ l.port
+    node_is = live_node l (sane.each i l at) live
+
     nothing : (kept : List SentMessage) → Awaits l (waiting link_it_is_for l.port.own kept) → waiting link_it_is_for (Some address) kept ≡ []
     nothing kept a = ap (λ (o : Option ℕ). waiting link_it_is_for o kept) (sym (at_is l.port.own address own)) ∙ a.live live
 
@@ -153,7 +156,7 @@ module _ (s : machine.Links) (sane : AreSane s) (unit : SentMessage) (address : 
             let dues = put i mine r.dues in
             let unique = unique_hidden s sane dues n u in
             let there = u.all i l at ∙ ap (λ (a : Due). Some (hide a.link)) (put_here i i mine r.dues refl) in
-            let hidden_own = ap (λ (p : Port). is_at p.own address) (went_use l x went ∙ in_use_is) ∙ own in
+            let hidden_own = ap (λ (p : Port). is_at p.own address) (went_node l x went ∙ node_is) ∙ own in
             let too = arrives.too n.links unique (λ j h at_h own_h. seen x n went unique there hidden_own j h at_h own_h) in
             let empty = nothing n.kept (u.awaits i l at) in
             let next : Node = record { links = too.links; kept = n.kept; composed = n.composed } in
@@ -179,7 +182,7 @@ module _ (s : machine.Links) (sane : AreSane s) (unit : SentMessage) (address : 
                 let same : h ≡ hide x = same_Some h (hide x) (sym at_h ∙ ap (slice_get n.links.links) here ∙ there) in (
                   l,
                   ap (slice_get s.links) here ∙ at,
-                  ap (λ (z : LateLink). z.port) same ∙ went_use l x went ∙ in_use_is,
+                  ap (λ (z : LateLink). z.port) same ∙ went_node l x went ∙ node_is,
                   ap (λ (z : LateLink). z.partner) same ∙ went.partner,
                 )
 
@@ -192,21 +195,28 @@ module _ (s : machine.Links) (sane : AreSane s) (unit : SentMessage) (address : 
         l.port.phase (λ x. x ≡ due.link)
         (λ m e. subst (λ (p : Port). passes (test_of m) p ≡ true) (sym in_use_is) e) d.early d.can) step
       where
-        live_ends : (p : Phase) → is_live p ≡ true → (is_called p ≡ true → ⊥) → can_end p ≡ true
-        live_ends Called e never = absurd (never refl)
-        live_ends Ended e never = absurd cc
-        live_ends p e never = refl
+        live_ends : (p : Phase) → is_live p ≡ true → is_called p ≡ false → CanWait p l.port.opened
+        live_ends Called e uncalled = absurd cc
+        live_ends Ended e uncalled = absurd cc
+        live_ends p e uncalled = tt
 
-        owned : is_called l.port.phase ≡ true → ⊥
-        owned e =
-            let x : true ≡ false = sym own ∙ ap (λ (o : Option ℕ). is_at o address) ((sane.each i l at).called e) in cc
+        uncalled : is_called l.port.phase ≡ false
+        uncalled = false_from_ne_true _ (λ e.
+            let x : true ≡ false = sym own ∙ ap (λ (o : Option ℕ). is_at o address) ((sane.each i l at).called e).0 in absurd cc)
+
+        -- it is at the node as it was
+        ended_is : node_port (ended_link l) ≡ l.port
+        ended_is = ap (λ (w : Option Phase). port_of_waiting w (record l.port { phase = Ended })) (at_node_same l.port.phase uncalled)
 
         ended_sane : Sane (ended_link l)
         ended_sane = record {
           began = subst (λ (p : Port). Began p.phase l.port.opened l.queue.accepted l.queue.ran) in_use_is (sane.each i l at).began;
           opened = (sane.each i l at).opened;
           called = λ e. absurd cc;
-          waits = λ p e. (refl, subst (λ (q : Phase). can_end q ≡ true) (same_Some l.port.phase p e) (live_ends l.port.phase live owned));
+          waits = λ p e. (
+            refl,
+            subst (λ (q : Phase). CanWait q l.port.opened) (same_Some l.port.phase p e) (live_ends l.port.phase live uncalled),
+          );
         }
 
         step : (r : Sound left later) (x : Link) (n : Node) →
@@ -218,7 +228,7 @@ module _ (s : machine.Links) (sane : AreSane s) (unit : SentMessage) (address : 
             let there = u.all i l at ∙ ap (λ (a : Due). Some (hide a.link)) (put_here i i mine r.dues refl) in
             let still : hide x ≡ hide (moved (record l.port { phase = Ended }) (Some l.port.phase) l.segments.delivered l.segments.passed x) =
             ap₂ (λ (p : Port) (f : TrueSegments). record (hide x) { port = p; segments = record { segments = f; gap = x.queue.gap } })
-            (went_use l x went ∙ in_use_is)
+            (went_node l x went ∙ node_is ∙ sym ended_is)
             (ap₂ (λ (ms : List (List ℕ)) (m : ℕ). given_user ms m x.segments) went.leaves.delivered went.leaves.passed) in
             Makes n (keeping n) (Keeps unit) later (keeps dues n u)
             (r.made (keeping n)
@@ -227,7 +237,7 @@ module _ (s : machine.Links) (sane : AreSane s) (unit : SentMessage) (address : 
             (subst (Awaits (ended_link l)) (sym (pushed l.port.own n.kept true own
             ∙ ap (λ (us : List SentMessage). us ++ unit ∷ []) ((u.awaits i l at).live live))) (record {
               live = λ e. absurd cc;
-              over = λ p e. ends;
+              over = λ p e. ap (is_end unit.packet.message) ended_is ∙ ends;
             }))
             (λ j y differs at_y. awaits_other y n.kept (own_other j y differs at_y) (u.awaits j y at_y))
             (λ j. u.composed j ∙ put_packets i j mine r.dues refl)))
@@ -235,7 +245,7 @@ module _ (s : machine.Links) (sane : AreSane s) (unit : SentMessage) (address : 
     by_kind : (k : Link) → CameTo unit.packet.message unit.truth l k → IsSet s left i k → Sound s (Keeps unit ∷ later)
     by_kind k (Still acts) set =
         acts_sound l set refl (sane.each i l at) none (λ x y. x ≡ y) (λ due d. d.can)
-        (λ x y went q. acts (hide x) (went_use l x went ∙ in_use_is) ∙ ap hide q)
+        (λ x y went q. acts (hide x) (went_node l x went ∙ node_is) ∙ ap hide q)
     by_kind k (GoesOn _ starts k_sane k_live k_waits unclosed acts) set =
         acts_sound k set (sym starts.own) k_sane k_waits (λ x y. (x ≡ l) × (k ≡ y))
         (λ due d. started_before l k starts s.node s.peer due.packets (phase_of k) (λ x. x ≡ due.link) unclosed d.early d.can)

@@ -1,6 +1,7 @@
 -- A DC is sent: what came for its address is acted on before, and settles the link with it.
 use Rattle.std.proofs.Common.{◌≡◌, ℕ, Bool, true, false, ◌&&◌, ◌==◌, cond, Option, Some, None, List, [], ◌∷◌, Result, Ok}
 use Rattle.std.proofs.Common.{refl, sym, ap, ap₂, ◌∙◌, subst, eqb-true}
+use Rattle.std.proofs.lemmas.Bool.{false_from_ne_true}
 use Rattle.dna_packet.specs.Nsp.{DisconnectConfirm}
 use Rattle.dna_station.specs.declared.link_refusal.LinkRefusal.{LinkRefusal}
 use Rattle.dna_station.specs.declared.link_refusal.LinkRefusal.TheVariants.{WrongNode}
@@ -20,7 +21,7 @@ use Rattle.dna_queues.proofs.Facts.{not_both, passed_check}
 use Rattle.dna_queues.specs.Records.{LinkRecord, Sends}
 use Rattle.dna_queues.specs.Hidden.{LateSegments, late_segments, Links, Node, waiting, link_it_is_for}
 use Rattle.dna_queues.specs.Made.{EndsCall, SendsConfirm, Makes}
-use Rattle.dna_queues.proofs.Goes.{Link, use_own}
+use Rattle.dna_queues.proofs.Goes.{Link, node_port, node_own}
 use Rattle.dna_queues.proofs.LinkLists.{still_set, IsSet, set_changed, at_none}
 use Rattle.dna_queues.proofs.Sending.{link_owns}
 use Rattle.dna_queues.proofs.Turns.{HasSaid}
@@ -57,9 +58,9 @@ module _ (s : machine.Links) (sane : AreSane s) (later : List LinkRecord) (packe
       fails p own false e = e
       fails p own true e = absurd (not_both _ (link_owns src dst p e) own)
 
-      not_of : (l : Link) → is_at l.port.own src ≡ false → passes (TheLink src dst) (in_use With l) ≡ passes (TheLink src dst) l.port
+      not_of : (l : Link) → is_at l.port.own src ≡ false → passes (TheLink src dst) (node_port l) ≡ passes (TheLink src dst) l.port
       not_of l own =
-          fails (in_use With l) (ap (λ (o : Option ℕ). is_at o src) (use_own l) ∙ own) _ refl ∙ sym (fails l.port own _ refl)
+          fails (node_port l) (ap (λ (o : Option ℕ). is_at o src) (node_own l) ∙ own) _ refl ∙ sym (fails l.port own _ refl)
 
   pub settle_sound : (left : machine.Links) → (src == 0) ≡ false →
       with_link (HasAddress src) s s (λ i l. changed i (settled true_segments l.queue.waits l) s) ≡ left → (AreSane left → Sound left later) →
@@ -78,8 +79,14 @@ module _ (s : machine.Links) (sane : AreSane s) (later : List LinkRecord) (packe
           (set_changed s i l (settled true_segments l.queue.waits l) found.there)) (own_is i l found)
           (settled_sane l _ (sane.each i l found.there) (settles l (sane.each i l found.there))))
 
-      has_said : (l x : Link) → Settles l x → HasSaid x
-      has_said l x t = subst HasSaid (sym t.is) (record { loud = t.loud; over = t.over })
+      -- a link with an address is in Called no more
+      has_said : (i : ℕ) (l x : Link) → IsFound (HasAddress src) s i l → Settles l x → HasSaid x
+      has_said i l x found t = subst HasSaid (sym t.is) (record {
+        loud = t.loud;
+        over = t.over;
+        uncalled = false_from_ne_true _ (λ e. let none = ((sane.each i l found.there).called e).0 in
+            let y : true ≡ false = sym found.passed ∙ ap (λ (o : Option ℕ). is_at o src) none in absurd cc);
+      })
 
       awaits : (i : ℕ) (l : Link) → IsFound (HasAddress src) s i l → (kept : List SentMessage) → waiting link_it_is_for (Some src) kept ≡ [] →
           Awaits (settled true_segments l.queue.waits l) (waiting link_it_is_for (settled true_segments l.queue.waits l).port.own kept)
@@ -96,7 +103,7 @@ module _ (s : machine.Links) (sane : AreSane s) (later : List LinkRecord) (packe
       go r =
           let a = addressed s sane src (λ l. settled true_segments l.queue.waits l) left r.dues r.due same
           (λ i l found packets P early can. none_early left.node left.peer packets (settled true_segments l.queue.waits l) P
-          (has_said l _ (settles l (sane.each i l found.there))) early can) awaits in
+          (has_said i l _ found (settles l (sane.each i l found.there))) early can) awaits in
           record {
             dues = a.before;
             due = a.due_before;

@@ -21,6 +21,8 @@ use Rattle.dna_queues.specs.Hidden.{late_segments, Links, Node, dstaddr, link_it
 use Rattle.dna_queues.specs.Made.{new_node, KeepsAtOnce, PassesBy, MadeByHidden, NoMore, Makes}
 use Rattle.dna_queues.proofs.Lists.{waiting_none}
 use Rattle.dna_queues.proofs.LinkLists.{at_none}
+use Rattle.dna_queues.proofs.Goes.{Link, phase_of}
+use Rattle.dna_queues.proofs.Early.{CanGo, AreEarly, none_refused}
 use Rattle.dna_queues.proofs.MachineSends.{is_of_link}
 use Rattle.dna_queues.proofs.Dues.{Due, AreSane}
 use Rattle.dna_queues.proofs.Timed.{Timed}
@@ -68,9 +70,9 @@ module _ (s : machine.Links) (sane : AreSane s) (later : List LinkRecord) where
         looked (LiveTo src) s (Ok (begun (called true_segments of_partner src segsize unit.truth.tag) s)) (λ n l. Ok s) (Ok left) e
         (λ free e. begins free (subst (λ (x : machine.Links). AreSane x → Sound x later) (sym (same_Ok _ left e)) rest
         (begun_sane s (called true_segments of_partner src segsize unit.truth.tag) sane (record {
-          began = (refl, refl, refl);
+          began = (refl, refl);
           opened = λ e. absurd cc;
-          called = λ e. refl;
+          called = λ e. (refl, refl);
           waits = λ p e. absurd cc;
         }) refl (λ i x n at own_x own_k. absurd cc))))
         (λ i l found e. still_sound (subst (λ (x : machine.Links). AreSane x → Sound x later) (sym (same_Ok _ left e)) rest sane)
@@ -81,6 +83,13 @@ module _ (s : machine.Links) (sane : AreSane s) (later : List LinkRecord) where
         (λ missing f. let never : None ≡ Some i = sym missing ∙ all_number s sane dues n t (LiveTo src) ∙ found.found in absurd cc)
         (λ j h other f. sym f)))
       where
+        none_early : (packets : List Carried) (P : Link → Type 0) →
+            AreEarly (phase_of (called true_segments of_partner src segsize unit.truth.tag)) packets →
+            CanGo s.node s.peer packets (called true_segments of_partner src segsize unit.truth.tag) P → packets ≡ []
+        none_early packets P early can =
+            none_refused s.node s.peer packets (called true_segments of_partner src segsize unit.truth.tag) P
+            (record { opened = refl; accepted = refl; ran = refl }) early can
+
         begins : number_of (LiveTo src) s ≡ None →
             Sound (begun (called true_segments of_partner src segsize unit.truth.tag) s) later → Sound s (Keeps unit ∷ later)
         begins free r =
@@ -88,7 +97,7 @@ module _ (s : machine.Links) (sane : AreSane s) (later : List LinkRecord) where
             let h = called late_segments of_partner src segsize unit.truth.tag in
             record {
               dues = r.dues;
-              due = begun_due s k refl r.dues r.due;
+              due = begun_due s k none_early r.dues r.due;
               made = λ n t. let all = all_come s sane r.dues n t in
                   Makes n (record n { links = begun h n.links }) (Keeps unit) later
                   (KeepsAtOnce unit all.links (begun h all.links) (h ∷ []) none all.comes
@@ -96,7 +105,7 @@ module _ (s : machine.Links) (sane : AreSane s) (later : List LinkRecord) where
                   (ap (λ (x : NspValue). message_arrived Without late_segments of_partner all.links x unit.truth) is
                   ∙ at_none (LiveTo src) all.links _ _ (all_number s sane r.dues n t (LiveTo src) ∙ free))) refl)
                   (r.made (record n { links = begun h n.links })
-                  (begun_timed s k refl r.dues r.due n t (awaits_nothing k _ refl (waiting_none link_it_is_for n.kept))));
+                  (begun_timed s k none_early r.dues r.due n t (awaits_nothing k _ refl (waiting_none link_it_is_for n.kept))));
             }
     for_none (ConnectAck dst) is for_it left e rest =
         still_sound (subst (λ (x : machine.Links). AreSane x → Sound x later) (sym (same_Ok _ left e)) rest sane)

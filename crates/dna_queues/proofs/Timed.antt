@@ -1,14 +1,15 @@
 -- The node with queues beside the machine: what it has composed of each link for later, and what waits for a link that has ended in the machine.
 use Rattle.std.proofs.Common.{◌≡◌, ℕ, Bool, true, false, ◌&&◌, ◌||◌, ◌==◌, cond, ◌⊎◌, inl, inr, Option, Some, None, List, [], ◌∷◌, ◌++◌, length}
 use Rattle.std.proofs.Common.{refl, sym, ap, ap₂, ◌∙◌, subst, append-nil}
-use Rattle.std.specs.Prelude.{slice_get}
-use Rattle.std.proofs.lemmas.Bool.{cases_eq}
+use Rattle.std.specs.Prelude.{slice_get, not}
+use Rattle.std.proofs.lemmas.Bool.{cases_eq, and_parts}
 use Rattle.std.proofs.lemmas.Option.{same_Some}
 use Rattle.dna_packet.specs.Nsp.{NspValue, ConnectAck, NoOperation, DisconnectInitiate, DisconnectConfirm}
 use Rattle.dna_station.specs.declared.link_refusal.LinkRefusal.TheVariants.{WrongNode}
 use Rattle.dna_links.specs.declared.port.Phase.{Phase}
+use Rattle.dna_links.specs.declared.port.Phase.TheVariants.{Called}
 use Rattle.dna_links.specs.declared.port.Port.{Port}
-use Rattle.dna_links.specs.declared.port.LinkTest.TheVariants.{TheLink, CallingAt}
+use Rattle.dna_links.specs.declared.port.LinkTest.TheVariants.{TheLink, CallingAt, BegunBy}
 use Rattle.dna_links.specs.declared.queue.Queues.TheVariants.{Without, With}
 use Rattle.dna_links.specs.LookUps.{passes, is_live, is_at}
 use Rattle.dna_links.specs.Links.{Carried}
@@ -20,7 +21,7 @@ use Rattle.dna_links.specs.Runs.{SentMessage}
 use Rattle.dna_queues.proofs.Facts.{passed_check}
 use Rattle.dna_queues.specs.Hidden.{late_segments, Links, Node, HiddenStep, Composes, Acknowledges, is_composed, waiting}
 use Rattle.dna_queues.specs.Hidden.{link_it_is_for, link_it_is_of}
-use Rattle.dna_queues.proofs.Goes.{Link, phase_of, Goes, use_own}
+use Rattle.dna_queues.proofs.Goes.{Link, phase_of, Goes, use_opened, at_node, node_port, node_own, node_use}
 use Rattle.dna_queues.proofs.Lists.{waiting_push}
 use Rattle.dna_queues.proofs.LinkLists.{still_set, IsUnique, IsSet, there_too}
 use Rattle.dna_queues.proofs.Beside.{eqb-same, eqb-other}
@@ -39,13 +40,13 @@ is_end m port = false
 
 abbrev pub EndsFirst : Link → List SentMessage → Type 0
 EndsFirst l [] = ⊥
-EndsFirst l (unit ∷ units) = is_end unit.packet.message (in_use With l) ≡ true
+EndsFirst l (unit ∷ units) = is_end unit.packet.message (node_port l) ≡ true
 
 pub record Awaits (l : Link) (kept : List SentMessage) : Type 0 where
   -- at a live link nothing waits
   pub live : is_live l.port.phase ≡ true → kept ≡ []
   -- and first what ended it in the machine, where something of it may still be sent
-  pub over : (p : Phase) → l.queue.waits ≡ Some p → EndsFirst l kept
+  pub over : (p : Phase) → at_node l.queue.waits ≡ Some p → EndsFirst l kept
 
 -- a packet that waits is for a link, and came from the other node
 pub record IsKept (node peer : ℕ) (unit : SentMessage) : Type 0 where
@@ -107,7 +108,7 @@ module _ (s : machine.Links) (sane : AreSane s) where
       of_machine i h l at_h at_l own_h =
           let same : h ≡ hide (dues i).link = same_Some h (hide (dues i).link) (sym at_h ∙ t.all i l at_l) in
           ap (λ (o : Option ℕ). is_at o own)
-          (sym (ap (λ (p : Port). p.own) (t.went i l at_l).port) ∙ sym (use_own (dues i).link) ∙ sym (ap (λ (x : LateLink). x.port.own) same)) ∙ own_h
+          (sym (ap (λ (p : Port). p.own) (t.went i l at_l).port) ∙ sym (node_own (dues i).link) ∙ sym (ap (λ (x : LateLink). x.port.own) same)) ∙ own_h
 
   module _ (i : ℕ) (l : Link) (at : slice_get s.links i ≡ Some l) where
     -- one more is composed
@@ -171,6 +172,25 @@ module _ (s : machine.Links) (sane : AreSane s) where
         may_go : (packet.src == n.links.node && packet.dst == n.links.peer) ≡ true
         may_go = ap₂ (λ (a b : ℕ). packet.src == a && packet.dst == b) t.node t.peer ∙ may.goes
 
+        -- a call that was given up was opened here
+        begun_passes : (dst : ℕ) → passes (BegunBy dst) (in_use With (dues i).link) ≡ true → passes (BegunBy dst) (node_port (dues i).link) ≡ true
+        begun_passes dst passed = ap (passes (BegunBy dst)) (node_use (dues i).link given_up) ∙ passed
+          where
+            went : Went l (dues i).link
+            went = t.went i l at
+
+            not_true : (b : Bool) → not b ≡ true → b ≡ true → ⊥
+            not_true true e f = absurd cc
+            not_true false e f = absurd cc
+
+            given_up : (dues i).link.queue.waits ≡ Some Called → ⊥
+            given_up e =
+                let a = and_parts (is_live (in_use With (dues i).link).phase)
+                (not (in_use With (dues i).link).opened && is_at (in_use With (dues i).link).far dst) passed in
+                let b = and_parts (not (in_use With (dues i).link).opened) (is_at (in_use With (dues i).link).far dst) a.1 in
+                not_true _ b.0 (use_opened (dues i).link ∙ ap (λ (p : Port). p.opened) went.port
+                ∙ ((sane.each i l at).waits Called (sym went.waits ∙ e)).1)
+
         acknowledges : (dst : ℕ) → packet.message ≡ ConnectAck dst → ComposesOn dues n packet x
         acknowledges dst is =
             let unit : SentMessage = record {
@@ -181,7 +201,7 @@ module _ (s : machine.Links) (sane : AreSane s) where
             record {
               next = record { links = n.links; kept = n.kept; composed = n.composed ++ unit ∷ [] };
               step = Acknowledges unit dst i (hide (dues i).link) is
-                  (passed_check (packet.src == n.links.node && packet.dst == n.links.peer) WrongNode _ may_go) there g.passed refl;
+                  (passed_check (packet.src == n.links.node && packet.dst == n.links.peer) WrongNode _ may_go) there (begun_passes dst g.passed) refl;
               timed = pushed dues n t unit x n.links (still_set _ _ _ (there ∙ ap (λ (y : Link). Some (hide y)) (sym g.moves))) refl goes;
             }
 

@@ -14,7 +14,7 @@ use Rattle.dna_links.specs.declared.queue.Said.TheVariants.{Nothing, OfRun}
 use Rattle.dna_links.specs.LookUps.{passes, is_in, is_live, is_called, is_at, has_both}
 use Rattle.dna_links.specs.Queues.{in_use, port_of_waiting, is_silent, is_over, further}
 use Rattle.dna_queues.proofs.Facts.{not_both, by_option}
-use Rattle.dna_queues.proofs.Goes.{Link, phase_of, Goes, said_as, late_link, wide_link, use_opened}
+use Rattle.dna_queues.proofs.Goes.{Link, phase_of, Goes, said_as, late_link, wide_link, use_opened, at_node, node_port}
 use Rattle.dna_queues.proofs.Shapes.{Shape}
 
 -- the phase that a message asks for; a connect ack asks for none
@@ -32,8 +32,14 @@ has_run Running = true
 has_run Disconnecting = true
 has_run phase = false
 
--- the phase that is asked for is past
+-- a phase behind another one in which something may be sent
+abbrev pub has_past : Phase → Bool
+has_past Called = true
+has_past phase = has_run phase
+
+-- the phase that is asked for is past, as that of a CI also once the call was given up
 abbrev pub is_past : Option Phase → Phase → Bool
+is_past (Some Calling) Called = true
 is_past (Some Calling) now = has_run now
 is_past (Some Confirming) now = has_run now
 is_past (Some Running) now = is_in Disconnecting now
@@ -56,21 +62,21 @@ is_in_same wanted phase e = absurd cc
 -- how a link's phase goes with who began it, and with what its user did
 abbrev pub Began : Phase → (opened accepted ran : Bool) → Type 0
 Began Calling opened accepted ran = (opened ≡ true) × (ran ≡ false)
-Began Called opened accepted ran = (opened ≡ false) × (accepted ≡ false) × (ran ≡ false)
+Began Called opened accepted ran = (accepted ≡ false) × (ran ≡ false)
 Began Confirming opened accepted ran = (opened ≡ false) × (ran ≡ false)
 Began phase opened accepted ran = Unit {0}
 
--- a phase in which a link can end by what comes
-abbrev pub can_end : Phase → Bool
-can_end Called = false
-can_end Ended = false
-can_end phase = true
+-- a phase in which a link can end by what comes; in Called it waits that was given up, which was opened here
+abbrev pub CanWait : Phase → (opened : Bool) → Type 0
+CanWait Called opened = opened ≡ true
+CanWait Ended opened = ⊥
+CanWait phase opened = Unit {0}
 
 pub record Sane (l : Link) : Type 0 where
   pub began : Began (phase_of l) l.port.opened l.queue.accepted l.queue.ran
   pub opened : l.port.opened ≡ true → l.queue.accepted ≡ false
-  pub called : is_called l.port.phase ≡ true → l.port.own ≡ None
-  pub waits : (p : Phase) → l.queue.waits ≡ Some p → (l.port.phase ≡ Ended) × (can_end p ≡ true)
+  pub called : is_called l.port.phase ≡ true → (l.port.own ≡ None) × (l.port.opened ≡ false)
+  pub waits : (p : Phase) → l.queue.waits ≡ Some p → (l.port.phase ≡ Ended) × CanWait p l.port.opened
 
 -- of a live link nothing waits, and it is in use by its own port
 pub live_waits : (l : Link) → Sane l → is_live l.port.phase ≡ true → l.queue.waits ≡ None
@@ -78,6 +84,10 @@ live_waits l sane live = by_option l.queue.waits (λ e. e) (λ p e. absurd (not_
 
 pub live_use : (l : Link) → Sane l → is_live l.port.phase ≡ true → in_use With l ≡ l.port
 live_use l sane live = ap (λ (w : Option Phase). port_of_waiting w l.port) (live_waits l sane live)
+
+-- at the node too
+pub live_node : (l : Link) → Sane l → is_live l.port.phase ≡ true → node_port l ≡ l.port
+live_node l sane live = ap (λ (w : Option Phase). port_of_waiting (at_node w) l.port) (live_waits l sane live)
 
 pub called_phase : (far : ℕ) (p : Port) → passes (CalledBy far) p ≡ true → p.phase ≡ Called
 called_phase far p e = is_in_same Called p.phase (and_parts (is_in Called p.phase) (is_at p.far far) e).0
@@ -90,7 +100,6 @@ module _ (l : Link) (sane : Sane l) where
   in_turn p a = (is_now a p || is_past a p) ≡ true
 
   call_turn : (p : Phase) → is_live p ≡ true → l.port.opened ≡ true → Began p l.port.opened l.queue.accepted l.queue.ran → in_turn p (Some Calling)
-  call_turn Called live opened b = absurd (not_both _ opened b.0)
   call_turn Confirming live opened b = absurd (not_both _ opened b.0)
   call_turn Ended live opened b = absurd cc
   call_turn p live opened b = refl
@@ -98,12 +107,12 @@ module _ (l : Link) (sane : Sane l) where
   confirm_turn : (p : Phase) → is_live p ≡ true → l.queue.accepted ≡ true → Began p l.port.opened l.queue.accepted l.queue.ran →
       in_turn p (Some Confirming)
   confirm_turn Calling live accepted b = absurd (not_both _ accepted (sane.opened b.0))
-  confirm_turn Called live accepted b = absurd (not_both _ accepted b.1)
+  confirm_turn Called live accepted b = absurd (not_both _ accepted b.0)
   confirm_turn Ended live accepted b = absurd cc
   confirm_turn p live accepted b = refl
 
   run_turn : (p : Phase) → is_live p ≡ true → l.queue.ran ≡ true → Began p l.port.opened l.queue.accepted l.queue.ran → in_turn p (Some Running)
-  run_turn Called live ran b = absurd (not_both _ ran b.2)
+  run_turn Called live ran b = absurd (not_both _ ran b.1)
   run_turn Running live ran b = refl
   run_turn Disconnecting live ran b = refl
   run_turn Ended live ran b = absurd cc
@@ -144,12 +153,18 @@ module _ (l : Link) (sane : Sane l) where
 pub record HasSaid (l : Link) : Type 0 where
   pub loud : has_run (phase_of l) ≡ true → is_silent l.queue.said ≡ false
   pub over : is_in Disconnecting (phase_of l) ≡ true → is_over l.queue.said ≡ true
+  pub uncalled : is_called (phase_of l) ≡ false
 
 pub said_on : (l x : Link) → HasSaid l → Shape l x → HasSaid x
-said_on l x h s = subst HasSaid (sym s.is) (record { loud = λ e. s.loud (h.loud e); over = λ e. s.over (h.over e) })
+said_on l x h s = subst HasSaid (sym s.is) (record { loud = λ e. s.loud (h.loud e); over = λ e. s.over (h.over e); uncalled = h.uncalled })
 
 pub nothing_past : (l x : Link) (m : NspValue) → HasSaid l → Goes l m x → is_past (asks m) (phase_of l) ≡ true → ⊥
-nothing_past l x (ConnectInitiate retransmitted src services info segsize user_data) h g past = not_both _ g.moves.0 (h.loud past)
+nothing_past l x (ConnectInitiate retransmitted src services info segsize user_data) h g past =
+    go (phase_of l) past h.uncalled h.loud
+  where
+    go : (p : Phase) → is_past (Some Calling) p ≡ true → is_called p ≡ false → (has_run p ≡ true → is_silent l.queue.said ≡ false) → ⊥
+    go Called past uncalled loud = absurd cc
+    go p past uncalled loud = not_both _ g.moves.0 (loud past)
 nothing_past l x (ConnectConfirm dst src services info segsize user_data) h g past =
     not_both _ (and_parts l.queue.accepted (is_silent l.queue.said) g.moves.0).1 (h.loud past)
 nothing_past l x (DataSegment segment) h g past =
@@ -166,32 +181,42 @@ run_loud : (s : Said) → is_silent (further OfRun s) ≡ false
 run_loud Nothing = refl
 run_loud p = refl
 
-run_said : (y x : Link) → x ≡ said_as OfRun y → is_in Disconnecting (phase_of y) ≡ false → HasSaid x
-run_said y x is unclosed = subst HasSaid (sym is) (record { loud = λ e. run_loud y.queue.said; over = λ e. absurd (not_both _ e unclosed) })
+run_said : (y x : Link) → x ≡ said_as OfRun y → phase_of y ≡ Running → HasSaid x
+run_said y x is now = subst HasSaid (sym is) (record {
+  loud = λ e. run_loud y.queue.said;
+  over = λ e. absurd (not_both _ e (ap (is_in Disconnecting) now));
+  uncalled = ap is_called now;
+})
 
-unsaid : (l x : Link) → x ≡ l → has_run (phase_of l) ≡ false → is_in Disconnecting (phase_of l) ≡ false → HasSaid x
-unsaid l x is before unclosed =
-    subst HasSaid (sym is) (record { loud = λ e. absurd (not_both _ e before); over = λ e. absurd (not_both _ e unclosed) })
+unsaid : (l x : Link) (phase : Phase) → x ≡ l → phase_of l ≡ phase → has_run phase ≡ false → is_in Disconnecting phase ≡ false →
+    is_called phase ≡ false → HasSaid x
+unsaid l x phase is now before unclosed uncalled = subst HasSaid (sym is) (record {
+  loud = λ e. absurd (not_both _ e (ap has_run now ∙ before));
+  over = λ e. absurd (not_both _ e (ap (is_in Disconnecting) now ∙ unclosed));
+  uncalled = ap is_called now ∙ uncalled;
+})
 
 -- a message that goes now leaves all of its phase said, unless its phase has no past
 pub said_now : (l x : Link) (m : NspValue) (phase : Phase) → asks m ≡ Some phase → phase_of l ≡ phase → Goes l m x → HasSaid x
 said_now l x (ConnectInitiate retransmitted src services info segsize user_data) phase is now g =
-    let same : phase_of l ≡ Calling = now ∙ sym (same_Some Calling phase is) in
-    unsaid l x g.moves.1 (ap has_run same) (ap (is_in Disconnecting) same)
+    unsaid l x Calling g.moves.1 (now ∙ sym (same_Some Calling phase is)) refl refl refl
 said_now l x (ConnectConfirm dst src services info segsize user_data) phase is now g =
-    let same : phase_of l ≡ Confirming = now ∙ sym (same_Some Confirming phase is) in
-    unsaid l x g.moves.1 (ap has_run same) (ap (is_in Disconnecting) same)
+    unsaid l x Confirming g.moves.1 (now ∙ sym (same_Some Confirming phase is)) refl refl refl
 said_now l x (DisconnectInitiate dst src reason user_data) phase is now g =
-    subst HasSaid (sym g.moves.1) (record { loud = λ e. refl; over = λ e. refl })
+    subst HasSaid (sym g.moves.1) (record {
+      loud = λ e. refl;
+      over = λ e. refl;
+      uncalled = ap is_called (now ∙ sym (same_Some Disconnecting phase is));
+    })
 said_now l x (ConnectAck dst) phase is now g = absurd cc
 said_now l x (DisconnectConfirm dst src reason) phase is now g = absurd g.moves
 said_now l x (NoOperation rest) phase is now g = absurd g.moves
 said_now l x (DataSegment segment) phase is now g =
-    run_said (late_link l g.moves.late) x g.moves.is (ap (is_in Disconnecting) (now ∙ sym (same_Some Running phase is)))
+    run_said (late_link l g.moves.late) x g.moves.is (now ∙ sym (same_Some Running phase is))
 said_now l x (DataAck dst src acks) phase is now g =
-    run_said (wide_link l g.moves.sent) x g.moves.is (ap (is_in Disconnecting) (now ∙ sym (same_Some Running phase is)))
+    run_said (wide_link l g.moves.sent) x g.moves.is (now ∙ sym (same_Some Running phase is))
 said_now l x m phase is now g =
-    run_said l x g.moves.1 (ap (is_in Disconnecting) (now ∙ sym (same_Some Running phase is)))
+    run_said l x g.moves.1 (now ∙ sym (same_Some Running phase is))
 
 -- a call that nobody answered but by a refusal: nothing but that goes of it
 pub record IsMute (l : Link) : Type 0 where

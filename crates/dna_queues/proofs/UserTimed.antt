@@ -4,9 +4,10 @@ use Rattle.std.specs.Prelude.{slice_get}
 use Rattle.dna_station.specs.declared.link_refusal.LinkRefusal.TheVariants.{NoLink, LinkState}
 use Rattle.dna_links.specs.declared.port.Phase.{Phase}
 use Rattle.dna_links.specs.declared.port.Phase.TheVariants.{Calling, Confirming, Running, Disconnecting}
+use Rattle.dna_links.specs.declared.port.Port.{Port}
 use Rattle.dna_links.specs.declared.port.LinkTest.TheVariants.{LiveAt}
 use Rattle.dna_links.specs.declared.queue.Queues.TheVariants.{With}
-use Rattle.dna_links.specs.LookUps.{is_in, is_live, takes_messages}
+use Rattle.dna_links.specs.LookUps.{passes, is_in, is_live, is_called, takes_messages}
 use Rattle.dna_links.specs.Links.{changed, with_segments}
 use Rattle.dna_links.specs.LinkBook.{user_step}
 use Rattle.dna_links.specs.User.{In}
@@ -18,7 +19,7 @@ use Rattle.dna_queues.proofs.Facts.{passed_check, same_Ok}
 use Rattle.dna_queues.specs.Records.{LinkRecord, OfUser}
 use Rattle.dna_queues.specs.Hidden.{Links, Node, waiting, link_it_is_for}
 use Rattle.dna_queues.specs.Made.{MakesStep, UserDoes, Makes}
-use Rattle.dna_queues.proofs.Goes.{Link, phase_of}
+use Rattle.dna_queues.proofs.Goes.{Link, phase_of, node_port, uncalled_use}
 use Rattle.dna_queues.proofs.LinkLists.{IsUnique, IsSet, set_changed, at_found}
 use Rattle.dna_queues.proofs.Sending.{live_owns}
 use Rattle.dna_queues.proofs.Turns.{Sane}
@@ -72,16 +73,16 @@ module _ (s : machine.Links) (sane : AreSane s) (later : List LinkRecord) (one :
 module _ (s : machine.Links) (sane : AreSane s) (later : List LinkRecord) (left : machine.Links) (rest : AreSane left → Sound left later) where
   -- ---- a message is handed in
 
-  takes_live : (p : Phase) → takes_messages p ≡ true → (is_live p ≡ true) × (is_in Disconnecting p ≡ false)
-  takes_live Calling e = (refl, refl)
-  takes_live Confirming e = (refl, refl)
-  takes_live Running e = (refl, refl)
+  takes_live : (p : Phase) → takes_messages p ≡ true → (is_live p ≡ true) × (is_in Disconnecting p ≡ false) × (is_called p ≡ false)
+  takes_live Calling e = (refl, refl, refl)
+  takes_live Confirming e = (refl, refl, refl)
+  takes_live Running e = (refl, refl, refl)
   takes_live p e = absurd cc
 
   pub in_sound : (own : ℕ) (message : List ℕ) → user_step With true_segments s (In own message) ≡ Ok left → Sound s (OfUser (In own message) ∷ later)
   in_sound own message e =
       used s sane.each (LiveAt own) (live_at own) (Err NoLink) _ (Ok left) e (λ e. absurd cc)
-      (λ i l u e. let c = checked (takes_messages (phase_of l)) LinkState _ left e in by_link i l u c.0 (same_Ok _ left c.1))
+      (λ i l u e. let c = checked (takes_messages (phase_of l)) _ _ left e in by_link i l u c.0 (same_Ok _ left c.1))
     where
       by_link : (i : ℕ) (l : Link) → IsUsed s sane.each (LiveAt own) i l → takes_messages (phase_of l) ≡ true →
           changed i (with_segments (hands_in message l.segments) l) s ≡ left → Sound s (OfUser (In own message) ∷ later)
@@ -101,11 +102,13 @@ module _ (s : machine.Links) (sane : AreSane s) (later : List LinkRecord) (left 
           step n x y unique q there =
               let k = with_segments (hands_in message l.segments) l in
               let here = there ∙ ap (λ (z : Link). Some (hide z)) q.0 in
+              let node_is = uncalled_use l (takes_live (phase_of l) takes).2 in
               record {
                 links = changed i (hide k) n.links;
                 makes = UserDoes (In own message) (changed i (hide k) n.links) tt
-                    (at_found (LiveAt own) n.links i (hide l) _ _ (found n.links unique i l here (LiveAt own) own (live_owns own) u.passed)
-                    ∙ passed_check (takes_messages (phase_of l)) LinkState _ takes);
+                    (at_found (LiveAt own) n.links i (hide l) _ _ (found n.links unique i l here (LiveAt own) own (live_owns own)
+                    (ap (passes (LiveAt own)) node_is ∙ u.passed))
+                    ∙ passed_check (takes_messages (node_port l).phase) _ _ (ap (λ (p : Port). takes_messages p.phase) node_is ∙ takes));
                 set = subst (λ (z : Link). IsSet n.links (changed i (hide k) n.links) i (hide z)) q.1
                     (set_changed n.links i (hide l) (hide k) here);
               }

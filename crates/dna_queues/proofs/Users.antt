@@ -97,7 +97,7 @@ module _ (n : Node) (t : machine.Links) (b : Beside n t) (near : AreAnswered t) 
       becomes (In own message) number h (with_segments (over h.segments (hands_in message h.segments.segments)) h) l.0
       (with_segments (hands_in message l.0.segments) l.0) found.there l.1 refl
       (use_found t (unique_too n t b) (LiveAt own) own number l.0 (Err NoLink) _ (live_owns own) l.1 u.0
-      ∙ passed_check (takes_messages (phase_of l.0)) LinkState _ (takes_later h.port.phase (phase_of l.0) u.1 may))
+      ∙ passed_check (takes_messages (phase_of l.0)) _ _ (takes_later h.port.phase (phase_of l.0) u.1 may))
       (messages_follow (Some message) h l.0 (hands_in message h.segments.segments) (hands_in message l.0.segments) _ _ (near number l.0 l.1)
       (of_in h.segments.segments) (of_in l.0.segments) (omega arith) refl refl refl f)
     where
@@ -112,7 +112,7 @@ module _ (n : Node) (t : machine.Links) (b : Beside n t) (near : AreAnswered t) 
       let u = in_use_too own number h l.0 l.1 found f in
       becomes (Close own) number h (in_phase Disconnecting h) l.0 (closed_link l.0) found.there l.1 refl
       (use_found t (unique_too n t b) (LiveAt own) own number l.0 (Err NoLink) _ (live_owns own) l.1 u.0
-      ∙ passed_check (is_connected (phase_of l.0)) LinkState _ (connected_later h.port.phase (phase_of l.0) u.1 may)
+      ∙ passed_check (is_connected (phase_of l.0)) _ _ (connected_later h.port.phase (phase_of l.0) u.1 may)
       ∙ ap (λ (x : Link). let r : Result machine.Links LinkRefusal = Ok (changed number x t) in r) (closes_as l.0))
       (close_follows h l.0 _ _ (near number l.0 l.1) may f)
 

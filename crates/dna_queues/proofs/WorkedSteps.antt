@@ -13,7 +13,7 @@ use Rattle.dna_links.specs.Runs.{SentMessage}
 use Rattle.dna_queues.specs.Records.{MadeByMachine}
 use Rattle.dna_queues.specs.Hidden.{LateSegments, late_segments, Links, First, Acts, Composes, AllActed}
 use Rattle.dna_queues.specs.Made.{new_node, UserDoes, SendsComposed, KeepsForLink, MadeByHidden, NoMore, Hides, Makes}
-use Rattle.dna_queues.specs.Worked.{call, confirmation, acknowledgement, closing, worked, given_up}
+use Rattle.dna_queues.specs.Worked.{call, confirmation, acknowledgement, closing, worked, waited, given_up}
 
 abbrev nothing_sent : Sent LateSegments Numbers
 nothing_sent = record {
@@ -61,6 +61,16 @@ worked_made =
 
 pub worked_by_machine : MadeByMachine (machine.new_links 1 2) worked
 worked_by_machine = (_, refl, (_, refl, (_, refl, (_, refl, (_, refl, tt)))))
+
+pub waited_made : MadeByHidden (new_node 1 2) waited
+waited_made =
+    Makes _ _ _ _ (UserDoes (Open 7) opened_links (record { nothing_for = refl; nothing_of = λ number e. absurd cc }) refl)
+    (Hides _ _ _ (Composes call_unit called refl tt refl refl)
+    (Makes _ _ _ _ (UserDoes (Abort 7) (links_of (user_step Without late_segments opened_links (Abort 7))) tt refl)
+    (Makes _ _ _ _ (SendsComposed call_unit [] (First call_unit [])) (NoMore _))))
+
+pub waited_by_machine : MadeByMachine (machine.new_links 1 2) waited
+waited_by_machine = (_, refl, (_, refl, (_, refl, tt)))
 
 pub given_up_made : MadeByHidden (new_node 1 2) given_up
 given_up_made =

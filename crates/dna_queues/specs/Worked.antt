@@ -1,5 +1,5 @@
--- A link is closed from the other side while an acknowledgement that it has composed waits to be sent; and a call is given up while its answer
--- waits to be acted on.
+-- A link is closed from the other side while an acknowledgement that it has composed waits to be sent; a call is given up while its CI waits; and one
+-- while its answer waits to be acted on.
 use Rattle.std.specs.Prelude.{false, Some, List, [], ◌∷◌}
 use Rattle.dna_packet.specs.declared.ack_word.AckQualifier.TheVariants.{Ack}
 use Rattle.dna_packet.specs.Nsp.{NspValue, DataAck, ConnectInitiate, ConnectConfirm, DisconnectInitiate}
@@ -33,6 +33,9 @@ closing = from_there (DisconnectInitiate 7 9 0 [])
 
 abbrev pub worked : List LinkRecord
 worked = OfUser (Open 7) ∷ Sends call ∷ Keeps confirmation ∷ Keeps closing ∷ Sends acknowledgement ∷ []
+
+abbrev pub waited : List LinkRecord
+waited = OfUser (Open 7) ∷ OfUser (Abort 7) ∷ Sends call ∷ []
 
 abbrev pub given_up : List LinkRecord
 given_up = OfUser (Open 7) ∷ Sends call ∷ Keeps confirmation ∷ OfUser (Abort 7) ∷ []

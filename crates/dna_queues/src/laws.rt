@@ -6,7 +6,7 @@ ghost use Rattle.dna_links.specs.TrueLinks.{Links, new_links};
 ghost use Rattle.dna_queues.specs.Records.{LinkRecord, AreNear, NoneGivesUp, MadeByMachine, left_by_machine, made_without, AreInRange};
 ghost use Rattle.dna_queues.specs.Records.{EventsAreInRange};
 ghost use Rattle.dna_queues.specs.Made.{new_node, MadeByHidden};
-ghost use Rattle.dna_queues.specs.Worked.{worked, given_up};
+ghost use Rattle.dna_queues.specs.Worked.{worked, waited, given_up};
 
 /// Complete: where hidden steps make all records of one end, the machine makes them too, whatever times the steps had. Of what comes it asks
 /// only what holds beside each right other end: numbers that are near (`AreNear`). And no call is given up (`NoneGivesUp`).
@@ -33,6 +33,14 @@ pub fn acknowledgement_sent_after_the_end()
     ensures made { MadeByHidden (new_node 1 2) worked }
     ensures by_machine { MadeByMachine (new_links 1 2) worked }
     ensures refused { made_without (new_links 1 2) worked ≡ Err NoLink }
+{}
+
+/// Another: a call is given up while its CI waits, and then the CI is sent. A node with queues makes it, so the machine does; links without queues
+/// refuse it, since their call is over.
+pub fn call_sent_after_it_was_given_up()
+    ensures made { MadeByHidden (new_node 1 2) waited }
+    ensures by_machine { MadeByMachine (new_links 1 2) waited }
+    ensures refused { made_without (new_links 1 2) waited ≡ Err NoLink }
 {}
 
 /// Why the machine is complete only where no call is given up: a node with queues gives up a call whose answer it has kept and not acted on. The

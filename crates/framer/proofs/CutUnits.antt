@@ -72,7 +72,7 @@ whole_starts bytes len e none = let w = whole_parts bytes len e in let s = w.beg
     some_none : (kind : Kind) (o : Option Kind) → o ≡ None → o ≡ Some kind → ⊥
     some_none kind o f g = absurd cc
 
-Begins-append : (kind : Kind) (bytes more : List ℕ) → Begins kind bytes → Begins kind (bytes ++ more)
+pub Begins-append : (kind : Kind) (bytes more : List ℕ) → Begins kind bytes → Begins kind (bytes ++ more)
 Begins-append kind bytes more b =
     let long = b.long in
     record {

@@ -1,7 +1,9 @@
 pub mod Fronts
 pub mod Framings
+pub mod Places
 pub mod WrittenLaws
 pub mod Rooms
 pub mod CutUnits
 pub mod Passing
+pub mod Headers
 pub mod SoFarLaws

@@ -1,15 +1,16 @@
 -- Bytes that are passed over, and what is found behind them.
-use Rattle.std.proofs.Common.{◌≡◌, ℕ, ◌+◌, ◌<◌, ◌≤◌, Some, List, [], ◌∷◌, ◌++◌, length, get_or, take, drop, refl, sym, ap, subst, ◌∙◌, arith}
+use Rattle.std.proofs.Common.{◌≡◌, ℕ, ◌+◌, ◌-◌, ◌<◌, ◌≤◌, Some, List, [], ◌∷◌, ◌++◌, length, get_or, take, drop, refl, sym, ap, subst, ◌∙◌, arith}
 use Rattle.std.proofs.lemmas.List.{length-append, length-drop, append-nil, append_assoc, drop_more, take_all, take_at, drop_at, take-append-drop}
-use Rattle.std.proofs.lemmas.List.{get_or-take}
+use Rattle.std.proofs.lemmas.List.{get_or-take, length-take-le}
 use Rattle.framer.specs.declared.kind.Kind.{Kind}
 use Rattle.framer.specs.declared.front.Front.TheVariants.{Between, Stray, Whole, Cut}
-use Rattle.framer.specs.Framing.{Framing, kind_of, front, framing, behind_strays, behind_unit, joined}
+use Rattle.framer.specs.Framing.{Framing, UnitAt, kind_of, front, framing, behind_strays, behind_unit, joined, unit_at, units_at}
 use Rattle.framer.specs.Given.{EndsWith, Passes, IsUnitFound, NoneFound}
 use Rattle.framer.specs.inner.Held.{IsHeld}
 use Rattle.framer.proofs.Fronts.{whole_len, front_more}
 use Rattle.framer.proofs.Framings.{framing-append, framing-between, framing-stray, framing-whole, framing-cut, strays_none, strays_both}
 use Rattle.framer.proofs.Framings.{strays_joined}
+use Rattle.framer.proofs.Places.{at-append, at-between, at-stray, at-whole, left_within}
 
 -- ---- what bytes end with
 
@@ -27,12 +28,28 @@ ends_drop n bytes = (take n bytes, sym (take-append-drop n bytes))
 
 -- ---- what is passed over
 
+same_at : (m n : ℕ) (bytes : List ℕ) → m ≡ n → units_at m bytes ≡ units_at n bytes
+same_at m n bytes e = ap (λ (k : ℕ). units_at k bytes) e
+
+none_between : (place n : ℕ) → place ≡ place + (n - n)
+none_between place n = omega arith
+
 pub passes_none : (bytes : List ℕ) → Passes bytes 0 bytes
-passes_none bytes = record { framed = sym (strays_none (framing bytes)); ends = ([], refl) }
+passes_none bytes = record {
+  framed = sym (strays_none (framing bytes));
+  ends = ([], refl);
+  places = λ place. same_at place (place + (length bytes - length bytes)) bytes (none_between place (length bytes));
+}
 
 pub passes_on : (a b c : List ℕ) (m n : ℕ) → Passes a m b → Passes b n c → Passes a (m + n) c
-passes_on a b c m n p q =
-    record { framed = p.framed ∙ ap (behind_strays m) q.framed ∙ strays_both m n (framing c); ends = ends_on a b c p.ends q.ends }
+passes_on a b c m n p q = record {
+  framed = p.framed ∙ ap (behind_strays m) q.framed ∙ strays_both m n (framing c);
+  ends = ends_on a b c p.ends q.ends;
+  places = λ place. p.places place ∙ q.places (place + (length a - length b)) ∙ same_at _ _ c (both place);
+}
+  where
+    both : (place : ℕ) → place + (length a - length b) + (length b - length c) ≡ place + (length a - length c)
+    both place = let first = ends_len a b p.ends in let then_c = ends_len b c q.ends in omega arith
 
 -- the same bytes, said otherwise
 pub passes_same : (a b c : List ℕ) (n : ℕ) → Passes a n b → b ≡ c → Passes a n c
@@ -46,7 +63,35 @@ passes_more bytes behind more n p =
           ∙ sym (strays_joined n (framing behind) (framing ((framing behind).left ++ more)))
           ∙ ap (behind_strays n) (sym (framing-append behind more));
       ends = ends_more bytes behind more p.ends;
+      places = λ place.
+          at-append place bytes more
+          ∙ ap (λ (us : List UnitAt). us ++ units_at (place + (length bytes - length (framing bytes).left)) ((framing bytes).left ++ more))
+          (p.places place)
+          ∙ ap (λ (us : List UnitAt). units_at (place + (length bytes - length behind)) behind ++ us) (left_on place)
+          ∙ sym (at-append (place + (length bytes - length behind)) behind more)
+          ∙ same_at _ _ (behind ++ more) (longer place);
     }
+  where
+    left_same : (framing bytes).left ≡ (framing behind).left
+    left_same = ap (λ (f : Framing). f.left) p.framed
+
+    left_on : (place : ℕ) → units_at (place + (length bytes - length (framing bytes).left)) ((framing bytes).left ++ more)
+        ≡ units_at (place + (length bytes - length behind) + (length behind - length (framing behind).left)) ((framing behind).left ++ more)
+    left_on place =
+        let within = left_within behind in
+        let shorter = ends_len bytes behind p.ends in
+        let at : place + (length bytes - length (framing behind).left)
+        ≡ place + (length bytes - length behind) + (length behind - length (framing behind).left) = omega arith in
+        rw left_same (same_at _ _ ((framing behind).left ++ more) at)
+
+    longer : (place : ℕ) → place + (length bytes - length behind) ≡ place + (length (bytes ++ more) - length (behind ++ more))
+    longer place =
+        let shorter = ends_len bytes behind p.ends in
+        omega (arith, length-append bytes more, length-append behind more)
+
+one_on : (bytes : List ℕ) (at place : ℕ) → at < length bytes →
+    place + (length bytes - length (drop at bytes)) + 1 ≡ place + (length bytes - length (drop (at + 1) bytes))
+one_on bytes at place h = omega (arith, length-drop at bytes, length-drop (at + 1) bytes)
 
 pub pass_between : (bytes : List ℕ) (at strays : ℕ) → at < length bytes → Passes bytes strays (drop at bytes) → front (drop at bytes) ≡ Between →
     Passes bytes strays (drop (at + 1) bytes)
@@ -56,6 +101,10 @@ pass_between bytes at strays h p e =
       framed = p.framed ∙ ap (λ (b : List ℕ). behind_strays strays (framing b)) next
           ∙ ap (behind_strays strays) (framing-between (get_or bytes at 0) (drop (at + 1) bytes) (ap front (sym next) ∙ e));
       ends = ends_drop (at + 1) bytes;
+      places = λ place.
+          p.places place ∙ ap (units_at (place + (length bytes - length (drop at bytes)))) next
+          ∙ at-between (place + (length bytes - length (drop at bytes))) (get_or bytes at 0) (drop (at + 1) bytes) (ap front (sym next) ∙ e)
+          ∙ same_at _ _ (drop (at + 1) bytes) (one_on bytes at place h);
     }
 
 pub pass_stray : (bytes : List ℕ) (at strays : ℕ) → at < length bytes → Passes bytes strays (drop at bytes) → front (drop at bytes) ≡ Stray →
@@ -67,6 +116,10 @@ pass_stray bytes at strays h p e =
           ∙ ap (behind_strays strays) (framing-stray (get_or bytes at 0) (drop (at + 1) bytes) (ap front (sym next) ∙ e))
           ∙ strays_both strays 1 (framing (drop (at + 1) bytes));
       ends = ends_drop (at + 1) bytes;
+      places = λ place.
+          p.places place ∙ ap (units_at (place + (length bytes - length (drop at bytes)))) next
+          ∙ at-stray (place + (length bytes - length (drop at bytes))) (get_or bytes at 0) (drop (at + 1) bytes) (ap front (sym next) ∙ e)
+          ∙ same_at _ _ (drop (at + 1) bytes) (one_on bytes at place h);
     }
 
 -- one byte more is held, and then some are passed over
@@ -93,6 +146,13 @@ unit_first unit rest w =
     ∙ ap (λ (b : List ℕ). behind_unit b (framing (drop (length unit) (unit ++ rest)))) (take_at unit rest (length unit) refl)
     ∙ ap (λ (b : List ℕ). behind_unit unit (framing b)) (drop_at unit rest (length unit) refl)
 
+at_first : (unit rest : List ℕ) → front unit ≡ Whole (length unit) → (place : ℕ) →
+    units_at place (unit ++ rest) ≡ unit_at place unit ∷ units_at (place + length unit) rest
+at_first unit rest w place =
+    at-whole place (unit ++ rest) (length unit) (front_more unit rest (λ c. whole_no_cut (length unit) (sym w ∙ c)) ∙ w)
+    ∙ ap (λ (b : List ℕ). unit_at place b ∷ units_at (place + length unit) (drop (length unit) (unit ++ rest))) (take_at unit rest (length unit) refl)
+    ∙ ap (λ (b : List ℕ). unit_at place unit ∷ units_at (place + length unit) b) (drop_at unit rest (length unit) refl)
+
 -- the unit at the front of what is left of a piece
 pub unit_found : (bytes piece : List ℕ) (at strays passed len : ℕ) (kind : Kind) → Passes bytes strays piece → Passes piece passed (drop at piece) →
     front (drop at piece) ≡ Whole len → kind_of (get_or (drop at piece) 0 0) ≡ Some kind →
@@ -106,6 +166,10 @@ unit_found bytes piece at strays passed len kind p next whole start =
     record {
       passed = passes_same bytes come (take len come ++ drop len come) (strays + passed) all (sym parts);
       framed = ap framing parts ∙ framing-whole come len whole;
+      places = λ place.
+          let long : length (take len come) ≡ len = length-take-le len come w.1 in
+          ap (units_at place) parts ∙ at-whole place come len whole
+          ∙ ap (λ (us : List UnitAt). unit_at place (take len come) ∷ us) (same_at _ _ (drop len come) (ap (λ (k : ℕ). place + k) (sym long)));
       kind_is = rw (get_or-take len come 0 0 (omega arith)) start;
       shorter = omega (arith, length-drop len come, length-drop at piece);
     }
@@ -136,6 +200,7 @@ completed_found bytes held rest unit strays count kind p is whole start long =
     record {
       passed = passes_same bytes (held ++ rest) (unit ++ behind) strays p all;
       framed = unit_first unit behind whole;
+      places = at_first unit behind whole;
       kind_is = start;
       shorter = omega (arith, length-append held rest, length-drop count rest);
     }

@@ -89,3 +89,29 @@ framing_behind (byte ∷ bytes) (suc len) = framing_behind bytes len
 -- the framing of some bytes
 unfoldable pub framing : List ℕ → Framing
 framing bytes = framing_behind bytes 0
+
+-- ---- where the units are
+
+-- a unit, and how many bytes come before it
+pub record UnitAt : Type 0 where
+  pub place : ℕ
+  pub unit : List ℕ
+
+abbrev pub unit_at : ℕ → List ℕ → UnitAt
+unit_at place unit = record { place = place; unit = unit }
+
+-- by what is at the front, after so many bytes
+abbrev pub at_front : Front → ℕ → List ℕ → (ℕ → List UnitAt) → List UnitAt
+at_front Between place bytes behind = behind 0
+at_front Stray place bytes behind = behind 0
+at_front (Whole len) place bytes behind = unit_at place (take len bytes) ∷ behind (len - 1)
+at_front Cut place bytes behind = []
+
+abbrev pub units_behind : ℕ → List ℕ → ℕ → List UnitAt
+units_behind place [] len = []
+units_behind place (byte ∷ bytes) zero = at_front (front (byte ∷ bytes)) place (byte ∷ bytes) (units_behind (place + 1) bytes)
+units_behind place (byte ∷ bytes) (suc len) = units_behind (place + 1) bytes len
+
+-- the units of the framing of some bytes, before which so many come
+unfoldable pub units_at : ℕ → List ℕ → List UnitAt
+units_at place bytes = units_behind place bytes 0

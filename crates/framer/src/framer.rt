@@ -1,8 +1,8 @@
 //! A framer.
 
-ghost use Rattle.std.specs.Prelude.{◌≡◌, ◌<◌, ◌+◌, ◌^◌, ◌++◌, [], length, ℕ, List, IfOk};
+ghost use Rattle.std.specs.Prelude.{◌≡◌, ◌<◌, ◌≤◌, ◌+◌, ◌^◌, ◌++◌, [], length, ℕ, List, IfOk};
 ghost use Rattle.framer.specs.Framing.{framing, only_left};
-ghost use Rattle.framer.specs.Given.{Finds, Passes};
+ghost use Rattle.framer.specs.Given.{Finds, Passes, RestIsOf};
 ghost use Rattle.framer.specs.declared.limit.TheConstants.{MAX_FRAME};
 
 use crate::completing::{complete_header, complete_unit};
@@ -91,7 +91,8 @@ impl Framer {
     /// piece. Of a unit that lies whole in the piece no byte is copied. Takes no memory.
     #[inline(always)]
     pub fn next<'a>(&mut self, piece: &'a [u8]) -> Found<'a>
-        ensures { Finds (self.old.held ++ piece.entry.now) self.new result }
+        ensures found { Finds (self.old.held ++ piece.entry.now) self.new result }
+        ensures rest { RestIsOf (length piece.entry.now) result }
     {
         let taken = complete_header(&mut self.room, piece);
         let strays = taken.strays;
@@ -121,7 +122,8 @@ impl Framer {
     fn next_in<'a>(&mut self, strays: usize, piece: &'a [u8]) -> Found<'a>
         requires empty { self.old.held ≡ [] }
         requires few { strays + length piece.now < 2 ^ 64 }
-        ensures { (bytes : List ℕ) → Passes bytes strays piece.entry.now → Finds bytes self.new result }
+        ensures found { (bytes : List ℕ) → Passes bytes strays piece.entry.now → Finds bytes self.new result }
+        ensures rest { (len : ℕ) → length piece.entry.now ≤ len → RestIsOf len result }
     {
         let passed = pass(piece);
         let strays = strays + passed.strays;

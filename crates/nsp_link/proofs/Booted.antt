@@ -9,7 +9,7 @@ use Rattle.dna_links.specs.declared.queue.Queues.{Queues}
 use Rattle.dna_links.specs.declared.queue.Queues.TheVariants.{Without, With}
 use Rattle.dna_links.specs.LookUps.{is_calling, is_in, is_live, takes_messages}
 use Rattle.dna_links.specs.Links.{LinkOf, in_phase}
-use Rattle.dna_links.specs.Queues.{booted_link, drops, in_use, lets_go, port_of_waiting, settled}
+use Rattle.dna_links.specs.Queues.{booted_link, call_of, drops, drops_segments, in_use, lets_go, port_of_waiting, settled}
 use Rattle.dna_links.specs.WireSegments.{WireSegments, wire_segments, empty}
 use Rattle.nsp_link.specs.declared.index.Index.{Index}
 use Rattle.nsp_link.specs.inner.Index.{begun_from, counted, lives_to, look_at, own_of, times, used_by, waits}
@@ -187,7 +187,7 @@ still_lives Running over = refl
 still_lives Disconnecting over = refl
 still_lives Ended over = absurd (cc)
 
-calling_takes : (phase : Phase) → is_calling phase ≡ true → takes_messages phase ≡ true
+pub calling_takes : (phase : Phase) → is_calling phase ≡ true → takes_messages phase ≡ true
 calling_takes Calling calling = refl
 calling_takes Called calling = absurd (cc)
 calling_takes Confirming calling = absurd (cc)
@@ -203,16 +203,32 @@ settled_as before now phase link = record link {
   queue = record link.queue { waits = None };
 }
 
-given_by : (w : Option Phase) (l : LinkOf WireSegments) → l.port.phase ≡ Ended → keeps l.port.phase l.queue ≡ true →
+given_by : (w : Option Phase) (l : LinkOf WireSegments) → l.port.phase ≡ Ended → l.port.opened ≡ false → keeps l.port.phase l.queue ≡ true →
     is_calling (port_of_waiting w l.port).phase ≡ true → settled wire_segments w l ≡ drops wire_segments With l
-given_by None l over kept calling = not_both l.port.phase (ap (is_in Ended) over) calling
-given_by (Some phase) l over kept calling =
+given_by None l over came kept calling = not_both l.port.phase (ap (is_in Ended) over) calling
+given_by (Some phase) l over came kept calling =
     ap (λ (b : Bool). settled_as b (is_live l.port.phase || false) l.port.phase l) kept
     ∙ ap (λ (p : Phase). settled_as true (is_live p || false) p l) over
+    ∙ ap (λ (opened : Bool). record l {
+      port = record l.port { phase = Ended };
+      segments = drops_segments wire_segments opened l.segments;
+      queue = record l.queue { waits = call_of opened };
+    }) (sym came)
 
--- with queues a call that has ended is settled: nothing of it waits any more
-pub given_up : (queues : Queues) (l : LinkOf WireSegments) → is_in Ended l.port.phase ≡ true → is_calling (in_use queues l).phase ≡ true →
+-- with queues a call that has ended and was not opened here, which there is none of, would be settled: nothing of it would wait any more
+pub given_up : (queues : Queues) (l : LinkOf WireSegments) → is_in Ended l.port.phase ≡ true → l.port.opened ≡ false → is_calling (in_use queues l).phase ≡ true →
     settled wire_segments l.queue.waits l ≡ drops wire_segments queues l
-given_up Without l over calling = not_both l.port.phase over calling
-given_up With l over calling =
-    given_by l.queue.waits l (is_ended l.port.phase over) (messages_keep With l (calling_takes (in_use With l).phase calling)) calling
+given_up Without l over came calling = not_both l.port.phase over calling
+given_up With l over came calling =
+    given_by l.queue.waits l (is_ended l.port.phase over) came (messages_keep With l (calling_takes (in_use With l).phase calling)) calling
+
+-- only with queues a link that has ended is in Calling, in use
+pub calls_with : (queues : Queues) (l : LinkOf WireSegments) → is_in Ended l.port.phase ≡ true → is_calling (in_use queues l).phase ≡ true →
+    is_calling (in_use With l).phase ≡ true
+calls_with Without l over calling = not_both l.port.phase over calling
+calls_with With l over calling = calling
+
+pub given_up_with : (queues : Queues) (l : LinkOf WireSegments) → is_in Ended l.port.phase ≡ true → is_calling (in_use queues l).phase ≡ true →
+    drops wire_segments With l ≡ drops wire_segments queues l
+given_up_with Without l over calling = not_both l.port.phase over calling
+given_up_with With l over calling = refl

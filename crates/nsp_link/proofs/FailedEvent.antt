@@ -7,20 +7,21 @@ use Rattle.std.proofs.lemmas.Option.{slice_get_within}
 use Rattle.dna_station.specs.declared.link_refusal.LinkRefusal.{LinkRefusal}
 use Rattle.dna_station.specs.declared.link_refusal.LinkRefusal.TheVariants.{AddressInUse, LinkState, NoLink, WrongDelivery}
 use Rattle.dna_links.specs.declared.port.Phase.{Phase}
-use Rattle.dna_links.specs.declared.port.Phase.TheVariants.{Confirming, Disconnecting}
+use Rattle.dna_links.specs.declared.port.Phase.TheVariants.{Called, Confirming, Disconnecting}
 use Rattle.dna_links.specs.declared.port.LinkTest.TheVariants.{HasAddress, LiveAt, CalledBy}
 use Rattle.dna_links.specs.declared.queue.Queues.{Queues}
 use Rattle.dna_links.specs.declared.queue.Queues.TheVariants.{Without, With}
 use Rattle.dna_links.specs.LinkBook.{on_ok}
 use Rattle.dna_links.specs.Links.{LinkOf, at_number, changed, check, number_of, on_link, with_link, with_segments}
-use Rattle.dna_links.specs.LookUps.{is_calling, is_connected, takes_messages}
+use Rattle.dna_links.specs.LookUps.{is_calling, is_connected, takes_messages, refused_in}
 use Rattle.dna_links.specs.Queues.{drops, freed, goes_to, in_use, with_in_use}
 use Rattle.dna_links.specs.Segmentation.{Whole, in_order, next_message}
 use Rattle.dna_links.specs.User.{LinkEventValue, Open, Accept, Reject, In, Up, Close, Abort, Boot}
 use Rattle.dna_links.specs.WireSegments.{WireSegments, delivers_whole, delivered_as, hands_in, wire_segments}
 use Rattle.dna_links.specs.WireLinks.{WireLinks, wire_links_user}
 use Rattle.link_segments.specs.Received.{next_length}
-use Rattle.nsp_link.specs.FailedEvent.{asked_address, asked_answer, asked_event, is_whole, may_close, may_give_up, may_hand_in, on_link_in_use}
+use Rattle.nsp_link.specs.FailedEvent.{asked_address, asked_answer, asked_event, is_whole, may_close, may_give_up, may_hand_in, not_so}
+use Rattle.nsp_link.specs.FailedEvent.{on_link_in_use}
 use Rattle.nsp_link.specs.FailedEvent.{failed_event, refusal_of_event, whole_pieces}
 use Rattle.nsp_link.specs.FailedSending.{unless}
 use Rattle.nsp_link.specs.Missing.{refusal_in}
@@ -105,6 +106,12 @@ module _ (queues : Queues) (message : List ℕ) (memory : Bool) (s : WireLinks) 
       )
       by_same false = refl
 
+-- what is refused of a link in another phase
+not_so_refused : (own : ℕ) (s : WireLinks) (seen : Phase) (other : FailedLinkEvent) → refusal_of_event other ≡ LinkState →
+    refusal_of_event (not_so own s seen other) ≡ refused_in seen LinkState
+not_so_refused own s Called other is = refl
+not_so_refused own s seen other is = is
+
 -- ---- each event
 
 module _ (queues : Queues) (s : WireLinks) where
@@ -120,35 +127,42 @@ module _ (queues : Queues) (s : WireLinks) where
       )))
 
   hand_agrees : (own : ℕ) (message : List ℕ) →
-      EventAgrees queues message true s (on_link_in_use queues own s (may_hand_in queues))
+      EventAgrees queues message true s (on_link_in_use queues own s (may_hand_in queues own s))
       (with_in_use queues (LiveAt own) s (Err NoLink) (λ number link.
-      check (takes_messages (in_use queues link).phase) LinkState (Ok (changed number (with_segments (hands_in message link.segments) link) s))))
+      check (takes_messages (in_use queues link).phase) (refused_in (in_use queues link).phase LinkState)
+      (Ok (changed number (with_segments (hands_in message link.segments) link) s))))
   hand_agrees own message =
       use_agrees (FitsEvent queues true s) (acted queues message s) refusal_of_event s _ _ queues (LiveAt own) _ _ refl (λ n e l is.
-      unless_agrees (FitsEvent queues true s) (acted queues message s) refusal_of_event (takes_messages (in_use queues l).phase) _ LinkState _ _ refl
+      unless_agrees (FitsEvent queues true s) (acted queues message s) refusal_of_event (takes_messages (in_use queues l).phase) _ _ _ _
+      (not_so_refused own s (in_use queues l).phase _ refl)
       (λ takes. (
         (low queues message true s n l is, messages_keep_at queues s n l is takes, refl),
         made_here queues message true s n l is (λ link. changed n (with_segments (hands_in message link.segments) link) s),
       )))
 
   close_agrees : (own : ℕ) →
-      EventAgrees queues [] false s (on_link_in_use queues own s (may_close queues)) (with_in_use queues (LiveAt own) s (Err NoLink) (λ number link.
-      check (is_connected (in_use queues link).phase) LinkState (Ok (changed number (goes_to wire_segments queues Disconnecting link) s))))
+      EventAgrees queues [] false s (on_link_in_use queues own s (may_close queues own s))
+      (with_in_use queues (LiveAt own) s (Err NoLink) (λ number link.
+      check (is_connected (in_use queues link).phase) (refused_in (in_use queues link).phase LinkState)
+      (Ok (changed number (goes_to wire_segments queues Disconnecting link) s))))
   close_agrees own =
       use_agrees (FitsEvent queues false s) (acted queues [] s) refusal_of_event s _ _ queues (LiveAt own) _ _ refl (λ n e l is.
-      unless_agrees (FitsEvent queues false s) (acted queues [] s) refusal_of_event (is_connected (in_use queues l).phase) _ LinkState _ _ refl
+      unless_agrees (FitsEvent queues false s) (acted queues [] s) refusal_of_event (is_connected (in_use queues l).phase) _ _ _ _
+      (not_so_refused own s (in_use queues l).phase _ refl)
       (λ connected. (
         (low queues [] false s n l is, connected_used_at queues s n l is connected, connected_keeps_at queues s n l is connected),
         made_here queues [] false s n l is (λ link. changed n (goes_to wire_segments queues Disconnecting link) s),
       )))
 
   abort_agrees : (own : ℕ) →
-      EventAgrees queues [] false s (on_link_in_use queues own s (may_give_up queues))
+      EventAgrees queues [] false s (on_link_in_use queues own s (may_give_up queues own s))
       (with_in_use queues (LiveAt own) s (Err NoLink) (λ number link.
-      check (is_calling (in_use queues link).phase) LinkState (Ok (changed number (drops wire_segments queues link) s))))
+      check (is_calling (in_use queues link).phase) (refused_in (in_use queues link).phase LinkState)
+      (Ok (changed number (drops wire_segments queues link) s))))
   abort_agrees own =
       use_agrees (FitsEvent queues false s) (acted queues [] s) refusal_of_event s _ _ queues (LiveAt own) _ _ refl (λ n e l is.
-      unless_agrees (FitsEvent queues false s) (acted queues [] s) refusal_of_event (is_calling (in_use queues l).phase) _ LinkState _ _ refl
+      unless_agrees (FitsEvent queues false s) (acted queues [] s) refusal_of_event (is_calling (in_use queues l).phase) _ _ _ _
+      (not_so_refused own s (in_use queues l).phase _ refl)
       (λ calling. (
         (low queues [] false s n l is, calls_at queues s n l is calling),
         made_here queues [] false s n l is (λ link. changed n (drops wire_segments queues link) s),

@@ -33,3 +33,4 @@ mod KeptInUse
 mod Rows
 mod Booted
 mod Dead
+mod Dropped

@@ -1,5 +1,5 @@
 -- A link that goes to another phase or ends, with queues or without, and what its node settles by a DC.
-use Rattle.std.proofs.Common.{◌≡◌, ℕ, ◌<◌, Bool, true, Option, Some, None, List, set, refl, sym, ap, ◌∙◌, nat_cmp, nat_eq}
+use Rattle.std.proofs.Common.{◌≡◌, ℕ, ◌<◌, Bool, true, false, ◌&&◌, not, cond, Option, Some, None, List, set, refl, sym, ap, ◌∙◌, nat_cmp, nat_eq}
 use Rattle.std.specs.Prelude.{slice_get}
 use Rattle.std.specs.BTreeMap.{get}
 use Rattle.std.specs.HashMap as hashed
@@ -9,7 +9,7 @@ use Rattle.dna_links.specs.declared.queue.Queues.{Queues}
 use Rattle.dna_links.specs.declared.queue.Queues.TheVariants.{Without, With}
 use Rattle.dna_links.specs.LookUps.{is_calling, is_live}
 use Rattle.dna_links.specs.Links.{LinkOf}
-use Rattle.dna_links.specs.Queues.{drops, ends_by_message, goes_on, goes_to}
+use Rattle.dna_links.specs.Queues.{call_of, drops, ends_by_message, goes_on, goes_to, port_of_waiting}
 use Rattle.dna_links.specs.WireSegments.{WireSegments, wire_segments}
 use Rattle.dna_links.specs.WireLinks.{WireLinks}
 use Rattle.nsp_link.specs.declared.index.Index.{Index}
@@ -18,7 +18,7 @@ use Rattle.nsp_link.specs.inner.Indexing.{AreIndexed}
 use Rattle.nsp_link.specs.inner.Queue.{moved}
 use Rattle.nsp_link.proofs.Change.{InPlace, link_there}
 use Rattle.nsp_link.proofs.Indexed.{indexed_change, indexed_same}
-use Rattle.nsp_link.proofs.Used.{link_some, released_with, unused, used_if, used_settle, used_with}
+use Rattle.nsp_link.proofs.Used.{link_some, released_with, used_if, used_settle, used_with}
 
 pub calling_lives : (phase : Phase) → is_calling phase ≡ true → is_live phase ≡ true
 calling_lives Calling e = refl
@@ -43,7 +43,13 @@ drops_port With l = refl
 
 pub drops_use : (queues : Queues) (l : LinkOf WireSegments) → queues ≡ With → begins_use (drops wire_segments queues l) ≡ None
 drops_use Without l with = absurd (cc)
-drops_use With l with = unused (drops wire_segments With l) refl
+drops_use With l with = go l.port.opened
+  where
+    -- a call that was given up was opened here
+    go : (opened : Bool) → cond (is_live (port_of_waiting (call_of opened) (record l.port { phase = Ended })).phase && not opened) l.port.far None
+        ≡ None
+    go true = refl
+    go false = refl
 
 ends_by : (w : Option Phase) (queues : Queues) → queues ≡ With → (links : List (LinkOf WireSegments)) (n : ℕ) (l : LinkOf WireSegments)
     (used : ℕ → ℕ) → AreUsed queues links used → slice_get links n ≡ Some l → (far : ℕ) → use_that_ends w l ≡ Some far → 0 < used far

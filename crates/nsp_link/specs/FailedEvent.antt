@@ -1,6 +1,6 @@
 -- What a node's links answer, with queues or without, when they are asked for an event of their user: a permit, or else the first check that it does
 -- not pass, by its name, with what is seen there and what is allowed. The checks are those of `Table` of `dna_links`, in their order.
-use Rattle.std.specs.Prelude.{ℕ, Bool, false, Option, Some, None, List, length, Result, Ok, Err}
+use Rattle.std.specs.Prelude.{ℕ, Bool, if◌then◌else◌, false, Option, Some, None, List, length, Result, Ok, Err}
 use Rattle.std.specs.Str.{bytes_eq}
 use Rattle.dna_station.specs.declared.link_refusal.LinkRefusal.{LinkRefusal}
 use Rattle.dna_station.specs.declared.link_refusal.LinkRefusal.TheVariants.{NoLink, LinkState, WrongDelivery, AddressInUse}
@@ -11,7 +11,7 @@ use Rattle.dna_links.specs.declared.port.Phase.TheVariants.{Confirming, Disconne
 use Rattle.dna_links.specs.declared.queue.Queues.{Queues}
 use Rattle.dna_links.specs.Links.{LinkOf, with_link}
 use Rattle.dna_links.specs.Queues.{in_use, with_in_use}
-use Rattle.dna_links.specs.LookUps.{is_calling, is_connected, takes_messages}
+use Rattle.dna_links.specs.LookUps.{is_called, is_calling, is_connected, takes_messages}
 use Rattle.dna_links.specs.Segmentation.{Piece, Whole, next_message}
 use Rattle.dna_links.specs.User.{LinkEventValue, Open, Accept, Reject, In, Up, Close, Abort, Boot}
 use Rattle.dna_links.specs.WireSegments.{WireSegments}
@@ -55,32 +55,41 @@ abbrev pub asked_delivering : (own : ℕ) → List ℕ → WireLinks → Result 
 asked_delivering own message s =
     on_link_asked (HasAddress own) s (λ number link. asked_delivery number message link.segments.variables.pieces)
 
+-- the link is in another phase; a call that was given up, which is seen in Called, is no link for its user
+abbrev pub not_so : (own : ℕ) → WireLinks → (seen : Phase) → FailedLinkEvent → FailedLinkEvent
+not_so own s seen other = if is_called seen then failed.NoLink (missing (LiveAt own) s) else other
+
 module _ (queues : Queues) where
   -- with queues the link may have ended, and something of it waits
   abbrev pub on_link_in_use : (own : ℕ) → WireLinks → (ℕ → LinkOf WireSegments → Result LinkUserPermit FailedLinkEvent) →
       Result LinkUserPermit FailedLinkEvent
   on_link_in_use own s next = with_in_use queues (LiveAt own) s (Err (failed.NoLink (missing (LiveAt own) s))) next
 
-  abbrev pub may_hand_in : ℕ → LinkOf WireSegments → Result LinkUserPermit FailedLinkEvent
-  may_hand_in number link =
-      unless (takes_messages (in_use queues link).phase) (failed.TakesMessages number (in_use queues link).phase) (Ok (HandsIn number))
+  module _ (own : ℕ) (s : WireLinks) where
+    abbrev pub may_hand_in : ℕ → LinkOf WireSegments → Result LinkUserPermit FailedLinkEvent
+    may_hand_in number link =
+        unless (takes_messages (in_use queues link).phase)
+        (not_so own s (in_use queues link).phase (failed.TakesMessages number (in_use queues link).phase)) (Ok (HandsIn number))
 
-  abbrev pub may_close : ℕ → LinkOf WireSegments → Result LinkUserPermit FailedLinkEvent
-  may_close number link =
-      unless (is_connected (in_use queues link).phase) (failed.IsConnected number (in_use queues link).phase) (Ok (Closes number))
+    abbrev pub may_close : ℕ → LinkOf WireSegments → Result LinkUserPermit FailedLinkEvent
+    may_close number link =
+        unless (is_connected (in_use queues link).phase)
+        (not_so own s (in_use queues link).phase (failed.IsConnected number (in_use queues link).phase)) (Ok (Closes number))
 
-  abbrev pub may_give_up : ℕ → LinkOf WireSegments → Result LinkUserPermit FailedLinkEvent
-  may_give_up number link = unless (is_calling (in_use queues link).phase) (failed.IsCalling number (in_use queues link).phase) (Ok (GivesUp number))
+    abbrev pub may_give_up : ℕ → LinkOf WireSegments → Result LinkUserPermit FailedLinkEvent
+    may_give_up number link =
+        unless (is_calling (in_use queues link).phase)
+        (not_so own s (in_use queues link).phase (failed.IsCalling number (in_use queues link).phase)) (Ok (GivesUp number))
 
   -- a row for each event
   abbrev pub asked_event : WireLinks → LinkEventValue → Result LinkUserPermit FailedLinkEvent
   asked_event s (Open own) = asked_address own (Opens own) s
   asked_event s (Accept far own) = asked_answer Confirming far own s
   asked_event s (Reject far own) = asked_answer Disconnecting far own s
-  asked_event s (In own message) = on_link_in_use own s may_hand_in
+  asked_event s (In own message) = on_link_in_use own s (may_hand_in own s)
   asked_event s (Up own message) = asked_delivering own message s
-  asked_event s (Close own) = on_link_in_use own s may_close
-  asked_event s (Abort own) = on_link_in_use own s may_give_up
+  asked_event s (Close own) = on_link_in_use own s (may_close own s)
+  asked_event s (Abort own) = on_link_in_use own s (may_give_up own s)
   asked_event s Boot = Ok Boots
 
   -- the check alone, if there is one

@@ -16,7 +16,7 @@ use Rattle.pair_judge.specs.declared.reason_kind.Matter.{Matter}
 use Rattle.pair_judge.specs.declared.reason_kind.Matter.TheVariants as matter
 use Rattle.why.specs.declared.accusation.Accusation.{Accusation}
 use Rattle.why.specs.declared.accusation.Accusation.TheVariants.{Sender, OtherSender, Hints, Line, Claim, Nobody, User}
-use Rattle.why.specs.declared.accusation.Accusation.TheVariants.{Starter, Chooser, OtherEnd, Queue, Running}
+use Rattle.why.specs.declared.accusation.Accusation.TheVariants.{Starter, Chooser, OtherEnd, Queue, DcWaited, Running}
 use Rattle.why.specs.declared.accusation.Accusation.TheVariants.{SenderUnlessQueue, UserUnlessQueue, OtherEndUnlessQueue}
 use Rattle.why.specs.declared.accusation.Excuse.{Excuse}
 use Rattle.why.specs.declared.accusation.Excuse.TheVariants as excuse
@@ -75,6 +75,7 @@ abbrev pub excused : Excuse → Accusation → Accusation
 excused excuse.Refused accusation = accusation
 excused excuse.Perhaps accusation = unless_queue accusation
 excused excuse.Accepted accusation = Queue
+excused excuse.DcWaited accusation = DcWaited
 
 -- whether records told before what the rule asks for
 abbrev pub if_begun : (has_begun : Bool) → Accusation → Accusation
@@ -97,6 +98,7 @@ accusation_name Line = codes "line"
 accusation_name Claim = codes "claim"
 accusation_name Nobody = codes "nobody"
 accusation_name Queue = codes "nobody"
+accusation_name DcWaited = codes "nobody"
 accusation_name User = codes "user"
 accusation_name Starter = codes "user"
 accusation_name Chooser = codes "user"

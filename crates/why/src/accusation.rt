@@ -39,6 +39,8 @@ pub enum Accusation {
     OtherEnd,
     /// Neither side: nodes with a queue between NSP and DDCMP make the pair.
     Queue,
+    /// Neither side: such a node does this where a DC waits in its queue.
+    DcWaited,
     /// The node that sent the unit, or composed the packet, unless it has such a queue.
     SenderUnlessQueue,
     /// The node's user, unless the node has such a queue.
@@ -58,6 +60,8 @@ pub enum Excuse {
     Perhaps,
     /// They make the pair.
     Accepted,
+    /// They are refused, but this record is one of a call that a DC ended, which may have waited in a queue behind a CI that came again.
+    DcWaited,
 }
 
 impl Excuse {
@@ -136,6 +140,7 @@ impl Accusation {
             Excuse::Refused => self,
             Excuse::Perhaps => self.unless_queue(),
             Excuse::Accepted => Accusation::Queue,
+            Excuse::DcWaited => Accusation::DcWaited,
         }
     }
 
@@ -181,7 +186,8 @@ impl fmt::Display for Accusation {
             Accusation::Hints => f.write_str("hints"),
             Accusation::Line => f.write_str("line"),
             Accusation::Claim => f.write_str("claim"),
-            Accusation::Nobody | Accusation::Queue | Accusation::Running => f.write_str("nobody"),
+            Accusation::Nobody | Accusation::Queue => f.write_str("nobody"),
+            Accusation::DcWaited | Accusation::Running => f.write_str("nobody"),
             Accusation::User | Accusation::Starter | Accusation::Chooser => f.write_str("user"),
             Accusation::OtherEnd => f.write_str("other end"),
             Accusation::SenderUnlessQueue => f.write_str("sender_without_queue"),
@@ -232,6 +238,9 @@ impl fmt::Display for AccusedRow {
             Accusation::Queue => f.write_str(
                 "accused  nobody: a node with a queue between NSP and DDCMP does this\n",
             ),
+            Accusation::DcWaited => f.write_str(
+                "accused  nobody: a DC that waited in a queue may have ended this call\n",
+            ),
             Accusation::SenderUnlessQueue => { write!(f, "{UNLESS_QUEUE}the sender, {side}\n") }
             Accusation::UserUnlessQueue => write!(f, "{UNLESS_QUEUE}the user of {side}\n"),
             Accusation::OtherEndUnlessQueue => write!(f, "{UNLESS_QUEUE}the other end\n"),
@@ -243,25 +252,23 @@ impl fmt::Display for AccusedRow {
     }
 }
 
-/// That the recording begins in the middle of a running line, as a JSON object with its LF; nothing where that is not so.
+/// That the recording begins in the middle of a running line, or that a DC may have waited in a queue, as a JSON object with its LF; nothing where
+/// neither is why nobody is accused.
 #[derive(Clone, Copy)]
-pub struct RunningObject {
+pub struct NobodyObject {
     pub side: Side,
     pub accusation: Accusation,
 }
 
-impl fmt::Display for RunningObject {
+impl fmt::Display for NobodyObject {
     fn fmt<W: fmt::Write>(&self, f: &mut fmt::Formatter<W>) -> fmt::Result {
+        let what = match self.accusation {
+            Accusation::Running => "begins_running",
+            Accusation::DcWaited => "dc_waited",
+            _ => return Ok(()),
+        };
         let side = self.side;
-        match self.accusation {
-            Accusation::Running => {
-                write!(
-                    f,
-                    "{{\"what\": \"begins_running\", \"side\": \"{side}\"}}\n"
-                )
-            }
-            _ => Ok(()),
-        }
+        write!(f, "{{\"what\": \"{what}\", \"side\": \"{side}\"}}\n")
     }
 }
 

@@ -4,7 +4,7 @@ ghost use Rattle.std.specs.Prelude.{◌≡◌, IfOk, string_bytes};
 ghost use Rattle.why.specs.inner.EndAlone as spec;
 ghost use Rattle.why.specs.Refused.{BeginsWith, line_of_end, refused_line};
 
-use crate::accusation::{Accusation, AccusedRow, RunningObject};
+use crate::accusation::{Accusation, AccusedRow, NobodyObject};
 use crate::ends::state_at;
 use crate::form::Form;
 use crate::past::Lines;
@@ -57,9 +57,9 @@ pub fn why_end_json(
     format!(in alloc; "{record}{told}{last}")
 }
 
-// Whether the recording begins late, and what is answered of a node with queues, as JSON objects with an LF each.
+// Why nobody is accused, and what is answered of a node with queues, as JSON objects with an LF each.
 fn last_objects(alloc: Global, refusal: EndRefusal<'_>) -> Result<String, AllocError> {
-    let running = RunningObject {
+    let nobody = NobodyObject {
         side: Side::A,
         accusation: refusal.accusation,
     };
@@ -67,7 +67,7 @@ fn last_objects(alloc: Global, refusal: EndRefusal<'_>) -> Result<String, AllocE
         whole: Whole::End,
         answer: refusal.queued,
     };
-    format!(in alloc; "{running}{queued}")
+    format!(in alloc; "{nobody}{queued}")
 }
 
 /// All rows of a refused record of one end after the line of the verdict: the record; the check; the end with its live links; the rows before it,

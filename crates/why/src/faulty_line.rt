@@ -6,6 +6,11 @@ use crate::wrapped::put_wrapped;
 use capture::{Departure, Format, MAX_LINE};
 use std::alloc::{AllocError, Global};
 use std::fmt::Write as _;
+use wire_text::is_packet_capture;
+
+// A packet capture, and what makes captures of it.
+const PACKETS: &str =
+    "a packet capture (tcpdump, Wireshark): tools/wire_pcap line.pcap > line.wire && ./ddcap tap line.wire A B makes both captures of it";
 
 /// A line of a text that departs from the format.
 #[derive(Clone, Copy)]
@@ -140,13 +145,8 @@ fn other_file(first: &[u8]) -> Option<&'static str> {
     if begins_with(first, b"\x1f\x8b") {
         return Some("a file compressed by gzip: write it out with gunzip first");
     }
-    if begins_with(first, b"\xd4\xc3\xb2\xa1")
-        || begins_with(first, b"\xa1\xb2\xc3\xd4")
-        || begins_with(first, b"\x4d\x3c\xb2\xa1")
-        || begins_with(first, b"\xa1\xb2\x3c\x4d")
-        || begins_with(first, b"\n\r\r\n")
-    {
-        return Some("a file of tcpdump or Wireshark: docs/WIRE.md has a recipe for it");
+    if is_packet_capture(first) {
+        return Some(PACKETS);
     }
     if begins_with(first, b"ddwire ") {
         return Some("the text of a wire: ddcap tap finds both captures in it");

@@ -5,6 +5,7 @@
 mod accusation;
 mod ack_words;
 mod arrival_checks;
+mod calls;
 mod causes;
 mod check_words;
 mod checks;
@@ -36,6 +37,7 @@ mod record_told;
 mod refused_line;
 mod refused_record;
 mod rules;
+mod side_past;
 mod sides;
 mod state_line;
 mod state_text;
@@ -48,7 +50,7 @@ mod why_text;
 mod words;
 mod wrapped;
 
-pub use accusation::{Accusation, AccusedRow, Excuse, RunningObject};
+pub use accusation::{Accusation, AccusedRow, Excuse, NobodyObject};
 pub use checks::{Check, CheckObject, check_rows};
 pub use digits::Fronts;
 pub use edits::{EditLine, EditsTried, FEW_RECORDS, RecorderRow, put_edit};

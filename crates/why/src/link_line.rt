@@ -38,7 +38,7 @@ fn write_object<W: Write>(f: &mut Formatter<W>, side: Side, link: LinkView) -> f
     f.write_str("}\n")
 }
 
-// Writes the keys of what the queues of its node leave open of a link.
+// Writes the keys of what the queues of its node leave open of a link. A call that was given up waits as in Called.
 fn write_queue_keys<W: Write>(f: &mut Formatter<W>, queue: LinkQueue) -> fmt::Result {
     let LinkQueue { ran, accepted, .. } = queue;
     let said = match queue.said {
@@ -51,6 +51,7 @@ fn write_queue_keys<W: Write>(f: &mut Formatter<W>, queue: LinkQueue) -> fmt::Re
         ", \"accepted\": {accepted}, \"ran\": {ran}, \"said\": {said}, \"ending\": "
     )?;
     match queue.waits {
+        Some(Phase::Called) => f.write_str("\"given up\""),
         Some(phase) => write!(f, "\"{}\"", phase_name(phase)),
         None => f.write_str("null"),
     }
@@ -98,6 +99,7 @@ fn write_queue<W: Write>(f: &mut Formatter<W>, queue: LinkQueue) -> fmt::Result 
     };
     write!(f, "\n           {come}, {said}")?;
     match queue.waits {
+        Some(Phase::Called) => f.write_str("\n           given up; its CI may still be sent"),
         Some(phase) => {
             let phase = phase_name(phase);
             write!(

@@ -55,26 +55,31 @@ pub fn record_text(
     let (name, line) = place;
     let mut text = format!(in alloc; "{name}:{line}: ")?;
     match entry {
-        Entry::Sent => text.push_str("sent\n")?,
-        Entry::Received { fate, hint } => {
-            let words = format!(in alloc; "received{}, hint {hint}\n", fate_words(fate))?;
-            text.push_str(words.as_str())?;
+        Entry::Sent | Entry::Received { .. } | Entry::Noise => {
+            put_head(alloc, &mut text, entry)?;
+            put_bytes(alloc, &mut text, bytes, full)?;
+            put_layers(alloc, &mut text, bytes)?;
         }
-        Entry::Noise => text.push_str("noise\n")?,
         Entry::Composed => {
             text.push_str("composed, never sent\n")?;
             put_bytes(alloc, &mut text, bytes, full)?;
             put_packet(alloc, &mut text, bytes)?;
-            return Ok(text);
         }
-        _ => {
-            put_event(alloc, &mut text, entry, bytes, full)?;
-            return Ok(text);
-        }
+        _ => put_event(alloc, &mut text, entry, bytes, full)?,
     }
-    put_bytes(alloc, &mut text, bytes, full)?;
-    put_layers(alloc, &mut text, bytes)?;
     Ok(text)
+}
+
+// Appends what was done with a unit.
+fn put_head(alloc: Global, text: &mut String, entry: Entry) -> Result<(), AllocError> {
+    match entry {
+        Entry::Received { fate, hint } => {
+            let words = format!(in alloc; "received{}, hint {hint}\n", fate_words(fate))?;
+            text.push_str(words.as_str())
+        }
+        Entry::Noise => text.push_str("noise\n"),
+        _ => text.push_str("sent\n"),
+    }
 }
 
 // What became of the packet in a unit that was received.

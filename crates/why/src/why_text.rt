@@ -3,7 +3,7 @@
 ghost use Rattle.std.specs.Prelude.{◌≡◌, IfOk, string_bytes};
 ghost use Rattle.why.specs.Refused.{BeginsWith, line_of, refused_line};
 
-use crate::accusation::{Accusation, AccusedRow, RunningObject};
+use crate::accusation::{Accusation, AccusedRow, NobodyObject};
 use crate::edits::{EditsTried, RecorderRow, so_row};
 use crate::ends::state_at;
 use crate::form::Form;
@@ -85,18 +85,18 @@ pub fn why_json(
     let named = addresses_of(refusal.says, refusal.bytes);
     let own = side_told(alloc, Form::Object, side, named, ends)?;
     let other = side_told(alloc, Form::Object, side.other(), named.turned(), ends)?;
-    let running = RunningObject {
+    let nobody = NobodyObject {
         side,
         accusation: refusal.accusation,
     };
-    let last = last_objects(alloc, running, asked)?;
+    let last = last_objects(alloc, nobody, asked)?;
     format!(in alloc; "{record}{own}{other}{last}")
 }
 
-// Whether the recording begins late, and what else was asked, as JSON objects with an LF each.
+// Why nobody is accused, and what else was asked, as JSON objects with an LF each.
 fn last_objects(
     alloc: Global,
-    running: RunningObject,
+    nobody: NobodyObject,
     asked: AlsoAsked<'_>,
 ) -> Result<String, AllocError> {
     let queued = QueuedObject {
@@ -105,8 +105,8 @@ fn last_objects(
     };
     let AlsoAsked { less, edits, .. } = asked;
     match asked.tried {
-        Some(tried) => format!(in alloc; "{running}{queued}{less}{edits}{tried}"),
-        None => format!(in alloc; "{running}{queued}{less}{edits}"),
+        Some(tried) => format!(in alloc; "{nobody}{queued}{less}{edits}{tried}"),
+        None => format!(in alloc; "{nobody}{queued}{less}{edits}"),
     }
 }
 

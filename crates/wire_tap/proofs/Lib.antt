@@ -8,3 +8,9 @@ pub mod SideLaws
 pub mod EndLaws
 pub mod LineLaws
 pub mod BeginLaws
+pub mod ChargeLaws
+pub mod AccuserLaws
+pub mod KnownLaws
+pub mod PassedLaws
+pub mod DirectionLaws
+pub mod PieceLaws

@@ -1,3 +1,4 @@
 -- What contracts of private functions speak of; no public claim rests on it
 pub mod Side
 pub mod Moving
+pub mod Accused

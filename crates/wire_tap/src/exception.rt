@@ -1,5 +1,7 @@
 //! Which correct nodes send a unit all the same, by what accuses it.
 
+ghost use Rattle.wire_tap.specs.Accusing.{HasException};
+
 use crate::accusation::Exception;
 use crate::addressed::Addressed;
 
@@ -19,7 +21,9 @@ pub(crate) enum Charge {
 }
 
 /// What a correct node may do that sends a unit which is accused by this charge, and whose packet goes there.
-pub(crate) fn exception_of(charge: Charge, addressed: Addressed) -> Option<Exception> {
+pub(crate) fn exception_of(charge: Charge, addressed: Addressed) -> Option<Exception>
+    ensures { HasException charge result }
+{
     match charge {
         Charge::Station | Charge::TooLong => None,
         Charge::Packet => of_packet(addressed),

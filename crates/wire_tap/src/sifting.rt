@@ -1,6 +1,8 @@
 //! Who stays accused, where the recording may not be whole.
 
+ghost use Rattle.std.specs.Prelude.{◌≡◌, ◌⊎◌, None};
 ghost use Rattle.wire_tap.specs.Accusing.{AreEither, IsEither};
+ghost use Rattle.wire_tap.specs.inner.Accused.{Leaves, LeavesSegment};
 
 use crate::accusation::{Accusation, Accused, Broken};
 use crate::evidence::Evidence;
@@ -26,7 +28,11 @@ struct Stop {
 impl Suspects {
     /// Those that passed before anything accuses the recording.
     pub(crate) fn sift(self, evidence: &Evidence) -> Accused
-        ensures { AreEither result }
+        ensures either { AreEither result }
+        ensures a { Leaves self.a result.a }
+        ensures b { Leaves self.b result.b }
+        ensures segment_a { LeavesSegment self.segment_a result.segment_a }
+        ensures segment_b { LeavesSegment self.segment_b result.segment_b }
     {
         let none = Stop {
             order: u64::MAX,
@@ -68,18 +74,26 @@ impl Stop {
     }
 
     // The unit, if it passed before.
-    fn keep(self, suspect: Option<Suspect>) -> Option<Suspect> {
-        let found = suspect?;
-        if found.order < self.order {
-            return Some(found);
+    fn keep(self, suspect: Option<Suspect>) -> Option<Suspect>
+        ensures { (result ≡ None) ⊎ (result ≡ suspect) }
+    {
+        match suspect {
+            Some(found) => {
+                if found.order < self.order {
+                    return Some(found);
+                }
+                None
+            }
+            None => None,
         }
-        None
     }
 }
 
 // What is said of a side; of a segment only where the side is not accused.
 fn named(accused: Option<Suspect>, segment: Option<Suspect>) -> (Option<Accusation>, Option<Passed>)
-    ensures { IsEither result.0 result.1 }
+    ensures either { IsEither result.0 result.1 }
+    ensures accused { Leaves accused result.0 }
+    ensures segment { LeavesSegment segment result.1 }
 {
     match accused {
         Some(found) => {
@@ -93,7 +107,11 @@ fn named(accused: Option<Suspect>, segment: Option<Suspect>) -> (Option<Accusati
     }
 }
 
-fn passed_of(segment: Option<Suspect>) -> Option<Passed> {
-    let found = segment?;
-    Some(found.passed)
+fn passed_of(segment: Option<Suspect>) -> Option<Passed>
+    ensures { LeavesSegment segment result }
+{
+    match segment {
+        Some(found) => Some(found.passed),
+        None => None,
+    }
 }

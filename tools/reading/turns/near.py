@@ -18,7 +18,8 @@ TURNS = {
     'user abort':
         'row, without AddressIsLive, without RightPhase, without GiveUp, GoTo DI, in Confirming too, in RUN too, in DI too, not in Calling, '
         'HasAddress in place of LiveAt, OpenedAt in place of LiveAt, CallingAt in place of LiveAt, forgets the address, takes its number back',
-    'queued user abort': 'row, what waits goes on, forgets the address, LiveAt in place of StillAt, in RUN too',
+    'queued user abort':
+        'row, nothing of it waits, stays its user\'s, forgets the address, LiveAt in place of UsedAt, StillAt in place of UsedAt, in RUN too',
     'lost above':
         'the links meet it, moves no number, finds no buffer, is not counted as kept, 2 is not asked, 3 is not asked, 5 is not asked, '
         '12 is not asked, 13 is not asked, 16 is asked, 25 is asked',

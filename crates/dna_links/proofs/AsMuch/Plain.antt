@@ -17,6 +17,7 @@ use Rattle.dna_links.specs.LookUps.{passes, is_live}
 use Rattle.dna_links.specs.SegmentBook.{SegmentBook, Sending, Late, with_gap}
 use Rattle.dna_links.specs.Links.{LinkOf, LinksOf, number_of, on_link, at_number, with_link, begun, changed, in_phase, with_segments}
 use Rattle.dna_links.specs.Queues.{fresh, further, has_waiting, keeps_numbers, lets_go, requeued, goes_on, ends_by_message, drops, ended, forgotten}
+use Rattle.dna_links.specs.Queues.{drops_segments}
 use Rattle.dna_links.specs.Queues.{booted_link, booted}
 use Rattle.dna_links.specs.Queues.{freed, shows, shows_by, settled}
 use Rattle.dna_links.specs.Sending.{Sent}
@@ -188,7 +189,12 @@ module _ {D K : Type 0} (book : SegmentBook D K) where
 
     pub drops_plain : (m : LinkOf D) → plain (drops book With m) ≡ ended book (plain m)
     drops_plain m =
-        ap (λ (x : D). with_segments x (ended book (plain m))) (good.twice m.segments ∙ sym (left_twice (is_live m.port.phase) m.segments))
+        ap (λ (x : D). with_segments x (ended book (plain m)))
+        (drops_twice m.port.opened m.segments ∙ sym (left_twice (is_live m.port.phase) m.segments))
+      where
+        drops_twice : (opened : Bool) (f : D) → book.ends (drops_segments book opened f) ≡ book.ends f
+        drops_twice true f = refl
+        drops_twice false f = good.twice f
 
     left_forgets : (live : Bool) (f : D) → left_of live (book.forgets f) ≡ book.forgets (left_of live f)
     left_forgets true f = refl

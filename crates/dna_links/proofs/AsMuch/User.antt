@@ -80,7 +80,7 @@ module _ {D K : Type 0} (book : SegmentBook D K) (good : LetsGo book) (s : Links
       record {
         links = changed number (with_segments (book.hands_in message t.m.segments) t.m) s;
         does = at_found s (LiveAt own) number t.m _ _ t.found t.at
-            ∙ passes_check (takes_messages (in_use With t.m).phase) LinkState _
+            ∙ passes_check (takes_messages (in_use With t.m).phase) _ _
             (ap (λ (x : Port). takes_messages x.phase) (in_use_is t.m (fits number t.m t.at) live)
             ∙ ap (λ (x : LinkOf D). takes_messages x.port.phase) t.is ∙ may);
         same = changed_plain book number (with_segments (book.hands_in message t.m.segments) t.m) s
@@ -109,7 +109,7 @@ module _ {D K : Type 0} (book : SegmentBook D K) (good : LetsGo book) (s : Links
       record {
         links = changed number now s;
         does = at_found s (LiveAt own) number t.m _ _ t.found t.at
-            ∙ passes_check (is_connected (in_use With t.m).phase) LinkState _
+            ∙ passes_check (is_connected (in_use With t.m).phase) _ _
             (ap (λ (x : Port). is_connected x.phase) (in_use_is t.m (fits number t.m t.at) live)
             ∙ ap (λ (x : LinkOf D). is_connected x.port.phase) t.is ∙ connected);
         same = changed_plain book number now s
@@ -128,7 +128,7 @@ module _ {D K : Type 0} (book : SegmentBook D K) (good : LetsGo book) (s : Links
       record {
         links = changed number (drops book With t.m) s;
         does = at_found s (LiveAt own) number t.m _ _ t.found t.at
-            ∙ passes_check (is_calling (in_use With t.m).phase) LinkState _
+            ∙ passes_check (is_calling (in_use With t.m).phase) _ _
             (ap (λ (x : Port). is_calling x.phase) (in_use_is t.m (fits number t.m t.at) live)
             ∙ ap (λ (x : LinkOf D). is_calling x.port.phase) t.is ∙ calling);
         same = changed_plain book number (drops book With t.m) s

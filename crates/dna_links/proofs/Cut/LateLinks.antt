@@ -18,7 +18,7 @@ use Rattle.dna_links.specs.LookUps.{passes, is_live, is_in, is_at}
 use Rattle.dna_links.specs.Segmentation.{Piece, in_whole_messages}
 use Rattle.dna_links.specs.Links.{LinkOf, on_link, at_number, with_seen, in_phase, with_segments}
 use Rattle.dna_links.specs.Queues.{is_over, further, has_waiting, port_of_waiting, in_use, with_in_use, keeps_numbers, lets_go, requeued, goes_on}
-use Rattle.dna_links.specs.Queues.{ends_by_message, drops}
+use Rattle.dna_links.specs.Queues.{ends_by_message, drops, drops_segments, call_of}
 use Rattle.dna_links.specs.Queues.{forgotten, shows, shows_by, settled, reached}
 use Rattle.dna_links.specs.TrueSegments.{TrueSegments, true_segments}
 use Rattle.dna_links.specs.WireSegments.{WireSegments, with_pieces_alone, ends, wire_segments}
@@ -189,10 +189,14 @@ module _ (l : LinkOf TrueSegments) where
         ap (λ (w : WireSegments). record (cut_link With l) {
           port = record l.port { phase = Ended };
           segments = w;
-          queue = record l.queue { waits = None };
+          queue = record l.queue { waits = call_of l.port.opened };
         })
-        (let_same true false l.port.own l.segments (λ e. absurd cc) own
-        ∙ ap ends (sym (kept_segments l kept)))
+        (go l.port.opened)
+      where
+        go : (opened : Bool) → cut_as (has_waiting (call_of opened) l.queue.said) l.port.own (drops_segments true_segments opened l.segments)
+            ≡ drops_segments wire_segments opened (cut_link With l).segments
+        go true = ap (λ (b : Bool). cut_as b l.port.own l.segments) (waits_before l.queue.said Called refl ∙ sym kept)
+        go false = let_same true false l.port.own l.segments (λ e. absurd cc) own ∙ ap ends (sym (kept_segments l kept))
 
     -- what was sent goes on, and what waits does not
     pub shows_same : (said : Said) → cut_link With (shows true_segments said l) ≡ shows wire_segments said (cut_link With l)

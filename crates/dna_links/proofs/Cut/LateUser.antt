@@ -126,7 +126,7 @@ module _ (s : Links) where
       with_in_use_same (cut_result With) (LiveAt own) s (Err NoLink) (Err NoLink) _ _ refl
       (λ n l there here.
       let p = live_at own l here in
-      result_check (takes_messages (in_use With l).phase) LinkState (Ok (changed n (with_segments (hands_in message l.segments) l) s))
+      result_check (takes_messages (in_use With l).phase) _ (Ok (changed n (with_segments (hands_in message l.segments) l) s))
       (Ok (changed n (with_segments (wire.hands_in message (cut_link With l).segments) (cut_link With l)) (cut_links With s)))
       (λ takes. let kept = keeps_before l p.0 takes_messages refl takes in
       ap Ok (one_changed n _ _ (segments_kept l kept (hands_in message l.segments) (wire.hands_in message (cut_link With l).segments)
@@ -142,7 +142,7 @@ module _ (s : Links) where
       with_in_use_same (cut_result With) (LiveAt own) s (Err NoLink) (Err NoLink) _ _ refl
       (λ n l there here.
       let p = live_at own l here in
-      result_check (is_connected (in_use With l).phase) LinkState
+      result_check (is_connected (in_use With l).phase) _
       (Ok (changed n (goes_on true_segments (is_live l.port.phase) Disconnecting l) s))
       (Ok (changed n (goes_on wire_segments (is_live l.port.phase) Disconnecting (cut_link With l)) (cut_links With s)))
       (λ connected. ap Ok (one_changed n _ _
@@ -157,7 +157,7 @@ module _ (s : Links) where
       with_in_use_same (cut_result With) (LiveAt own) s (Err NoLink) (Err NoLink) _ _ refl
       (λ n l there here.
       let p = live_at own l here in
-      result_check (is_calling (in_use With l).phase) LinkState (Ok (changed n (drops true_segments With l) s))
+      result_check (is_calling (in_use With l).phase) _ (Ok (changed n (drops true_segments With l) s))
       (Ok (changed n (drops wire_segments With (cut_link With l)) (cut_links With s)))
       (λ calling. ap Ok (one_changed n _ _ (drops_same l (λ none. absurd (p.1 none)) (keeps_before l p.0 is_calling refl calling)))))
   user_late Boot = ap (λ (links : List (LinkOf WireSegments)). Ok (record (cut_links With s) { links = links })) (booted_same With s.links)

@@ -10,7 +10,7 @@ use Rattle.dna_links.specs.declared.queue.Queues.TheVariants.{Without, With}
 use Rattle.dna_links.specs.declared.port.Phase.{Phase}
 use Rattle.dna_links.specs.declared.port.Phase.TheVariants.{Confirming, Disconnecting, Ended}
 use Rattle.dna_links.specs.declared.port.LinkTest.TheVariants.{HasAddress, LiveAt, CalledBy}
-use Rattle.dna_links.specs.LookUps.{is_live, is_calling, is_called, is_connected, is_at, takes_messages, passes}
+use Rattle.dna_links.specs.LookUps.{is_live, is_calling, is_called, is_connected, is_at, takes_messages, passes, refused_in}
 use Rattle.dna_links.specs.Links.{LinkOf, LinksOf, check, begun, changed, in_phase, with_segments}
 use Rattle.dna_links.specs.User.{LinkEventValue, Open, Accept, Reject, In, Up, Close, Abort, Boot}
 use Rattle.dna_links.specs.inner.Forms.{opened, answered, gives, answers, delivered}
@@ -103,11 +103,12 @@ delivered_same n l s (Some f) = ap Ok (changed_same Without n (with_segments f l
 
 module _ (s : Links) where
   -- a link that is changed where a check is passed
-  changes : (n : ℕ) (l after : LinkOf TrueSegments) (after' : LinkOf WireSegments) (b : Bool) → cut_link Without after ≡ after'
-      → cut_result Without (check b LinkState (Ok (changed n after s))) ≡ check b LinkState (Ok (changed n after' (cut_links Without s)))
-  changes n l after after' b same =
-      check_same b LinkState (changed n after s)
-      ∙ ap (λ (all : LinksOf WireSegments). check b LinkState (Ok all))
+  changes : (n : ℕ) (l after : LinkOf TrueSegments) (after' : LinkOf WireSegments) (b : Bool) (reason : LinkRefusal) →
+      cut_link Without after ≡ after' →
+      cut_result Without (check b reason (Ok (changed n after s))) ≡ check b reason (Ok (changed n after' (cut_links Without s)))
+  changes n l after after' b reason same =
+      check_same b reason (changed n after s)
+      ∙ ap (λ (all : LinksOf WireSegments). check b reason (Ok all))
       (changed_same Without n after s ∙ ap (λ (w : LinkOf WireSegments). changed n w (cut_links Without s)) same)
 
   -- the address that is given is no live link's
@@ -167,14 +168,14 @@ module _ (s : Links) where
   user_same (Reject far own) = answers_same Disconnecting far own refl
   user_same (In own message) =
       with_link_same Without (cut_result Without) (LiveAt own) s (Err NoLink) (Err NoLink)
-      (λ n l. check (takes_messages l.port.phase) LinkState (Ok (changed n (with_segments (hands_in message l.segments) l) s)))
-      (λ n l. check (takes_messages l.port.phase) LinkState
+      (λ n l. check (takes_messages l.port.phase) (refused_in l.port.phase LinkState) (Ok (changed n (with_segments (hands_in message l.segments) l) s)))
+      (λ n l. check (takes_messages l.port.phase) (refused_in l.port.phase LinkState)
       (Ok (changed n (with_segments (wire.hands_in message l.segments) l) (cut_links Without s))))
       (λ none. refl) (λ n l there here.
       let live = (and_parts (is_live l.port.phase) (is_at l.port.own own) here).0 in
       changes n l (with_segments (hands_in message l.segments) l)
       (with_segments (wire.hands_in message (cut_link Without l).segments) (cut_link Without l))
-      (takes_messages l.port.phase)
+      (takes_messages l.port.phase) _
       (segments_changed l live (hands_in message l.segments) (wire.hands_in message (cut_link Without l).segments)
       (ap (wire.hands_in message) (sym (live_segments l live)))))
   user_same (Up own message) =
@@ -187,17 +188,17 @@ module _ (s : Links) where
       (delivers_at (is_live l.port.phase) l.port.own own l.segments message here))
   user_same (Close own) =
       with_link_same Without (cut_result Without) (LiveAt own) s (Err NoLink) (Err NoLink)
-      (λ n l. check (is_connected l.port.phase) LinkState (Ok (changed n (in_phase Disconnecting l) s)))
-      (λ n l. check (is_connected l.port.phase) LinkState (Ok (changed n (in_phase Disconnecting l) (cut_links Without s))))
+      (λ n l. check (is_connected l.port.phase) (refused_in l.port.phase LinkState) (Ok (changed n (in_phase Disconnecting l) s)))
+      (λ n l. check (is_connected l.port.phase) (refused_in l.port.phase LinkState) (Ok (changed n (in_phase Disconnecting l) (cut_links Without s))))
       (λ none. refl) (λ n l there here.
       let live = (and_parts (is_live l.port.phase) (is_at l.port.own own) here).0 in
-      changes n l (in_phase Disconnecting l) (in_phase Disconnecting (cut_link Without l)) (is_connected l.port.phase)
+      changes n l (in_phase Disconnecting l) (in_phase Disconnecting (cut_link Without l)) (is_connected l.port.phase) _
       (phase_changed l live Disconnecting refl))
   user_same (Abort own) =
       with_link_same Without (cut_result Without) (LiveAt own) s (Err NoLink) (Err NoLink)
-      (λ n l. check (is_calling l.port.phase) LinkState (Ok (changed n (ended true_segments l) s)))
-      (λ n l. check (is_calling l.port.phase) LinkState (Ok (changed n (ended wire_segments l) (cut_links Without s))))
+      (λ n l. check (is_calling l.port.phase) (refused_in l.port.phase LinkState) (Ok (changed n (ended true_segments l) s)))
+      (λ n l. check (is_calling l.port.phase) (refused_in l.port.phase LinkState) (Ok (changed n (ended wire_segments l) (cut_links Without s))))
       (λ none. refl) (λ n l there here.
       let p = and_parts (is_live l.port.phase) (is_at l.port.own own) here in
-      changes n l (ended true_segments l) (ended wire_segments (cut_link Without l)) (is_calling l.port.phase) (given_up l p.0 own p.1))
+      changes n l (ended true_segments l) (ended wire_segments (cut_link Without l)) (is_calling l.port.phase) _ (given_up l p.0 own p.1))
   user_same Boot = ap (λ (links : List (LinkOf WireSegments)). Ok (record (cut_links Without s) { links = links })) (booted_same Without s.links)

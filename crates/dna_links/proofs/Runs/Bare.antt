@@ -13,8 +13,8 @@ use Rattle.dna_links.specs.declared.port.LinkTest.TheVariants.{HasAddress, LiveA
 use Rattle.dna_links.specs.declared.queue.Queues.TheVariants.{Without, With}
 use Rattle.dna_links.specs.declared.queue.Said.{Said}
 use Rattle.dna_links.specs.LookUps.{passes, is_live, is_at}
-use Rattle.dna_links.specs.Links.{LinkOf, LinksOf, number_of, on_link, at_number, with_link, with_seen, begun, changed, in_phase}
-use Rattle.dna_links.specs.Queues.{in_use, with_in_use, port_of_waiting, goes_on, ends_by_message}
+use Rattle.dna_links.specs.Links.{LinkOf, LinksOf, number_of, on_link, at_number, with_link, with_seen, begun, changed, in_phase, with_segments}
+use Rattle.dna_links.specs.Queues.{in_use, with_in_use, port_of_waiting, goes_on, ends_by_message, drops, drops_segments}
 use Rattle.dna_links.specs.Queues.{has_waiting, keeps_numbers, lets_go, requeued, further, freed, booted, ended, shows, settled}
 use Rattle.dna_links.specs.Sending.{Sent}
 use Rattle.dna_links.specs.TrueSegments.{TrueSegments, Numbers, true_segments}
@@ -39,6 +39,19 @@ changed_bare n l s = ap (λ (links : List (LinkOf TrueSegments)). record (bare_l
 
 pub begun_bare : (l : LinkOf TrueSegments) (s : Links) → bare_links (begun l s) ≡ begun (bare l) (bare_links s)
 begun_bare l s = ap (λ (links : List (LinkOf TrueSegments)). record (bare_links s) { links = links }) (map-append bare s.links (l ∷ []))
+
+-- on true numbers a link that its own node ended has what it had
+pub dropped_bare : (l : LinkOf TrueSegments) → bare (drops true_segments With l) ≡ ended true_segments (bare l)
+dropped_bare l = ap (λ (f : TrueSegments). with_segments f (ended true_segments (bare l))) (go l.port.opened)
+  where
+    go : (opened : Bool) → drops_segments true_segments opened l.segments ≡ l.segments
+    go true = refl
+    go false = refl
+
+pub changed_dropped : (n : ℕ) (l : LinkOf TrueSegments) (s : Links) →
+    bare_links (changed n (drops true_segments With l) s) ≡ changed n (ended true_segments (bare l)) (bare_links s)
+changed_dropped n l s =
+    changed_bare n (drops true_segments With l) s ∙ ap (λ (x : LinkOf TrueSegments). changed n x (bare_links s)) (dropped_bare l)
 
 -- a link that changes in its queue alone
 pub same_bare : (n : ℕ) (l left : LinkOf TrueSegments) (s : Links) → slice_get s.links n ≡ Some l → bare left ≡ bare l →

@@ -33,7 +33,7 @@ use Rattle.dna_links.proofs.Runs.Loose.{UserDid, Opens, Accepts, Rejects, HandsI
 use Rattle.dna_links.proofs.Runs.Loose.{LooseStep, LooselyReached, OfA, OfB}
 use Rattle.dna_links.proofs.Runs.Loose as loose
 use Rattle.dna_links.proofs.Runs.Bare.{bare_sent, bare_at, changed_bare, begun_bare, same_bare, found_bare, none_bare, ends_bare, goes_live}
-use Rattle.dna_links.proofs.Runs.Bare.{goes_late, freed_bare, booted_bare, used, in_use_at, same_Ok}
+use Rattle.dna_links.proofs.Runs.Bare.{goes_late, freed_bare, booted_bare, changed_dropped, used, in_use_at, same_Ok}
 use Rattle.dna_links.proofs.Runs.LateSending.{sent_late}
 
 -- ---- the user
@@ -77,7 +77,7 @@ module _ (s left : Links) where
       (λ n l found e. absurd cc))
   user_late (In own message) e =
       used (LiveAt own) s (Err NoLink) _ (Ok left) e (λ e. absurd cc)
-      (λ number link there passed e. let c = checked (takes_messages (in_use With link).phase) LinkState _ left e in
+      (λ number link there passed e. let c = checked (takes_messages (in_use With link).phase) _ _ left e in
       user_is (In own message) _ _ (HandsIn own message number (bare link) (bare_at s number link there) (in_use_at own link passed))
       (changed_bare number (with_segments (hands_in message link.segments) link) s) c.1)
   user_late (Up own message) e =
@@ -93,7 +93,7 @@ module _ (s left : Links) where
           (changed_bare number (with_segments f link) s) e
   user_late (Close own) e =
       used (LiveAt own) s (Err NoLink) _ (Ok left) e (λ e. absurd cc)
-      (λ number link there passed e. let c = checked (is_connected (in_use With link).phase) LinkState _ left e in
+      (λ number link there passed e. let c = checked (is_connected (in_use With link).phase) _ _ left e in
       go number link there (is_live link.port.phase) refl c.1)
     where
       go : (number : ℕ) (link : LinkOf TrueSegments) → slice_get s.links number ≡ Some link → (b : Bool) → is_live link.port.phase ≡ b →
@@ -109,9 +109,9 @@ module _ (s left : Links) where
           (goes_late (is_live link.port.phase) Disconnecting link live)) e
   user_late (Abort own) e =
       used (LiveAt own) s (Err NoLink) _ (Ok left) e (λ e. absurd cc)
-      (λ number link there passed e. let c = checked (is_calling (in_use With link).phase) LinkState _ left e in
+      (λ number link there passed e. let c = checked (is_calling (in_use With link).phase) _ _ left e in
       user_is (Abort own) _ _ (Aborts own number (bare link) (bare_at s number link there))
-      (changed_bare number (drops true_segments With link) s) c.1)
+      (changed_dropped number link s) c.1)
   user_late Boot e = user_is Boot _ _ Boots (booted_bare s) e
 
 -- ---- a message that comes

@@ -31,7 +31,7 @@ use Rattle.dna_links.proofs.Tables.MessageOutcomes.{has_numbers}
 use Rattle.dna_links.proofs.Runs.Sends.{acks_sent}
 use Rattle.dna_links.proofs.Runs.LateWords.{late_sent}
 use Rattle.dna_links.proofs.Runs.Loose.{SentDid, OfNone, Stays, EndsCalled, Segment, Acks}
-use Rattle.dna_links.proofs.Runs.Bare.{bare_sent, bare_at, changed_bare, same_bare, found_bare, shows_bare}
+use Rattle.dna_links.proofs.Runs.Bare.{bare_sent, bare_at, changed_bare, same_bare, found_bare, shows_bare, changed_dropped}
 use Rattle.dna_links.proofs.Runs.Bare.{settled_of, settled_bare, seen, used, same_Ok}
 
 module _ (s : Links) (made : Sent TrueSegments Numbers) where
@@ -97,7 +97,7 @@ module _ (s : Links) (made : Sent TrueSegments Numbers) where
           (EndsCalled dst reason number (bare link) refl (ap (λ (n : ℕ). DisconnectConfirm dst n reason) none_given)
           (found_bare (CalledBy dst) s number link found))
           (with_links (changed number (drops true_segments With link) s) (changed number (ended true_segments (bare link)) (bare_links s)) number link
-          (segments.sends_other link.segments) (changed_bare number (drops true_segments With link) s)) e)
+          (segments.sends_other link.segments) (changed_dropped number link s)) e)
 
       of_address : ◌≡◌ {A = Result (Sent TrueSegments Numbers) LinkRefusal}
           (Ok (record (of_no_link true_segments s) { links = settled_of src s })) (Ok made) →

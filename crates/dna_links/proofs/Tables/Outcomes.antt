@@ -11,7 +11,7 @@ use Rattle.dna_links.specs.declared.queue.Queues.TheVariants.{Without}
 use Rattle.dna_links.specs.declared.port.Phase.TheVariants.{Confirming, Disconnecting}
 use Rattle.dna_links.specs.declared.port.LinkTest.{LinkTest}
 use Rattle.dna_links.specs.declared.port.LinkTest.TheVariants.{HasAddress, LiveAt, CalledBy}
-use Rattle.dna_links.specs.LookUps.{passes, takes_messages, is_connected, is_calling}
+use Rattle.dna_links.specs.LookUps.{passes, takes_messages, is_connected, is_calling, refused_in}
 use Rattle.dna_links.specs.SegmentBook.{SegmentBook}
 use Rattle.dna_links.specs.Links.{LinkOf, LinksOf, check, number_of, on_link, at_number, with_link, begun, changed, in_phase}
 use Rattle.dna_links.specs.Links.{with_segments}
@@ -155,7 +155,7 @@ module _ {D K : Type 0} (book : SegmentBook D K) where
         (λ number link found e. given_did (Reject far own) own _ (λ free. Rejects far own number link found free) e)
     user_did (In own message) e =
         looked (LiveAt own) s (Err NoLink)
-        (λ number link. check (takes_messages link.port.phase) LinkState
+        (λ number link. check (takes_messages link.port.phase) (refused_in link.port.phase LinkState)
         (Ok (changed number (with_segments (book.hands_in message link.segments) link) s))) (Ok left) e
         (λ none e. absurd cc)
         (λ number link found e. let c = checked _ _ _ left e in did (In own message) _ (HandsIn own message number link found c.0) c.1)
@@ -164,10 +164,10 @@ module _ {D K : Type 0} (book : SegmentBook D K) where
         (λ none e. absurd cc) (λ number link found e. delivered_did own message number link found _ refl e)
     user_did (Close own) e =
         looked (LiveAt own) s (Err NoLink)
-        (λ number link. check (is_connected link.port.phase) LinkState (Ok (changed number (in_phase Disconnecting link) s))) (Ok left) e
+        (λ number link. check (is_connected link.port.phase) (refused_in link.port.phase LinkState) (Ok (changed number (in_phase Disconnecting link) s))) (Ok left) e
         (λ none e. absurd cc) (λ number link found e. let c = checked _ _ _ left e in did (Close own) _ (Closes own number link found c.0) c.1)
     user_did (Abort own) e =
         looked (LiveAt own) s (Err NoLink)
-        (λ number link. check (is_calling link.port.phase) LinkState (Ok (changed number (ended book link) s))) (Ok left) e
+        (λ number link. check (is_calling link.port.phase) (refused_in link.port.phase LinkState) (Ok (changed number (ended book link) s))) (Ok left) e
         (λ none e. absurd cc) (λ number link found e. let c = checked _ _ _ left e in did (Abort own) _ (Aborts own number link found c.0) c.1)
     user_did Boot e = did Boot (booted book Without s) Boots e

@@ -1,6 +1,6 @@
 -- The links of one end alone are those of a node of the pair without their partners: all that may happen to them goes along, with queues or
 -- without, but for what only the rule on partners refuses. Each word of the table goes along, and so do its rows.
-use Rattle.std.proofs.Common.{◌≡◌, ℕ, Bool, true, false, cond, Option, Some, None, List, [], ◌∷◌, Result, Ok, Err, refl, sym, ap, ◌∙◌}
+use Rattle.std.proofs.Common.{◌≡◌, ℕ, Bool, true, false, cond, Option, Some, None, List, [], ◌∷◌, Result, Ok, Err, refl, sym, ap, ◌∙◌, subst}
 use Rattle.std.specs.Prelude.{ok_or, fold, is_some, ◌&&◌, ◌==◌}
 use Rattle.dna_packet.specs.Nsp.{NspValue, DataSegment, LinkService, DataAck, OtherDataAck, ConnectAck, NoOperation, ConnectInitiate}
 use Rattle.dna_packet.specs.Nsp.{SegmentValue, ConnectConfirm, DisconnectInitiate, DisconnectConfirm}
@@ -11,8 +11,10 @@ use Rattle.dna_station.specs.declared.refusal.StepRefusal.TheVariants.{Links as 
 use Rattle.dna_links.specs.declared.queue.Queues.{Queues}
 use Rattle.dna_links.specs.declared.queue.Queues.TheVariants.{Without, With}
 use Rattle.dna_links.specs.declared.port.LinkTest.{LinkTest}
+use Rattle.dna_links.specs.declared.port.Phase.{Phase}
 use Rattle.dna_links.specs.declared.port.Port.{Port}
 use Rattle.dna_links.specs.SegmentBook.{SegmentBook}
+use Rattle.dna_links.specs.LookUps.{refused_in}
 use Rattle.dna_links.specs.Links.{LinkOf, LinksOf, Carried, LinkTruth, check, with_segments}
 use Rattle.dna_links.specs.Queues.{in_use, may_send}
 use Rattle.dna_links.specs.Table.{Ask, Finds, FindsEither, FindsNone, FindsInUse, KnowsInUse, InPhase, InTurn, OrElse, ForThisLink, OfThisPair}
@@ -39,6 +41,13 @@ module _ {R : Type 0} (forget : R → R) (is_seen : LinkRefusal → Type 0) wher
   checked_along true true refusal x y same along = along
   checked_along false false refusal x y same along = λ seen. refl
   checked_along b c refusal x y same along = absurd cc
+
+  in_phase_along : (port here : Port) → here ≡ port → (phases : Phase → Bool) (refusal : LinkRefusal) (x y : Result R LinkRefusal) → GoAlong x y →
+      GoAlong (check (phases port.phase) (refused_in port.phase refusal) x) (check (phases here.phase) (refused_in here.phase refusal) y)
+  in_phase_along port here same phases refusal x y along =
+      subst (λ (p : Port). GoAlong (check (phases port.phase) (refused_in port.phase refusal) x)
+      (check (phases p.phase) (refused_in p.phase refusal) y)) (sym same)
+      (checked_along (phases port.phase) (phases port.phase) (refused_in port.phase refusal) x y refl along)
 
   on_ok_along : {X : Type 0} (r : Result X LinkRefusal) (next next' : X → Result R LinkRefusal) → ((x : X) → GoAlong (next x) (next' x)) →
       GoAlong (on_ok r next) (on_ok r next')
@@ -141,8 +150,7 @@ module _ {D K R : Type 0} (queues : Queues) (book : SegmentBook D K) (rule rule'
         with_both Goes s _ _ _ _ (waits_along queues test refusal _ _ (asked_along asks may number l known))
         (λ n x. asked_along asks may (Some n) x (book.sends_other x.segments)) test
     asked_along (InPhase phases refusal ∷ asks) may number l known =
-        checked_along forget is_seen (phases (in_use queues l).phase) (phases (in_use queues (forget_link l)).phase) refusal _ _
-        (ap (λ (port : Port). phases port.phase) (use_along queues l)) (asked_along asks may number l known)
+        in_phase_along forget is_seen (in_use queues l) (in_use queues (forget_link l)) (use_along queues l) phases refusal _ _ (asked_along asks may number l known)
     asked_along (InTurn phase refusal ∷ asks) may number l known =
         checked_along forget is_seen (may_send queues phase l) (may_send queues phase (forget_link l)) refusal _ _
         (may_along queues phase l) (asked_along asks may number l known)

@@ -27,7 +27,7 @@ use Rattle.dna_play.proofs.Played.Steps.{PlayHalf}
 use Rattle.dna_links.proofs.Tables.Outcomes.{IsFound}
 use Rattle.dna_links.proofs.Runs.Reads.{at_is}
 use Rattle.dna_node.proofs.Once.Addresses.{LinkList, AreAddressed, freed_same}
-use Rattle.dna_play.proofs.Links.Pays.{found_at, is_there, none_found, right_may}
+use Rattle.dna_play.proofs.Links.Pays.{found_at, is_there, none_found}
 use Rattle.dna_play.proofs.Ends.Stage.{with_left}
 use Rattle.dna_play.proofs.Ends.TrueEnd.{links_of}
 
@@ -91,15 +91,12 @@ module _ (s : Links) (others : LinkList) (most : ℕ) (addressed : AreAddressed 
 pub in_goes : (s : Links) (address : ℕ) (message : List ℕ) (number : ℕ) (link : LinkOf TrueSegments) → IsFound (LiveAt address) s number link →
     takes_messages link.port.phase ≡ true →
     links_user Without s (In address message) ≡ Ok (changed number (with_segments (true_segments.hands_in message link.segments) link) s)
-in_goes s address message number link found may = right_may s (LiveAt address) takes_messages
-    (λ number link. Ok (changed number (with_segments (true_segments.hands_in message link.segments) link) s)) number link found may
+in_goes s address message number link found may = rw (found.found, found.there, may) refl
 
 pub close_goes : (s : Links) (address number : ℕ) (link : LinkOf TrueSegments) → IsFound (LiveAt address) s number link →
     is_connected link.port.phase ≡ true → links_user Without s (Close address) ≡ Ok (changed number (in_phase Disconnecting link) s)
-close_goes s address number link found may =
-    right_may s (LiveAt address) is_connected (λ number link. Ok (changed number (in_phase Disconnecting link) s)) number link found may
+close_goes s address number link found may = rw (found.found, found.there, may) refl
 
 pub abort_goes : (s : Links) (address number : ℕ) (link : LinkOf TrueSegments) → IsFound (LiveAt address) s number link →
     is_calling link.port.phase ≡ true → links_user Without s (Abort address) ≡ Ok (changed number (ended true_segments link) s)
-abort_goes s address number link found may =
-    right_may s (LiveAt address) is_calling (λ number link. Ok (changed number (ended true_segments link) s)) number link found may
+abort_goes s address number link found may = rw (found.found, found.there, may) refl

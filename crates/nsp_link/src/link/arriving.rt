@@ -11,7 +11,7 @@ ghost use Rattle.dna_links.specs.declared.queue.Queues.TheVariants.{With};
 ghost use Rattle.nsp_link.specs.Kinds.{queues_of};
 ghost use Rattle.nsp_link.specs.Segments.{is_held};
 ghost use Rattle.nsp_link.specs.inner.Index.{Stays, begins_use};
-ghost use Rattle.nsp_link.specs.inner.Queue.{moved};
+ghost use Rattle.nsp_link.specs.inner.Queue.{keeps, moved};
 ghost use Rattle.nsp_link.specs.inner.Rows.{connected, takes_in};
 
 use super::Link;
@@ -35,7 +35,7 @@ impl<W: Window<Piece, 4096> + Drop> Link<W> {
             self.end_late(alloc);
             return;
         }
-        self.drop::<QUEUES>(alloc);
+        self.end_now(alloc);
     }
 
     // The same with queues.
@@ -53,12 +53,40 @@ impl<W: Window<Piece, 4096> + Drop> Link<W> {
         self.let_go(alloc);
     }
 
-    /// It is over: it keeps what may still be delivered, and nothing else. Where that is nothing, its memory is given back.
-    #[tactic(auto, using(crate::proofs::Ended::left))]
+    /// Its own node ends it. It keeps what may still be delivered, and nothing else; but with queues a call that was opened here keeps all, since
+    /// its CI may still be sent.
+    #[tactic(auto, using(crate::proofs::Dropped::dropping))]
     pub fn drop<const QUEUES: u8>(&mut self, alloc: Global)
         requires { is_live self.old.port.phase ≡ true }
-        ensures ended { self.new ≡ ended wire_segments self.old }
         ensures drops { self.new ≡ drops wire_segments (queues_of QUEUES) self.old }
+    {
+        if !is_queued::<QUEUES>() {
+            self.end_now(alloc);
+            return;
+        }
+        if self.port.opened {
+            self.give_up();
+            return;
+        }
+        self.end_now(alloc);
+    }
+
+    /// With queues: the call, which was opened here, is given up. Its CI may still be sent, and its user has no part in it any more.
+    #[tactic(auto, using(crate::proofs::Dropped::dropping))]
+    pub fn give_up(&mut self)
+        requires opened { self.old.port.opened ≡ true }
+        requires kept { keeps self.old.port.phase self.old.queue ≡ true }
+        ensures { self.new ≡ drops wire_segments With self.old }
+    {
+        self.port.phase = Phase::Ended;
+        self.queue.waits = Some(Phase::Called);
+    }
+
+    // It is over: it keeps what may still be delivered, and nothing else. Where that is nothing, its memory is given back.
+    #[tactic(auto, using(crate::proofs::Ended::left))]
+    fn end_now(&mut self, alloc: Global)
+        requires { is_live self.old.port.phase ≡ true }
+        ensures { self.new ≡ ended wire_segments self.old }
     {
         self.port.phase = Phase::Ended;
         let Some(segments) = &mut self.segments else {

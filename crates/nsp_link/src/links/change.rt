@@ -9,7 +9,7 @@ ghost use Rattle.dna_packet.specs.Nsp.{segment_view};
 ghost use Rattle.dna_links.specs.Queues.{drops, ends_by_message, goes_to, settled, shows};
 ghost use Rattle.dna_links.specs.declared.queue.Queues.TheVariants.{With};
 ghost use Rattle.dna_links.specs.Links.{LinkOf, changed, with_segments};
-ghost use Rattle.dna_links.specs.LookUps.{is_calling, is_at};
+ghost use Rattle.dna_links.specs.LookUps.{is_calling, is_at, is_in};
 ghost use Rattle.dna_links.specs.Segmentation.{piece_of};
 ghost use Rattle.dna_links.specs.WireSegments.{WireSegments, wire_segments, hands_in, takes_acks, takes_segment};
 ghost use Rattle.nsp_link.specs.Segments.{is_held};
@@ -202,18 +202,35 @@ impl<W: Window<Piece, 4096> + Drop> Links<W> {
         end_use(&mut self.index, known);
     }
 
-    // The call with this number is given up. With queues it may have ended, and then nothing of it waits any more.
+    // The call with this number is given up. With queues it may have ended.
     pub(super) fn give_up_at<const QUEUES: u8>(&mut self, number: usize)
         requires within { number < length self.old.links }
         requires calls { CallsAt (queues_of QUEUES) number self.old }
         ensures { (link : LinkOf WireSegments) → slice_get self.old.links number ≡ Some link
             → self.new ≡ changed number (drops wire_segments (queues_of QUEUES) link) self.old }
     {
-        if is_phase(Phase::Ended, self.links[number].port().phase) {
+        let port = self.links[number].port();
+        if is_phase(Phase::Ended, port.phase) {
+            if port.opened {
+                self.give_up_ended(number);
+                return;
+            }
             self.settle_at(number);
             return;
         }
         self.drop_at::<QUEUES>(number);
+    }
+
+    // With queues: the call with this number, which was opened here and has ended, is given up.
+    fn give_up_ended(&mut self, number: usize)
+        requires within { number < length self.old.links }
+        requires calls { CallsAt With number self.old }
+        requires over { (link : LinkOf WireSegments) → slice_get self.old.links number ≡ Some link
+            → (is_in Phase.Ended link.port.phase ≡ true) × (link.port.opened ≡ true) }
+        ensures { (link : LinkOf WireSegments) → slice_get self.old.links number ≡ Some link
+            → self.new ≡ changed number (drops wire_segments With link) self.old }
+    {
+        self.links[number].give_up();
     }
 }
 

@@ -23,7 +23,7 @@ impl<W: Window<Piece, 4096> + Drop> Links<W> {
     /// check that the event does not pass, with what is seen there and what is allowed:
     ///
     /// - `NoLink`: of `Accept` and `Reject`, no link in Called has this address of the other node; of `In`, `Close` and `Abort`, no live
-    ///   link has this own address, and with queues none of which something may be sent; of `Up`, no link got it since the last `Boot`.
+    ///   link has this own address, and with queues none of which something may be sent but a CI; of `Up`, no link got it since the last `Boot`.
     /// - `AddressInUse`: of `Open`, `Accept` and `Reject`, a live link has this own address.
     /// - `TakesMessages`: of `In`, the link is not in Calling, Confirming or RUN, or was not when it ended. `IsConnected`: of `Close`, not in
     ///   Confirming or RUN. `IsCalling`: of `Abort`, not in Calling.
@@ -112,7 +112,7 @@ impl<W: Window<Piece, 4096> + Drop> Links<W> {
     #[inline(always)]
     #[tactic(auto, using(crate::proofs::FailedTurn::uses_found))]
     fn ask_to_hand_in<const QUEUES: u8>(&self, own: u16) -> Result<LinkUserPermit, FailedLinkEvent>
-        ensures { result ≡ asks_in_use (queues_of QUEUES) own self.now (may_hand_in (queues_of QUEUES)) }
+        ensures { result ≡ asks_in_use (queues_of QUEUES) own self.now (may_hand_in (queues_of QUEUES) own self.now) }
     {
         let test = LinkTest::LiveAt { own };
         let Some((number, link)) = self.found_in_use::<QUEUES>(test) else {
@@ -122,16 +122,17 @@ impl<W: Window<Piece, 4096> + Drop> Links<W> {
         if takes_messages(seen) {
             return Ok(LinkUserPermit::HandsIn { link: number });
         }
-        Err(FailedLinkEvent::TakesMessages {
+        let failed = FailedLinkEvent::TakesMessages {
             link: number as u64,
             seen,
-        })
+        };
+        Err(self.not_so(own, seen, failed))
     }
 
     // A link is closed.
     #[tactic(auto, using(crate::proofs::FailedTurn::uses_found))]
     fn ask_to_close<const QUEUES: u8>(&self, own: u16) -> Result<LinkUserPermit, FailedLinkEvent>
-        ensures { result ≡ asks_in_use (queues_of QUEUES) own self.now (may_close (queues_of QUEUES)) }
+        ensures { result ≡ asks_in_use (queues_of QUEUES) own self.now (may_close (queues_of QUEUES) own self.now) }
     {
         let test = LinkTest::LiveAt { own };
         let Some((number, link)) = self.found_in_use::<QUEUES>(test) else {
@@ -141,16 +142,17 @@ impl<W: Window<Piece, 4096> + Drop> Links<W> {
         if is_connected(seen) {
             return Ok(LinkUserPermit::Closes { link: number });
         }
-        Err(FailedLinkEvent::IsConnected {
+        let failed = FailedLinkEvent::IsConnected {
             link: number as u64,
             seen,
-        })
+        };
+        Err(self.not_so(own, seen, failed))
     }
 
     // A call is given up.
     #[tactic(auto, using(crate::proofs::FailedTurn::uses_found))]
     fn ask_to_give_up<const QUEUES: u8>(&self, own: u16) -> Result<LinkUserPermit, FailedLinkEvent>
-        ensures { result ≡ asks_in_use (queues_of QUEUES) own self.now (may_give_up (queues_of QUEUES)) }
+        ensures { result ≡ asks_in_use (queues_of QUEUES) own self.now (may_give_up (queues_of QUEUES) own self.now) }
     {
         let test = LinkTest::LiveAt { own };
         let Some((number, link)) = self.found_in_use::<QUEUES>(test) else {
@@ -160,10 +162,22 @@ impl<W: Window<Piece, 4096> + Drop> Links<W> {
         if is_phase(Phase::Calling, seen) {
             return Ok(LinkUserPermit::GivesUp { link: number });
         }
-        Err(FailedLinkEvent::IsCalling {
+        let failed = FailedLinkEvent::IsCalling {
             link: number as u64,
             seen,
-        })
+        };
+        Err(self.not_so(own, seen, failed))
+    }
+
+    // The link with this own address is seen in another phase; a call that was given up, which is seen in Called, is no link for its user.
+    #[inline(never)]
+    fn not_so(&self, own: u16, seen: Phase, failed: FailedLinkEvent) -> FailedLinkEvent
+        ensures { result ≡ spec.not_so own self.now seen failed }
+    {
+        if is_phase(Phase::Called, seen) {
+            return FailedLinkEvent::NoLink(self.missing(LinkTest::LiveAt { own }));
+        }
+        failed
     }
 
     // A message is delivered.

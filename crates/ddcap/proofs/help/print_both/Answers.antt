@@ -1,5 +1,5 @@
 use Rattle.ddcap.proofs.InTwo.{behind}
-use Rattle.ddcap.specs.Printed.{stream_of}
+use Rattle.printing.specs.Printed.{stream_of}
 use Rattle.ddcap.proofs.help.print_both.Goals as goal
 
 pub returns-in-Ok : goal.returns-in-Ok

@@ -1,8 +1,8 @@
 use Rattle.std.proofs.Common.{inr, refl, ◌++◌, codes}
 use Rattle.ddcap.proofs.InTwo.{behind, beginning_of_first}
-use Rattle.ddcap.specs.Printed.{stream_of}
+use Rattle.printing.specs.Printed.{stream_of}
 use Rattle.ddcap.specs.declared.help.TheConstants.{VERSION}
-use Rattle.ddcap.specs.declared.help_pages.TheConstants.{PROGRAM}
+use Rattle.command_words.specs.declared.help_pages.TheConstants.{PROGRAM}
 use Rattle.ddcap.proofs.help.print_program.Goals as goal
 
 pub returns-in-Ok : goal.returns-in-Ok

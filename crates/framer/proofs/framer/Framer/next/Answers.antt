@@ -1,5 +1,5 @@
-use Rattle.std.proofs.Common.{◌≡◌, ℕ, ◌+◌, List, [], ◌++◌, length, take, drop, sym, ap, subst, ◌∙◌, arith}
-use Rattle.std.proofs.lemmas.List.{take_rest, drop_all, nil_from_length}
+use Rattle.std.proofs.Common.{◌≡◌, ℕ, List, [], ◌++◌, length, take, drop, sym, ap, subst, ◌∙◌, arith}
+use Rattle.std.proofs.lemmas.List.{length-drop, take_rest, drop_all, nil_from_length}
 use Rattle.framer.specs.Given.{FramerState, Passes}
 use Rattle.framer.specs.inner.Held.{IsHeld}
 use Rattle.framer.proofs.CutUnits.{held_none, begun_short, used_up}
@@ -15,8 +15,8 @@ pub invariant_of-self-then-len-lt-HEADER_LEN : goal.invariant_of-self-then-len-l
 invariant_of-self-then-len-lt-HEADER_LEN c =
     begun_short c.complete_header-taken.new.room.held c.complete_header-taken.ensures.begun (omega arith)
 
-pub returns-then-len-lt-HEADER_LEN : goal.returns-then-len-lt-HEADER_LEN
-returns-then-len-lt-HEADER_LEN c =
+pub returns-then-len-lt-HEADER_LEN-clause-found : goal.returns-then-len-lt-HEADER_LEN-clause-found
+returns-then-len-lt-HEADER_LEN-clause-found c =
     let piece = c.args.piece.now in
     let held = c.complete_header-taken.new.room.held in
     let count = c.complete_header-taken.result.count in
@@ -31,8 +31,8 @@ returns-then-len-lt-HEADER_LEN c =
 pub invariant_of-self-in-Some : goal.invariant_of-self-in-Some
 invariant_of-self-in-Some c = subst IsHeld (sym c.complete.ensures.held) held_none
 
-pub returns-in-Some : goal.returns-in-Some
-returns-in-Some c =
+pub returns-in-Some-clause-found : goal.returns-in-Some-clause-found
+returns-in-Some-clause-found c =
     let piece = c.args.piece.now in
     let start = c.complete_header-taken.result in
     let held = c.complete_header-taken.new.room.held in
@@ -48,8 +48,8 @@ returns-in-Some c =
     whole.1 (omega arith) in
     (rw (c.complete.ensures.completed, rest, take_rest (drop start.count piece) count) u, c.complete.ensures.held)
 
-pub returns-in-None : goal.returns-in-None
-returns-in-None c =
+pub returns-in-None-clause-found : goal.returns-in-None-clause-found
+returns-in-None-clause-found c =
     let piece = c.args.piece.now in
     let start = c.complete_header-taken.result in
     let held = c.complete_header-taken.new.room.held in
@@ -63,3 +63,11 @@ returns-in-None c =
     let left = rw c.in-None.is at c.complete_unit-kind.ensures.whole in
     let all = c.complete_unit-kind.ensures.used c.in-None.is ∙ ap length rest in
     completed_none (c.args.self.now.held ++ piece) held (drop start.count piece) new start.strays count passes is all left
+
+pub returns-in-Some-clause-rest : goal.returns-in-Some-clause-rest
+returns-in-Some-clause-rest c =
+    let start = c.complete_header-taken.result in
+    let count = c.complete_unit-kind.result.1 in
+    let rest = ap length (take_rest c.args.piece.now start.count) in
+    let behind = ap length (take_rest (drop start.count c.args.piece.now) count) in
+    omega (arith, length-drop {A = ℕ})

@@ -1,0 +1,167 @@
+//! The lines of an answer with all refusals, as they are found.
+
+use crate::all_left::Beyond;
+use pair_judge::Reason;
+use printing::how::Form;
+use printing::objects::{put, put_place, put_reason};
+use printing::path_text::put_path;
+use std::alloc::{AllocError, Global};
+use wire_base::Side;
+
+/// How many refusals are told at most.
+pub const MOST_TOLD: usize = 50;
+
+/// A record that is refused.
+#[derive(Clone, Copy)]
+pub struct Refusal {
+    pub side: Side,
+    pub place: u64,
+    pub reason: Reason,
+    /// Whether the capture of one end accuses the other end.
+    pub by_other_end: bool,
+}
+
+/// An answer on captures, or on what is left of them.
+#[derive(Drop)]
+pub struct Answer {
+    /// What is told of it, with its LF.
+    pub text: Vec<u8>,
+    /// The record that is refused, if one is.
+    pub refusal: Option<Refusal>,
+    /// 0 accepted, 1 refused, 2 of a text that departs.
+    pub status: u8,
+}
+
+impl Answer {
+    /// The refusal behind which the judgement goes on, and what it leads to; none where it ends.
+    pub fn leads_beyond(&self) -> Option<(Refusal, Beyond)> {
+        let refusal = self.refusal?;
+        match Beyond::of(refusal.reason) {
+            Beyond::Ends => None,
+            beyond => Some((refusal, beyond)),
+        }
+    }
+}
+
+/// What was told so far.
+#[derive(Drop)]
+pub struct AllTold {
+    text: Vec<u8>,
+    form: Form,
+    // Whether a refusal takes many rows.
+    is_long: bool,
+    // What is told before the next line.
+    pending: Beyond,
+    // The refusals that were found, the last one too.
+    refusals: Vec<Refusal>,
+}
+
+impl AllTold {
+    /// Nothing. Of several pairs each begins with the name of its first file.
+    pub fn new(alloc: Global, form: Form, is_long: bool) -> AllTold {
+        AllTold {
+            text: Vec::new(alloc),
+            form,
+            is_long,
+            pending: Beyond::Ends,
+            refusals: Vec::new(alloc),
+        }
+    }
+
+    /// The name of the pair, before its first answer.
+    pub fn name(&mut self, path: &str) -> Result<(), AllocError> {
+        put_path(&mut self.text, path)?;
+        self.text.extend_from_slice(b": ")
+    }
+
+    /// What is told by now.
+    pub fn bytes(&self) -> &[u8] {
+        self.text.as_slice()
+    }
+
+    /// The refusals that were found, the last one too.
+    pub fn into_refusals(self) -> Vec<Refusal> {
+        self.refusals
+    }
+
+    /// An answer that leads on, and to what.
+    pub fn refused(
+        &mut self,
+        answer: &Answer,
+        refusal: Refusal,
+        beyond: Beyond,
+    ) -> Result<(), AllocError> {
+        self.put_pending()?;
+        self.text.extend_from_slice(answer.text.as_slice())?;
+        self.pending = beyond;
+        self.refusals.push(refusal)?;
+        Ok(())
+    }
+
+    /// The only answer.
+    pub fn only(&mut self, answer: &Answer) -> Result<(), AllocError> {
+        self.text.extend_from_slice(answer.text.as_slice())
+    }
+
+    /// What is answered once no more is left out.
+    pub fn ends(&mut self, answer: &Answer) -> Result<(), AllocError> {
+        self.put_pending()?;
+        match self.form {
+            Form::Rows => self.text.extend_from_slice(b"else ")?,
+            Form::Json => self.text.extend_from_slice(b"{\"what\": \"else\"}\n")?,
+        }
+        self.text.extend_from_slice(answer.text.as_slice())?;
+        if let Some(refusal) = answer.refusal {
+            self.refusals.push(refusal)?;
+        }
+        Ok(())
+    }
+
+    /// More is refused than is told: this is the next refusal.
+    pub fn goes_on(&mut self, refusal: Refusal) -> Result<(), AllocError> {
+        self.put_pending()?;
+        self.refusals.push(refusal)?;
+        match self.form {
+            Form::Rows => self.text.extend_from_slice(b"and more\n"),
+            Form::Json => self.text.extend_from_slice(b"{\"what\": \"more\"}\n"),
+        }
+    }
+
+    // What is not asked from the last refusal on. Long answers have an empty row between them.
+    fn put_pending(&mut self) -> Result<(), AllocError> {
+        if self.refusals.is_empty() {
+            return Ok(());
+        }
+        let is_spaced = self.is_long && self.form == Form::Rows;
+        if is_spaced {
+            self.text.push(b'\n')?;
+        }
+        let words = match self.form {
+            Form::Rows => self.pending.words(),
+            Form::Json => self.pending.object(),
+        };
+        self.text.extend_from_slice(words.as_bytes())?;
+        if is_spaced && !words.is_empty() {
+            self.text.push(b'\n')?;
+        }
+        Ok(())
+    }
+}
+
+/// A verdict of which `why` tells no more, with its LF.
+pub fn plain_object(
+    alloc: Global,
+    passed: &str,
+    refusal: Option<Refusal>,
+) -> Result<Vec<u8>, AllocError> {
+    let Some(refusal) = refusal else {
+        let object = format!(in alloc; "{{\"what\": \"{passed}\"}}\n")?;
+        return Ok(object.into_bytes());
+    };
+    let mut object = Vec::new(alloc);
+    put(&mut object, "{\"what\": \"refused\"")?;
+    put_place(alloc, &mut object, refusal.side, refusal.place)?;
+    put_reason(alloc, &mut object, refusal.reason)?;
+    put(&mut object, "}\n")?;
+    Ok(object)
+}

@@ -1,0 +1,4 @@
+-- What contracts of private functions speak of; no public claim rests on it
+pub mod Spots
+pub mod Places
+pub mod Sifted

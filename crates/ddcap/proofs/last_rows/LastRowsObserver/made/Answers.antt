@@ -1,6 +1,0 @@
-use Rattle.std.proofs.lemmas.Result.{on_ok_weaker}
-use Rattle.ddcap.proofs.Rungs.{tells_next}
-use Rattle.ddcap.proofs.last_rows.LastRowsObserver.made.Goals as goal
-
-pub returns : goal.returns
-returns c = on_ok_weaker c.made.result (λ made. rw (← c.next.view_is) (tells_next _ _ _ made)) c.made.ensures.ok

@@ -1,6 +1,0 @@
-use Rattle.std.proofs.Common.{◌≡◌, ◌++◌, map, take}
-use Rattle.ddcap.specs.inner.NotOpened.{told_byte}
-use Rattle.ddcap.proofs.path_text.put_path.Given as goal
-
-abbrev pub invariant-loop-byte : goal.invariant-loop-byte
-invariant-loop-byte l = l.text.items ≡ l.initial.text.items ++ map told_byte (take l.byte-index l.bytes)

@@ -1,4 +1,0 @@
-use Rattle.ddcap.proofs.telling.accusation_knowing.Goals as goal
-
-pub returns : goal.returns
-returns c = record { has_begun = c.args.has_begun; excuse = c.args.excuse; is = c.knowing.ensures }

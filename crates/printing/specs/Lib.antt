@@ -1,0 +1,5 @@
+pub mod Printed
+pub mod PrintedAlone
+pub mod Layers
+pub mod NotOpened
+pub mod Statuses

@@ -1,0 +1,2 @@
+pub mod PrintedTap
+pub mod inner

@@ -1,0 +1,3 @@
+-- What contracts of private functions speak of; no public claim rests on it
+pub mod TapParts
+pub mod TapStatus

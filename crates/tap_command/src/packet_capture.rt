@@ -1,0 +1,125 @@
+//! What `tap` says of a packet capture in the place of the text of a wire: the command that makes that text.
+
+use crate::tap::{print_tap_fault, told_of_tap};
+use crate::tap_files::TapPaths;
+use capture::Departure;
+use printing::check::{print, print_out_of_memory};
+use printing::fault_told::{FaultKind, FaultTold};
+use printing::files::{Named, Wanted, opened_plain};
+use printing::text::FAULTY;
+use printing::written::is_on_disk;
+use std::alloc::{AllocError, Global};
+use std::io::{ErrorKind, Read, Write};
+use std::rt::Files;
+use wire_base::Tally;
+use wire_tap::TapFault;
+use wire_text::is_packet_capture;
+
+// How many bytes tell a packet capture.
+const FIRST: usize = 4;
+
+const TOLD: &str =
+    "wire: a packet capture (tcpdump, Wireshark); this makes the text of a line of it:\n    tools/wire_pcap ";
+
+/// Looks at the beginning of WIRE, which is open, if it can be read again and again. `Err`: it is a packet capture, of which is told with these names
+/// what makes the text of a wire; or it can't be opened again or read, which was told.
+pub fn tell_packet_capture<R: Files + AllocGlobal, E: Write>(
+    rt: &R,
+    paths: TapPaths<'_>,
+    wire: &R::File,
+    err: &mut Tally<E>,
+) -> Result<(), FaultTold> {
+    if !is_on_disk(wire) {
+        return Ok(());
+    }
+    let mut again = opened_plain(rt, Wanted::by_path(Named::Wire, paths.wire), err)?;
+    let mut first = [0u8; FIRST];
+    if let Err(error) = again.read_exact(&mut first) {
+        return match error.kind() {
+            ErrorKind::UnexpectedEof => Ok(()),
+            _ => Err(read_failed(rt.alloc(), err)),
+        };
+    }
+    if !is_packet_capture(&first) {
+        return Ok(());
+    }
+    let status = match text_of(rt.alloc(), paths) {
+        Ok(text) => print(err, text.as_slice(), FAULTY),
+        Err(_) => return Err(FaultTold::out_of_memory(print_out_of_memory(err))),
+    };
+    let kind = FaultKind::Departs {
+        kind: Departure::Syntax,
+        line: 1,
+    };
+    Err(FaultTold::of(Named::Wire, kind, status))
+}
+
+fn read_failed<E: Write>(alloc: Global, err: &mut Tally<E>) -> FaultTold {
+    let status = print_tap_fault(alloc, TapFault::Read, err);
+    told_of_tap(TapFault::Read, status)
+}
+
+fn text_of(alloc: Global, paths: TapPaths<'_>) -> Result<Vec<u8>, AllocError> {
+    let mut text = Vec::new(alloc);
+    let wire = without_ending(paths.wire);
+    text.extend_from_slice(TOLD.as_bytes())?;
+    put_name(&mut text, paths.wire, "")?;
+    text.extend_from_slice(b" > ")?;
+    put_name(&mut text, wire, ".wire")?;
+    text.extend_from_slice(b" && ./ddcap tap ")?;
+    if paths.line_alone {
+        text.extend_from_slice(b"--line ")?;
+    }
+    put_name(&mut text, wire, ".wire")?;
+    for path in [paths.a, paths.b] {
+        text.push(b' ')?;
+        put_name(&mut text, path, "")?;
+    }
+    text.push(b'\n')?;
+    Ok(text)
+}
+
+// The name of a packet capture without what its kind is told by.
+fn without_ending(path: &str) -> &str {
+    for ending in [".pcap", ".pcapng", ".cap"] {
+        if let Some(name) = path.strip_suffix(ending) {
+            return name;
+        }
+    }
+    path
+}
+
+// Appends a name with this ending as a word for a shell.
+fn put_name(text: &mut Vec<u8>, path: &str, ending: &str) -> Result<(), AllocError> {
+    let name = path.as_bytes();
+    if is_word(name) {
+        text.extend_from_slice(name)?;
+        return text.extend_from_slice(ending.as_bytes());
+    }
+    text.push(b'\'')?;
+    for byte in name {
+        match *byte {
+            b'\'' => text.extend_from_slice(b"'\\''")?,
+            byte if byte < b' ' || byte == 127 => text.push(b'?')?,
+            byte => text.push(byte)?,
+        }
+    }
+    text.extend_from_slice(ending.as_bytes())?;
+    text.push(b'\'')?;
+    Ok(())
+}
+
+// Whether a shell takes these bytes as they are.
+fn is_word(name: &[u8]) -> bool {
+    for byte in name {
+        let is_plain = match *byte {
+            b'0'..=b'9' | b'A'..=b'Z' | b'a'..=b'z' => true,
+            b'.' | b'/' | b'_' | b'-' | b'+' | b'=' | b':' | b',' | b'@' | b'%' => true,
+            _ => false,
+        };
+        if !is_plain {
+            return false;
+        }
+    }
+    true
+}

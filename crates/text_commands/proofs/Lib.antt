@@ -1,0 +1,4 @@
+pub mod AcceptLaws
+pub mod Listing
+mod PlayedBehind
+mod TextsStand

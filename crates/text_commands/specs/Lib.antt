@@ -1,0 +1,5 @@
+pub mod Accepting
+pub mod Conversion
+pub mod Playing
+pub mod Showing
+pub mod Shown

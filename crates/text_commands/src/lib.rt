@@ -1,0 +1,11 @@
+//! The commands that write texts of captures: `show`, `convert`, `align` and `play`, with what is proved of `play` and `check` together.
+#![tactic(auto)]
+
+mod align;
+pub mod align_files;
+pub mod convert;
+pub mod laws;
+pub mod play;
+pub mod play_files;
+pub mod show;
+mod shown_line;

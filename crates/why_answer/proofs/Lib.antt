@@ -1,0 +1,3 @@
+pub mod AnsweringWhyEnd
+pub mod Rungs
+pub mod Tellings

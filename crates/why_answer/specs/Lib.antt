@@ -1,0 +1,4 @@
+pub mod PrintedWhy
+pub mod PrintedWhyEnd
+pub mod LastRows
+pub mod inner

@@ -1,0 +1,70 @@
+//! What explains a refused unit as well as a mistake of the recorder: a node that is wrong in this unit alone.
+
+use crate::judged_again::PairChanges;
+use crate::near::Near;
+use crate::right_units::right_units;
+use capture::Entry;
+use edited::{Change, Mistake, Row, with_bytes};
+use pair_judge::{JudgedEnds, Matter, Verdict};
+use printing::layers::{Layers, failed_over};
+use std::alloc::{AllocError, Global};
+use wire_base::Side;
+
+/// The changes of both captures, judged over these layers, under which the refused unit of this side is one that is right there, at both ends; none
+/// where no unit is refused that was sent. `AllocError` where there is no memory for them.
+pub fn unit_changes(
+    alloc: Global,
+    layers: Layers,
+    ends: &JudgedEnds,
+    side: Side,
+    near_a: &Near,
+    near_b: &Near,
+) -> Result<Vec<PairChanges>, AllocError> {
+    let mut changes = Vec::new(alloc);
+    let (own, other) = match side {
+        Side::A => (near_a, near_b),
+        Side::B => (near_b, near_a),
+    };
+    let (Some((_, failed)), Some(row)) = (failed_over(layers, ends), own.row_ahead()) else {
+        return Ok(changes);
+    };
+    if row.entry != Entry::Sent {
+        return Ok(changes);
+    }
+    for unit in right_units(alloc, failed, ends.station(side), &row.bytes)? {
+        let (sent, came) = (
+            with_bytes(alloc, row, &unit)?,
+            receipt_changes(alloc, row, &other.receipt, &unit)?,
+        );
+        if let (Some(sent), Some(came)) = (sent, came) {
+            changes.push(PairChanges::of(side, sent, came))?;
+        }
+    }
+    Ok(changes)
+}
+
+// The changes by which the receipt of a unit is one of this unit; none where it never came, or came damaged.
+fn receipt_changes(
+    alloc: Global,
+    sent: &Row,
+    receipt: &Option<Row>,
+    unit: &[u8],
+) -> Result<Option<Vec<Change>>, AllocError> {
+    match receipt {
+        Some(row) if row.bytes.as_slice() == sent.bytes.as_slice() => {
+            with_bytes(alloc, row, unit)
+        }
+        _ => Ok(Some(Vec::new(alloc))),
+    }
+}
+
+/// Whether an edit moves a line where a station sent in the wrong state: a node that sent too early or too late explains that as well.
+pub fn is_sent_at_another_time(ends: &JudgedEnds, mistake: Mistake) -> bool {
+    let Verdict::Refused { reason, .. } = ends.verdict() else {
+        return false;
+    };
+    match mistake {
+        Mistake::TooLate { .. } | Mistake::TooEarly { .. } => { reason.matter() == Matter::State }
+        _ => false,
+    }
+}
