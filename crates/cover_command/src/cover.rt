@@ -93,7 +93,9 @@ pub fn cover_pair<A: Read, B: Read, E: Write>(
         Ok(watched) => watched,
         Err(fault) => return Err(print_fault(alloc, fault, err)),
     };
-    match covered.add(alloc, watched.ends.verdict(), &watched.observer) {
+    let added = covered.add(alloc, watched.ends.verdict(), &watched.observer);
+    drop(watched);
+    match added {
         Ok(()) => Ok(()),
         Err(_) => Err(print_out_of_memory(err)),
     }

@@ -6,7 +6,9 @@ ghost use Rattle.pair_judge.specs.Watched.{only};
 ghost use Rattle.printing.specs.Layers.{nodes_of};
 
 use coverage::{Counts, Cover, ROWS, STATION_ROWS, judge_covered};
-use pair_judge::{JudgeFault, MadeEntry, Observer, Verdict, judge_line_told, judge_queued_told};
+use pair_judge::{
+    JudgeFault, MadeEntry, Observer, Verdict, Watched, judge_line_told, judge_queued_told,
+};
 use printing::layers::Layers;
 use std::alloc::{AllocError, Global};
 use std::io::Read;
@@ -37,11 +39,15 @@ pub fn judge_went<A: Read, B: Read>(
 {
     match layers {
         Layers::Both => match judge_covered(alloc, a, b) {
-            Ok(watched) => Ok(Went {
-                verdict: watched.ends.verdict(),
-                a: watched.observer.of_side(Side::A),
-                b: watched.observer.of_side(Side::B),
-            }),
+            Ok(watched) => {
+                let went = Went {
+                    verdict: watched.ends.verdict(),
+                    a: watched.observer.of_side(Side::A),
+                    b: watched.observer.of_side(Side::B),
+                };
+                drop(watched);
+                Ok(went)
+            }
             Err(fault) => Err(fault),
         },
         Layers::Queued => judge_queued_went(alloc, a, b),
@@ -61,11 +67,15 @@ fn judge_queued_went<A: Read, B: Read>(
         return Err(JudgeFault::OutOfMemory);
     };
     match judge_queued_told(alloc, a, b, CoverRows { cover }) {
-        Ok(watched) => Ok(Went {
-            verdict: watched.ends.verdict(),
-            a: watched.observer.cover.of_side(Side::A),
-            b: watched.observer.cover.of_side(Side::B),
-        }),
+        Ok(watched) => {
+            let went = Went {
+                verdict: watched.ends.verdict(),
+                a: watched.observer.cover.of_side(Side::A),
+                b: watched.observer.cover.of_side(Side::B),
+            };
+            drop(watched);
+            Ok(went)
+        }
         Err(fault) => Err(fault),
     }
 }
@@ -82,11 +92,15 @@ fn judge_line_went<A: Read, B: Read>(
         return Err(JudgeFault::OutOfMemory);
     };
     match judge_line_told(alloc, a, b, CoverRows { cover }) {
-        Ok(watched) => Ok(Went {
-            verdict: watched.ends.verdict(),
-            a: of_stations(watched.observer.cover.of_side(Side::A)),
-            b: of_stations(watched.observer.cover.of_side(Side::B)),
-        }),
+        Ok(watched) => {
+            let went = Went {
+                verdict: watched.ends.verdict(),
+                a: of_stations(watched.observer.cover.of_side(Side::A)),
+                b: of_stations(watched.observer.cover.of_side(Side::B)),
+            };
+            drop(watched);
+            Ok(went)
+        }
         Err(fault) => Err(fault),
     }
 }
@@ -96,7 +110,11 @@ fn nothing_covered(alloc: Global) -> Result<Cover, JudgeFault> {
     let mut a = Tally::new(NOTHING_A);
     let mut b = Tally::new(NOTHING_B);
     match judge_covered(alloc, &mut a, &mut b) {
-        Ok(watched) => Ok(watched.observer),
+        Ok(watched) => {
+            let Watched { ends, observer } = watched;
+            drop(ends);
+            Ok(observer)
+        }
         Err(fault) => Err(fault),
     }
 }

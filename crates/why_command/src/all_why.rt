@@ -42,7 +42,10 @@ pub fn why_all_to<A: Read + Seek, B: Read + Seek, O: Write, E: Write>(
     };
     let verdict = watched.ends.verdict();
     let refused = match verdict {
-        Verdict::Accepted(summary) => return print_accepted(alloc, printout, summary, out, err),
+        Verdict::Accepted(summary) => {
+            drop(watched);
+            return print_accepted(alloc, printout, summary, out, err);
+        }
         Verdict::Refused {
             side,
             place,
@@ -54,6 +57,7 @@ pub fn why_all_to<A: Read + Seek, B: Read + Seek, O: Write, E: Write>(
         },
     };
     let Ok(tried) = ask_again(alloc, printout, a, b, &watched.ends, refused) else {
+        drop(watched);
         return print_out_of_memory(err);
     };
     let failed = tried.failed;
@@ -106,13 +110,18 @@ pub fn why_all_end_to<A: Read + Seek, O: Write, E: Write>(
     };
     let verdict = watched.verdict;
     let reason = match verdict {
-        EndVerdict::Passed(counts) => return print_passed(alloc, printout, counts, out, err),
+        EndVerdict::Passed(counts) => {
+            drop(watched);
+            return print_passed(alloc, printout, counts, out, err);
+        }
         EndVerdict::Refused { reason, .. } => reason,
     };
     let queued = match end_with_queues(alloc, printout.layers, a, reason) {
         Ok(queued) => queued,
-        Err(CaptureFault::Read) => return print_failed_read(err, Side::A),
-        Err(_) => return print_out_of_memory(err),
+        Err(fault) => {
+            drop(watched);
+            return print_not_known(fault, err);
+        }
     };
     let Ok(text) = end_refused_text(alloc, printout, watched, queued) else {
         return print_out_of_memory(err);
@@ -125,6 +134,14 @@ pub fn why_all_end_to<A: Read + Seek, O: Write, E: Write>(
     };
     let first = end_answer_of(verdict, text.into_bytes());
     print_explained(alloc, printout.form, &mut captures, first, out, err)
+}
+
+// Prints why it is not known what is answered of a node with queues.
+fn print_not_known<E: Write>(fault: CaptureFault, err: &mut Tally<E>) -> u8 {
+    match fault {
+        CaptureFault::Read => print_failed_read(err, Side::A),
+        _ => print_out_of_memory(err),
+    }
 }
 
 // Prints this refusal, and all behind it.

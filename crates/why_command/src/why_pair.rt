@@ -42,7 +42,10 @@ pub fn why_to<A: Read + Seek, B: Read + Seek, O: Write, E: Write>(
         Err(fault) => return print_fault(alloc, fault, err),
     };
     match watched.ends.verdict() {
-        Verdict::Accepted(summary) => print_accepted(alloc, printout, summary, out, err),
+        Verdict::Accepted(summary) => {
+            drop(watched);
+            print_accepted(alloc, printout, summary, out, err)
+        }
         Verdict::Refused {
             side,
             place,
@@ -55,7 +58,10 @@ pub fn why_to<A: Read + Seek, B: Read + Seek, O: Write, E: Write>(
             };
             let tried = match ask_again(alloc, printout, a, b, &watched.ends, refused) {
                 Ok(tried) => tried,
-                Err(_) => return print_out_of_memory(err),
+                Err(_) => {
+                    drop(watched);
+                    return print_out_of_memory(err);
+                }
             };
             let failed = tried.failed;
             match refused_text(alloc, printout, refused, watched, tried) {
