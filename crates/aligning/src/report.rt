@@ -6,7 +6,7 @@ ghost use Rattle.capture.specs.Range.{IsCapture};
 
 use crate::choice::{choose, fits, is_damaged};
 use crate::whole::Whole;
-use capture::Record;
+use capture_record::Record;
 use std::alloc::{AllocError, Global};
 
 /// Something to be told of a receipt, which is this record of its capture, counted from 0.

@@ -1,7 +1,7 @@
 //! What is assumed, of all that the search proposes.
 
 ghost use Rattle.std.specs.Prelude.{◌≡◌, ◌⊎◌, ◌∷◌, ◌++◌, [], List, IfOk, IfSome, OnOk};
-ghost use Rattle.capture.specs.declared.record.Record.{Record as Line};
+ghost use Rattle.capture_record.specs.declared.record.Record.{Record as Line};
 ghost use Rattle.assuming.specs.Assuming.{AreApart, AreAssumed, FitsIn, IsTooLong, place_of, side_number};
 ghost use Rattle.assuming.specs.inner.Spots.{AreOf};
 

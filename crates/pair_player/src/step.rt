@@ -1,12 +1,12 @@
 //! One step of a script: what one end of the line does.
 
 ghost use Rattle.std.specs.Prelude.{◌≡◌, ◌≤◌, ℕ, List};
-ghost use Rattle.capture.specs.declared.limit.TheConstants.{MAX_MESSAGE as MOST};
+ghost use Rattle.capture_record.specs.declared.limit.TheConstants.{MAX_MESSAGE as MOST};
 ghost use Rattle.dna_play.specs.Script.{is_of_three};
 ghost use Rattle.dna_play.specs.ScriptText.{most_bytes};
 ghost use Rattle.pair_player.specs.Step.{line_with, plain, step_with, view_of_line};
 
-use capture::{MAX_MESSAGE, MAX_UNIT};
+use capture_record::{MAX_MESSAGE, MAX_UNIT};
 use wire_base::Side;
 
 /// What an end does, or what becomes of the next unit that is on the line to it, except for its message or noise, which is kept beside it.

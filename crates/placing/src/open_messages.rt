@@ -3,7 +3,7 @@
 use crate::carried::{message_of, next_number};
 use crate::numbering::Numbering;
 use crate::said::Said;
-use capture::MAX_MESSAGE;
+use capture_record::MAX_MESSAGE;
 use dna_packet::{Nsp, Segment};
 use std::alloc::{AllocError, Global};
 use std::collections::{BTreeMap, BTreeSet};

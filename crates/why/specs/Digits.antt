@@ -1,8 +1,8 @@
 -- The first bytes of a record that are compared with those of its node, and the node's, as hexadecimal digits.
 use Rattle.std.specs.Prelude.{ℕ, nat_le, if◌then◌else◌, Option, Some, None, Result, Ok, Err, List, [], length, take}
 use Rattle.hex.specs.Hex.{encode_lower}
-use Rattle.capture.specs.declared.entry.Entry.{Entry}
-use Rattle.capture.specs.declared.entry.Entry.TheVariants as entries
+use Rattle.capture_record.specs.declared.entry.Entry.{Entry}
+use Rattle.capture_record.specs.declared.entry.Entry.TheVariants as entries
 use Rattle.dna_packet.specs.declared.fault.NspFault.{NspFault}
 use Rattle.dna_packet.specs.Nsp.{NspValue, DataSegment}
 use Rattle.dna_packet.specs.ReadingNsp.{nsp_at}

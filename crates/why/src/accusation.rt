@@ -4,7 +4,7 @@ ghost use Rattle.std.specs.Prelude.{◌≡◌};
 ghost use Rattle.pair_judge.specs.Reason.{reason_matter};
 ghost use Rattle.why.specs.Refused as spec;
 
-use capture::Entry;
+use capture_record::Entry;
 use pair_judge::{Accused, Blame, Matter, Reason};
 use std::fmt;
 use wire_base::Side;

@@ -8,7 +8,7 @@ ghost use Rattle.why.specs.Digits as spec;
 use crate::layers::{message_in, message_in_unit};
 use crate::undetected::Differing;
 use crate::words::words_if;
-use capture::Entry;
+use capture_record::Entry;
 use dna_packet::{Nsp, read_nsp};
 use pair_judge::SideEnd;
 use std::alloc::{AllocError, Global};

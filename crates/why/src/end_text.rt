@@ -13,7 +13,7 @@ use crate::refused_line::RefusedLine;
 use crate::refused_record::{Beside, RefusedRecord, end_told, record_objects, record_rows};
 use crate::state_line::StateLine;
 use crate::subject::addresses_of;
-use capture::Entry;
+use capture_record::Entry;
 use ddcmp_station::StationView;
 use pair_judge::{FailedCheck, Reason, SideEnd};
 use std::alloc::{AllocError, Global};

@@ -1,6 +1,6 @@
 //! The words of a user's line.
 
-use capture::Entry;
+use capture_record::Entry;
 use std::fmt;
 
 /// The words of a user's line after `u `, with its bytes, which are spelled already. Nothing for a record that is no user's.

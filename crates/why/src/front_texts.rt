@@ -5,7 +5,7 @@ ghost use Rattle.why.specs.Digits.{fronts, fronts_told};
 
 use crate::digits::{Fronts, due_bytes, front_digits, seen_bytes};
 use crate::undetected::{Differing, difference, name_before};
-use capture::Entry;
+use capture_record::Entry;
 use pair_judge::SideEnd;
 use std::alloc::{AllocError, Global};
 use std::marker::Model;

@@ -4,7 +4,7 @@ use crate::accusation::Excuse;
 use crate::layers::{message_in, message_in_unit};
 use crate::side_past::SidePast;
 use crate::subject::Addresses;
-use capture::Entry;
+use capture_record::Entry;
 use dna_packet::{Nsp, read_nsp};
 use pair_judge::Reason;
 use std::alloc::{AllocError, Global};

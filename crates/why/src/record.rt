@@ -10,7 +10,7 @@ use crate::packet_words::RoutingWords;
 use crate::record_told::RecordTold;
 use crate::unit_words::ReadingWords;
 use crate::wrapped::{INDENT, put_wrapped};
-use capture::{Entry, Fate};
+use capture_record::{Entry, Fate};
 use ddcmp_msg::read_unit;
 use std::alloc::{AllocError, Global};
 

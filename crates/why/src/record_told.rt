@@ -5,7 +5,7 @@ use crate::layers::{message_in, packet_in};
 use crate::nsp_words::MessageWords;
 use crate::packet_words::RoutingWords;
 use crate::unit_words::ReadingWords;
-use capture::{Entry, Fate};
+use capture_record::{Entry, Fate};
 use ddcmp_msg::Reading;
 use std::fmt::{self, Formatter, Write};
 

@@ -14,7 +14,7 @@ use crate::refused_line::RefusedLine;
 use crate::sides::{side_json, side_text};
 use crate::state_line::StateLine;
 use crate::subject::{Addresses, addresses_of, subjects};
-use capture::Entry;
+use capture_record::Entry;
 use ddcmp_msg::read_unit;
 use pair_judge::{FailedCheck, SideEnd};
 use std::alloc::{AllocError, Global};

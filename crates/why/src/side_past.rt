@@ -3,7 +3,7 @@
 use crate::calls::Calls;
 use crate::layers::{message_in, message_in_unit};
 use crate::past::Lines;
-use capture::{Entry, Fate};
+use capture_record::{Entry, Fate};
 use ddcmp_msg::{Message, Reading, read_unit};
 use dna_packet::{Nsp, read_nsp};
 use std::alloc::{AllocError, Global};

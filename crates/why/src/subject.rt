@@ -7,7 +7,7 @@ ghost use Rattle.dna_packet.specs.ReadingNsp.{nsp_at};
 ghost use Rattle.why.specs.Subject as spec;
 
 use crate::layers::{message_in, message_in_unit};
-use capture::Entry;
+use capture_record::Entry;
 use dna_packet::{Nsp, read_nsp};
 use nsp_link::LinkView;
 use std::alloc::{AllocError, Global};

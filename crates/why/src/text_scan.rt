@@ -1,6 +1,7 @@
 //! Where a line of a capture departs from the format. It is a reading of its own, which decides nothing: the reader of captures does.
 
-use capture::{Format, MAX_HINT, MAX_INTERRUPT, MAX_LINK, MAX_MESSAGE, MAX_PACKET, MAX_UNIT};
+use capture::Format;
+use capture_record::{MAX_HINT, MAX_INTERRUPT, MAX_LINK, MAX_MESSAGE, MAX_PACKET, MAX_UNIT};
 
 /// Where a line departs, in bytes from its beginning, and what would be right there.
 #[derive(Clone, Copy)]

@@ -12,7 +12,7 @@ use crate::queued::{QueuedAnswer, QueuedObject, QueuedRow, Whole};
 use crate::refused_line::RefusedLine;
 use crate::refused_record::{Beside, RefusedRecord, end_told, record_objects, record_rows};
 use crate::subject::{Addresses, addresses_of};
-use capture::Entry;
+use capture_record::Entry;
 use pair_judge::{FailedCheck, JudgedEnds, Reason};
 use std::alloc::{AllocError, Global};
 use wire_base::Side;

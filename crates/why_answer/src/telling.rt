@@ -9,7 +9,7 @@ ghost use Rattle.why_answer.specs.PrintedWhy.{IsAccused, IsTold, PrintsAcceptanc
 use crate::last_rows::LastRows;
 use crate::recorder::Tried;
 use crate::rows_before::{ladder_text, tell_later, unit_text};
-use capture::Entry;
+use capture_record::Entry;
 use ladder::{Drawn, Ladder};
 use pair_judge::{JudgedEnds, Reason, Summary, Verdict, Watched};
 use printing::check::{print, print_failed_read, print_out_of_memory};

@@ -17,7 +17,7 @@ ghost use Rattle.wire_tap.specs.inner.Side.{
 };
 
 use crate::tapped::{Ending, Passed, Skipped, Units};
-use capture::MAX_UNIT;
+use capture_record::MAX_UNIT;
 use framer::{Found, Framer, Kind};
 use placing::{Placing, Reached, Search, Turn};
 use std::alloc::{AllocError, Global};

@@ -29,7 +29,7 @@ impl Bytes {
     }
 
     /// A copy of these bytes, in memory of its own. `AllocError` where there is none.
-    pub(crate) fn copied(alloc: Global, bytes: &[u8]) -> Result<Bytes, AllocError>
+    pub fn copied(alloc: Global, bytes: &[u8]) -> Result<Bytes, AllocError>
         ensures { IfOk result (λ copy. copy ≡ bytes.now) }
     {
         let owned = Vec::from_slice(alloc, bytes)?;

@@ -38,9 +38,9 @@ pub enum Event {
 
 impl Event {
     ghost use Rattle.std.specs.Prelude.{◌≡◌, ◌↔◌, IsTrue};
-    ghost use Rattle.capture.specs.declared.record.Record.TheVariants.{User};
-    ghost use Rattle.capture.specs.Entries.{record_with};
-    ghost use Rattle.capture.specs.Range.{IsEvent, event_bytes};
+    ghost use Rattle.capture_record.specs.declared.record.Record.TheVariants.{User};
+    ghost use Rattle.capture_record.specs.Entries.{record_with};
+    ghost use Rattle.capture_record.specs.Range.{IsEvent, event_bytes};
 
     /// Whether the event has a line: its addresses are from 1, its message has at most 65,535 bytes, its packet at most 16,383,
     /// and its interrupt at most 16. Takes no memory.

@@ -1,7 +1,7 @@
 -- What became of the packet in a unit that came.
 use Rattle.std.specs.Prelude.{Bool, true, false}
-use Rattle.capture.specs.declared.fate.Fate.{Fate}
-use Rattle.capture.specs.declared.fate.Fate.TheVariants.{NotKept, Kept, Dropped}
+use Rattle.capture_record.specs.declared.fate.Fate.{Fate}
+use Rattle.capture_record.specs.declared.fate.Fate.TheVariants.{NotKept, Kept, Dropped}
 
 -- the station kept it
 abbrev pub is_kept : Fate → Bool

@@ -1,5 +1,5 @@
-use Rattle.capture.proofs.RangeLaws.{sent_tested, received_tested, noise_tested}
-use Rattle.capture.proofs.record.Record.in_range.Goals as goal
+use Rattle.capture_record.proofs.RangeLaws.{sent_tested, received_tested, noise_tested}
+use Rattle.capture_record.proofs.record.Record.in_range.Goals as goal
 
 pub returns-in-Sent : goal.returns-in-Sent
 returns-in-Sent c = sent_tested c.args.self.now c.as_slice.result.now c.in-Sent.bytes c.in-Sent.is c.as_slice.ensures.value c.as_slice.ensures.bytes

@@ -1,7 +1,7 @@
 //! What became of the packet in a unit that came.
 
 ghost use Rattle.std.specs.Prelude.{◌≡◌};
-ghost use Rattle.capture.specs.Fates.{is_kept, is_met};
+ghost use Rattle.capture_record.specs.Fates.{is_kept, is_met};
 
 /// What became of the packet in a unit that came: nothing, or the node kept it; and what it kept may have been lost before its links met it.
 #[derive(Clone, Copy, Debug, PartialEq, Eq)]

@@ -4,7 +4,6 @@ use crate::bytes::Bytes;
 use crate::entry::Entry;
 use crate::event::Event;
 use crate::fate::Fate;
-use crate::format::Format;
 use crate::limit::{MAX_HINT, MAX_UNIT};
 
 /// What one side of the line saw.
@@ -30,8 +29,8 @@ pub enum Record {
 
 impl Record {
     ghost use Rattle.std.specs.Prelude.{◌≡◌, ◌↔◌, IsTrue};
-    ghost use Rattle.capture.specs.Entries.{record_with};
-    ghost use Rattle.capture.specs.Range.{IsInFormat, IsRecord, record_bytes};
+    ghost use Rattle.capture_record.specs.Entries.{record_with};
+    ghost use Rattle.capture_record.specs.Range.{IsRecord, record_bytes};
 
     /// Whether the record has a line: its hint is at most 999,999,999,999,999,999, its unit has at
     /// most 16,393 bytes, its noise as many, and its event is in range. Takes no memory.
@@ -48,14 +47,6 @@ impl Record {
             Record::Noise(bytes) => bytes.as_slice().len() <= MAX_UNIT,
             Record::User(event) => event.in_range(),
         }
-    }
-
-    /// Whether the format has a line for such a record; whether this one is in range is not asked. Takes no memory.
-    pub fn is_in(&self, format: Format) -> bool
-        ensures { IsTrue result ↔ IsInFormat format self.now }
-    {
-        let (entry, _) = self.parts();
-        format.has(entry)
     }
 
     /// What its line says beside its bytes, and the bytes: none where its line has no BYTES. Takes no memory.

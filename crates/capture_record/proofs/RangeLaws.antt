@@ -3,13 +3,13 @@ use Rattle.std.proofs.Common.{◌≡◌, ℕ, ◌<◌, ◌≤◌, leb, List, len
 use Rattle.std.specs.Prelude.{IsTrue, ◌↔◌}
 use Rattle.std.proofs.lemmas.Bool.{leb-true, le-leb}
 use Rattle.hex.specs.Hex.{IsBytes}
-use Rattle.capture.specs.declared.limit.TheConstants.{MAX_HINT, MAX_UNIT, MAX_MESSAGE, MAX_PACKET, MAX_INTERRUPT}
-use Rattle.capture.specs.declared.event.Event.{Event}
-use Rattle.capture.specs.declared.event.Event.TheVariants.{In, Up, Composed, Interrupt, Interrupted}
-use Rattle.capture.specs.declared.fate.Fate.{Fate}
-use Rattle.capture.specs.declared.record.Record.{Record}
-use Rattle.capture.specs.declared.record.Record.TheVariants.{Sent, Received, Noise}
-use Rattle.capture.specs.Range.{IsEvent, IsRecord, EventNumbersFit, event_bytes, most_of_event}
+use Rattle.capture_record.specs.declared.limit.TheConstants.{MAX_HINT, MAX_UNIT, MAX_MESSAGE, MAX_PACKET, MAX_INTERRUPT}
+use Rattle.capture_record.specs.declared.event.Event.{Event}
+use Rattle.capture_record.specs.declared.event.Event.TheVariants.{In, Up, Composed, Interrupt, Interrupted}
+use Rattle.capture_record.specs.declared.fate.Fate.{Fate}
+use Rattle.capture_record.specs.declared.record.Record.{Record}
+use Rattle.capture_record.specs.declared.record.Record.TheVariants.{Sent, Received, Noise}
+use Rattle.capture_record.specs.Range.{IsEvent, IsRecord, EventNumbersFit, event_bytes, most_of_event}
 
 length_tested : (slice bytes : List ℕ) (most : ℕ) → slice ≡ bytes → IsTrue (leb (length slice) most) → length bytes ≤ most
 length_tested slice bytes most e t = leb-true (length bytes) most (ap (λ (b : List ℕ). leb (length b) most) (sym e) ∙ t)

@@ -1,7 +1,7 @@
 //! What the line of a record says beside its BYTES.
 
 ghost use Rattle.std.specs.Prelude.{◌≡◌};
-ghost use Rattle.capture.specs.Entries.{limit_of, record_with};
+ghost use Rattle.capture_record.specs.Entries.{limit_of, record_with};
 
 use crate::bytes::Bytes;
 use crate::event::Event;
