@@ -17,7 +17,7 @@ use capture_record::{Entry, Record};
 use std::alloc::{AllocError, Global};
 
 /// The records of the other side from the next unit on, and its number.
-#[derive(Clone, Copy, Debug)]
+#[derive(Clone, Copy)]
 pub struct Ahead<'r> {
     pub rest: &'r [Record],
     pub next: u64,

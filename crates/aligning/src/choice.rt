@@ -8,7 +8,7 @@ use capture_record::Record;
 use ddcmp_msg::{Reading, read_unit};
 
 /// The unit that a receipt gets.
-#[derive(Clone, Copy, Debug)]
+#[derive(Clone, Copy)]
 pub struct Chosen<'r> {
     /// Its number; where there is none, the next number.
     pub unit: u64,

@@ -13,7 +13,7 @@ use std::io::Read;
 use wire_base::Tally;
 
 /// A capture: both addresses of its head, and its records.
-#[derive(Debug, Drop)]
+#[derive(Drop)]
 pub struct Whole {
     pub own: u16,
     pub peer: u16,

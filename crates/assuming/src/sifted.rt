@@ -13,7 +13,7 @@ use std::marker::Model;
 use wire_base::Side;
 
 /// This may be assumed of this side, where the spot at this place bears it.
-#[derive(Clone, Copy, Debug, PartialEq, Eq)]
+#[derive(Clone, Copy, PartialEq, Eq)]
 pub(crate) struct Proposal {
     pub(crate) side: Side,
     pub(crate) place: u64,

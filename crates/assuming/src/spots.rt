@@ -19,7 +19,7 @@ use std::marker::Model;
 use wire_base::Side;
 
 /// What there is in a capture.
-#[derive(Clone, Copy, Debug, PartialEq, Eq)]
+#[derive(Clone, Copy, PartialEq, Eq)]
 pub(crate) enum Basis {
     /// The user starts the station, after so many packets were kept since its last unit.
     Starts { kept: u64 },
@@ -30,7 +30,7 @@ pub(crate) enum Basis {
 }
 
 /// The same, after so many units of the side.
-#[derive(Clone, Copy, Debug, PartialEq, Eq)]
+#[derive(Clone, Copy, PartialEq, Eq)]
 pub(crate) struct Spot {
     pub(crate) unit: u64,
     pub(crate) basis: Basis,

@@ -10,7 +10,7 @@ use capture_record::{Entry, Fate, Record};
 
 /// The format of a capture, as its head names it. Formats 1 and 2 hold the same records, and spell a hint in two ways; format 3 spells a
 /// hint as format 1 does, and has lines for more records.
-#[derive(Clone, Copy, Debug, PartialEq, Eq)]
+#[derive(Clone, Copy, PartialEq, Eq)]
 pub enum Format {
     /// `ddcap 1`: a hint is a number.
     One,

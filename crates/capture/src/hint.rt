@@ -11,7 +11,7 @@ use crate::format::Format;
 use capture_record::{Entry, Record};
 
 /// The form of the next hint in a text.
-#[derive(Clone, Copy, Debug, PartialEq, Eq)]
+#[derive(Clone, Copy, PartialEq, Eq)]
 pub enum HintForm {
     /// The hint itself, as a decimal number: format 1.
     Number,

@@ -11,7 +11,7 @@ use crate::record::Record;
 
 /// What the line of a record says except for its bytes, which are kept beside it. It is small and owns nothing. The numbers are
 /// those of [`Record`] and [`Event`].
-#[derive(Clone, Copy, Debug, PartialEq, Eq)]
+#[derive(Clone, Copy, PartialEq, Eq)]
 pub enum Entry {
     /// The bytes were sent as a unit.
     Sent,

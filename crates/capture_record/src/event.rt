@@ -6,7 +6,7 @@ use crate::limit::{MAX_INTERRUPT, MAX_MESSAGE, MAX_PACKET};
 
 /// What happened at a node apart from its line: mostly what its user did, or got. `link` is an address that this node gave to a link, and
 /// `partner` one that the other node gave: each is from 1 to 65,535.
-#[derive(Debug, Drop)]
+#[derive(Drop)]
 pub enum Event {
     /// The station is started.
     Start,

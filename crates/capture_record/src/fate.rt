@@ -4,7 +4,7 @@ ghost use Rattle.std.specs.Prelude.{◌≡◌};
 ghost use Rattle.capture_record.specs.Fates.{is_kept, is_met};
 
 /// What became of the packet in a unit that came: nothing, or the node kept it; and what it kept may have been lost before its links met it.
-#[derive(Clone, Copy, Debug, PartialEq, Eq)]
+#[derive(Clone, Copy, PartialEq, Eq)]
 pub enum Fate {
     /// No packet was kept: the line `r`.
     NotKept,

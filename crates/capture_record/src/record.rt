@@ -7,7 +7,7 @@ use crate::fate::Fate;
 use crate::limit::{MAX_HINT, MAX_UNIT};
 
 /// What one side of the line saw.
-#[derive(Debug, Drop)]
+#[derive(Drop)]
 pub enum Record {
     /// The node sent this unit, of at most 16,393 bytes.
     Sent(Bytes),

@@ -17,7 +17,7 @@ use dna_station::{State, StationEvent};
 use pair_judge::MadeEntry;
 
 /// One side.
-#[derive(Clone, Copy, Debug, PartialEq, Eq)]
+#[derive(Clone, Copy, PartialEq, Eq)]
 pub struct Half {
     pub tracker: Tracker,
     pub counts: Counts,

@@ -13,7 +13,7 @@ use wire_base::Side;
 /// It is small and lends nothing.
 ///
 /// Addresses of links are from 1 to 65,535: `link` is one of this end, `partner` one of the other end.
-#[derive(Clone, Copy, Debug, PartialEq, Eq)]
+#[derive(Clone, Copy, PartialEq, Eq)]
 pub enum Step {
     /// The user starts the station.
     Start,
@@ -113,7 +113,7 @@ impl Step {
 }
 
 /// One line of a script after its head. Its message or noise is lent by the reader.
-#[derive(Clone, Copy, Debug, PartialEq, Eq)]
+#[derive(Clone, Copy, PartialEq, Eq)]
 pub struct ScriptStep<'a> {
     /// The end that the step is of.
     pub side: Side,
@@ -123,7 +123,7 @@ pub struct ScriptStep<'a> {
 }
 
 /// A line of a script except for its message or noise.
-#[derive(Clone, Copy, Debug, PartialEq, Eq)]
+#[derive(Clone, Copy, PartialEq, Eq)]
 pub struct LineEntry {
     pub side: Side,
     pub step: Step,

@@ -52,7 +52,7 @@ pub enum Accusation {
 }
 
 /// What is known of nodes with a queue between NSP and DDCMP at a refused record.
-#[derive(Clone, Copy, Debug, PartialEq, Eq)]
+#[derive(Clone, Copy, PartialEq, Eq)]
 pub enum Excuse {
     /// They are refused at this record too, or no queue explains such a reason.
     Refused,

@@ -10,7 +10,7 @@ use std::fmt::{self, Formatter, Write};
 pub const FEW_RECORDS: u64 = 20;
 
 /// How many small edits near the refusal were judged, and how many of them make the pair a run. Printed as one JSON object with its LF.
-#[derive(Clone, Copy, Debug, PartialEq, Eq)]
+#[derive(Clone, Copy, PartialEq, Eq)]
 pub struct EditsTried {
     /// How many were judged.
     pub tried: u64,

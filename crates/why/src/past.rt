@@ -11,7 +11,7 @@ use std::alloc::{AllocError, Global};
 use wire_base::Side;
 
 /// The lines that an answer names beside the refused one; `None` where none is known.
-#[derive(Clone, Copy, Debug, PartialEq, Eq)]
+#[derive(Clone, Copy, PartialEq, Eq)]
 pub struct Lines {
     /// In which the live link with the own address that the record names got it.
     pub since: Option<u64>,

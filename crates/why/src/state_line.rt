@@ -8,7 +8,7 @@ use std::fmt;
 use wire_base::Side;
 
 /// A side where a record is refused, as it was before it. Printed as one JSON object with its LF.
-#[derive(Clone, Copy, Debug, PartialEq, Eq)]
+#[derive(Clone, Copy, PartialEq, Eq)]
 pub struct StateLine {
     /// Which side.
     pub side: Side,

@@ -13,7 +13,7 @@ use nsp_link::LinkView;
 use std::alloc::{AllocError, Global};
 
 /// The addresses of a link at one end, as far as they are named.
-#[derive(Clone, Copy, Debug, PartialEq, Eq)]
+#[derive(Clone, Copy, PartialEq, Eq)]
 pub struct Addresses {
     pub own: Option<u16>,
     pub far: Option<u16>,
