@@ -10,8 +10,8 @@ use Rattle.dna_packet.specs.Nsp as nsp
 use Rattle.dna_packet.specs.ReadingNsp.{nsp_at}
 use Rattle.dna_packet.specs.ReadingPacket.{packet_at}
 use Rattle.nsp_link.specs.declared.view.LinkView.{LinkView}
-use Rattle.side_words.specs.declared.subject.Addresses.{Addresses}
 use Rattle.record_words.specs.Layers.{message_in_unit, message_of}
+use Rattle.side_words.specs.declared.subject.Addresses.{Addresses}
 
 -- ---- the addresses that a record names, as its own end has them
 
