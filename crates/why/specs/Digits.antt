@@ -9,8 +9,8 @@ use Rattle.dna_packet.specs.ReadingNsp.{nsp_at}
 use Rattle.dna_packet.specs.ReadingPacket.{packet_at}
 use Rattle.dna_links.specs.WireLinks.{WireLinks}
 use Rattle.nsp_link.specs.Due.{due_at_links, due_to_user}
+use Rattle.record_words.specs.Layers.{message_in_unit, message_of}
 use Rattle.why.specs.declared.digits.Fronts as declared
-use Rattle.why.specs.Layers.{message_in_unit, message_of}
 
 -- the digits of both
 pub record Fronts : Type 0 where

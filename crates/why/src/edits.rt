@@ -1,8 +1,8 @@
 //! What small edits of the captures tell.
 
 use crate::queued::QueuedAnswer;
-use crate::words::NumberOr;
-use crate::wrapped::{INDENT, put_wrapped};
+use record_words::words::NumberOr;
+use record_words::wrapped::{INDENT, put_wrapped};
 use std::alloc::AllocError;
 use std::fmt::{self, Formatter, Write};
 

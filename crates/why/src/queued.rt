@@ -1,9 +1,9 @@
 //! What is answered of the same captures as those of nodes with queues.
 
 use crate::accusation::Excuse;
-use crate::words::words_if;
 use capture::Departure;
 use pair_judge::Reason;
+use record_words::words::words_if;
 use std::fmt::{self, Formatter, Write};
 use wire_base::Side;
 
