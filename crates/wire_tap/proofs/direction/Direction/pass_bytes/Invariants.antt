@@ -2,7 +2,7 @@ use Rattle.std.proofs.Common.{◌≡◌, ℕ, ◌+◌, ◌≤◌, Bool, List, �
 use Rattle.wire_tap.specs.Units.{UnitPassed}
 use Rattle.wire_tap.specs.inner.Accused.{IsOnLine, IsTold, KeepsLines}
 use Rattle.wire_tap.proofs.DirectionLaws.{IsUnderWay}
-use Rattle.wire_tap.proofs.accused.Direction.pass_bytes.Given as goal
+use Rattle.wire_tap.proofs.direction.Direction.pass_bytes.Given as goal
 
 abbrev pub invariant-loop : goal.invariant-loop
 invariant-loop l = record {

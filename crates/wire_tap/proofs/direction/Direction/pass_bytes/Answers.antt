@@ -1,6 +1,6 @@
 use Rattle.std.proofs.Common.{◌++◌, length, ap, ◌∙◌, arith, length-append}
 use Rattle.wire_tap.proofs.DirectionLaws.{begins, finds_all, goes_on}
-use Rattle.wire_tap.proofs.accused.Direction.pass_bytes.Goals as goal
+use Rattle.wire_tap.proofs.direction.Direction.pass_bytes.Goals as goal
 
 pub loop-init : goal.loop-init
 loop-init c = record {

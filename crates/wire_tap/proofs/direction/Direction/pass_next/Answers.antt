@@ -1,6 +1,6 @@
 use Rattle.std.proofs.Common.{refl, arith}
 use Rattle.wire_tap.proofs.DirectionLaws.{finds_none, finds_one, now_all, now_within, place_known, place_within}
-use Rattle.wire_tap.proofs.accused.Direction.pass_next.Goals as goal
+use Rattle.wire_tap.proofs.direction.Direction.pass_next.Goals as goal
 
 pub returns-in_ok-find-in-Unit-clause-finds : goal.returns-in_ok-find-in-Unit-clause-finds
 returns-in_ok-find-in-Unit-clause-finds c line_alone a b passed lines place tells keeps on_line =

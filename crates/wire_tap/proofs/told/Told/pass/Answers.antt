@@ -1,6 +1,6 @@
 use Rattle.wire_base.specs.declared.side.Side.TheVariants.{A, B}
 use Rattle.wire_tap.specs.Accusing.{head_of}
-use Rattle.wire_tap.proofs.accused.Told.pass.Goals as goal
+use Rattle.wire_tap.proofs.told.Told.pass.Goals as goal
 
 pub returns-in_ok-passed-in-A : goal.returns-in_ok-passed-in-A
 returns-in_ok-passed-in-A c line_alone a b passed told =

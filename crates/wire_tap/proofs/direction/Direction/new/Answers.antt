@@ -1,7 +1,7 @@
 use Rattle.std.proofs.Common.{length, refl, sym, ap, ◌∙◌, arith}
 use Rattle.framer.specs.Framing.{Framing}
 use Rattle.framer.proofs.Framings.{framing-nil}
-use Rattle.wire_tap.proofs.accused.Direction.new.Goals as goal
+use Rattle.wire_tap.proofs.direction.Direction.new.Goals as goal
 
 pub returns : goal.returns
 returns c = record {
