@@ -7,7 +7,8 @@ ghost use Rattle.printing.specs.Layers.{nodes_of};
 
 use coverage::{Counts, Cover, ROWS, STATION_ROWS, judge_covered};
 use pair_judge::{
-    JudgeFault, MadeEntry, Observer, Verdict, Watched, judge_line_told, judge_queued_told,
+    JudgeFault, JudgedEnds, MadeEntry, Observer, Verdict, Watched, judge_line_told,
+    judge_queued_told,
 };
 use printing::layers::Layers;
 use std::alloc::{AllocError, Global};
@@ -45,7 +46,7 @@ pub fn judge_went<A: Read, B: Read>(
                     a: watched.observer.of_side(Side::A),
                     b: watched.observer.of_side(Side::B),
                 };
-                drop(watched);
+                let_go(watched.ends);
                 Ok(went)
             }
             Err(fault) => Err(fault),
@@ -73,7 +74,7 @@ fn judge_queued_went<A: Read, B: Read>(
                 a: watched.observer.cover.of_side(Side::A),
                 b: watched.observer.cover.of_side(Side::B),
             };
-            drop(watched);
+            let_go(watched.ends);
             Ok(went)
         }
         Err(fault) => Err(fault),
@@ -98,12 +99,15 @@ fn judge_line_went<A: Read, B: Read>(
                 a: of_stations(watched.observer.cover.of_side(Side::A)),
                 b: of_stations(watched.observer.cover.of_side(Side::B)),
             };
-            drop(watched);
+            let_go(watched.ends);
             Ok(went)
         }
         Err(fault) => Err(fault),
     }
 }
+
+/// Drops both ends. Where a function drops them by itself, its proof follows the drop of all their parts; here that is done once.
+pub(crate) fn let_go(_ends: JudgedEnds) {}
 
 // Counts of no record: `coverage` makes them only where it judges.
 fn nothing_covered(alloc: Global) -> Result<Cover, JudgeFault> {
@@ -112,7 +116,7 @@ fn nothing_covered(alloc: Global) -> Result<Cover, JudgeFault> {
     match judge_covered(alloc, &mut a, &mut b) {
         Ok(watched) => {
             let Watched { ends, observer } = watched;
-            drop(ends);
+            let_go(ends);
             Ok(observer)
         }
         Err(fault) => Err(fault),

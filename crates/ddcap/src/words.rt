@@ -98,16 +98,8 @@ pub fn task_of<'a, S: AsStr>(alloc: Global, words: &'a [S]) -> Result<Task<'a>, 
         return Err(WordsFault::OutOfMemory);
     };
     match program.try_get_matches_from(words) {
-        Ok(matches) => {
-            let task = task_found(alloc, &matches);
-            drop(matches);
-            task
-        }
-        Err(error) => {
-            let kind = error.kind();
-            drop(error);
-            Err(words_fault(kind))
-        }
+        Ok(matches) => task_found(alloc, &matches),
+        Err(error) => Err(words_fault(error.kind())),
     }
 }
 

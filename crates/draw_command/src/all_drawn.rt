@@ -4,6 +4,7 @@ ghost use Rattle.std.specs.Prelude.{◌≤◌};
 ghost use Rattle.drawing.specs.declared.range.TheConstants.{MAX_ROWS};
 
 use crate::all_draw::AllFound;
+use crate::picture::let_go;
 use all_answer::all_judged::{AllFault, in_memory};
 use all_answer::all_pair::{Left, LeftTexts, PairCaptures, judge_texts, stopped_at};
 use all_answer::all_stops::{Stops, put_end};
@@ -126,7 +127,7 @@ fn with_rows(
             is_shown: rows.is_whole && is_shown,
         }),
         Err(fault) => {
-            drop(ends);
+            let_go(ends);
             Err(fault)
         }
     }

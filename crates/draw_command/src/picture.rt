@@ -56,7 +56,7 @@ pub fn picture_of<A: Read + Seek, B: Read + Seek>(
     match drawing_of(alloc, a, b, range) {
         Ok(pair) => {
             let picture = picture_drawn(alloc, range.judging, &pair, a, b, title);
-            drop(pair);
+            let_go(pair.ends);
             picture
         }
         Err(fault) => Err(fault),
@@ -186,6 +186,10 @@ fn verdict_words(alloc: Global, verdict: Verdict) -> Result<String, AllocError> 
         }
     }
 }
+
+/// Drops both ends. Where a function holds them and ends in several ways, the proof follows each way through the drop of all their parts; here it
+/// does so once.
+pub(crate) fn let_go(_ends: JudgedEnds) {}
 
 /// The layers that are judged so.
 pub fn layers_of(judging: Judging) -> Layers {

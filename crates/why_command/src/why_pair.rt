@@ -4,7 +4,7 @@ ghost use Rattle.printing.specs.Printed.{moved};
 ghost use Rattle.why_answer.specs.PrintedWhy.{Explains};
 
 use crate::less_too::with_less_too;
-use pair_judge::{JudgedEnds, Verdict};
+use pair_judge::{JudgedEnds, Verdict, Watched};
 use printing::check::{print_fault, print_out_of_memory};
 use printing::layers::watch_over;
 use std::alloc::{AllocError, Global};
@@ -43,7 +43,7 @@ pub fn why_to<A: Read + Seek, B: Read + Seek, O: Write, E: Write>(
     };
     match watched.ends.verdict() {
         Verdict::Accepted(summary) => {
-            drop(watched);
+            let_go(watched);
             print_accepted(alloc, printout, summary, out, err)
         }
         Verdict::Refused {
@@ -59,7 +59,7 @@ pub fn why_to<A: Read + Seek, B: Read + Seek, O: Write, E: Write>(
             let tried = match ask_again(alloc, printout, a, b, &watched.ends, refused) {
                 Ok(tried) => tried,
                 Err(_) => {
-                    drop(watched);
+                    let_go(watched);
                     return print_out_of_memory(err);
                 }
             };
@@ -71,6 +71,10 @@ pub fn why_to<A: Read + Seek, B: Read + Seek, O: Write, E: Write>(
         }
     }
 }
+
+/// Drops what was judged. Where a function holds it and ends in several ways, the proof follows each way through the drop of all its parts; here it
+/// does so once.
+pub(crate) fn let_go(_watched: Watched<LastRows>) {}
 
 // What small edits tell of this refusal, and what is answered of nodes with queues, and where less is judged.
 fn ask_again<A: Read + Seek, B: Read + Seek>(
