@@ -1,7 +1,6 @@
 //! `draw --svg`: the ladder of two captures as a picture.
 
-ghost use Rattle.std.specs.Prelude.{◌≤◌, ℕ, IfOk, List, Ok, Option};
-ghost use Rattle.dna_node.specs.Kind.{NodeKind};
+ghost use Rattle.std.specs.Prelude.{◌≤◌, IfOk};
 ghost use Rattle.ladder.specs.Xml.{IsDocument};
 ghost use Rattle.pair_judge.specs.Judged.{IsAnswer};
 ghost use Rattle.drawing.specs.Drawing.{kind_by};
@@ -40,7 +39,7 @@ pub enum NoPicture {
 
 /// The same rows as `draw_to` writes, as a picture with this title, which is well-formed XML whatever the rows and the title are. `Err`: as for
 /// `draw_to`; nothing is written by this.
-#[tactic(auto, using(crate::proofs::Pictures::judged_so))]
+#[tactic(auto, using(crate::proofs::Pictures::judged_so, crate::proofs::Pictures::wanting_memory, crate::proofs::Pictures::failed_read))]
 pub fn picture_of<A: Read + Seek, B: Read + Seek>(
     alloc: Global,
     a: &mut A,
@@ -53,35 +52,15 @@ pub fn picture_of<A: Read + Seek, B: Read + Seek>(
     ensures answer { IsAnswer (kind_by range.judging) (A.remaining a.old) (B.remaining b.old) (verdict_answered result) }
     ensures picture { IfOk result (λ picture. IsDocument picture.svg.items) }
 {
-    match drawing_of(alloc, a, b, range) {
-        Ok(pair) => {
-            let picture = picture_drawn(alloc, range.judging, &pair, a, b, title);
-            let_go(pair.ends);
-            picture
-        }
-        Err(fault) => Err(fault),
-    }
-}
-
-// The picture of these rows, or why there is none.
-#[tactic(auto, using(crate::proofs::Pictures::wanting_memory, crate::proofs::Pictures::failed_read))]
-fn picture_drawn<A: Read + Seek, B: Read + Seek>(
-    alloc: Global,
-    judging: Judging,
-    pair: &DrawnPair,
-    a: &mut A,
-    b: &mut B,
-    title: &str,
-) -> Result<Picture, JudgeFault>
-    ensures answer { (nodes : NodeKind) (text_a text_b : Option (List ℕ)) → IsAnswer nodes text_a text_b (Ok pair.now.ends.verdict)
-        → IsAnswer nodes text_a text_b (verdict_answered result) }
-    ensures picture { IfOk result (λ picture. IsDocument picture.svg.items) }
-{
-    match svg_of(alloc, judging, pair, a, b, title) {
-        Ok(svg) => Ok(Picture {
-            verdict: pair.ends.verdict(),
-            svg,
-        }),
+    let pair = match drawing_of(alloc, a, b, range) {
+        Ok(pair) => pair,
+        Err(fault) => return Err(fault),
+    };
+    let svg = svg_of(alloc, range.judging, &pair, a, b, title);
+    let verdict = pair.ends.verdict();
+    let_go(pair.ends);
+    match svg {
+        Ok(svg) => Ok(Picture { verdict, svg }),
         Err(why) => match why {
             NoPicture::Memory => Err(JudgeFault::OutOfMemory),
             NoPicture::Read(side) => Err(JudgeFault::Capture {
