@@ -8,7 +8,7 @@ ghost use Rattle.why_answer.specs.PrintedWhyEnd.{ExplainsEnd, IsToldOf, PrintsPa
 
 use crate::last_rows::LastRows;
 use crate::queued_too::{end_with_queues, unasked};
-use crate::rows_before::ladder_text;
+use crate::rows_before::end_rungs;
 use crate::telling::{REFUSED, accusation_knowing};
 use capture::CaptureFault;
 use ladder::Ladder;
@@ -129,25 +129,36 @@ pub fn print_passed<O: Write, E: Write>(
 pub fn end_refused_text(
     alloc: Global,
     printout: EndPrintout<'_>,
-    watched: WatchedEnd<LastRows>,
+    mut watched: WatchedEnd<LastRows>,
     queued: QueuedAnswer,
 ) -> Result<String, AllocError>
     ensures { IfOk result (λ text.
         TellsEnd printout.entry.layers printout.entry.form (stop watched.verdict watched.end) (string_bytes text)) }
 {
-    let WatchedEnd {
-        verdict,
-        end,
-        observer: LastRows { mut ladder, past },
-    } = watched;
-    let Some(refusal) = refusal_of(printout.layers, verdict, &end, &past, queued) else {
+    let rows = &mut watched.observer;
+    text_of_refused_end(alloc, printout, watched.verdict, &watched.end, rows, queued)
+}
+
+/// The same of the end and the last rows, where they are lent.
+pub fn text_of_refused_end(
+    alloc: Global,
+    printout: EndPrintout<'_>,
+    verdict: EndVerdict,
+    end: &SideEnd,
+    rows: &mut LastRows,
+    queued: QueuedAnswer,
+) -> Result<String, AllocError>
+    ensures { IfOk result (λ text. TellsEnd printout.entry.layers printout.entry.form (stop verdict end.now) (string_bytes text)) }
+{
+    let Some(refusal) = refusal_of(printout.layers, verdict, end, &rows.past, queued) else {
         return end_text(alloc, printout.layers, verdict);
     };
     match printout.form {
-        Form::Json => why_end_json(alloc, refusal, &end),
+        Form::Json => why_end_json(alloc, refusal, end),
         Form::Rows => {
+            let ladder = &mut rows.ladder;
             ladder.refused(Side::A, refusal.says, refusal.bytes, false);
-            rows_text(alloc, printout, verdict, refusal, &end, &ladder)
+            rows_text(alloc, printout, verdict, refusal, end, ladder)
         }
     }
 }
@@ -200,8 +211,7 @@ fn rows_text(
 ) -> Result<String, AllocError>
     ensures { IfOk result (λ text. BeginsWith (end_text_over printout.entry.layers verdict) (string_bytes text)) }
 {
-    let drawn = ladder.drawn(alloc)?;
-    let rungs = ladder_text(alloc, &drawn)?;
+    let rungs = end_rungs(alloc, ladder)?;
     let first = end_text(alloc, printout.layers, verdict)?;
     let beside = Beside {
         name: printout.name,
