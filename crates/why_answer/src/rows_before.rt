@@ -80,11 +80,7 @@ fn put_rows(alloc: Global, drawn: &Drawn, text: &mut String) -> Result<(), Alloc
 }
 
 // The row of the unit that the hint of the refused record names; nothing where it names none that may come.
-fn unit_text(
-    alloc: Global,
-    printout: Printout<'_>,
-    drawn: &Drawn,
-) -> Result<String, AllocError> {
+fn unit_text(alloc: Global, printout: Printout<'_>, drawn: &Drawn) -> Result<String, AllocError> {
     let Some(row) = drawn.row(drawn.len().saturating_sub(1)) else {
         return Ok(String::new(alloc));
     };

@@ -93,7 +93,14 @@ pub fn refused_text(
 ) -> Result<String, AllocError>
     ensures { IfOk result (λ text. TellsRefusal printout.entry.layers printout.entry.form watched.ends refused (string_bytes text)) }
 {
-    text_of_refused(alloc, printout, refused, &watched.ends, &mut watched.observer, &tried)
+    text_of_refused(
+        alloc,
+        printout,
+        refused,
+        &watched.ends,
+        &mut watched.observer,
+        &tried,
+    )
 }
 
 /// The same of both ends and the last rows, where they are lent.

@@ -29,7 +29,13 @@ pub fn unit_changes(
     let units = right_units(alloc, failed, ends.station(side), &row.bytes)?;
     let mut changes = Vec::new(alloc);
     for unit in units.iter() {
-        add_changes(alloc, &mut changes, side, (row, &other.receipt), unit.as_slice())?;
+        add_changes(
+            alloc,
+            &mut changes,
+            side,
+            (row, &other.receipt),
+            unit.as_slice(),
+        )?;
     }
     Ok(changes)
 }
