@@ -249,8 +249,14 @@ fn wire_fault_text(alloc: Global, kind: Departure, line: u64) -> Result<String, 
     format!(in alloc; "wire: {faulty}\n")
 }
 
-/// Why there are no whole captures of what passed, as it was told.
-pub fn told_of_tap(fault: TapFault, status: u8) -> FaultTold
+/// Prints why there are no whole captures, likewise; what was told.
+pub fn tell_tap_fault<E: Write>(alloc: Global, fault: TapFault, err: &mut Tally<E>) -> FaultTold {
+    let status = print_tap_fault(alloc, fault, err);
+    told_of_tap(fault, status)
+}
+
+// Why there are no whole captures of what passed, as it was told.
+fn told_of_tap(fault: TapFault, status: u8) -> FaultTold
     ensures { result.status ≡ status }
 {
     match fault {
