@@ -1,6 +1,6 @@
 -- What is said of a unit of the side, and what it means.
 use Rattle.std.specs.Prelude.{◌≡◌, Result, Ok, Err, List}
-use Rattle.capture.specs.declared.record.Record.{Record}
+use Rattle.capture_record.specs.declared.record.Record.{Record}
 use Rattle.accusing.specs.declared.answer.Answer.{Answer}
 use Rattle.accusing.specs.declared.answer.Answer.TheVariants.{CanHave, CannotHave}
 use Rattle.accusing.specs.declared.wrong.Wrong.{Wrong}

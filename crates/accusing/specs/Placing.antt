@@ -4,11 +4,11 @@ use Rattle.std.specs.Prelude.{◌≡◌, ℕ, ◌+◌, ◌⊎◌, Result, Ok, Li
 use Rattle.ddcmp_msg.specs.Message.{MessageValue, IsBytes}
 use Rattle.ddcmp_msg.specs.Reading.{ReadingValue, reading, Malformed}
 use Rattle.ddcmp_msg.specs.Reading as read
-use Rattle.capture.specs.declared.fate.Fate.{Fate}
-use Rattle.capture.specs.declared.fate.Fate.TheVariants.{NotKept}
-use Rattle.capture.specs.declared.record.Record.{Record}
-use Rattle.capture.specs.declared.record.Record.TheVariants.{Sent, Received, Noise, User}
-use Rattle.capture.specs.declared.event.Event.{Event}
+use Rattle.capture_record.specs.declared.fate.Fate.{Fate}
+use Rattle.capture_record.specs.declared.fate.Fate.TheVariants.{NotKept}
+use Rattle.capture_record.specs.declared.record.Record.{Record}
+use Rattle.capture_record.specs.declared.record.Record.TheVariants.{Sent, Received, Noise, User}
+use Rattle.capture_record.specs.declared.event.Event.{Event}
 use Rattle.dna_station.specs.declared.tag.Tag.{Tag}
 use Rattle.dna_station.specs.declared.refusal.StepRefusal.{StepRefusal}
 use Rattle.dna_station.specs.PeriodRule.{of_any_period}

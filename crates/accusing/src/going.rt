@@ -1,7 +1,7 @@
 //! Which data message of a side goes.
 
 /// Which data message of a side goes.
-#[derive(Clone, Copy, Debug, PartialEq, Eq)]
+#[derive(Clone, Copy, PartialEq, Eq)]
 pub enum Going {
     /// One with a new number.
     New,

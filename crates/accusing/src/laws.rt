@@ -1,7 +1,7 @@
 //! What holds of the definitions in `specs/`, whatever the code does.
 
 ghost use Rattle.std.specs.Prelude.{◌≡◌, List, Err};
-ghost use Rattle.capture.specs.declared.record.Record.{Record};
+ghost use Rattle.capture_record.specs.declared.record.Record.{Record};
 ghost use Rattle.accusing.specs.declared.wrong.Wrong.{Wrong};
 ghost use Rattle.accusing.specs.Placing.{Passed, IsPlacing};
 ghost use Rattle.accusing.specs.Sight.{first_sight, all_passed};

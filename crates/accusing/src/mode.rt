@@ -1,7 +1,7 @@
 //! What the side's own units told of its station.
 
 /// What the side's own units told of its station.
-#[derive(Clone, Copy, Debug, PartialEq, Eq)]
+#[derive(Clone, Copy, PartialEq, Eq)]
 pub enum Mode {
     /// In its present period it has sent no numbered message yet; so it is in a state before RUNNING, or in RUNNING with all numbers given 0.
     Begins,

@@ -1,10 +1,10 @@
 -- What a step of a node is, of its station and of its links.
 use Rattle.std.proofs.Common.{◌≡◌, Bool, true, false, cond, Option, Some, None, Result, Ok, Err, List, refl, ap, subst, ℕ}
 use Rattle.ddcmp_msg.specs.Message.{MessageValue}
-use Rattle.capture.specs.declared.fate.Fate.{Fate}
-use Rattle.capture.specs.Fates.{is_met}
-use Rattle.capture.specs.declared.event.Event.{Event}
-use Rattle.capture.specs.declared.event.Event.TheVariants as events
+use Rattle.capture_record.specs.declared.fate.Fate.{Fate}
+use Rattle.capture_record.specs.Fates.{is_met}
+use Rattle.capture_record.specs.declared.event.Event.{Event}
+use Rattle.capture_record.specs.declared.event.Event.TheVariants as events
 use Rattle.dna_station.specs.declared.tag.Tag.{Tag}
 use Rattle.dna_station.specs.declared.refusal.StepRefusal.{StepRefusal}
 use Rattle.dna_station.specs.declared.link_refusal.LinkRefusal.{LinkRefusal}

@@ -1,8 +1,8 @@
 -- The user names links from 1 on, so no link has the address 0.
 use Rattle.std.proofs.Common.{◌≡◌, ℕ, ◌≤◌, Bool, true, false, not, eqb, Option, Some, None, refl, arith, eqb-true}
-use Rattle.capture.specs.Range.{EventNumbersFit}
-use Rattle.capture.specs.declared.event.Event.{Event}
-use Rattle.capture.specs.declared.event.Event.TheVariants as events
+use Rattle.capture_record.specs.Range.{EventNumbersFit}
+use Rattle.capture_record.specs.declared.event.Event.{Event}
+use Rattle.capture_record.specs.declared.event.Event.TheVariants as events
 use Rattle.dna_links.specs.User.{LinkEventValue, Open, Accept, Reject}
 use Rattle.dna_node.specs.Content.{link_event}
 

@@ -1,6 +1,6 @@
 -- What is known of a side by the units that passed, and what it means that a unit is wrong.
 use Rattle.std.specs.Prelude.{◌≡◌, ℕ, List}
-use Rattle.capture.specs.declared.record.Record.{Record}
+use Rattle.capture_record.specs.declared.record.Record.{Record}
 use Rattle.dna_station.specs.declared.head.Head.{Head}
 use Rattle.dna_links.specs.declared.queue.Queues.{Queues}
 use Rattle.accusing.specs.Placing.{Passed}

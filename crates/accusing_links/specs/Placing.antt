@@ -1,9 +1,9 @@
 -- What one side of a line may have done over both layers while these units passed. A side for which no such records exist has a wrong node: that is
 -- all that is ever said against it.
 use Rattle.std.specs.Prelude.{List, [], ◌∷◌}
-use Rattle.capture.specs.declared.record.Record.{Record}
-use Rattle.capture.specs.declared.record.Record.TheVariants.{User}
-use Rattle.capture.specs.Range.{EventNumbersFit}
+use Rattle.capture_record.specs.declared.record.Record.{Record}
+use Rattle.capture_record.specs.declared.record.Record.TheVariants.{User}
+use Rattle.capture_record.specs.Range.{EventNumbersFit}
 use Rattle.dna_station.specs.declared.head.Head.{Head}
 use Rattle.dna_station.specs.Machine.{Machine}
 use Rattle.dna_links.specs.declared.queue.Queues.{Queues}

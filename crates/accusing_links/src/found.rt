@@ -7,7 +7,7 @@ ghost use Rattle.accusing_links.specs.inner.Found.{content_found};
 use dna_packet::{Packet, read_packet};
 
 /// What a packet carries for the links; its message is not read yet.
-#[derive(Clone, Copy, Debug, PartialEq, Eq)]
+#[derive(Clone, Copy, PartialEq, Eq)]
 pub enum Found<'a> {
     /// It can't be read.
     Unreadable,

@@ -2,10 +2,10 @@
 use Rattle.std.proofs.Common.{◌≡◌, ℕ, Bool, true, false, cond, Option, Some, None, Result, Ok, Err, List, refl, sym, subst}
 use Rattle.std.proofs.Common.{◌⊎◌, inl, inr}
 use Rattle.ddcmp_msg.specs.Message.{MessageValue, Data, Ack, Nak, Rep, Strt, Stack}
-use Rattle.capture.specs.declared.fate.Fate.{Fate}
-use Rattle.capture.specs.Fates.{is_met}
-use Rattle.capture.specs.declared.event.Event.{Event}
-use Rattle.capture.specs.declared.event.Event.TheVariants as events
+use Rattle.capture_record.specs.declared.fate.Fate.{Fate}
+use Rattle.capture_record.specs.Fates.{is_met}
+use Rattle.capture_record.specs.declared.event.Event.{Event}
+use Rattle.capture_record.specs.declared.event.Event.TheVariants as events
 use Rattle.dna_packet.specs.Nsp.{NspValue, SegmentValue, DataSegment, LinkService, DataAck, OtherDataAck, ConnectAck, NoOperation, ConnectInitiate}
 use Rattle.dna_packet.specs.Nsp.{ConnectConfirm, DisconnectInitiate, DisconnectConfirm}
 use Rattle.dna_station.specs.declared.tag.Tag.{Tag}

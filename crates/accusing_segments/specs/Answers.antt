@@ -1,8 +1,8 @@
 -- What is known of a side by the units that passed, and what it means that a unit is wrong.
 use Rattle.std.specs.Prelude.{◌≡◌, ℕ, false, List, [], ◌∷◌}
-use Rattle.capture.specs.declared.record.Record.{Record}
-use Rattle.capture.specs.declared.record.Record.TheVariants.{User}
-use Rattle.capture.specs.declared.event.Event.TheVariants.{Composed}
+use Rattle.capture_record.specs.declared.record.Record.{Record}
+use Rattle.capture_record.specs.declared.record.Record.TheVariants.{User}
+use Rattle.capture_record.specs.declared.event.Event.TheVariants.{Composed}
 use Rattle.dna_station.specs.declared.head.Head.{Head}
 use Rattle.dna_links.specs.SegmentBook.{REACH}
 use Rattle.dna_links.specs.declared.queue.Queues.{Queues}

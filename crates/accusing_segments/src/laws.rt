@@ -1,7 +1,7 @@
 //! What holds of the definitions in `specs/`, whatever the code does.
 
 ghost use Rattle.std.specs.Prelude.{◌≡◌, ℕ, true, ◌∷◌, ◌++◌, List};
-ghost use Rattle.capture.specs.declared.record.Record.{Record};
+ghost use Rattle.capture_record.specs.declared.record.Record.{Record};
 ghost use Rattle.dna_station.specs.declared.head.Head.{Head};
 ghost use Rattle.dna_links.specs.declared.queue.Queues.{Queues};
 ghost use Rattle.accusing.specs.Placing.{Passed, Own};

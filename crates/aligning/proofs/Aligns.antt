@@ -4,8 +4,8 @@ use Rattle.std.proofs.Common.{◌++◌, length, drop, sym, ◌∙◌, append-nil
 use Rattle.std.specs.Prelude.{IfSome}
 use Rattle.std.proofs.lemmas.List.{drop_all}
 use Rattle.capture.specs.declared.hint.HintForm.TheVariants.{Number}
-use Rattle.capture.specs.declared.record.Record.{Record}
-use Rattle.capture.specs.declared.record.Record.TheVariants.{Sent, Received, Noise, User}
+use Rattle.capture_record.specs.declared.record.Record.{Record}
+use Rattle.capture_record.specs.declared.record.Record.TheVariants.{Sent, Received, Noise, User}
 use Rattle.capture.specs.Range.{format_for}
 use Rattle.capture.specs.Text.{capture_text, head_line, record_lines}
 use Rattle.capture.proofs.WideLaws.{lines_for}

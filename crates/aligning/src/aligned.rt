@@ -1,20 +1,23 @@
 //! The text of a capture with the hints that were found.
 
 ghost use Rattle.std.specs.Prelude.{◌≡◌, ◌+◌, ◌<◌, ◌≤◌, ◌^◌, List, ◌∷◌, ◌++◌, length, IfOk, OnOk};
-ghost use Rattle.capture.specs.declared.limit.TheConstants.{MAX_MESSAGE, MAX_RECORDS};
+ghost use Rattle.capture_record.specs.declared.limit.TheConstants.{MAX_MESSAGE};
+ghost use Rattle.capture.specs.declared.limit.TheConstants.{MAX_RECORDS};
 ghost use Rattle.capture.specs.declared.hint.HintForm.TheVariants.{Number};
-ghost use Rattle.capture.specs.declared.record.Record.{Record as Line};
-ghost use Rattle.capture.specs.Range.{IsCapture, format_for, record_bytes};
+ghost use Rattle.capture_record.specs.declared.record.Record.{Record as Line};
+ghost use Rattle.capture_record.specs.Range.{record_bytes};
+ghost use Rattle.capture.specs.Range.{IsCapture, format_for};
 ghost use Rattle.capture.specs.Text.{capture_text, record_lines};
 ghost use Rattle.aligning.specs.Aligned as spec;
 
 use crate::choice::choose;
 use crate::whole::Whole;
-use capture::{Entry, Record, format_for, put_head_line, put_line};
+use capture::{format_for, put_head_line, put_line};
+use capture_record::{Entry, Record};
 use std::alloc::{AllocError, Global};
 
 /// The records of the other side from the next unit on, and its number.
-#[derive(Clone, Copy, Debug)]
+#[derive(Clone, Copy)]
 pub struct Ahead<'r> {
     pub rest: &'r [Record],
     pub next: u64,

@@ -4,11 +4,11 @@ ghost use Rattle.std.specs.Prelude.{◌≡◌, ◌+◌, ◌<◌, ◌≤◌, ◌^
 ghost use Rattle.ddcmp_msg.specs.Reading.{reading};
 ghost use Rattle.aligning.specs.Aligned as spec;
 
-use capture::Record;
+use capture_record::Record;
 use ddcmp_msg::{Reading, read_unit};
 
 /// The unit that a receipt gets.
-#[derive(Clone, Copy, Debug)]
+#[derive(Clone, Copy)]
 pub struct Chosen<'r> {
     /// Its number; where there is none, the next number.
     pub unit: u64,

@@ -1,7 +1,7 @@
 //! Laws of every alignment, as functions that do nothing.
 
 ghost use Rattle.std.specs.Prelude.{◌≡◌, ℕ, List, map};
-ghost use Rattle.capture.specs.declared.record.Record.{Record as Line};
+ghost use Rattle.capture_record.specs.declared.record.Record.{Record as Line};
 ghost use Rattle.aligning.specs.Aligned.{aligned};
 ghost use Rattle.aligning.specs.Laws.{HintsRise, without_hint};
 

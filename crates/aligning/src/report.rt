@@ -6,11 +6,11 @@ ghost use Rattle.capture.specs.Range.{IsCapture};
 
 use crate::choice::{choose, fits, is_damaged};
 use crate::whole::Whole;
-use capture::Record;
+use capture_record::Record;
 use std::alloc::{AllocError, Global};
 
 /// Something to be told of a receipt, which is this record of its capture, counted from 0.
-#[derive(Clone, Copy, Debug, Drop, PartialEq, Eq)]
+#[derive(Clone, Copy, Drop, PartialEq, Eq)]
 pub enum Note {
     /// It got this unit, and so many of the units after it that no receipt got would have done as well.
     Chosen { place: u64, unit: u64, others: u64 },
@@ -19,7 +19,7 @@ pub enum Note {
 }
 
 /// What is told of the alignment of one capture.
-#[derive(Debug, Drop)]
+#[derive(Drop)]
 pub struct Report {
     /// How many receipts it has.
     pub receipts: u64,

@@ -6,13 +6,14 @@ ghost use Rattle.capture.specs.declared.hint.HintForm.{HintForm as Form};
 ghost use Rattle.capture.specs.Range.{IsCapture};
 ghost use Rattle.capture.specs.SoFar.{IsReadSoFar, TheEnd, so_far};
 
-use capture::{CaptureFault, CaptureReader, MAX_RECORDS, Record, text_read_on};
+use capture::{CaptureFault, CaptureReader, MAX_RECORDS, text_read_on};
+use capture_record::Record;
 use std::alloc::Global;
 use std::io::Read;
 use wire_base::Tally;
 
 /// A capture: both addresses of its head, and its records.
-#[derive(Debug, Drop)]
+#[derive(Drop)]
 pub struct Whole {
     pub own: u16,
     pub peer: u16,

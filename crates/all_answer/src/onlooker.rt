@@ -1,6 +1,7 @@
 //! Who is told of the records of captures of which something may be left out.
 
-use capture::{CaptureFault, CaptureReader, Entry};
+use capture::{CaptureFault, CaptureReader};
+use capture_record::Entry;
 use pair_judge::{MadeEntry, Observer};
 use std::alloc::{AllocError, Global};
 use why_answer::last_rows::LastRows;

@@ -4,12 +4,12 @@ use Rattle.std.specs.Prelude.{Option, Some, IfSome}
 use Rattle.std.specs.List.{AllByRecursion}
 use Rattle.wire_base.specs.declared.side.Side.{Side}
 use Rattle.wire_base.specs.declared.side.Side.TheVariants.{A, B}
-use Rattle.capture.specs.declared.event.Event.TheVariants.{Start}
-use Rattle.capture.specs.declared.fate.Fate.{Fate}
+use Rattle.capture_record.specs.declared.event.Event.TheVariants.{Start}
+use Rattle.capture_record.specs.declared.fate.Fate.{Fate}
 use Rattle.capture.specs.declared.hint.HintForm.{HintForm}
-use Rattle.capture.specs.declared.record.Record.{Record}
-use Rattle.capture.specs.declared.record.Record.TheVariants.{Sent, Received, Noise, User}
-use Rattle.capture.specs.Fates.{is_kept}
+use Rattle.capture_record.specs.declared.record.Record.{Record}
+use Rattle.capture_record.specs.declared.record.Record.TheVariants.{Sent, Received, Noise, User}
+use Rattle.capture_record.specs.Fates.{is_kept}
 use Rattle.capture.specs.SoFar.{IsReadSoFar, TheEnd, so_far}
 use Rattle.dna_packet.specs.Nsp.{NspValue, ConnectInitiate, ConnectConfirm, DisconnectInitiate, DataSegment}
 use Rattle.placing.specs.Placed.{units_sent}

@@ -12,7 +12,7 @@ const BACK: usize = 8_192;
 const MOST: usize = 16;
 
 /// What is assumed at this place, which is not what is assumed there now. Of two that mend the one of the lower rank is taken.
-#[derive(Clone, Copy, Debug)]
+#[derive(Clone, Copy)]
 pub(crate) struct Candidate {
     pub(crate) number: u64,
     pub(crate) key: u64,

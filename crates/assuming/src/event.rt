@@ -29,7 +29,7 @@ pub(crate) struct Said {
 
 /// A packet that may not have been kept before a start: of those that may, the place of the first one among the side's events; how many were kept
 /// before this one; and the place of the start among the spots of the side.
-#[derive(Clone, Copy, Debug, PartialEq, Eq)]
+#[derive(Clone, Copy, PartialEq, Eq)]
 pub(crate) struct Gap {
     pub(crate) first: u64,
     pub(crate) place: u64,
@@ -37,7 +37,7 @@ pub(crate) struct Gap {
 }
 
 /// What a side did.
-#[derive(Clone, Copy, Debug, PartialEq, Eq)]
+#[derive(Clone, Copy, PartialEq, Eq)]
 pub(crate) enum Act {
     /// It sent this for the first time since its start.
     Sends(Said),
@@ -53,7 +53,7 @@ pub(crate) enum Act {
 
 /// What a side did, how many units it had sent before, how many the other side had to have sent, and the place of its record among the spots of the
 /// side, if it has one.
-#[derive(Clone, Copy, Debug, PartialEq, Eq)]
+#[derive(Clone, Copy, PartialEq, Eq)]
 pub(crate) struct Event {
     pub(crate) act: Act,
     pub(crate) before: u64,

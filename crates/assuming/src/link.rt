@@ -10,7 +10,7 @@ pub(crate) enum Phase {
 }
 
 /// What was sent of a link.
-#[derive(Clone, Copy, Debug, PartialEq, Eq)]
+#[derive(Clone, Copy, PartialEq, Eq)]
 pub(crate) enum Sent {
     Nothing,
     OfRun,
@@ -32,7 +32,7 @@ pub(crate) const NO_LINK: Tag = Tag {
 
 /// The last link with an own address, of which something may still be sent. `call` is the unit by which it was called from here, and
 /// `length` how many bytes of a message were sent whose last segment was not.
-#[derive(Clone, Copy, Debug, PartialEq, Eq)]
+#[derive(Clone, Copy, PartialEq, Eq)]
 pub(crate) struct Link {
     pub(crate) tag: Tag,
     pub(crate) far: u16,
@@ -50,7 +50,7 @@ pub(crate) struct Link {
 }
 
 /// A link that a CI began, and which is not answered yet.
-#[derive(Clone, Copy, Debug, PartialEq, Eq)]
+#[derive(Clone, Copy, PartialEq, Eq)]
 pub(crate) struct Called {
     pub(crate) tag: Tag,
     pub(crate) size: u64,

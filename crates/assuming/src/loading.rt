@@ -2,14 +2,15 @@
 
 ghost use Rattle.std.specs.Prelude.{List, IfOk};
 ghost use Rattle.wire_base.specs.Tally.{tally_lent};
-ghost use Rattle.capture.specs.declared.record.Record.{Record as Line};
+ghost use Rattle.capture_record.specs.declared.record.Record.{Record as Line};
 ghost use Rattle.assuming.specs.Assuming.{IsWhole};
 ghost use Rattle.assuming.specs.inner.Spots.{AreOf};
 
 use crate::event::{Act, Event, Gap, said_in};
 use crate::log::SideLog;
 use crate::spots::Spots;
-use capture::{CaptureFault, CaptureReader, Entry, MAX_RECORDS, text_read_on};
+use capture::{CaptureFault, CaptureReader, MAX_RECORDS, text_read_on};
+use capture_record::Entry;
 use ddcmp_msg::{Message, Reading, read_unit};
 use placing::message_of;
 use std::alloc::{AllocError, Global};

@@ -18,7 +18,7 @@ pub(crate) struct SideLog {
 }
 
 /// A place in the order of both sides: an event of this side.
-#[derive(Clone, Copy, Debug, PartialEq, Eq)]
+#[derive(Clone, Copy, PartialEq, Eq)]
 pub(crate) struct Place {
     pub(crate) side: Side,
     pub(crate) at: u64,

@@ -3,7 +3,7 @@
 use wire_base::Side;
 
 /// What is assumed at a place.
-#[derive(Clone, Copy, Debug, PartialEq, Eq)]
+#[derive(Clone, Copy, PartialEq, Eq)]
 pub(crate) enum Choice {
     /// The message begins or answers something anew, or goes again; the call of this unit, which has its address, was given up before.
     Anew {
@@ -28,7 +28,7 @@ pub(crate) enum Choice {
 }
 
 /// What may be assumed at a point.
-#[derive(Clone, Copy, Debug, PartialEq, Eq)]
+#[derive(Clone, Copy, PartialEq, Eq)]
 pub(crate) enum Kind {
     /// A CI, CC or DI that may be either; what is taken now, and the call that then has its address, if one has.
     Either { is_anew: bool, call: Option<u64> },
@@ -43,7 +43,7 @@ pub(crate) enum Kind {
 }
 
 /// A point that was passed: its place in the order, what marks it, and the addresses that it is about.
-#[derive(Clone, Copy, Debug, PartialEq, Eq)]
+#[derive(Clone, Copy, PartialEq, Eq)]
 pub(crate) struct Point {
     pub(crate) number: u64,
     pub(crate) key: u64,

@@ -3,7 +3,7 @@
 use crate::event::Said;
 use crate::link::{Link, Sent, is_after};
 use crate::seeker::{Here, Seeker};
-use capture::MAX_MESSAGE;
+use capture_record::MAX_MESSAGE;
 use std::alloc::AllocError;
 use wire_base::Side;
 

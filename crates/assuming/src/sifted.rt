@@ -1,7 +1,7 @@
 //! What is assumed, of all that the search proposes.
 
 ghost use Rattle.std.specs.Prelude.{◌≡◌, ◌⊎◌, ◌∷◌, ◌++◌, [], List, IfOk, IfSome, OnOk};
-ghost use Rattle.capture.specs.declared.record.Record.{Record as Line};
+ghost use Rattle.capture_record.specs.declared.record.Record.{Record as Line};
 ghost use Rattle.assuming.specs.Assuming.{AreApart, AreAssumed, FitsIn, IsTooLong, place_of, side_number};
 ghost use Rattle.assuming.specs.inner.Spots.{AreOf};
 
@@ -13,7 +13,7 @@ use std::marker::Model;
 use wire_base::Side;
 
 /// This may be assumed of this side, where the spot at this place bears it.
-#[derive(Clone, Copy, Debug, PartialEq, Eq)]
+#[derive(Clone, Copy, PartialEq, Eq)]
 pub(crate) struct Proposal {
     pub(crate) side: Side,
     pub(crate) place: u64,

@@ -2,24 +2,24 @@
 
 ghost use Rattle.std.specs.Prelude.{◌≡◌, ◌≤◌, ◌+◌, ◌∷◌, ◌++◌, [], true, List, IsTrue, IfSome, OnOk};
 ghost use Rattle.std.specs.List.{AllByRecursion};
-ghost use Rattle.capture.specs.Fates.{is_kept};
+ghost use Rattle.capture_record.specs.Fates.{is_kept};
 ghost use Rattle.capture.specs.declared.limit.TheConstants.{MAX_RECORDS};
-ghost use Rattle.capture.specs.declared.record.Record.{Record as Line};
-ghost use Rattle.capture.specs.declared.record.Record.TheVariants.{Sent, Received, User};
-ghost use Rattle.capture.specs.declared.event.Event.TheVariants.{Start};
-ghost use Rattle.capture.specs.Entries.{record_with};
+ghost use Rattle.capture_record.specs.declared.record.Record.{Record as Line};
+ghost use Rattle.capture_record.specs.declared.record.Record.TheVariants.{Sent, Received, User};
+ghost use Rattle.capture_record.specs.declared.event.Event.TheVariants.{Start};
+ghost use Rattle.capture_record.specs.Entries.{record_with};
 ghost use Rattle.assuming.specs.Assuming.{Fits, IsSent};
 ghost use Rattle.assuming.specs.inner.Spots.{AreOf, IsSpot, with_spot};
 
 use crate::message::{Kind, begins_or_answers, caller_of, kind_of, message_in_unit};
-use capture::{Entry, Fate};
+use capture_record::{Entry, Fate};
 use placing::{Assumed, Turn};
 use std::alloc::{AllocError, Global};
 use std::marker::Model;
 use wire_base::Side;
 
 /// What there is in a capture.
-#[derive(Clone, Copy, Debug, PartialEq, Eq)]
+#[derive(Clone, Copy, PartialEq, Eq)]
 pub(crate) enum Basis {
     /// The user starts the station, after so many packets were kept since its last unit.
     Starts { kept: u64 },
@@ -30,7 +30,7 @@ pub(crate) enum Basis {
 }
 
 /// The same, after so many units of the side.
-#[derive(Clone, Copy, Debug, PartialEq, Eq)]
+#[derive(Clone, Copy, PartialEq, Eq)]
 pub(crate) struct Spot {
     pub(crate) unit: u64,
     pub(crate) basis: Basis,

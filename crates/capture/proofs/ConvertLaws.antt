@@ -11,21 +11,23 @@ use Rattle.std.proofs.lemmas.Option.{same_Some}
 use Rattle.wire_base.specs.Tally.{AppendsBeginning}
 use Rattle.capture.specs.declared.fault.CaptureFault.{CaptureFault}
 use Rattle.capture.specs.declared.fault.CaptureFault.TheVariants.{Departs, Read, OutOfMemory, Failed}
-use Rattle.capture.specs.declared.fate.Fate.{Fate}
-use Rattle.capture.specs.declared.fate.Fate.TheVariants.{NotKept, Kept, Dropped}
+use Rattle.capture_record.specs.declared.fate.Fate.{Fate}
+use Rattle.capture_record.specs.declared.fate.Fate.TheVariants.{NotKept, Kept, Dropped}
 use Rattle.capture.specs.declared.fault.ConvertFault.TheVariants.{NotInFormat, Write}
 use Rattle.capture.specs.declared.format.Format.{Format}
 use Rattle.capture.specs.declared.hint.HintForm.{HintForm}
-use Rattle.capture.specs.declared.limit.TheConstants.{MAX_HINT, MAX_LINE}
+use Rattle.capture_record.specs.declared.limit.TheConstants.{MAX_HINT}
+use Rattle.capture.specs.declared.limit.TheConstants.{MAX_LINE}
 use Rattle.capture.specs.declared.phase.Phase.TheVariants.{Reading}
-use Rattle.capture.specs.declared.record.Record.{Record}
-use Rattle.capture.specs.declared.record.Record.TheVariants.{Received}
+use Rattle.capture_record.specs.declared.record.Record.{Record}
+use Rattle.capture_record.specs.declared.record.Record.TheVariants.{Received}
 use Rattle.capture.specs.Converting.{Converts, ConvertsWholeLines, IsConvertible, convert_fault, devices, text_of}
 use Rattle.capture.specs.Departing.{RecordDeparts}
 use Rattle.capture.specs.Faulty.{is_read_fault}
 use Rattle.capture.specs.Lines.{IsCutBehind, to_come}
 use Rattle.capture.specs.Paged.{HandsOver}
-use Rattle.capture.specs.Range.{FormFits, IsInFormat, IsRecord, IsText, IsTextIn}
+use Rattle.capture_record.specs.Range.{IsRecord}
+use Rattle.capture.specs.Range.{FormFits, IsInFormat, IsText, IsTextIn}
 use Rattle.capture.specs.Reader.{CaptureState, FaultShows, NextGives, Opens, WhereReadFails}
 use Rattle.capture.specs.Reading.{cut_at}
 use Rattle.capture.specs.SoFar.{Behind, GoesOnBy, ReadSoFar, ToCome, TheEnd, so_far, IsReadSoFar}

@@ -7,15 +7,16 @@ use Rattle.std.specs.Str.{bytes_eq}
 use Rattle.std.proofs.lemmas.Bool.{cond_both}
 use Rattle.std.proofs.lemmas.Slice.Eq.{bytes_eq-Decides}
 use Rattle.hex.specs.Hex.{IsBytes}
-use Rattle.capture.specs.declared.limit.TheConstants.{MAX_LINK, MAX_MESSAGE, MAX_INTERRUPT}
-use Rattle.capture.specs.declared.event.Event.{Event}
-use Rattle.capture.specs.declared.event.Event.TheVariants.{Start, Halt, Open, Accept, Reject, In, Up, Close}
-use Rattle.capture.specs.declared.event.Event.TheVariants.{Boot, Abort, Composed, Interrupt, Interrupted}
+use Rattle.capture_record.specs.declared.limit.TheConstants.{MAX_LINK, MAX_MESSAGE, MAX_INTERRUPT}
+use Rattle.capture_record.specs.declared.event.Event.{Event}
+use Rattle.capture_record.specs.declared.event.Event.TheVariants.{Start, Halt, Open, Accept, Reject, In, Up, Close}
+use Rattle.capture_record.specs.declared.event.Event.TheVariants.{Boot, Abort, Composed, Interrupt, Interrupted}
 use Rattle.capture.specs.declared.fault.Departure.TheVariants.{Syntax}
-use Rattle.capture.specs.declared.record.Record.{Record}
-use Rattle.capture.specs.declared.record.Record.TheVariants.{User}
+use Rattle.capture_record.specs.declared.record.Record.{Record}
+use Rattle.capture_record.specs.declared.record.Record.TheVariants.{User}
 use Rattle.capture.specs.Text.{spaced, bytes_text, event_front, event_text}
-use Rattle.capture.specs.Range.{IsLink, EventNumbersFit, event_bytes, in_each_format, most_of_event}
+use Rattle.capture_record.specs.Range.{IsLink, EventNumbersFit, event_bytes, most_of_event}
+use Rattle.capture.specs.Range.{in_each_format}
 use Rattle.capture.specs.Reading.{after, cut_at, positive_at, bytes_at, links_at, message_at, message_within, wide_event_at, link_event_at, event_at}
 use Rattle.capture.proofs.PartLaws.{after_takes, cut_takes, cut_again}
 use Rattle.capture.proofs.NumberLaws.{positive_takes, positive_again, decimal_lacks}

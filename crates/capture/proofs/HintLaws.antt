@@ -5,13 +5,15 @@ use Rattle.std.specs.Fmt.{decimal}
 use Rattle.std.proofs.lemmas.Bool.{cases_lt, ne_eqb, le-leb, lt-leb, leb-true}
 use Rattle.std.proofs.lemmas.Fmt.{length-decimal-le}
 use Rattle.std.proofs.lemmas.Option.{cond_some}
-use Rattle.capture.specs.declared.limit.TheConstants.{MAX_HINT, MAX_MARK}
+use Rattle.capture_record.specs.declared.limit.TheConstants.{MAX_HINT}
+use Rattle.capture.specs.declared.limit.TheConstants.{MAX_MARK}
 use Rattle.capture.specs.declared.hint.HintForm.{HintForm}
 use Rattle.capture.specs.declared.hint.HintForm.TheVariants.{Number, Distance, Wide}
-use Rattle.capture.specs.declared.record.Record.{Record}
-use Rattle.capture.specs.declared.record.Record.TheVariants.{Sent, Received, Noise, User}
+use Rattle.capture_record.specs.declared.record.Record.{Record}
+use Rattle.capture_record.specs.declared.record.Record.TheVariants.{Sent, Received, Noise, User}
 use Rattle.capture.specs.Text.{hint_text, form_after}
-use Rattle.capture.specs.Range.{FormFits, NumbersFit}
+use Rattle.capture_record.specs.Range.{NumbersFit}
+use Rattle.capture.specs.Range.{FormFits}
 use Rattle.capture.specs.Reading.{after, hint_at, hint_above, hint_below, number_at, or_else, positive_at}
 use Rattle.capture.proofs.PartLaws.{HasNo, after_takes, map_some}
 use Rattle.capture.proofs.NumberLaws.{number_takes, number_again, positive_takes, positive_again, decimal_lacks}

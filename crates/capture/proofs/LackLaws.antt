@@ -8,19 +8,21 @@ use Rattle.std.proofs.lemmas.List.{length-append}
 use Rattle.std.proofs.lemmas.Fmt.{length-decimal-le}
 use Rattle.hex.specs.Hex.{IsBytes, lower_digits}
 use Rattle.hex.proofs.HexLemmas.{length-encode_with}
-use Rattle.capture.specs.declared.limit.TheConstants.{MAX_LINE, MAX_UNIT, MAX_MESSAGE, MAX_PACKET, MAX_INTERRUPT}
-use Rattle.capture.specs.declared.event.Event.{Event}
-use Rattle.capture.specs.declared.event.Event.TheVariants.{Start, Halt, Open, Accept, Reject, In, Up, Close}
-use Rattle.capture.specs.declared.event.Event.TheVariants.{Boot, Abort, Composed, Interrupt, Interrupted}
-use Rattle.capture.specs.declared.fate.Fate.{Fate}
-use Rattle.capture.specs.declared.fate.Fate.TheVariants.{NotKept, Kept, Dropped}
-use Rattle.capture.specs.declared.record.Record.{Record}
-use Rattle.capture.specs.declared.record.Record.TheVariants.{Sent, Received, Noise, User}
+use Rattle.capture_record.specs.declared.limit.TheConstants.{MAX_UNIT, MAX_MESSAGE, MAX_PACKET, MAX_INTERRUPT}
+use Rattle.capture.specs.declared.limit.TheConstants.{MAX_LINE}
+use Rattle.capture_record.specs.declared.event.Event.{Event}
+use Rattle.capture_record.specs.declared.event.Event.TheVariants.{Start, Halt, Open, Accept, Reject, In, Up, Close}
+use Rattle.capture_record.specs.declared.event.Event.TheVariants.{Boot, Abort, Composed, Interrupt, Interrupted}
+use Rattle.capture_record.specs.declared.fate.Fate.{Fate}
+use Rattle.capture_record.specs.declared.fate.Fate.TheVariants.{NotKept, Kept, Dropped}
+use Rattle.capture_record.specs.declared.record.Record.{Record}
+use Rattle.capture_record.specs.declared.record.Record.TheVariants.{Sent, Received, Noise, User}
 use Rattle.capture.specs.declared.hint.HintForm.{HintForm}
 use Rattle.capture.specs.declared.format.Format.{Format}
 use Rattle.capture.specs.declared.format.Format.TheVariants.{One, Two, Three}
 use Rattle.capture.specs.Text.{spaced, bytes_text, hint_text, address_text, fate_front, event_front, event_text, record_text, format_text, head_text}
-use Rattle.capture.specs.Range.{FormFits, IsLink, IsNode, EventNumbersFit, event_bytes, most_of_event, HasSpelling, IsRecord}
+use Rattle.capture_record.specs.Range.{IsLink, EventNumbersFit, event_bytes, most_of_event, HasSpelling, IsRecord}
+use Rattle.capture.specs.Range.{FormFits, IsNode}
 use Rattle.capture.proofs.PartLaws.{HasNo, HasNo-append}
 use Rattle.capture.proofs.NumberLaws.{decimal_lacks}
 use Rattle.capture.proofs.AddressLaws.{address_lacks}

@@ -15,7 +15,6 @@ pub mod BlockLaws
 pub mod LineLaws
 pub mod SeekLaws
 pub mod TakeLaws
-pub mod RangeLaws
 pub mod LackLaws
 pub mod SidedLaws
 pub mod TextLaws

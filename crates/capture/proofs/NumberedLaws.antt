@@ -2,11 +2,11 @@
 use Rattle.std.proofs.Common.{◌≡◌, ℕ, Bool, true, false, cond, ltb, List, Option, Some, None, Ok, refl}
 use Rattle.std.specs.Prelude.{option_and_then}
 use Rattle.std.specs.Option.{option_map}
-use Rattle.capture.specs.declared.limit.TheConstants.{MAX_HINT, MAX_LINK, MAX_UNIT}
-use Rattle.capture.specs.declared.entry.Entry.TheVariants as entries
-use Rattle.capture.specs.declared.fate.Fate.{Fate}
+use Rattle.capture_record.specs.declared.limit.TheConstants.{MAX_HINT, MAX_LINK, MAX_UNIT}
+use Rattle.capture_record.specs.declared.entry.Entry.TheVariants as entries
+use Rattle.capture_record.specs.declared.fate.Fate.{Fate}
 use Rattle.capture.specs.declared.hint.HintForm.TheVariants.{Number, Wide}
-use Rattle.capture.specs.declared.record.Record.TheVariants.{Received}
+use Rattle.capture_record.specs.declared.record.Record.TheVariants.{Received}
 use Rattle.capture.specs.Entries.{told}
 use Rattle.capture.specs.Reading.{◌>>=◌, bytes_at, cut_at, hint_at, message_within, must, number_at, positive_at, receipt_at}
 use Rattle.capture.specs.Worded.{linked, messaged_within, numbered}

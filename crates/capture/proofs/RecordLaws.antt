@@ -4,19 +4,20 @@ use Rattle.std.proofs.Common.{sym, ap, ◌∙◌, arith, lit<}
 use Rattle.std.specs.Prelude.{codes}
 use Rattle.std.proofs.lemmas.Bool.{le-leb, lt-leb}
 use Rattle.hex.specs.Hex.{IsBytes}
-use Rattle.capture.specs.declared.limit.TheConstants.{MAX_HINT, MAX_UNIT, MAX_PACKET}
-use Rattle.capture.specs.declared.event.Event.{Event}
-use Rattle.capture.specs.declared.event.Event.TheVariants.{Start, Halt, Open, Accept, Reject, In, Up, Close}
-use Rattle.capture.specs.declared.event.Event.TheVariants.{Boot, Abort, Composed, Interrupt, Interrupted}
-use Rattle.capture.specs.declared.fate.Fate.{Fate}
-use Rattle.capture.specs.declared.fate.Fate.TheVariants.{NotKept, Kept, Dropped}
-use Rattle.capture.specs.declared.record.Record.{Record}
-use Rattle.capture.specs.declared.record.Record.TheVariants.{Sent, Received, Noise, User}
+use Rattle.capture_record.specs.declared.limit.TheConstants.{MAX_HINT, MAX_UNIT, MAX_PACKET}
+use Rattle.capture_record.specs.declared.event.Event.{Event}
+use Rattle.capture_record.specs.declared.event.Event.TheVariants.{Start, Halt, Open, Accept, Reject, In, Up, Close}
+use Rattle.capture_record.specs.declared.event.Event.TheVariants.{Boot, Abort, Composed, Interrupt, Interrupted}
+use Rattle.capture_record.specs.declared.fate.Fate.{Fate}
+use Rattle.capture_record.specs.declared.fate.Fate.TheVariants.{NotKept, Kept, Dropped}
+use Rattle.capture_record.specs.declared.record.Record.{Record}
+use Rattle.capture_record.specs.declared.record.Record.TheVariants.{Sent, Received, Noise, User}
 use Rattle.capture.specs.declared.hint.HintForm.{HintForm}
 use Rattle.capture.specs.declared.hint.HintForm.TheVariants.{Number, Distance, Wide}
 use Rattle.capture.specs.declared.fault.Departure.TheVariants.{Syntax, TooLong}
 use Rattle.capture.specs.Text.{spaced, bytes_text, hint_text, fate_front, event_front, event_text, record_text}
-use Rattle.capture.specs.Range.{FormFits, NumbersFit, record_bytes, most_bytes, event_bytes, most_of_event, HasSpelling, IsShort, IsRecord, IsInForm}
+use Rattle.capture_record.specs.Range.{NumbersFit, record_bytes, most_bytes, event_bytes, most_of_event, HasSpelling, IsShort, IsRecord}
+use Rattle.capture.specs.Range.{FormFits, IsInForm}
 use Rattle.capture.specs.Reading.{after, cut_at, hint_at, bytes_at, receipt_at, event_at, is_wide, wide_at, line_at, record_at}
 use Rattle.capture.proofs.PartLaws.{after_takes, cut_takes, cut_again}
 use Rattle.capture.proofs.HintLaws.{hint_takes, hint_again, hint_lacks}

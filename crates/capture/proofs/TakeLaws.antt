@@ -9,9 +9,10 @@ use Rattle.capture.specs.declared.limit.TheConstants.{MAX_RECORDS}
 use Rattle.capture.specs.declared.fault.Departure.{Departure}
 use Rattle.capture.specs.declared.fault.Departure.TheVariants.{Syntax, TooLong, TooMany}
 use Rattle.capture.specs.declared.hint.HintForm.{HintForm}
-use Rattle.capture.specs.declared.record.Record.{Record}
+use Rattle.capture_record.specs.declared.record.Record.{Record}
 use Rattle.capture.specs.Text.{record_text, ended}
-use Rattle.capture.specs.Range.{FormFits, IsInForm, IsRecord, record_bytes, most_bytes}
+use Rattle.capture_record.specs.Range.{IsRecord, record_bytes, most_bytes}
+use Rattle.capture.specs.Range.{FormFits, IsInForm}
 use Rattle.capture.specs.Departing.{first_line, IsWhole, WordsDepart, RecordDeparts, HeadWordsDepart, HeadDeparts}
 use Rattle.capture.specs.Reading.{is_wide, record_at, head_at}
 use Rattle.capture.proofs.BytesLaws.{limited}

@@ -10,9 +10,10 @@ use Rattle.capture.specs.declared.fault.Departure.TheVariants.{Syntax, TooLong, 
 use Rattle.capture.specs.declared.hint.HintForm.{HintForm}
 use Rattle.capture.specs.declared.format.Format.{Format}
 use Rattle.capture.specs.declared.format.Format.TheVariants.{One, Two, Three}
-use Rattle.capture.specs.declared.record.Record.{Record}
+use Rattle.capture_record.specs.declared.record.Record.{Record}
 use Rattle.capture.specs.Text.{record_text, record_line, record_lines, head_text, head_line, ended, first_form, form_after, form_behind}
-use Rattle.capture.specs.Range.{FormFits, IsInForm, IsRecord, IsNode, IsText, IsTextIn}
+use Rattle.capture_record.specs.Range.{IsRecord}
+use Rattle.capture.specs.Range.{FormFits, IsInForm, IsNode, IsText, IsTextIn}
 use Rattle.capture.specs.Departing.{first_line, has_lf, IsWhole, LineDeparts, WordsDepart, RecordDeparts, HeadWordsDepart, HeadDeparts}
 use Rattle.capture.specs.Reading.{line_at, record_at, head_at}
 use Rattle.capture.proofs.PartLaws.{HasNo}

@@ -4,8 +4,8 @@ use Rattle.std.specs.List.{AllByRecursion}
 use Rattle.std.proofs.lemmas.Bool.{cases_Bool}
 use Rattle.capture.specs.declared.format.Format.TheVariants.{One, Three}
 use Rattle.capture.specs.declared.hint.HintForm.TheVariants.{Number, Wide}
-use Rattle.capture.specs.declared.record.Record.{Record}
-use Rattle.capture.specs.declared.record.Record.TheVariants.{Sent, Received, Noise, User}
+use Rattle.capture_record.specs.declared.record.Record.{Record}
+use Rattle.capture_record.specs.declared.record.Record.TheVariants.{Sent, Received, Noise, User}
 use Rattle.capture.specs.Range.{IsInFormat, format_for, in_each_format}
 use Rattle.capture.specs.Text.{first_form, record_line, record_lines}
 

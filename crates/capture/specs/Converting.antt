@@ -8,7 +8,7 @@ use Rattle.capture.specs.declared.fault.CaptureFault.TheVariants as faults
 use Rattle.capture.specs.declared.fault.ConvertFault.{ConvertFault}
 use Rattle.capture.specs.declared.fault.ConvertFault.TheVariants.{Capture, NotInFormat, Write, OutOfMemory}
 use Rattle.capture.specs.declared.format.Format.{Format}
-use Rattle.capture.specs.declared.record.Record.{Record}
+use Rattle.capture_record.specs.declared.record.Record.{Record}
 use Rattle.capture.specs.Text.{capture_text}
 use Rattle.capture.specs.Range.{IsInFormat}
 use Rattle.capture.specs.Faulty.{CountsReads, is_read_fault}

@@ -3,11 +3,12 @@ use Rattle.std.specs.Prelude.{◌≡◌, ◌≢◌, ℕ, ◌<◌, ◌≤◌, ◌
 use Rattle.capture.specs.declared.limit.TheConstants.{MAX_LINE, MAX_RECORDS}
 use Rattle.capture.specs.declared.fault.Departure.{Departure}
 use Rattle.capture.specs.declared.fault.Departure.TheVariants.{Syntax, TooLong, TooMany}
-use Rattle.capture.specs.declared.record.Record.{Record}
+use Rattle.capture_record.specs.declared.record.Record.{Record}
 use Rattle.capture.specs.declared.hint.HintForm.{HintForm}
 use Rattle.capture.specs.declared.format.Format.{Format}
 use Rattle.capture.specs.Text.{record_text, head_text}
-use Rattle.capture.specs.Range.{IsNode, IsShort, IsInForm, HasSpelling}
+use Rattle.capture_record.specs.Range.{IsShort, HasSpelling}
+use Rattle.capture.specs.Range.{IsNode, IsInForm}
 
 -- the first line: what comes before the first LF, or before the end
 abbrev pub first_line : List ℕ → List ℕ

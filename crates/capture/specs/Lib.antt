@@ -1,5 +1,4 @@
 pub mod Text
-pub mod Fates
 pub mod Range
 pub mod Departing
 pub mod Listed

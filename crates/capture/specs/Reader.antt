@@ -7,10 +7,11 @@ use Rattle.capture.specs.declared.fault.CaptureFault.{CaptureFault}
 use Rattle.capture.specs.declared.fault.CaptureFault.TheVariants.{Departs, Read, OutOfMemory, Failed}
 use Rattle.capture.specs.declared.phase.Phase.{Phase}
 use Rattle.capture.specs.declared.phase.Phase.TheVariants as phases
-use Rattle.capture.specs.declared.record.Record.{Record}
+use Rattle.capture_record.specs.declared.record.Record.{Record}
 use Rattle.capture.specs.declared.hint.HintForm.{HintForm}
 use Rattle.capture.specs.Text.{head_line, record_line, first_form, form_after, format_of}
-use Rattle.capture.specs.Range.{IsInForm, IsNode, IsRecord}
+use Rattle.capture_record.specs.Range.{IsRecord}
+use Rattle.capture.specs.Range.{IsInForm, IsNode}
 use Rattle.capture.specs.Departing.{HeadDeparts, RecordDeparts}
 use Rattle.capture.specs.Lines.{to_come}
 

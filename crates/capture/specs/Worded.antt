@@ -1,10 +1,10 @@
 -- Steps between the words of a line and its record.
 use Rattle.std.specs.Prelude.{ℕ, nat_lt, if◌then◌else◌, List, Option, Some, None, Result, Ok, Err}
 use Rattle.std.specs.Option.{option_map}
-use Rattle.capture.specs.declared.limit.TheConstants.{MAX_MESSAGE}
-use Rattle.capture.specs.declared.event.Event.{Event}
-use Rattle.capture.specs.declared.record.Record.{Record}
-use Rattle.capture.specs.declared.record.Record.TheVariants.{User}
+use Rattle.capture_record.specs.declared.limit.TheConstants.{MAX_MESSAGE}
+use Rattle.capture_record.specs.declared.event.Event.{Event}
+use Rattle.capture_record.specs.declared.record.Record.{Record}
+use Rattle.capture_record.specs.declared.record.Record.TheVariants.{User}
 use Rattle.capture.specs.declared.fault.Departure.{Departure}
 use Rattle.capture.specs.declared.fault.Departure.TheVariants.{Syntax}
 use Rattle.capture.specs.Reading.{◌>>=◌, bytes_at, number_at}

@@ -10,8 +10,8 @@ ghost use Rattle.capture.specs.Entries.{front_of};
 ghost use Rattle.capture.specs.declared.digits.TheConstants.{EIGHT};
 ghost use Rattle.capture.specs.Reading.{Gives, bytes_at, is_digit, pairs_at};
 
-use crate::bytes::Bytes;
 use crate::fault::{Departure, PartFault};
+use capture_record::Bytes;
 use std::alloc::Global;
 
 // As many bytes are read at once.

@@ -1,15 +1,14 @@
 //! Putting the line of a record together without the record: from what it says beside its BYTES, and the bytes.
 
 ghost use Rattle.std.specs.Prelude.{◌≡◌, ◌≤◌, ◌++◌, length, OnOk};
-ghost use Rattle.capture.specs.declared.limit.TheConstants.{MAX_MESSAGE};
-ghost use Rattle.capture.specs.Entries.{record_with};
+ghost use Rattle.capture_record.specs.declared.limit.TheConstants.{MAX_MESSAGE};
+ghost use Rattle.capture_record.specs.Entries.{record_with};
 ghost use Rattle.capture.specs.Text.{fate_front, record_line, record_text};
 ghost use Rattle.capture.specs.declared.hint.HintForm.TheVariants.{Number};
 
-use crate::entry::Entry;
-use crate::fate::Fate;
 use crate::hint::HintForm;
 use crate::line_words::{put_link, put_links, put_message, put_receipt, put_unit};
+use capture_record::{Entry, Fate};
 use std::alloc::AllocError;
 
 /// Puts the line of the record of this entry and these bytes, at most 65,535, with its LF, at the end of a text. Bytes beside an entry whose line has

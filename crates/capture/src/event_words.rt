@@ -1,16 +1,15 @@
 //! Reading the words of an event.
 
 ghost use Rattle.std.specs.Prelude.{◌≡◌, ◌≤◌, ℕ, Some};
-ghost use Rattle.capture.specs.declared.limit.TheConstants.{MAX_LINK};
+ghost use Rattle.capture_record.specs.declared.limit.TheConstants.{MAX_LINK};
 ghost use Rattle.std.specs.Option.{option_map};
 ghost use Rattle.capture.specs.Reading.{must, positive_at, event_at, link_event_at, links_at, message_at, message_within, wide_event_at};
 ghost use Rattle.capture.specs.Entries.{told};
 ghost use Rattle.capture.specs.Worded.{as_record, linked, messaged, messaged_within};
 
-use crate::entry::Entry;
-use crate::limit::MAX_LINK;
 use crate::number::{number_before, positive_of};
 use crate::part::{after, cut_at};
+use capture_record::{Entry, MAX_LINK};
 
 /// The address of a link that the text spells, from 1 to 65,535. `1` and `65535` are addresses; `0`, `65536` and `01` are none.
 pub fn link_of(text: &[u8]) -> Option<u16>

@@ -1,18 +1,16 @@
 //! The formats of a capture.
 
 ghost use Rattle.std.specs.Prelude.{◌≡◌, ◌↔◌, ℕ, IsTrue, List};
-ghost use Rattle.capture.specs.Entries.{record_with};
+ghost use Rattle.capture_record.specs.Entries.{record_with};
 ghost use Rattle.capture.specs.Range.{FormFits, IsInFormat, format_for, in_each_format};
 ghost use Rattle.capture.specs.Text.{first_form, format_number, format_of};
 
-use crate::entry::Entry;
-use crate::fate::Fate;
 use crate::hint::HintForm;
-use crate::record::Record;
+use capture_record::{Entry, Fate, Record};
 
 /// The format of a capture, as its head names it. Formats 1 and 2 hold the same records, and spell a hint in two ways; format 3 spells a
 /// hint as format 1 does, and has lines for more records.
-#[derive(Clone, Copy, Debug, PartialEq, Eq)]
+#[derive(Clone, Copy, PartialEq, Eq)]
 pub enum Format {
     /// `ddcap 1`: a hint is a number.
     One,
@@ -57,6 +55,14 @@ impl Format {
             Format::Three => true,
         }
     }
+
+    /// Whether the format has a line for such a record; whether this one is in range is not asked. Takes no memory.
+    pub fn has_record(self, record: &Record) -> bool
+        ensures { IsTrue result ↔ IsInFormat self record.now }
+    {
+        let (entry, _) = record.parts();
+        self.has(entry)
+    }
 }
 
 /// The format that these records are written in where hints are numbers: 1 where it has a line for each, else 3. Takes no memory.
@@ -64,7 +70,7 @@ pub fn format_for(records: &[Record]) -> Format
     ensures { result ≡ format_for records.now }
 {
     for record in records {
-        if !record.is_in(Format::One) {
+        if !Format::One.has_record(record) {
             return Format::Three;
         }
     }

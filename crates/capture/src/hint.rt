@@ -2,17 +2,16 @@
 
 ghost use Rattle.std.specs.Prelude.{◌≡◌, ℕ, [], ◌∷◌, List, if◌then◌else◌};
 ghost use Rattle.std.specs.Fmt.{decimal};
-ghost use Rattle.capture.specs.Entries.{record_with};
-ghost use Rattle.capture.specs.Range.{NumbersFit};
+ghost use Rattle.capture_record.specs.Entries.{record_with};
+ghost use Rattle.capture_record.specs.Range.{NumbersFit};
 ghost use Rattle.capture.specs.Reading.{is_wide};
 ghost use Rattle.capture.specs.Text.{form_after, format_of, hint_text, mark_after};
 
-use crate::entry::Entry;
 use crate::format::Format;
-use crate::record::Record;
+use capture_record::{Entry, Record};
 
 /// The form of the next hint in a text.
-#[derive(Clone, Copy, Debug, PartialEq, Eq)]
+#[derive(Clone, Copy, PartialEq, Eq)]
 pub enum HintForm {
     /// The hint itself, as a decimal number: format 1.
     Number,

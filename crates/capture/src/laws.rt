@@ -4,12 +4,13 @@ ghost use Rattle.std.specs.Prelude.{◌≡◌, ℕ, ◌<◌, [], ◌++◌, lengt
 ghost use Rattle.std.specs.List.{AllByRecursion};
 ghost use Rattle.capture.specs.declared.limit.TheConstants.{MAX_RECORDS};
 ghost use Rattle.capture.specs.declared.fault.Departure.{Departure as Kind};
-ghost use Rattle.capture.specs.declared.record.Record.{Record as Line};
+ghost use Rattle.capture_record.specs.declared.record.Record.{Record as Line};
 ghost use Rattle.capture.specs.declared.hint.HintForm.{HintForm as Form};
 ghost use Rattle.capture.specs.declared.format.Format.{Format as Layout};
 ghost use Rattle.capture.specs.Text.{form_behind, head_line, record_line, record_lines, record_text};
 ghost use Rattle.capture.specs.Converting.{Converts};
-ghost use Rattle.capture.specs.Range.{FormFits, IsInForm, IsNode, IsRecord, IsText, IsTextIn};
+ghost use Rattle.capture_record.specs.Range.{IsRecord};
+ghost use Rattle.capture.specs.Range.{FormFits, IsInForm, IsNode, IsText, IsTextIn};
 ghost use Rattle.capture.specs.Departing.{HeadDeparts, RecordDeparts};
 ghost use Rattle.capture.specs.Reading.{record_at};
 

@@ -6,14 +6,10 @@
 #![tactic(auto)]
 
 mod address;
-mod bytes;
 mod converting;
 mod digits;
-mod entry;
 mod entry_line;
-mod event;
 mod event_words;
-mod fate;
 mod fault;
 mod format;
 mod hint;
@@ -30,7 +26,6 @@ mod page;
 mod part;
 mod phase;
 mod reader;
-mod record;
 mod record_words;
 mod side_letter;
 mod so_far;
@@ -38,14 +33,10 @@ mod wording;
 mod writer;
 
 pub use address::{address_of, is_node};
-pub use bytes::Bytes;
 pub use converting::convert;
 pub use digits::{bytes_into, bytes_of};
-pub use entry::Entry;
 pub use entry_line::put_line;
-pub use event::Event;
 pub use event_words::{link_of, message_of};
-pub use fate::Fate;
 pub use fault::{CaptureFault, ConvertFault, Departure, LineFault, PartFault, WriteFault};
 pub use format::{Format, format_for};
 pub use hint::HintForm;
@@ -54,10 +45,7 @@ pub use laws::{
     no_head_departs, no_line_begins_another, no_line_departs, one_departure, one_head_and_list,
     one_head_departure, written_is_read,
 };
-pub use limit::{
-    MAX_HINT, MAX_INTERRUPT, MAX_LINE, MAX_LINK, MAX_MARK, MAX_MESSAGE, MAX_PACKET, MAX_RECORDS,
-    MAX_UNIT,
-};
+pub use limit::{MAX_LINE, MAX_MARK, MAX_RECORDS};
 pub use line_reader::LineReader;
 pub use line_words::{put_head, put_head_line};
 pub use list_head::open_list;
@@ -69,7 +57,6 @@ pub use page::{PAGE_SIZE, Page};
 pub use part::{after, cut_at};
 pub use phase::Phase;
 pub use reader::CaptureReader;
-pub use record::Record;
 pub use record_words::{head_of, record_of};
 pub use side_letter::side_of;
 pub use so_far::{text_read_on, whole_text};

@@ -6,23 +6,5 @@ pub const MAX_LINE: usize = 131_081;
 /// The most records of a capture.
 pub const MAX_RECORDS: u64 = 1_000_000_000_000;
 
-/// The greatest hint of a receipt.
-pub const MAX_HINT: u64 = 999_999_999_999_999_999;
-
 /// The greatest mark: one more than the greatest hint.
 pub const MAX_MARK: u64 = 1_000_000_000_000_000_000;
-
-/// The greatest address of a link; the least is 1.
-pub const MAX_LINK: u64 = 65_535;
-
-/// The most bytes of a unit, sent or received.
-pub const MAX_UNIT: usize = 16_393;
-
-/// The most bytes of a message that is handed in or delivered.
-pub const MAX_MESSAGE: usize = 65_535;
-
-/// The most bytes of a packet that was composed and will never be sent: those of the longest that a unit holds.
-pub const MAX_PACKET: usize = 16_383;
-
-/// The most bytes of an interrupt that is handed in or delivered.
-pub const MAX_INTERRUPT: usize = 16;

@@ -2,23 +2,23 @@
 
 ghost use Rattle.std.specs.Prelude.{◌≡◌, ◌≤◌, ◌+◌, length, take, Ok, Err, None, IfOk, IfSome};
 ghost use Rattle.wire_base.specs.Tally.{tally_faults, tally_lent};
-ghost use Rattle.capture.specs.declared.limit.TheConstants.{MAX_MESSAGE, MAX_RECORDS};
+ghost use Rattle.capture_record.specs.declared.limit.TheConstants.{MAX_MESSAGE};
+ghost use Rattle.capture.specs.declared.limit.TheConstants.{MAX_RECORDS};
 ghost use Rattle.capture.specs.Lines.{IsCutBehind, to_come};
-ghost use Rattle.capture.specs.Entries.{record_with, recorded, recorded_in};
+ghost use Rattle.capture_record.specs.Entries.{record_with};
+ghost use Rattle.capture.specs.Entries.{recorded, recorded_in};
 ghost use Rattle.capture.specs.Faulty.{CountsReads, is_failed_read};
 ghost use Rattle.capture.specs.Range.{FormFits};
 ghost use Rattle.capture.specs.Reader.{NextGives, Opens, TakesRecord, WhereReadFails};
 ghost use Rattle.capture.specs.Text.{format_number, format_of, record_text};
 
-use crate::bytes::Bytes;
-use crate::entry::Entry;
 use crate::fault::{CaptureFault, Departure, LineFault};
-use crate::limit::{MAX_MESSAGE, MAX_RECORDS};
+use crate::limit::{MAX_RECORDS};
 use crate::line_reader::LineReader;
 use crate::phase::Phase;
-use crate::record::Record;
 use crate::record_words::{head_of, line_into};
 use crate::wording::Wording;
+use capture_record::{Bytes, Entry, MAX_MESSAGE, Record};
 use std::alloc::Global;
 use std::io::Read;
 use std::marker::Model;

@@ -1,28 +1,25 @@
 //! Reading the words of a record's line, and of the head.
 
 ghost use Rattle.std.specs.Prelude.{◌≡◌, ◌≤◌, length, true, IfOk};
-ghost use Rattle.capture.specs.declared.fate.Fate.{Fate as Became};
+ghost use Rattle.capture_record.specs.declared.fate.Fate.{Fate as Became};
 ghost use Rattle.capture.specs.Reading.{Gives, hint_at, is_wide, nodes_at, receipt_at, record_at, wide_at, head_at};
 ghost use Rattle.capture.specs.Range.{FormFits, IsNode};
-ghost use Rattle.capture.specs.declared.limit.TheConstants.{MAX_MARK, MAX_MESSAGE};
+ghost use Rattle.capture_record.specs.declared.limit.TheConstants.{MAX_MESSAGE};
+ghost use Rattle.capture.specs.declared.limit.TheConstants.{MAX_MARK};
 ghost use Rattle.std.specs.Option.{option_map};
 ghost use Rattle.capture.specs.Entries.{parted, told};
-ghost use Rattle.capture.specs.declared.entry.Entry.TheVariants.{Received};
+ghost use Rattle.capture_record.specs.declared.entry.Entry.TheVariants.{Received};
 
 use crate::address::address_of;
-use crate::bytes::Bytes;
 use crate::digits::{bytes_into, bytes_of};
-use crate::entry::Entry;
 use crate::event_words::event_of;
-use crate::fate::Fate;
 use crate::fault::{Departure, PartFault};
 use crate::format::Format;
 use crate::hint::HintForm;
-use crate::limit::MAX_HINT;
 use crate::number::{number_before, number_of, positive_of};
 use crate::part::{after, after_letter, cut_at};
-use crate::record::Record;
 use crate::wording::Wording;
+use capture_record::{Bytes, Entry, Fate, MAX_HINT, Record};
 use std::alloc::Global;
 
 #[tactic(auto, unfolding(crate::specs::Reading::hint_at))]

@@ -4,11 +4,12 @@ ghost use Rattle.std.specs.Prelude.{◌≡◌, ℕ, ◌<◌, [], ◌∷◌, ◌+
 ghost use Rattle.std.specs.Io.KnownBytes.{Consumes, IsAtEnd};
 ghost use Rattle.capture.specs.declared.limit.TheConstants.{MAX_RECORDS};
 ghost use Rattle.capture.specs.declared.fault.Departure.{Departure as Kind};
-ghost use Rattle.capture.specs.declared.record.Record.{Record as Line};
+ghost use Rattle.capture_record.specs.declared.record.Record.{Record as Line};
 ghost use Rattle.capture.specs.Lines.{to_come};
 ghost use Rattle.capture.specs.declared.hint.HintForm.{HintForm as Form};
 ghost use Rattle.capture.specs.Text.{form_after, record_line};
-ghost use Rattle.capture.specs.Range.{IsInForm, IsRecord, IsText};
+ghost use Rattle.capture_record.specs.Range.{IsRecord};
+ghost use Rattle.capture.specs.Range.{IsInForm, IsText};
 ghost use Rattle.capture.specs.Reader.{CaptureState, Opens};
 ghost use Rattle.capture.specs.SoFar.{DepartsBehind, GoesOn, HeadDepartsAt, IsReadSoFar, ReadSoFar, TheEnd, ToCome, so_far};
 

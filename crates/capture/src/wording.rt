@@ -1,12 +1,12 @@
 //! What the words of a line are read by.
 
 ghost use Rattle.std.specs.Prelude.{◌≡◌, ℕ, [], List};
-ghost use Rattle.capture.specs.Entries.{record_with};
-ghost use Rattle.capture.specs.Range.{NumbersFit};
+ghost use Rattle.capture_record.specs.Entries.{record_with};
+ghost use Rattle.capture_record.specs.Range.{NumbersFit};
 ghost use Rattle.capture.specs.Text.{form_after};
 
-use crate::entry::Entry;
 use crate::hint::HintForm;
+use capture_record::Entry;
 
 /// What the words of a line are read by, so that a call takes it by one pointer.
 #[derive(Drop)]

@@ -5,7 +5,8 @@ ghost use Rattle.std.specs.Io.KnownBytes.{Appends};
 ghost use Rattle.wire_base.specs.Tally.{tally_faults, tally_lent};
 ghost use Rattle.capture.specs.declared.limit.TheConstants.{MAX_MARK};
 ghost use Rattle.capture.specs.Text.{head_line, mark_after, record_line};
-ghost use Rattle.capture.specs.Range.{IsInFormat, IsNode, IsRecord};
+ghost use Rattle.capture_record.specs.Range.{IsRecord};
+ghost use Rattle.capture.specs.Range.{IsInFormat, IsNode};
 ghost use Rattle.capture.specs.Writing.{WriteMeans};
 
 use crate::entry_line::put_line_in;
@@ -13,7 +14,7 @@ use crate::fault::WriteFault;
 use crate::format::Format;
 use crate::hint::{HintForm, next_mark_of};
 use crate::line_words::put_head_line;
-use crate::record::Record;
+use capture_record::Record;
 use std::alloc::{AllocError, Global};
 use std::io::Write;
 use wire_base::{Tally, write_whole};

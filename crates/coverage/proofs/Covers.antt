@@ -3,7 +3,7 @@ use Rattle.std.proofs.Common.{ℕ, Option, List, [], sym, append-nil}
 use Rattle.two_nodes.specs.Nodes.{World, Run}
 use Rattle.two_nodes.specs.Cutting.{cut_world}
 use Rattle.wire_base.specs.declared.side.Side.TheVariants.{A, B}
-use Rattle.capture.specs.declared.record.Record.{Record}
+use Rattle.capture_record.specs.declared.record.Record.{Record}
 use Rattle.dna_station.specs.declared.head.Head.{Head}
 use Rattle.dna_station.specs.Pair.{pair, start}
 use Rattle.dna_node.specs.Alone.{StationPasses}

@@ -1,7 +1,7 @@
 -- An observer that counts is told one record more.
 use Rattle.std.proofs.Common.{◌≡◌, List, [], ◌∷◌, ◌++◌, refl, sym, subst, arith}
 use Rattle.wire_base.specs.declared.side.Side.TheVariants.{A, B}
-use Rattle.capture.specs.declared.record.Record.{Record}
+use Rattle.capture_record.specs.declared.record.Record.{Record}
 use Rattle.dna_station.specs.WireNode.{new_wire_node}
 use Rattle.dna_station.specs.declared.state.State.TheVariants.{Halted}
 use Rattle.pair_judge.specs.Order.{MadeRecord, made_by, records_of}

@@ -12,7 +12,7 @@ use crate::row::Row;
 pub const ROWS: usize = 88;
 
 /// How often each row was gone through, at its place. A count stops at 2^64 - 1.
-#[derive(Clone, Copy, Debug, PartialEq, Eq)]
+#[derive(Clone, Copy, PartialEq, Eq)]
 pub struct Counts {
     pub met: [u64; ROWS],
 }

@@ -13,7 +13,7 @@ use std::alloc::AllocError;
 use wire_base::Side;
 
 /// How often each side of a pair went through each row, as far as it was told of their records. It takes no memory.
-#[derive(Debug, Drop, PartialEq, Eq)]
+#[derive(Drop, PartialEq, Eq)]
 pub struct Cover {
     a: Half,
     b: Half,

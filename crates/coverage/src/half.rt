@@ -1,8 +1,8 @@
 //! What is kept of one side: its station, and how often it went through each row.
 
 ghost use Rattle.std.specs.Prelude.{◌≡◌};
-ghost use Rattle.capture.specs.declared.event.Event.TheVariants as Event;
-ghost use Rattle.capture.specs.Entries.{record_with};
+ghost use Rattle.capture_record.specs.declared.event.Event.TheVariants as Event;
+ghost use Rattle.capture_record.specs.Entries.{record_with};
 ghost use Rattle.ddcmp_msg.specs.Message.{view};
 ghost use Rattle.ddcmp_msg.specs.Reading.{Sound, reading, reading_view};
 ghost use Rattle.coverage.specs.inner.Met as spec;
@@ -11,13 +11,13 @@ use crate::counts::Counts;
 use crate::link_rows::{link_gets, link_sends};
 use crate::row::{LinkAct, Loss, Row};
 use crate::tracker::Tracker;
-use capture::{Entry, Fate};
+use capture_record::{Entry, Fate};
 use ddcmp_msg::{Message, Reading, read_sound, read_unit};
 use dna_station::{State, StationEvent};
 use pair_judge::MadeEntry;
 
 /// One side.
-#[derive(Clone, Copy, Debug, PartialEq, Eq)]
+#[derive(Clone, Copy, PartialEq, Eq)]
 pub struct Half {
     pub tracker: Tracker,
     pub counts: Counts,

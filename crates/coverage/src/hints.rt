@@ -14,11 +14,11 @@ pub const STATION_ROWS: usize = 56;
 
 /// A row, and what meets it: steps of a script with `, ` between them, of which the first may be the name of a set-up; or words, where no script
 /// does.
-#[derive(Clone, Copy, Debug, PartialEq, Eq)]
+#[derive(Clone, Copy, PartialEq, Eq)]
 pub struct Hint(pub Row, pub &'static str);
 
 /// A name for the first steps of scripts, and these steps, of which the first may be a name before it.
-#[derive(Clone, Copy, Debug, PartialEq, Eq)]
+#[derive(Clone, Copy, PartialEq, Eq)]
 pub struct Setup(pub &'static str, pub &'static str);
 
 // `tools/tests/test_cover` plays each.

@@ -8,7 +8,7 @@ ghost use Rattle.dna_packet.specs.Nsp as nsp;
 ghost use Rattle.coverage.specs.Rows as spec;
 
 use crate::row::{Loss, MessageKind, Row};
-use capture::Fate;
+use capture_record::Fate;
 use ddcmp_msg::Message;
 use dna_packet::{LinkService, Nsp, Packet, read_nsp, read_packet};
 

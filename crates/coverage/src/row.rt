@@ -4,7 +4,7 @@ use dna_station::State;
 
 /// A row of the tables of the station and of the links. There are 88, and this is their order. A record goes through one of the station, by the
 /// state before it, or one of the links, or both; an interrupt goes through none.
-#[derive(Clone, Copy, Debug, PartialEq, Eq)]
+#[derive(Clone, Copy, PartialEq, Eq)]
 pub enum Row {
     /// The user starts the station, which is in HALTED.
     Start,
@@ -35,7 +35,7 @@ pub enum Row {
 }
 
 /// What a station sends, with what its tables tell apart.
-#[derive(Clone, Copy, Debug, PartialEq, Eq)]
+#[derive(Clone, Copy, PartialEq, Eq)]
 pub enum Sending {
     /// STRT, in ISTRT.
     Strt,
@@ -56,7 +56,7 @@ pub enum Sending {
 }
 
 /// What is told apart of a unit that comes in HALTED or ISTRT.
-#[derive(Clone, Copy, Debug, PartialEq, Eq)]
+#[derive(Clone, Copy, PartialEq, Eq)]
 pub enum UnitKind {
     Strt,
     Stack,
@@ -67,7 +67,7 @@ pub enum UnitKind {
 }
 
 /// What is told apart of a unit that comes in ASTRT.
-#[derive(Clone, Copy, Debug, PartialEq, Eq)]
+#[derive(Clone, Copy, PartialEq, Eq)]
 pub enum AstrtArrival {
     Strt,
     Stack,
@@ -88,7 +88,7 @@ pub enum AstrtArrival {
 }
 
 /// What is told apart of a unit that comes in RUNNING.
-#[derive(Clone, Copy, Debug, PartialEq, Eq)]
+#[derive(Clone, Copy, PartialEq, Eq)]
 pub enum RunningArrival {
     Strt,
     Stack,
@@ -107,14 +107,14 @@ pub enum RunningArrival {
 }
 
 /// Which block check shows damage.
-#[derive(Clone, Copy, Debug, PartialEq, Eq)]
+#[derive(Clone, Copy, PartialEq, Eq)]
 pub enum Damage {
     Header,
     Data,
 }
 
 /// What the user of a link does, or what is done to all links of a node.
-#[derive(Clone, Copy, Debug, PartialEq, Eq)]
+#[derive(Clone, Copy, PartialEq, Eq)]
 pub enum LinkAct {
     Open,
     Accept,
@@ -129,7 +129,7 @@ pub enum LinkAct {
 }
 
 /// How a packet is lost inside a node.
-#[derive(Clone, Copy, Debug, PartialEq, Eq)]
+#[derive(Clone, Copy, PartialEq, Eq)]
 pub enum Loss {
     /// It came and was kept, and the links never meet it.
     Above,
@@ -138,7 +138,7 @@ pub enum Loss {
 }
 
 /// The kind of an NSP message (NSP 4.0, message formats).
-#[derive(Clone, Copy, Debug, PartialEq, Eq)]
+#[derive(Clone, Copy, PartialEq, Eq)]
 pub enum MessageKind {
     ConnectInitiate,
     ConnectAck,

@@ -13,7 +13,7 @@ use dna_station::{ArrivalRow, State, StationEvent, num_of, resp_of};
 /// A station's state and numbers, as they are in a run: R, the last number received in order; A, the highest acknowledged; of the packets
 /// that are not acknowledged, 255 at most, how many there are, and how many of them come before the next to send. So N is A and as many as are
 /// outstanding, and T is A + 1 and as many as are ahead.
-#[derive(Clone, Copy, Debug, PartialEq, Eq)]
+#[derive(Clone, Copy, PartialEq, Eq)]
 pub struct Tracker {
     pub state: State,
     pub received: u8,

@@ -4,7 +4,7 @@ use ddcmp_msg::Message;
 use dna_station::Tag;
 
 /// What comes to a station from its line.
-#[derive(Clone, Copy, Debug, PartialEq, Eq)]
+#[derive(Clone, Copy, PartialEq, Eq)]
 pub enum Arrival<'a> {
     /// A message, as it was sent, with the tag that it was sent with.
     Sound(Message<'a>, Tag),

@@ -7,7 +7,7 @@ ghost use Rattle.ddcmp_station.specs.Told.{refusal_of_arrival, refusal_of_sendin
 use dna_station::StationRefusal;
 
 /// A check that a message passes which is to be sent (DDCMP 4.1, startup state table, data transfer).
-#[derive(Clone, Copy, Debug, PartialEq, Eq)]
+#[derive(Clone, Copy, PartialEq, Eq)]
 pub enum SendingCheck {
     /// In this state such a message may be sent.
     State,
@@ -28,7 +28,7 @@ pub enum SendingCheck {
 }
 
 /// A check that an arrival passes.
-#[derive(Clone, Copy, Debug, PartialEq, Eq)]
+#[derive(Clone, Copy, PartialEq, Eq)]
 pub enum ArrivalCheck {
     /// The periods are as the row of the message needs them.
     Period,

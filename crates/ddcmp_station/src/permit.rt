@@ -3,7 +3,7 @@
 use dna_station::ArrivalRow;
 
 /// That a message may be sent now. Of the station that gave it, and of that message, until the station changes.
-#[derive(Clone, Copy, Debug, PartialEq, Eq)]
+#[derive(Clone, Copy, PartialEq, Eq)]
 pub enum SendPermit {
     /// No packet.
     Control,
@@ -14,7 +14,7 @@ pub enum SendPermit {
 }
 
 /// That what came is met. Of the station that gave it, and of that arrival, until the station changes.
-#[derive(Clone, Copy, Debug, PartialEq, Eq)]
+#[derive(Clone, Copy, PartialEq, Eq)]
 pub struct ArrivalPermit<'a> {
     /// The row of the message; of what shows damage `Ignored`.
     pub row: ArrivalRow,

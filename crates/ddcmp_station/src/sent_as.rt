@@ -3,7 +3,7 @@
 use dna_station::Tag;
 
 /// How a message was sent.
-#[derive(Clone, Copy, Debug, PartialEq, Eq)]
+#[derive(Clone, Copy, PartialEq, Eq)]
 pub struct SentAs<T> {
     /// The sender's period and its partner at that moment.
     pub tag: Tag,

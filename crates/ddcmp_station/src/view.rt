@@ -3,7 +3,7 @@
 use dna_station::State;
 
 /// The variables of a station at one moment (DDCMP 4.1, station variables), to be shown. Numbers of packets are those of the line, 0 to 255.
-#[derive(Clone, Copy, Debug, PartialEq, Eq)]
+#[derive(Clone, Copy, PartialEq, Eq)]
 pub struct StationView {
     /// HALTED, ISTRT, ASTRT or RUNNING.
     pub state: State,

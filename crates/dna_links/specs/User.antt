@@ -1,6 +1,6 @@
 -- What the user of a node's links does, or gets (NSP 4.0, session control interface).
 use Rattle.std.specs.Prelude.{ℕ, List, ◌≤◌, length}
-use Rattle.capture.specs.declared.limit.TheConstants.{MAX_MESSAGE}
+use Rattle.capture_record.specs.declared.limit.TheConstants.{MAX_MESSAGE}
 use Rattle.dna_links.specs.declared.event.LinkEvent.{LinkEvent}
 use Rattle.dna_links.specs.declared.event.LinkEvent.TheVariants as rust
 

@@ -1,10 +1,10 @@
 //! What the user of a node's links does, or gets.
 
-use capture::MAX_MESSAGE;
+use capture_record::MAX_MESSAGE;
 
 /// An event at a link, or a boot. `link` is an address of this node, and `partner` one of the other node's: each is from 1 to 65,535.
 /// A message has at most 65,535 bytes.
-#[derive(Clone, Copy, Debug, PartialEq, Eq)]
+#[derive(Clone, Copy, PartialEq, Eq)]
 pub enum LinkEvent<'a> {
     /// A link is opened from here, and gets this address.
     Open { link: u16 },

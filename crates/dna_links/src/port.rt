@@ -18,7 +18,7 @@ pub enum Phase {
 }
 
 /// What look-ups know of one end of a link (NSP 4.0, ports).
-#[derive(Clone, Copy, Debug, PartialEq, Eq)]
+#[derive(Clone, Copy, PartialEq, Eq)]
 pub struct Port {
     /// Its phase.
     pub phase: Phase,

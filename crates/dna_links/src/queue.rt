@@ -3,7 +3,7 @@
 use crate::Phase;
 
 /// Whether packets wait between NSP and DDCMP, both ways.
-#[derive(Clone, Copy, Debug, PartialEq, Eq)]
+#[derive(Clone, Copy, PartialEq, Eq)]
 pub enum Queues {
     /// They do not: NSP acts on a packet when DDCMP keeps it, and composes one when it is first sent.
     Without,

@@ -4,7 +4,7 @@ use Rattle.std.specs.Prelude.{◌≡◌, List, [], ◌∷◌, ◌++◌}
 use Rattle.two_nodes.specs.Nodes.{Half, World, advance, exchanged_world}
 use Rattle.two_nodes.specs.Nodes.Outcome.{Made}
 use Rattle.two_nodes.specs.Kept.{IsKept}
-use Rattle.capture.specs.declared.record.Record.{Record}
+use Rattle.capture_record.specs.declared.record.Record.{Record}
 use Rattle.dna_station.specs.declared.head.Head.{Head}
 use Rattle.dna_links.specs.declared.queue.Queues.{Queues}
 use Rattle.dna_node.specs.Layers.{LayersNode, LayersUnit}

@@ -6,9 +6,9 @@ use Rattle.two_nodes.specs.Nodes.{Half, World, stepped, advance, exchanged_world
 use Rattle.two_nodes.specs.Kept.{IsKept}
 use Rattle.two_nodes.specs.Cutting.{Commutes, cut_half, cut_outcome}
 use Rattle.ddcmp_msg.specs.Message.{MessageValue, Data}
-use Rattle.capture.specs.declared.record.Record.{Record}
-use Rattle.capture.specs.declared.fate.Fate.TheVariants.{Kept}
-use Rattle.capture.specs.declared.record.Record.TheVariants.{Received}
+use Rattle.capture_record.specs.declared.record.Record.{Record}
+use Rattle.capture_record.specs.declared.fate.Fate.TheVariants.{Kept}
+use Rattle.capture_record.specs.declared.record.Record.TheVariants.{Received}
 use Rattle.dna_station.specs.declared.head.Head.{Head}
 use Rattle.dna_station.specs.Table.{SendPacket, change_of}
 use Rattle.dna_links.specs.declared.queue.Queues.{Queues}

@@ -1,7 +1,7 @@
 -- A run over both layers of nodes with queues, beside the same run of nodes without: what the queues leave open of the links is put aside.
 use Rattle.std.specs.Prelude.{◌≡◌, List, length}
 use Rattle.two_nodes.specs.Nodes.{Half, World, Run}
-use Rattle.capture.specs.declared.record.Record.{Record}
+use Rattle.capture_record.specs.declared.record.Record.{Record}
 use Rattle.dna_station.specs.declared.head.Head.{Head}
 use Rattle.dna_links.specs.declared.queue.Queues.TheVariants.{With}
 use Rattle.dna_links.specs.Captures.{deliveries}

@@ -3,7 +3,7 @@
 use Rattle.std.specs.Prelude.{ℕ, List, length}
 use Rattle.two_nodes.specs.Nodes.{Nodes, World, start_world}
 use Rattle.two_nodes.specs.Nodes as any
-use Rattle.capture.specs.declared.record.Record.{Record}
+use Rattle.capture_record.specs.declared.record.Record.{Record}
 use Rattle.dna_station.specs.declared.head.Head.{Head}
 use Rattle.dna_station.specs.declared.refusal.StepRefusal.{StepRefusal}
 use Rattle.dna_station.specs.PeriodRule.{of_period}

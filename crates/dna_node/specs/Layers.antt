@@ -3,10 +3,10 @@
 use Rattle.std.specs.Prelude.{Bool, if◌then◌else◌, Option, Some, None, List, [], ◌∷◌, ◌++◌, slice_get, Result, Ok, Err}
 use Rattle.two_nodes.specs.Cutting.{Cut}
 use Rattle.ddcmp_msg.specs.Message.{MessageValue}
-use Rattle.capture.specs.declared.event.Event.{Event}
-use Rattle.capture.specs.declared.event.Event.TheVariants.{Composed}
-use Rattle.capture.specs.declared.fate.Fate.{Fate}
-use Rattle.capture.specs.Fates.{is_met}
+use Rattle.capture_record.specs.declared.event.Event.{Event}
+use Rattle.capture_record.specs.declared.event.Event.TheVariants.{Composed}
+use Rattle.capture_record.specs.declared.fate.Fate.{Fate}
+use Rattle.capture_record.specs.Fates.{is_met}
 use Rattle.dna_station.specs.declared.head.Head.{Head}
 use Rattle.dna_station.specs.declared.refusal.StepRefusal.{StepRefusal}
 use Rattle.dna_station.specs.declared.refusal.StepRefusal.TheVariants.{Links as OfLinks}

@@ -1,7 +1,7 @@
 -- A run of two wire nodes over both layers, beside the run of the nodes on true numbers that it shows.
 use Rattle.std.specs.Prelude.{List}
 use Rattle.two_nodes.specs.Nodes.{World}
-use Rattle.capture.specs.declared.record.Record.{Record}
+use Rattle.capture_record.specs.declared.record.Record.{Record}
 use Rattle.dna_station.specs.declared.head.Head.{Head}
 use Rattle.dna_station.specs.Seen.{IsSeenRun}
 use Rattle.dna_links.specs.declared.queue.Queues.{Queues}

@@ -4,7 +4,7 @@ use Rattle.two_nodes.specs.Nodes.{World}
 use Rattle.two_nodes.specs.Past.{Offends}
 use Rattle.two_nodes.specs.Endings.{LacksUnit, IsStuck}
 use Rattle.wire_base.specs.declared.side.Side.TheVariants.{A, B}
-use Rattle.capture.specs.declared.record.Record.{Record}
+use Rattle.capture_record.specs.declared.record.Record.{Record}
 use Rattle.dna_station.specs.declared.head.Head.{Head}
 use Rattle.dna_node.specs.declared.finding.Cause.{Cause}
 use Rattle.dna_node.specs.declared.finding.Cause.TheVariants.{Step, NoSuchUnit, NoOrder}

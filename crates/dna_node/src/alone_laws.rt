@@ -3,7 +3,7 @@
 ghost use Rattle.std.specs.Prelude.{◌≡◌, ℕ, true, List, ◌++◌};
 ghost use Rattle.two_nodes.specs.Past.{Offends};
 ghost use Rattle.wire_base.specs.declared.side.Side.TheVariants.{A, B};
-ghost use Rattle.capture.specs.declared.record.Record.{Record};
+ghost use Rattle.capture_record.specs.declared.record.Record.{Record};
 ghost use Rattle.dna_station.specs.declared.head.Head.{Head};
 ghost use Rattle.dna_station.specs.declared.refusal.StepRefusal.{StepRefusal};
 ghost use Rattle.dna_node.specs.declared.finding.Cause.TheVariants.{Step};

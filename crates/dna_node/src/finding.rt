@@ -4,7 +4,7 @@ use dna_station::StepRefusal;
 use wire_base::Side;
 
 /// Why two captures are no run.
-#[derive(Clone, Copy, Debug, PartialEq, Eq)]
+#[derive(Clone, Copy, PartialEq, Eq)]
 pub enum Cause {
     /// The record can't be made though all of its causes can.
     Step(StepRefusal),
@@ -15,7 +15,7 @@ pub enum Cause {
 }
 
 /// Whether two captures are a run, and if not, where and why.
-#[derive(Clone, Copy, Debug, PartialEq, Eq)]
+#[derive(Clone, Copy, PartialEq, Eq)]
 pub enum Finding {
     /// They are.
     Accepted,

@@ -3,7 +3,7 @@
 ghost use Rattle.std.specs.Prelude.{◌≡◌, List};
 ghost use Rattle.two_nodes.specs.Nodes.{World, Run};
 ghost use Rattle.two_nodes.specs.Cutting.{cut_world};
-ghost use Rattle.capture.specs.declared.record.Record.{Record};
+ghost use Rattle.capture_record.specs.declared.record.Record.{Record};
 ghost use Rattle.dna_station.specs.declared.head.Head.{Head};
 ghost use Rattle.dna_station.specs.Pair.{pair, start};
 ghost use Rattle.dna_links.specs.declared.queue.Queues.{Queues};

@@ -1,6 +1,6 @@
 //! The nodes of a pair of captures over both layers, for the laws of any two nodes.
 
-ghost use Rattle.capture.specs.declared.record.Record.{Record};
+ghost use Rattle.capture_record.specs.declared.record.Record.{Record};
 ghost use Rattle.dna_station.specs.declared.refusal.StepRefusal.{StepRefusal};
 ghost use Rattle.dna_node.specs.Layers.{LayersNode, LayersUnit};
 ghost use Rattle.dna_node.specs.LayersPair.{layers_pair};

@@ -1,13 +1,13 @@
 -- Whether a record has a line in a capture, as a test: its numbers and its bytes are in their ranges, and its BYTES is no longer than a line may
 -- hold.
 use Rattle.std.specs.Prelude.{ℕ, Bool, true, ◌&&◌, nat_lt, nat_le, List, [], ◌∷◌, length}
-use Rattle.capture.specs.declared.limit.TheConstants.{MAX_HINT, MAX_LINK}
-use Rattle.capture.specs.declared.event.Event.{Event}
-use Rattle.capture.specs.declared.event.Event.TheVariants.{Start, Halt, Open, Accept, Reject, In, Up, Close}
-use Rattle.capture.specs.declared.event.Event.TheVariants.{Boot, Abort, Composed, Interrupt, Interrupted}
-use Rattle.capture.specs.declared.record.Record.{Record}
-use Rattle.capture.specs.declared.record.Record.TheVariants.{Sent, Received, Noise, User}
-use Rattle.capture.specs.Range.{record_bytes, most_bytes}
+use Rattle.capture_record.specs.declared.limit.TheConstants.{MAX_HINT, MAX_LINK}
+use Rattle.capture_record.specs.declared.event.Event.{Event}
+use Rattle.capture_record.specs.declared.event.Event.TheVariants.{Start, Halt, Open, Accept, Reject, In, Up, Close}
+use Rattle.capture_record.specs.declared.event.Event.TheVariants.{Boot, Abort, Composed, Interrupt, Interrupted}
+use Rattle.capture_record.specs.declared.record.Record.{Record}
+use Rattle.capture_record.specs.declared.record.Record.TheVariants.{Sent, Received, Noise, User}
+use Rattle.capture_record.specs.Range.{record_bytes, most_bytes}
 
 abbrev pub is_link : ℕ → Bool
 is_link link = nat_le 1 link && nat_le link MAX_LINK

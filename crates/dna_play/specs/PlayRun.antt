@@ -4,7 +4,7 @@ use Rattle.std.specs.List.{AllByRecursion, filter}
 use Rattle.two_nodes.specs.Nodes.{Half, Run}
 use Rattle.wire_base.specs.declared.side.Side.{Side}
 use Rattle.wire_base.specs.declared.side.Side.TheVariants.{A, B}
-use Rattle.capture.specs.Range.{IsRecord}
+use Rattle.capture_record.specs.Range.{IsRecord}
 use Rattle.dna_station.specs.Cut.{cut}
 use Rattle.dna_station.specs.WireNode.{unlabelled}
 use Rattle.dna_links.specs.declared.port.Port.{Port}

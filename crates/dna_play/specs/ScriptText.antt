@@ -3,11 +3,11 @@ use Rattle.std.specs.Prelude.{◌≡◌, ℕ, ◌≤◌, List, [], ◌++◌, cod
 use Rattle.std.specs.Fmt.{decimal}
 use Rattle.ddcmp_msg.specs.Message.{IsBytes}
 use Rattle.wire_base.specs.Side.{side_letter}
-use Rattle.capture.specs.declared.limit.TheConstants.{MAX_HINT, MAX_UNIT, MAX_MESSAGE}
+use Rattle.capture_record.specs.declared.limit.TheConstants.{MAX_HINT, MAX_UNIT, MAX_MESSAGE}
 use Rattle.capture.specs.declared.fault.Departure.{Departure}
 use Rattle.capture.specs.declared.fault.Departure.TheVariants.{Syntax, TooLong, TooMany}
 use Rattle.capture.specs.Text.{bytes_text, spaced}
-use Rattle.capture.specs.Range.{IsLink}
+use Rattle.capture_record.specs.Range.{IsLink}
 use Rattle.capture.specs.Listed.{Listed, ListForm, item_line, IsList, BeginsWithList, ItemDeparts, ListHeadDeparts}
 use Rattle.dna_play.specs.Script.{StepValue, ScriptStep, Script, Start, Halt, Boot, Timer, Send, Deliver, Refuse, Drop, Lose, Damage, Noise, Open}
 use Rattle.dna_play.specs.Script.{Accept, Reject, In, Close, Abort, Retry}

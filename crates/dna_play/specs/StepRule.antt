@@ -2,7 +2,7 @@
 -- it, but needs a new link address where all of the end are given, is full; every other step can be made.
 use Rattle.std.specs.Prelude.{◌≡◌, ℕ, ◌<◌, ◌≤◌, ◌⊎◌, Bool, true, false, Some, List, [], ◌∷◌, ◌++◌, length, slice_get, Result, Ok, Err}
 use Rattle.ddcmp_msg.specs.Reading.{reading, HeaderBad, DataBad}
-use Rattle.capture.specs.declared.limit.TheConstants.{MAX_LINK}
+use Rattle.capture_record.specs.declared.limit.TheConstants.{MAX_LINK}
 use Rattle.dna_station.specs.declared.state.State.TheVariants.{Halted}
 use Rattle.dna_links.specs.declared.port.Phase.{Phase}
 use Rattle.dna_links.specs.declared.port.Phase.TheVariants.{Calling, Called, Confirming, Running, Disconnecting}

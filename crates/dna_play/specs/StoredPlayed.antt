@@ -3,7 +3,7 @@ use Rattle.std.specs.Prelude.{ℕ, Bool, true, false, if◌then◌else◌, List,
 use Rattle.std.specs.Result.{result_map_both}
 use Rattle.wire_base.specs.declared.side.Side.{Side}
 use Rattle.wire_base.specs.declared.side.Side.TheVariants.{A, B}
-use Rattle.capture.specs.declared.record.Record.{Record}
+use Rattle.capture_record.specs.declared.record.Record.{Record}
 use Rattle.dna_play.specs.Script.{StepValue, ScriptStep, Script, Deliver, Refuse, Drop, Lose, Damage}
 use Rattle.dna_play.specs.Stop.{Stop, Stopped, plays_all}
 use Rattle.dna_play.specs.StoredEnd.{StoredEnd, new_stored_end}

@@ -7,7 +7,7 @@ use Rattle.two_nodes.specs.Nodes.{Nodes, World, Outcome, Made, Waits, Refused, R
 use Rattle.two_nodes.proofs.Order.{run-append}
 use Rattle.wire_base.specs.declared.side.Side.{Side}
 use Rattle.wire_base.specs.declared.side.Side.TheVariants.{A, B}
-use Rattle.capture.specs.declared.record.Record.{Record}
+use Rattle.capture_record.specs.declared.record.Record.{Record}
 use Rattle.dna_station.specs.declared.head.Head.{Head}
 use Rattle.dna_station.specs.declared.refusal.StepRefusal.{StepRefusal}
 

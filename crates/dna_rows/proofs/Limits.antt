@@ -4,13 +4,14 @@
 use Rattle.std.proofs.Common.{◌≡◌, ◌≢◌, ℕ, true, List, [], length, inl, inr, refl, arith}
 use Rattle.std.specs.List.{AllByRecursion}
 use Rattle.capture.specs.declared.fault.Departure.TheVariants.{TooLong, TooMany}
-use Rattle.capture.specs.declared.fate.Fate.TheVariants.{Kept}
-use Rattle.capture.specs.declared.record.Record.{Record}
-use Rattle.capture.specs.declared.record.Record.TheVariants.{Sent, Received, Noise, User}
-use Rattle.capture.specs.declared.event.Event.TheVariants.{In, Up}
+use Rattle.capture_record.specs.declared.fate.Fate.TheVariants.{Kept}
+use Rattle.capture_record.specs.declared.record.Record.{Record}
+use Rattle.capture_record.specs.declared.record.Record.TheVariants.{Sent, Received, Noise, User}
+use Rattle.capture_record.specs.declared.event.Event.TheVariants.{In, Up}
 use Rattle.capture.specs.declared.hint.HintForm.{HintForm}
 use Rattle.capture.specs.declared.hint.HintForm.TheVariants.{Distance}
-use Rattle.capture.specs.Range.{IsLink, IsNode, NumbersFit, FormFits, IsShort, IsRecord, IsCapture}
+use Rattle.capture_record.specs.Range.{IsLink, NumbersFit, IsShort, IsRecord}
+use Rattle.capture.specs.Range.{IsNode, FormFits, IsCapture}
 use Rattle.capture.specs.Departing.{first_line, has_lf, IsWhole, LineDeparts, RecordDeparts}
 use Rattle.dna_links.specs.User as links
 use Rattle.dna_play.specs.Script.{Script}

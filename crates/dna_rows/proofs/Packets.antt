@@ -2,9 +2,9 @@
 use Rattle.std.proofs.Common.{[], ◌∷◌, ◌++◌}
 use Rattle.wire_base.specs.declared.side.Side.TheVariants.{A}
 use Rattle.dna_station.specs.declared.head.Head.{Head}
-use Rattle.capture.specs.declared.fate.Fate.TheVariants.{NotKept, Kept}
-use Rattle.capture.specs.declared.record.Record.TheVariants.{Sent, Received, User}
-use Rattle.capture.specs.declared.event.Event.TheVariants.{Start, Open, Accept}
+use Rattle.capture_record.specs.declared.fate.Fate.TheVariants.{NotKept, Kept}
+use Rattle.capture_record.specs.declared.record.Record.TheVariants.{Sent, Received, User}
+use Rattle.capture_record.specs.declared.event.Event.TheVariants.{Start, Open, Accept}
 use Rattle.dna_station.specs.declared.refusal.StationRefusal.TheVariants.{WrongState}
 use Rattle.dna_station.specs.declared.refusal.StepRefusal.TheVariants.{Station as OfStation, Links as OfLinks}
 use Rattle.dna_station.specs.declared.link_refusal.LinkRefusal.TheVariants.{NoLink}

@@ -2,9 +2,9 @@
 use Rattle.std.proofs.Common.{◌≡◌, ℕ, ◌+◌, ◌%◌, zero, suc, List, [], ◌∷◌, ◌++◌, Result, Ok, Err}
 use Rattle.wire_base.specs.declared.side.Side.TheVariants.{A, B}
 use Rattle.ddcmp_msg.specs.Spelling.{spelling}
-use Rattle.capture.specs.declared.fate.Fate.TheVariants.{NotKept, Kept, Dropped}
-use Rattle.capture.specs.declared.record.Record.{Record}
-use Rattle.capture.specs.declared.record.Record.TheVariants.{Sent, Received, Noise}
+use Rattle.capture_record.specs.declared.fate.Fate.TheVariants.{NotKept, Kept, Dropped}
+use Rattle.capture_record.specs.declared.record.Record.{Record}
+use Rattle.capture_record.specs.declared.record.Record.TheVariants.{Sent, Received, Noise}
 use Rattle.dna_play.specs.Script.{StepValue, ScriptStep, Script, Start, Send, Deliver, Open, Accept, Reject}
 use Rattle.dna_play.specs.Stop.{Stop, BadStep}
 use Rattle.dna_play.specs.Played.{end_step, Played, plays_step, play, ends_of}

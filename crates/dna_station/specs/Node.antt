@@ -1,6 +1,6 @@
 -- The node on true numbers: its station goes by the tables as `StationBook` has them, and of a unit it knows the truth.
 use Rattle.dna_station.specs.declared.head.Head.{Head}
-use Rattle.capture.specs.declared.record.Record.{Record}
+use Rattle.capture_record.specs.declared.record.Record.{Record}
 use Rattle.dna_station.specs.declared.refusal.StepRefusal.{StepRefusal}
 use Rattle.two_nodes.specs.Nodes.{Answer}
 use Rattle.dna_station.specs.PeriodRule.{PeriodRule}

@@ -2,8 +2,8 @@
 use Rattle.std.specs.Prelude.{◌≡◌, ℕ, ◌+◌, ◌==◌, if◌then◌else◌, Option, Some, None, List, [], ◌∷◌, length, get_or, map, flat_map, fold}
 use Rattle.ddcmp_msg.specs.Message.{Data}
 use Rattle.ddcmp_msg.specs.Reading.{ReadingValue, reading, Sound}
-use Rattle.capture.specs.declared.record.Record.{Record}
-use Rattle.capture.specs.declared.record.Record.TheVariants.{Sent, Received, Noise, User}
+use Rattle.capture_record.specs.declared.record.Record.{Record}
+use Rattle.capture_record.specs.declared.record.Record.TheVariants.{Sent, Received, Noise, User}
 use Rattle.dna_station.specs.Station.{Station, PastPeriod, wire}
 use Rattle.dna_station.specs.Delivery.{AreAmong, begins, delivered, in_last, periods, with_period}
 use Rattle.two_nodes.specs.Beginning.{BeginsWith}

@@ -3,9 +3,9 @@ use Rattle.std.specs.Prelude.{ℕ, Bool, None, Result, List, map}
 use Rattle.two_nodes.specs.Nodes.{Answer, Nodes, World, start_world}
 use Rattle.two_nodes.specs.Cutting.{Cut}
 use Rattle.ddcmp_msg.specs.Reading.{ReadingValue}
-use Rattle.capture.specs.declared.fate.Fate.{Fate}
-use Rattle.capture.specs.declared.record.Record.{Record}
-use Rattle.capture.specs.declared.event.Event.{Event}
+use Rattle.capture_record.specs.declared.fate.Fate.{Fate}
+use Rattle.capture_record.specs.declared.record.Record.{Record}
+use Rattle.capture_record.specs.declared.event.Event.{Event}
 use Rattle.dna_station.specs.declared.head.Head.{Head}
 use Rattle.dna_station.specs.declared.tag.Tag.{Tag}
 use Rattle.dna_station.specs.declared.refusal.StepRefusal.{StepRefusal}

@@ -31,7 +31,7 @@ pub enum PeriodNeed {
 ///  REP                                                 Asked
 ///  data                   with RESP 0: FirstData       Delivered
 /// ```
-#[derive(Clone, Copy, Debug, PartialEq, Eq)]
+#[derive(Clone, Copy, PartialEq, Eq)]
 pub enum ArrivalRow {
     /// Nothing is done: in HALTED, and wherever the table has nothing.
     Ignored,

@@ -1,6 +1,6 @@
 //! The stations of a pair of captures as nodes, for the laws of any two nodes.
 
-ghost use Rattle.capture.specs.declared.record.Record.{Record};
+ghost use Rattle.capture_record.specs.declared.record.Record.{Record};
 ghost use Rattle.dna_station.specs.declared.refusal.StepRefusal.{StepRefusal};
 ghost use Rattle.dna_station.specs.Line.{SentUnit};
 ghost use Rattle.dna_station.specs.Node.{Node};

@@ -27,7 +27,7 @@ pub enum StationRefusal {
 }
 
 /// Why a node can't make a record, where no other order of the records would help.
-#[derive(Clone, Copy, Debug, PartialEq, Eq)]
+#[derive(Clone, Copy, PartialEq, Eq)]
 pub enum StepRefusal {
     /// The bytes that were sent are no sound message (reason 1).
     NotAMessage,

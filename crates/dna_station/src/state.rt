@@ -14,7 +14,7 @@ pub enum State {
 }
 
 /// What the user of a station does.
-#[derive(Clone, Copy, Debug, PartialEq, Eq)]
+#[derive(Clone, Copy, PartialEq, Eq)]
 pub enum StationEvent {
     /// Begins a new period; in HALTED alone.
     Start,

@@ -13,9 +13,10 @@ use drawing::{DrawnPair, Judging, MAX_ROWS, Range, drawing_of};
 use ladder::{Caption, Marked};
 use pair_judge::{JudgeFault, JudgedEnds, TextFault, Verdict};
 use printing::layers::{Layers, failed_over};
+use record_words::lines::Lines;
 use std::alloc::{AllocError, Global};
 use std::io::{Read, Seek};
-use why::{Check, CheckObject, FrontTexts, Lines};
+use why::{Check, CheckObject, FrontTexts};
 use why_answer::near::{near_of, what_is_asked};
 use wire_base::Side;
 

@@ -1,8 +1,8 @@
 -- A ladder that was told of what is kept, and what is answered of it.
 use Rattle.std.proofs.Common.{◌≡◌, ℕ, Bool, true, false, List, [], Option, Some, None, Result, Ok, Err, inl, inr, refl, sym, ◌∙◌, ap, subst}
 use Rattle.wire_base.specs.declared.side.Side.{Side}
-use Rattle.capture.specs.Entries.{record_with}
-use Rattle.capture.specs.declared.entry.Entry.{Entry}
+use Rattle.capture_record.specs.Entries.{record_with}
+use Rattle.capture_record.specs.declared.entry.Entry.{Entry}
 use Rattle.dna_node.specs.Kind.{NodeKind}
 use Rattle.ladder.specs.Drawn.{DrawnView, IsDrawn}
 use Rattle.ladder.specs.Ladder.{LadderView, refused}

@@ -5,7 +5,7 @@ use Rattle.std.proofs.lemmas.List.{append_assoc, map-append, take_more}
 use Rattle.std.proofs.lemmas.List.Sums.{fold-append}
 use Rattle.ladder.specs.Ladder.{LadderView, follows, learned, made}
 use Rattle.pair_judge.specs.Order.{MadeEntry, MadeRecord, record_told}
-use Rattle.capture.specs.declared.entry.Entry.{Entry}
+use Rattle.capture_record.specs.declared.entry.Entry.{Entry}
 use Rattle.wire_base.specs.declared.side.Side.{Side}
 use Rattle.drawing.specs.declared.told_record.Later.{Later}
 use Rattle.drawing.specs.Drawing.{Followed}

@@ -3,8 +3,8 @@ use Rattle.std.specs.Prelude.{◌≡◌, ◌⊎◌, ℕ, true, List, [], ◌∷�
 use Rattle.std.specs.Io.KnownBytes.{Appends}
 use Rattle.wire_base.specs.Tally.{AppendsBeginning, CountedFault}
 use Rattle.wire_base.specs.declared.side.Side.{Side}
-use Rattle.capture.specs.Entries.{record_with}
-use Rattle.capture.specs.declared.entry.Entry.{Entry}
+use Rattle.capture_record.specs.Entries.{record_with}
+use Rattle.capture_record.specs.declared.entry.Entry.{Entry}
 use Rattle.dna_links.specs.declared.queue.Queues.TheVariants.{With}
 use Rattle.dna_node.specs.Kind.{NodeKind, both_layers, layers_kind, stations_alone}
 use Rattle.ladder.specs.Drawn.{DrawnView, IsDrawn}

@@ -5,7 +5,8 @@ ghost use Rattle.pair_judge.specs.Judged.{JudgesOrFails};
 ghost use Rattle.drawing.specs.Drawing.{Followed};
 ghost use Rattle.drawing.specs.Telling.{WereFollowed};
 
-use capture::{CaptureFault, CaptureReader, Entry};
+use capture::{CaptureFault, CaptureReader};
+use capture_record::Entry;
 use ladder::Ladder;
 use pair_judge::{JudgeFault, JudgedEnds, TextFault, Verdict};
 use std::alloc::Global;

@@ -9,7 +9,7 @@ pub const ROWS: usize = 40;
 pub const MAX_ROWS: usize = 200;
 
 /// Which rows are drawn: from a record on or else the last ones up to a refused record, the first ones where none is refused.
-#[derive(Clone, Copy, Debug, PartialEq, Eq)]
+#[derive(Clone, Copy, PartialEq, Eq)]
 pub struct Range {
     /// With which record they begin, where one is named.
     pub start: Option<Start>,
@@ -20,7 +20,7 @@ pub struct Range {
 }
 
 /// How both captures are judged.
-#[derive(Clone, Copy, Debug, PartialEq, Eq)]
+#[derive(Clone, Copy, PartialEq, Eq)]
 pub enum Judging {
     /// Stations with their links, as by [`pair_judge::judge`].
     Links,
@@ -31,7 +31,7 @@ pub enum Judging {
 }
 
 /// A record, by its side and its line.
-#[derive(Clone, Copy, Debug, PartialEq, Eq)]
+#[derive(Clone, Copy, PartialEq, Eq)]
 pub struct Start {
     /// Whose capture has it.
     pub side: Side,

@@ -4,7 +4,7 @@ ghost use Rattle.std.specs.Prelude.{◌≡◌, IfOk, OnOk};
 ghost use Rattle.ladder.specs.Ladder.{learned, made};
 ghost use Rattle.drawing.specs.Telling.{later_entry};
 
-use capture::Entry;
+use capture_record::Entry;
 use ladder::Ladder;
 use pair_judge::MadeEntry;
 use std::alloc::{AllocError, Global};

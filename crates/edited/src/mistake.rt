@@ -1,6 +1,6 @@
 //! Mistakes of a recorder, and their words.
 
-use capture::{Entry, Fate};
+use capture_record::{Entry, Fate};
 use std::fmt;
 use wire_base::Side;
 

@@ -1,4 +1,5 @@
-use capture::{Entry, HintForm};
+use capture::HintForm;
+use capture_record::Entry;
 
 /// A record of a capture near a refused one, with its line.
 #[derive(Drop)]

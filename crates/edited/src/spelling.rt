@@ -3,7 +3,8 @@
 use crate::change::Change;
 use crate::line_changes::line_replaced;
 use crate::row::Row;
-use capture::{Entry, Fate, HintForm, MAX_MESSAGE, put_line};
+use capture::{HintForm, put_line};
+use capture_record::{Entry, Fate, MAX_MESSAGE};
 use std::alloc::{AllocError, Global};
 
 // The line of this entry, with its LF; `None` where it has more bytes than a line may have.

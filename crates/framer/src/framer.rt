@@ -15,7 +15,7 @@ use std::marker::Model;
 
 /// What a framer found. `strays` counts the bytes that belong to no unit, SYN and pads not among them, since what it found before; `rest` is what
 /// the piece has after the unit, which is to be given next.
-#[derive(Clone, Copy, Debug)]
+#[derive(Clone, Copy)]
 pub enum Found<'a> {
     /// A unit that lies whole in the piece.
     Unit {

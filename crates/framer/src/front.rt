@@ -16,7 +16,7 @@ const SYN: u8 = 0x96;
 const PAD: u8 = 0xff;
 
 /// What is at the front of some bytes of a line.
-#[derive(Clone, Copy, Debug, PartialEq, Eq)]
+#[derive(Clone, Copy, PartialEq, Eq)]
 pub enum Front {
     /// A byte that may come between units: SYN, or a pad.
     Between,

@@ -17,7 +17,7 @@ const DLE: u8 = 0x90;
 const CHECK_LEN: usize = 2;
 
 /// The kinds of units, by the byte that each starts with (DDCMP 4.1, message formats).
-#[derive(Clone, Copy, Debug, PartialEq, Eq)]
+#[derive(Clone, Copy, PartialEq, Eq)]
 pub enum Kind {
     /// ENQ: a control message.
     Control,

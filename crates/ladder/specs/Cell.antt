@@ -1,7 +1,7 @@
 -- What is at both sides of a row, and how its arrow ends.
 use Rattle.std.specs.Prelude.{Bool, true, false, Option, Some, None, if◌then◌else◌}
-use Rattle.capture.specs.declared.fate.Fate.{Fate as Became}
-use Rattle.capture.specs.declared.fate.Fate.TheVariants as became
+use Rattle.capture_record.specs.declared.fate.Fate.{Fate as Became}
+use Rattle.capture_record.specs.declared.fate.Fate.TheVariants as became
 use Rattle.wire_base.specs.declared.side.Side.{Side}
 use Rattle.ladder.specs.declared.cell.Cell.{Cell}
 use Rattle.ladder.specs.declared.cell.End.{End}

@@ -1,7 +1,7 @@
 -- Which units a side sends again.
 use Rattle.std.specs.Prelude.{ℕ, ◌+◌, ◌-◌, ◌%◌, Bool, true, false, min, nat_lt, if◌then◌else◌}
-use Rattle.capture.specs.declared.entry.Entry.{Entry}
-use Rattle.capture.specs.declared.entry.Entry.TheVariants as entry
+use Rattle.capture_record.specs.declared.entry.Entry.{Entry}
+use Rattle.capture_record.specs.declared.entry.Entry.TheVariants as entry
 use Rattle.ladder.specs.declared.given.Given.{Given}
 use Rattle.ladder.specs.declared.given.Startup.{Startup}
 use Rattle.ladder.specs.declared.given.Startup.TheVariants.{Strt, Stack, Neither}

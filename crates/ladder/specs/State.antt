@@ -1,7 +1,7 @@
 -- The state of a side's station after a record, by the table of the station.
 use Rattle.std.specs.Prelude.{Option, Some, None, false, []}
-use Rattle.capture.specs.declared.entry.Entry.{Entry}
-use Rattle.capture.specs.declared.entry.Entry.TheVariants as entry
+use Rattle.capture_record.specs.declared.entry.Entry.{Entry}
+use Rattle.capture_record.specs.declared.entry.Entry.TheVariants as entry
 use Rattle.ddcmp_msg.specs.Message.{MessageValue, Data, Ack, Nak, Rep, Strt, Stack}
 use Rattle.ddcmp_msg.specs.declared.flags.Flags.{Flags}
 use Rattle.dna_station.specs.declared.state.State.{State}

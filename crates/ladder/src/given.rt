@@ -4,7 +4,7 @@ ghost use Rattle.std.specs.Prelude.{◌≡◌};
 ghost use Rattle.ladder.specs.Given as spec;
 
 use crate::said::Said;
-use capture::Entry;
+use capture_record::Entry;
 
 /// What tells whether a side sends a unit again: the numbers of its data since its station was started, and its last record.
 #[derive(Clone, Copy)]

@@ -10,7 +10,7 @@ use crate::said::Said;
 use crate::state::{after, after_arrival, after_user};
 use crate::told::{Sending, Told, What};
 use crate::under_way::UnderWay;
-use capture::Entry;
+use capture_record::Entry;
 use dna_station::State;
 use std::alloc::{AllocError, Global};
 use wire_base::Side;

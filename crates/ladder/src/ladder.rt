@@ -8,7 +8,7 @@ use crate::drawn::Drawn;
 use crate::half::Half;
 use crate::rows::{Keep, Rows};
 use crate::told::Told;
-use capture::Entry;
+use capture_record::Entry;
 use std::alloc::{AllocError, Global};
 use std::marker::Model;
 use wire_base::Side;

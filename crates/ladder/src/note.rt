@@ -4,7 +4,7 @@ ghost use Rattle.std.specs.Prelude.{◌≡◌};
 ghost use Rattle.ladder.specs.Cell.{receipt_note};
 
 use crate::said::Said;
-use capture::{Entry, Fate as Became};
+use capture_record::{Entry, Fate as Became};
 use std::fmt;
 
 /// A note beside a line number.

@@ -6,7 +6,7 @@ ghost use Rattle.ladder.specs.Row as spec;
 use crate::said::Said;
 use crate::sides::faces;
 use crate::told::{Told, What};
-use capture::Fate as Became;
+use capture_record::Fate as Became;
 use dna_station::State;
 use wire_base::Side;
 

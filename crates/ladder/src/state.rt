@@ -6,7 +6,7 @@ ghost use Rattle.ladder.specs.State as spec;
 
 use crate::said::Said;
 use crate::told::What;
-use capture::Entry;
+use capture_record::Entry;
 use ddcmp_msg::{Flags, Message};
 use dna_station::{ArrivalRow, State};
 

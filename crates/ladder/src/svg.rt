@@ -34,7 +34,7 @@ pub struct Caption<'t> {
 }
 
 /// A record that is marked, by its side and its line.
-#[derive(Clone, Copy, Debug, PartialEq, Eq)]
+#[derive(Clone, Copy, PartialEq, Eq)]
 pub struct Marked {
     /// Whose capture has it.
     pub side: Side,

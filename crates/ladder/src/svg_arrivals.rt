@@ -6,7 +6,7 @@ use crate::said::Said;
 use crate::sides::faces;
 use crate::svg_places::Places;
 use crate::told::What;
-use capture::Fate as Became;
+use capture_record::Fate as Became;
 use wire_base::Side;
 
 /// Where a unit came: the level of that record, its line, what came, what became of its packet, and whether other bytes came than were sent,

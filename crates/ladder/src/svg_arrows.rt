@@ -11,7 +11,7 @@ use crate::svg_words::{Detail, outside_title, packet_words, sent_words};
 use crate::told::What;
 use crate::xml::{Attributes, Content};
 use crate::xml_names::Tag;
-use capture::Fate as Became;
+use capture_record::Fate as Became;
 use std::alloc::{AllocError, Global};
 
 // How far from a time line an arrow begins or ends, and how far it goes of what is never sent, whose other end is not drawn, or that is lost.

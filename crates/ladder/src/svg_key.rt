@@ -5,7 +5,7 @@ use crate::row::{Fate, Row};
 use crate::svg_parts::{At, with_dot, with_line, with_rect, with_text};
 use crate::told::What;
 use crate::xml::Content;
-use capture::Fate as Became;
+use capture_record::Fate as Became;
 use std::alloc::{AllocError, Global};
 
 // How high the key is, and how much higher with the signs of what is lost above or never sent.

@@ -1,7 +1,7 @@
 //! A record, as a row tells it.
 
 use crate::said::{Content, Said};
-use capture::{Entry, Fate as Became};
+use capture_record::{Entry, Fate as Became};
 use dna_station::State;
 use wire_base::Side;
 

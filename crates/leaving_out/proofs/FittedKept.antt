@@ -12,7 +12,7 @@ use Rattle.ddcmp_msg.proofs.Units.{spelled_once}
 use Rattle.capture.specs.declared.format.Format.TheVariants.{Three}
 use Rattle.capture.specs.declared.hint.HintForm.{HintForm}
 use Rattle.capture.specs.declared.hint.HintForm.TheVariants.{Wide}
-use Rattle.capture.specs.declared.record.Record.{Record}
+use Rattle.capture_record.specs.declared.record.Record.{Record}
 use Rattle.capture.specs.Text.{capture_text, record_line}
 use Rattle.capture.proofs.SoFarLaws.{text-push}
 use Rattle.dna_packet.specs.declared.fault.PacketFault.{PacketFault}

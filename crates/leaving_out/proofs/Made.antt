@@ -4,7 +4,7 @@ use Rattle.wire_base.specs.declared.side.Side.{Side}
 use Rattle.capture.specs.declared.format.Format.TheVariants.{Three}
 use Rattle.capture.specs.declared.hint.HintForm.{HintForm}
 use Rattle.capture.specs.declared.hint.HintForm.TheVariants.{Wide}
-use Rattle.capture.specs.declared.record.Record.{Record}
+use Rattle.capture_record.specs.declared.record.Record.{Record}
 use Rattle.capture.specs.Text.{capture_text, form_behind, record_line}
 use Rattle.capture.proofs.SoFarLaws.{text-push}
 use Rattle.link_groups.specs.Groups.{AreGroupsOf, Binding}

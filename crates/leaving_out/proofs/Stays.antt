@@ -11,13 +11,13 @@ use Rattle.dna_packet.specs.Packet.{PacketValue, Data, Control}
 use Rattle.dna_packet.specs.ReadingPacket.{packet_at}
 use Rattle.dna_packet.specs.Nsp.{NspValue}
 use Rattle.dna_packet.specs.ReadingNsp.{nsp_at}
-use Rattle.capture.specs.declared.event.Event.{Event}
-use Rattle.capture.specs.declared.event.Event.TheVariants as events
-use Rattle.capture.specs.declared.fate.Fate.{Fate}
-use Rattle.capture.specs.declared.fate.Fate.TheVariants.{NotKept, Kept, Dropped}
-use Rattle.capture.specs.declared.record.Record.{Record}
-use Rattle.capture.specs.declared.record.Record.TheVariants.{Sent, Received, Noise, User}
-use Rattle.capture.specs.Range.{IsRecord}
+use Rattle.capture_record.specs.declared.event.Event.{Event}
+use Rattle.capture_record.specs.declared.event.Event.TheVariants as events
+use Rattle.capture_record.specs.declared.fate.Fate.{Fate}
+use Rattle.capture_record.specs.declared.fate.Fate.TheVariants.{NotKept, Kept, Dropped}
+use Rattle.capture_record.specs.declared.record.Record.{Record}
+use Rattle.capture_record.specs.declared.record.Record.TheVariants.{Sent, Received, Noise, User}
+use Rattle.capture_record.specs.Range.{IsRecord}
 use Rattle.link_groups.specs.declared.own_address.OwnAddress.{OwnAddress}
 use Rattle.leaving_out.specs.declared.leaving.Leaving.{Leaving}
 use Rattle.leaving_out.specs.declared.packet_left.Route.{Route}

@@ -6,7 +6,7 @@ use Rattle.capture.specs.declared.fault.CaptureFault.TheVariants.{Departs}
 use Rattle.capture.specs.declared.fault.Departure.{Departure}
 use Rattle.capture.specs.declared.limit.TheConstants.{MAX_RECORDS}
 use Rattle.capture.specs.declared.phase.Phase.TheVariants.{Reading}
-use Rattle.capture.specs.declared.record.Record.{Record}
+use Rattle.capture_record.specs.declared.record.Record.{Record}
 use Rattle.capture.specs.Departing.{RecordDeparts}
 use Rattle.capture.specs.Lines.{to_come}
 use Rattle.capture.specs.Reader.{CaptureState, FaultShows, NextGives, Opens}

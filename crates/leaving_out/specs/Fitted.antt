@@ -7,14 +7,14 @@ use Rattle.wire_base.specs.Side.{other_side}
 use Rattle.ddcmp_msg.specs.Message as messages
 use Rattle.ddcmp_msg.specs.Reading.{ReadingValue, Sound, HeaderBad, DataBad, Malformed, reading}
 use Rattle.ddcmp_msg.specs.Spelling.{spelling}
-use Rattle.capture.specs.declared.event.Event.{Event}
-use Rattle.capture.specs.declared.event.Event.TheVariants as events
+use Rattle.capture_record.specs.declared.event.Event.{Event}
+use Rattle.capture_record.specs.declared.event.Event.TheVariants as events
 use Rattle.capture.specs.declared.fault.CaptureFault.{CaptureFault}
 use Rattle.capture.specs.declared.fault.CaptureFault.TheVariants.{Departs, Read, OutOfMemory, Failed}
 use Rattle.capture.specs.declared.fault.Departure.{Departure}
 use Rattle.capture.specs.declared.format.Format.TheVariants.{Three}
-use Rattle.capture.specs.declared.record.Record.{Record}
-use Rattle.capture.specs.declared.record.Record.TheVariants.{Sent, Received, Noise, User}
+use Rattle.capture_record.specs.declared.record.Record.{Record}
+use Rattle.capture_record.specs.declared.record.Record.TheVariants.{Sent, Received, Noise, User}
 use Rattle.capture.specs.SoFar.{ReadSoFar, TheEnd, IsReadSoFar, HeadDepartsAt}
 use Rattle.capture.specs.Text.{capture_text}
 use Rattle.dna_packet.specs.declared.fault.PacketFault.{PacketFault}

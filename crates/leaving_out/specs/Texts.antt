@@ -10,7 +10,7 @@ use Rattle.capture.specs.declared.fault.Departure.{Departure}
 use Rattle.capture.specs.declared.fault.Departure.TheVariants.{Syntax, TooLong, TooMany}
 use Rattle.capture.specs.declared.format.Format.TheVariants.{Three}
 use Rattle.capture.specs.declared.limit.TheConstants.{MAX_LINE}
-use Rattle.capture.specs.declared.record.Record.{Record}
+use Rattle.capture_record.specs.declared.record.Record.{Record}
 use Rattle.capture.specs.SoFar.{ReadSoFar, TheEnd, IsReadSoFar, DepartsBehind, HeadDepartsAt, read_on}
 use Rattle.capture.specs.Text.{capture_text}
 use Rattle.link_groups.specs.declared.own_address.OwnAddress.{OwnAddress}

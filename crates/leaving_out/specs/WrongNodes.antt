@@ -3,9 +3,9 @@
 use Rattle.std.specs.Prelude.{ℕ, ◌==◌, ◌&&◌, not, Bool, false, Option, Some, None, List, Result, Ok, Err}
 use Rattle.wire_base.specs.declared.side.Side.{Side}
 use Rattle.wire_base.specs.Side.{other_side}
-use Rattle.capture.specs.declared.fate.Fate.TheVariants.{NotKept, Kept, Dropped}
-use Rattle.capture.specs.declared.record.Record.{Record}
-use Rattle.capture.specs.declared.record.Record.TheVariants.{Sent, Received, Noise, User}
+use Rattle.capture_record.specs.declared.fate.Fate.TheVariants.{NotKept, Kept, Dropped}
+use Rattle.capture_record.specs.declared.record.Record.{Record}
+use Rattle.capture_record.specs.declared.record.Record.TheVariants.{Sent, Received, Noise, User}
 use Rattle.ddcmp_msg.specs.Reading.{reading}
 use Rattle.dna_packet.specs.declared.fault.PacketFault.{PacketFault}
 use Rattle.dna_packet.specs.Packet.{PacketValue, Data, Control}

@@ -2,7 +2,7 @@
 
 ghost use Rattle.std.specs.Prelude.{◌≡◌, List};
 ghost use Rattle.link_groups.specs.Groups.{AreGroupsOf, Binding as Bound};
-ghost use Rattle.capture.specs.Entries.{record_with};
+ghost use Rattle.capture_record.specs.Entries.{record_with};
 ghost use Rattle.wire_base.specs.Tally.{tally_faults, tally_lent};
 ghost use Rattle.capture.specs.Faulty.{CountsReads, is_failed_read};
 ghost use Rattle.leaving_out.specs.About as spec;
@@ -10,7 +10,8 @@ ghost use Rattle.leaving_out.specs.Messages.{message_in_unit};
 ghost use Rattle.leaving_out.specs.Texts.{BindsAll};
 
 use crate::message::message_in_unit;
-use capture::{CaptureFault, CaptureReader, Entry, MAX_RECORDS};
+use capture::{CaptureFault, CaptureReader, MAX_RECORDS};
+use capture_record::Entry;
 use dna_packet::Nsp;
 use link_groups::{Groups, OwnAddress};
 use std::alloc::Global;

@@ -1,9 +1,9 @@
 //! Captures whose heads do not fit each other, as ones whose heads do: so that what one end sends of a link that is left out still acts at the other.
 
 ghost use Rattle.std.specs.Prelude.{◌≡◌, ◌++◌, if◌then◌else◌, IfOk, OnOk};
-ghost use Rattle.capture.specs.Entries.{record_with};
+ghost use Rattle.capture_record.specs.Entries.{record_with};
 ghost use Rattle.capture.specs.Faulty.{CountsReads, is_failed_read};
-ghost use Rattle.capture.specs.Range.{IsRecord};
+ghost use Rattle.capture_record.specs.Range.{IsRecord};
 ghost use Rattle.capture.specs.Text.{record_line};
 ghost use Rattle.capture.specs.declared.hint.HintForm.TheVariants.{Wide};
 ghost use Rattle.dna_packet.specs.ReadingNsp.{nsp_at};
@@ -17,7 +17,8 @@ use crate::naming::at_sender;
 use crate::packet_left::Route;
 use crate::record_left::put_changed;
 use crate::text_left::put_departure;
-use capture::{CaptureFault, CaptureReader, Entry, Format, MAX_RECORDS, put_head_line, put_line};
+use capture::{CaptureFault, CaptureReader, Format, MAX_RECORDS, put_head_line, put_line};
+use capture_record::Entry;
 use ddcmp_msg::{Message, Reading, read_unit, write_unit};
 use dna_packet::{Packet, read_nsp, read_packet, write_packet};
 use std::alloc::{AllocError, Global};

@@ -8,7 +8,7 @@ use ddcmp_msg::{Message, Reading, read_unit};
 use dna_packet::{Nsp, Packet, read_nsp, read_packet};
 
 /// SRCADDR and DSTADDR of a message, 0 where it has none.
-#[derive(Clone, Copy, Debug, PartialEq, Eq)]
+#[derive(Clone, Copy, PartialEq, Eq)]
 pub struct Ends {
     pub src: u16,
     pub dst: u16,

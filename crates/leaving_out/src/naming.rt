@@ -1,13 +1,13 @@
 //! Which own address a message or a record is about.
 
 ghost use Rattle.std.specs.Prelude.{◌≡◌, Some};
-ghost use Rattle.capture.specs.Entries.{record_with};
+ghost use Rattle.capture_record.specs.Entries.{record_with};
 ghost use Rattle.leaving_out.specs.Addresses.{at_receiver, at_sender, own};
 ghost use Rattle.leaving_out.specs.Messages.{message_in_packet, message_in_unit};
 ghost use Rattle.leaving_out.specs.About.{about, about_at_receiver, about_at_sender};
 
 use crate::message::{Ends, ends_of, message_in_packet, message_in_unit};
-use capture::Entry;
+use capture_record::Entry;
 use link_groups::OwnAddress;
 use wire_base::Side;
 

@@ -16,7 +16,7 @@ use std::alloc::{AllocError, Global};
 use wire_base::Side;
 
 /// The routing header of a short format data packet: its fields as [`Packet::Data`] has them.
-#[derive(Clone, Copy, Debug)]
+#[derive(Clone, Copy)]
 pub struct Route {
     pub rtflg: u8,
     pub dst: u16,

@@ -2,10 +2,10 @@
 
 ghost use Rattle.std.specs.Prelude.{◌≡◌, ◌≤◌, ◌++◌, [], if◌then◌else◌, length, OnOk};
 ghost use Rattle.capture.specs.declared.hint.HintForm.TheVariants.{Wide};
-ghost use Rattle.capture.specs.declared.limit.TheConstants.{MAX_MESSAGE};
-ghost use Rattle.capture.specs.declared.entry.Entry.TheVariants as entries;
-ghost use Rattle.capture.specs.Entries.{record_with};
-ghost use Rattle.capture.specs.Range.{IsRecord};
+ghost use Rattle.capture_record.specs.declared.limit.TheConstants.{MAX_MESSAGE};
+ghost use Rattle.capture_record.specs.declared.entry.Entry.TheVariants as entries;
+ghost use Rattle.capture_record.specs.Entries.{record_with};
+ghost use Rattle.capture_record.specs.Range.{IsRecord};
 ghost use Rattle.capture.specs.Text.{record_line};
 ghost use Rattle.leaving_out.specs.Addresses.{is_left};
 ghost use Rattle.leaving_out.specs.Packets.{or_same};
@@ -15,7 +15,8 @@ use crate::leaving::Leaving;
 use crate::naming::came_about;
 use crate::packet_left::packet_left;
 use crate::unit_left::unit_left;
-use capture::{Entry, Fate, put_line};
+use capture::put_line;
+use capture_record::{Entry, Fate};
 use link_groups::OwnAddress;
 use std::alloc::{AllocError, Global};
 use wire_base::Side;

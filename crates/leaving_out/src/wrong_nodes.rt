@@ -4,7 +4,7 @@
 ghost use Rattle.std.specs.Prelude.{◌≡◌};
 ghost use Rattle.ddcmp_msg.specs.Reading.{reading};
 ghost use Rattle.dna_packet.specs.ReadingPacket.{packet_at};
-ghost use Rattle.capture.specs.Entries.{record_with};
+ghost use Rattle.capture_record.specs.Entries.{record_with};
 ghost use Rattle.capture.specs.Faulty.{CountsReads, is_failed_read};
 ghost use Rattle.wire_base.specs.Tally.{tally_faults, tally_lent};
 ghost use Rattle.leaving_out.specs.Messages.{message_in_unit, packet_of};
@@ -14,7 +14,8 @@ ghost use Rattle.leaving_out.specs.WrongNodes as spec;
 use crate::leaving::{Head, Leaving};
 use crate::message::{ends_of, message_in_unit};
 use crate::naming::at_receiver;
-use capture::{CaptureFault, CaptureReader, Entry, Fate};
+use capture::{CaptureFault, CaptureReader};
+use capture_record::{Entry, Fate};
 use ddcmp_msg::{Message, Reading, read_unit};
 use dna_packet::{Packet, read_packet};
 use std::alloc::Global;

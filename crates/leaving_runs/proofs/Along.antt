@@ -5,7 +5,7 @@ use Rattle.std.proofs.Common.{subst}
 use Rattle.two_nodes.specs.Nodes.{Half, Outcome, stepped, advance}
 use Rattle.two_nodes.specs.Nodes.Outcome.{Made}
 use Rattle.two_nodes.proofs.Order.{one_half}
-use Rattle.capture.specs.declared.record.Record.{Record}
+use Rattle.capture_record.specs.declared.record.Record.{Record}
 use Rattle.dna_station.specs.declared.refusal.StepRefusal.{StepRefusal}
 use Rattle.dna_station.specs.Station.{Station}
 use Rattle.dna_station.specs.Machine.{step}

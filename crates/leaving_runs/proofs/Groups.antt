@@ -4,10 +4,10 @@ use Rattle.std.specs.List.{AllByRecursion, Contains, slice_get}
 use Rattle.std.specs.Option.{IfSome}
 use Rattle.std.proofs.lemmas.List.Elements.{Contains-append_left, Contains-append_right}
 use Rattle.wire_base.specs.declared.side.Side.{Side}
-use Rattle.capture.specs.Range.{IsRecord}
-use Rattle.capture.specs.declared.event.Event.TheVariants as events
-use Rattle.capture.specs.declared.record.Record.{Record}
-use Rattle.capture.specs.declared.record.Record.TheVariants.{Sent, Received, Noise, User}
+use Rattle.capture_record.specs.Range.{IsRecord}
+use Rattle.capture_record.specs.declared.event.Event.TheVariants as events
+use Rattle.capture_record.specs.declared.record.Record.{Record}
+use Rattle.capture_record.specs.declared.record.Record.TheVariants.{Sent, Received, Noise, User}
 use Rattle.link_groups.specs.declared.own_address.OwnAddress.{OwnAddress}
 use Rattle.link_groups.specs.Groups.{AreTogether, Binding}
 use Rattle.link_groups.specs.Groups.AreTogether.{Bound, Back}

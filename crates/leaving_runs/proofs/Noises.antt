@@ -7,7 +7,7 @@ use Rattle.two_nodes.specs.Nodes.Outcome.{Made}
 use Rattle.ddcmp_msg.specs.declared.nak_reason.NakReason.TheVariants.{HeaderCheck, DataCheck}
 use Rattle.ddcmp_msg.specs.Reading.{ReadingValue, reading}
 use Rattle.ddcmp_msg.specs.Reading as read_as
-use Rattle.capture.specs.declared.record.Record.TheVariants.{Noise}
+use Rattle.capture_record.specs.declared.record.Record.TheVariants.{Noise}
 use Rattle.dna_station.specs.Table.{counts_damage}
 use Rattle.dna_station.specs.Station.{Station}
 use Rattle.dna_station.specs.Book.{HeaderBad, DataBad}

@@ -6,11 +6,11 @@ use Rattle.two_nodes.specs.Nodes.Outcome.{Refused}
 use Rattle.ddcmp_msg.specs.Message.{IsBytes, MessageValue}
 use Rattle.ddcmp_msg.specs.Reading.{ReadingValue, reading}
 use Rattle.ddcmp_msg.specs.Reading as read_as
-use Rattle.capture.specs.Range.{IsRecord}
-use Rattle.capture.specs.declared.event.Event.{Event}
-use Rattle.capture.specs.declared.event.Event.TheVariants as events
-use Rattle.capture.specs.declared.record.Record.{Record}
-use Rattle.capture.specs.declared.record.Record.TheVariants.{Sent, User}
+use Rattle.capture_record.specs.Range.{IsRecord}
+use Rattle.capture_record.specs.declared.event.Event.{Event}
+use Rattle.capture_record.specs.declared.event.Event.TheVariants as events
+use Rattle.capture_record.specs.declared.record.Record.{Record}
+use Rattle.capture_record.specs.declared.record.Record.TheVariants.{Sent, User}
 use Rattle.dna_packet.specs.declared.fault.PacketFault.{PacketFault}
 use Rattle.dna_packet.specs.declared.fault.NspFault.{NspFault}
 use Rattle.dna_packet.specs.Packet.{PacketValue}

@@ -11,7 +11,7 @@ use Rattle.two_nodes.proofs.Order.{one_more_of_a, one_more_of_b}
 use Rattle.two_nodes.proofs.Lasting.{lasts}
 use Rattle.ddcmp_msg.specs.Reading.{reading}
 use Rattle.ddcmp_msg.specs.Reading as read_as
-use Rattle.capture.specs.declared.record.Record.{Record}
+use Rattle.capture_record.specs.declared.record.Record.{Record}
 use Rattle.dna_station.specs.declared.head.Head.{Head}
 use Rattle.dna_links.specs.declared.queue.Queues.{Queues}
 use Rattle.dna_links.specs.TrueSegments.{Numbers}

@@ -9,7 +9,7 @@ use Rattle.two_nodes.specs.Nodes.Outcome.{Made}
 use Rattle.ddcmp_msg.specs.Message.{IsBytes, MessageValue, Data}
 use Rattle.ddcmp_msg.specs.Reading.{ReadingValue, reading}
 use Rattle.ddcmp_msg.specs.Reading as read_as
-use Rattle.capture.specs.declared.record.Record.TheVariants.{Sent}
+use Rattle.capture_record.specs.declared.record.Record.TheVariants.{Sent}
 use Rattle.dna_station.specs.declared.refusal.StationRefusal.{StationRefusal}
 use Rattle.dna_station.specs.declared.refusal.StepRefusal.{StepRefusal}
 use Rattle.dna_station.specs.declared.link_refusal.LinkRefusal.{LinkRefusal}

@@ -7,9 +7,9 @@ use Rattle.two_nodes.proofs.NumberedSteps.{at_pushed}
 use Rattle.ddcmp_msg.specs.Message.{IsBytes}
 use Rattle.ddcmp_msg.specs.Reading.{reading}
 use Rattle.ddcmp_msg.specs.Reading as read_as
-use Rattle.capture.specs.Range.{IsRecord}
-use Rattle.capture.specs.declared.record.Record.{Record}
-use Rattle.capture.specs.declared.record.Record.TheVariants.{Sent, Received, Noise, User}
+use Rattle.capture_record.specs.Range.{IsRecord}
+use Rattle.capture_record.specs.declared.record.Record.{Record}
+use Rattle.capture_record.specs.declared.record.Record.TheVariants.{Sent, Received, Noise, User}
 use Rattle.dna_station.specs.declared.state.StationEvent.TheVariants.{Start, Halt}
 use Rattle.dna_station.specs.Book.{Sound}
 use Rattle.dna_station.specs.StationBook.{arrival_refusal}

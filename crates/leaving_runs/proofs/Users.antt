@@ -4,11 +4,11 @@ use Rattle.std.proofs.lemmas.Bool.{and_parts}
 use Rattle.std.proofs.Common.{eqb-true}
 use Rattle.two_nodes.specs.Nodes.{Half, Outcome, answered, advance}
 use Rattle.two_nodes.specs.Nodes.Outcome.{Made}
-use Rattle.capture.specs.Range.{IsRecord}
-use Rattle.capture.specs.declared.event.Event.{Event}
-use Rattle.capture.specs.declared.event.Event.TheVariants as events
-use Rattle.capture.specs.declared.record.Record.{Record}
-use Rattle.capture.specs.declared.record.Record.TheVariants.{User}
+use Rattle.capture_record.specs.Range.{IsRecord}
+use Rattle.capture_record.specs.declared.event.Event.{Event}
+use Rattle.capture_record.specs.declared.event.Event.TheVariants as events
+use Rattle.capture_record.specs.declared.record.Record.{Record}
+use Rattle.capture_record.specs.declared.record.Record.TheVariants.{User}
 use Rattle.dna_station.specs.declared.state.StationEvent.TheVariants.{Start, Halt}
 use Rattle.dna_station.specs.declared.refusal.StationRefusal.{StationRefusal}
 use Rattle.dna_station.specs.declared.refusal.StepRefusal.{StepRefusal}

@@ -4,8 +4,8 @@ use Rattle.std.specs.List.{AllByRecursion}
 use Rattle.wire_base.specs.declared.side.Side.TheVariants.{A, B}
 use Rattle.two_nodes.specs.Nodes.{World, Run, advance}
 use Rattle.two_nodes.specs.Nodes.Outcome.{Refused}
-use Rattle.capture.specs.Range.{IsRecord}
-use Rattle.capture.specs.declared.record.Record.{Record}
+use Rattle.capture_record.specs.Range.{IsRecord}
+use Rattle.capture_record.specs.declared.record.Record.{Record}
 use Rattle.dna_station.specs.declared.head.Head.{Head}
 use Rattle.dna_station.specs.declared.refusal.StepRefusal.TheVariants.{Links as OfLinks}
 use Rattle.dna_station.specs.declared.link_refusal.LinkRefusal.{LinkRefusal}

@@ -2,9 +2,9 @@
 use Rattle.std.specs.Prelude.{◌≡◌, ℕ, true, false, Option, Some, None, List, Ok}
 use Rattle.ddcmp_msg.specs.Message.{MessageValue, IsBytes, IsInRange}
 use Rattle.ddcmp_msg.specs.Reading.{reading, Sound}
-use Rattle.capture.specs.Range.{IsRecord}
-use Rattle.capture.specs.declared.record.Record.{Record}
-use Rattle.capture.specs.declared.record.Record.TheVariants.{User}
+use Rattle.capture_record.specs.Range.{IsRecord}
+use Rattle.capture_record.specs.declared.record.Record.{Record}
+use Rattle.capture_record.specs.declared.record.Record.TheVariants.{User}
 use Rattle.dna_links.specs.Links.{Carried}
 use Rattle.dna_links.specs.User.{LinkEventValue}
 use Rattle.dna_node.specs.Content.{content, link_event}

@@ -3,8 +3,8 @@ use Rattle.std.specs.Prelude.{◌≡◌, ◌≤◌, false, true, List, Option, S
 use Rattle.std.specs.List.{AllByRecursion}
 use Rattle.wire_base.specs.declared.side.Side.{Side}
 use Rattle.wire_base.specs.Side.{other_side}
-use Rattle.capture.specs.declared.record.Record.{Record}
-use Rattle.capture.specs.declared.record.Record.TheVariants.{Received}
+use Rattle.capture_record.specs.declared.record.Record.{Record}
+use Rattle.capture_record.specs.declared.record.Record.TheVariants.{Received}
 use Rattle.dna_packet.specs.Nsp.{NspValue, ConnectConfirm}
 use Rattle.dna_station.specs.declared.head.Head.{Head}
 use Rattle.link_groups.specs.Groups.{Binding}

@@ -1,11 +1,11 @@
 -- What is left of a record.
 use Rattle.std.specs.Prelude.{ℕ, if◌then◌else◌, Option, Some, None, List, []}
-use Rattle.capture.specs.declared.event.Event.{Event}
-use Rattle.capture.specs.declared.event.Event.TheVariants as events
-use Rattle.capture.specs.declared.fate.Fate.{Fate}
-use Rattle.capture.specs.declared.fate.Fate.TheVariants.{NotKept, Kept, Dropped}
-use Rattle.capture.specs.declared.record.Record.{Record}
-use Rattle.capture.specs.declared.record.Record.TheVariants.{Sent, Received, Noise, User}
+use Rattle.capture_record.specs.declared.event.Event.{Event}
+use Rattle.capture_record.specs.declared.event.Event.TheVariants as events
+use Rattle.capture_record.specs.declared.fate.Fate.{Fate}
+use Rattle.capture_record.specs.declared.fate.Fate.TheVariants.{NotKept, Kept, Dropped}
+use Rattle.capture_record.specs.declared.record.Record.{Record}
+use Rattle.capture_record.specs.declared.record.Record.TheVariants.{Sent, Received, Noise, User}
 use Rattle.dna_packet.specs.Nsp.{NspValue}
 use Rattle.leaving_out.specs.Messages.{message_in_unit}
 use Rattle.dna_leaving.specs.LeftOut.{LeftOut, source_of, destination_of, kept_out}

@@ -2,8 +2,8 @@
 use Rattle.std.specs.Prelude.{◌≡◌, false, List, Contains, IfSome}
 use Rattle.std.specs.List.{AllByRecursion}
 use Rattle.wire_base.specs.declared.side.Side.{Side}
-use Rattle.capture.specs.declared.record.Record.{Record}
-use Rattle.capture.specs.declared.record.Record.TheVariants.{User}
+use Rattle.capture_record.specs.declared.record.Record.{Record}
+use Rattle.capture_record.specs.declared.record.Record.TheVariants.{User}
 use Rattle.dna_station.specs.declared.head.Head.{Head}
 use Rattle.link_groups.specs.Groups.{Binding}
 use Rattle.leaving_out.specs.declared.leaving.Leaving.{Leaving}

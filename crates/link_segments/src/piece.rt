@@ -27,7 +27,7 @@ impl Model for Piece {
 }
 
 /// A piece whose data lie elsewhere.
-#[derive(Clone, Copy, Debug, PartialEq, Eq)]
+#[derive(Clone, Copy, PartialEq, Eq)]
 pub struct PieceSlice<'a> {
     pub begins: bool,
     pub ends: bool,

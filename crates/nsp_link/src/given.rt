@@ -11,7 +11,7 @@ use wire_base::Seq;
 
 /// The numbers of the segments that a link has given, modulo 4,096. An acknowledgement of one that it has not given is none that a right
 /// partner sends.
-#[derive(Clone, Copy, Debug, PartialEq, Eq)]
+#[derive(Clone, Copy, PartialEq, Eq)]
 pub struct Given {
     /// The highest number that the partner acknowledged, 0 to 4,095.
     pub acknowledged: u16,

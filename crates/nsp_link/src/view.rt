@@ -3,7 +3,7 @@
 use dna_links::{LinkQueue, Port};
 
 /// One end of a logical link at one moment (NSP 4.0, ports), to be shown.
-#[derive(Clone, Copy, Debug, PartialEq, Eq)]
+#[derive(Clone, Copy, PartialEq, Eq)]
 pub struct LinkView {
     /// Its phase, who opened it, and its own and its far address, as far as they are known.
     pub port: Port,
@@ -19,7 +19,7 @@ pub struct LinkView {
 
 /// The numbers of a link's segments, both ways (NSP 4.0, data segments and acknowledgements), 0 to 4,095 as messages have them. All are 0
 /// where the link has ended.
-#[derive(Clone, Copy, Debug, PartialEq, Eq)]
+#[derive(Clone, Copy, PartialEq, Eq)]
 pub struct LinkNumbers {
     /// The highest number given; while there is none, 0.
     pub given: u16,

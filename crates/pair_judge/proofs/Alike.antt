@@ -3,7 +3,7 @@ use Rattle.std.proofs.Common.{◌≡◌, ℕ, List, Some, Ok, Err, sym, ap, ap�
 use Rattle.two_nodes.specs.Nodes.{World}
 use Rattle.two_nodes.proofs.Order.{one_end}
 use Rattle.wire_base.specs.declared.side.Side.{Side}
-use Rattle.capture.specs.declared.record.Record.{Record}
+use Rattle.capture_record.specs.declared.record.Record.{Record}
 use Rattle.capture.specs.Range.{IsText}
 use Rattle.dna_node.specs.declared.finding.Finding.TheVariants as findings
 use Rattle.dna_station.specs.declared.head.Head.{Head}

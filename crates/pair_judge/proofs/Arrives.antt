@@ -1,8 +1,8 @@
 -- What both layers make of an arrival, by what the station made of it.
 use Rattle.std.proofs.Common.{◌≡◌, Bool, true, false, ◌&&◌, cond, Option, Some, None, List, ℕ, Result, Ok, refl, ap, ◌∙◌}
-use Rattle.capture.specs.declared.fate.Fate.{Fate}
-use Rattle.capture.specs.declared.fate.Fate.TheVariants.{NotKept, Kept, Dropped}
-use Rattle.capture.specs.Fates.{is_kept, is_met}
+use Rattle.capture_record.specs.declared.fate.Fate.{Fate}
+use Rattle.capture_record.specs.declared.fate.Fate.TheVariants.{NotKept, Kept, Dropped}
+use Rattle.capture_record.specs.Fates.{is_kept, is_met}
 use Rattle.dna_station.specs.declared.tag.Tag.{Tag}
 use Rattle.dna_links.specs.declared.tag.LinkTag.{LinkTag}
 use Rattle.dna_station.specs.declared.refusal.StationRefusal.{StationRefusal}

@@ -5,7 +5,7 @@ use Rattle.wire_base.specs.Side.{other_side}
 use Rattle.wire_base.specs.declared.side.Side.{Side}
 use Rattle.wire_base.specs.declared.side.Side.TheVariants.{A, B}
 use Rattle.capture.specs.declared.fault.Departure.{Departure}
-use Rattle.capture.specs.declared.record.Record.{Record}
+use Rattle.capture_record.specs.declared.record.Record.{Record}
 use Rattle.capture.specs.declared.hint.HintForm.{HintForm}
 use Rattle.capture.specs.Range.{IsText}
 use Rattle.capture.specs.SoFar.{Behind, ToCome, TheEnd, ReadSoFar, so_far, IsReadSoFar, GoesOn, GoesOnBy, DepartsBehind, HeadDepartsAt}

@@ -3,12 +3,13 @@ use Rattle.std.proofs.Common.{◌≡◌, ℕ, ◌+◌, ◌<◌, List, [], ◌∷
 use Rattle.std.proofs.Common.{length-append, append-nil}
 use Rattle.std.specs.Io.KnownBytes.{Consumes, IsAtEnd}
 use Rattle.capture.specs.declared.limit.TheConstants.{MAX_RECORDS}
-use Rattle.capture.specs.declared.record.Record.{Record}
-use Rattle.capture.specs.declared.entry.Entry.{Entry}
-use Rattle.capture.specs.Entries.{record_with}
+use Rattle.capture_record.specs.declared.record.Record.{Record}
+use Rattle.capture_record.specs.declared.entry.Entry.{Entry}
+use Rattle.capture_record.specs.Entries.{record_with}
 use Rattle.capture.specs.declared.hint.HintForm.{HintForm}
 use Rattle.capture.specs.Text.{form_after, record_line}
-use Rattle.capture.specs.Range.{IsInForm, IsRecord}
+use Rattle.capture_record.specs.Range.{IsRecord}
+use Rattle.capture.specs.Range.{IsInForm}
 use Rattle.capture.specs.Reader.{CaptureState, NextGives, Opens}
 use Rattle.capture.specs.Lines.{to_come}
 use Rattle.capture.specs.SoFar.{ToCome, TheEnd, so_far, IsReadSoFar}

@@ -8,7 +8,7 @@ use Rattle.wire_base.specs.Side.{other_side}
 use Rattle.wire_base.specs.declared.side.Side.{Side}
 use Rattle.wire_base.specs.declared.side.Side.TheVariants.{A, B}
 use Rattle.two_nodes.specs.Nodes.{Run, World}
-use Rattle.capture.specs.declared.record.Record.{Record}
+use Rattle.capture_record.specs.declared.record.Record.{Record}
 use Rattle.dna_station.specs.declared.head.Head.{Head}
 use Rattle.dna_station.specs.Bounds.{IsOrdered}
 use Rattle.dna_station.specs.Cut.{AreLabelled, cut}

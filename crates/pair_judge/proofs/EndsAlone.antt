@@ -1,6 +1,6 @@
 -- One end where its judge stops shows the node that its records led to.
 use Rattle.std.proofs.Common.{Bool, ℕ, List, ◌++◌, Option, refl, sym, ap, subst, ◌∙◌}
-use Rattle.capture.specs.declared.record.Record.{Record}
+use Rattle.capture_record.specs.declared.record.Record.{Record}
 use Rattle.ddcmp_station.specs.View.{view_of}
 use Rattle.dna_station.specs.declared.head.Head.{Head}
 use Rattle.dna_links.specs.declared.queue.Queues.{Queues}

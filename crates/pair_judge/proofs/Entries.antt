@@ -1,8 +1,8 @@
 -- Which entries are what the other arms of a choice leave.
 use Rattle.std.proofs.Common.{◌≡◌, ℕ, false, refl}
-use Rattle.capture.specs.declared.fate.Fate.{Fate}
-use Rattle.capture.specs.declared.entry.Entry.{Entry}
-use Rattle.capture.specs.declared.entry.Entry.TheVariants.{Sent, Received, Noise}
+use Rattle.capture_record.specs.declared.fate.Fate.{Fate}
+use Rattle.capture_record.specs.declared.entry.Entry.{Entry}
+use Rattle.capture_record.specs.declared.entry.Entry.TheVariants.{Sent, Received, Noise}
 use Rattle.pair_judge.specs.inner.Making.{IsEvent, is_receipt}
 
 -- what was neither sent nor came is the user's

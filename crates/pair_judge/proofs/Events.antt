@@ -1,6 +1,6 @@
 -- What an event counts.
 use Rattle.std.proofs.Common.{◌≡◌, ◌+◌, refl}
-use Rattle.capture.specs.declared.record.Record.TheVariants.{User}
+use Rattle.capture_record.specs.declared.record.Record.TheVariants.{User}
 use Rattle.dna_station.specs.declared.state.StationEvent.{StationEvent}
 use Rattle.dna_station.specs.declared.state.StationEvent.TheVariants.{Start, Halt}
 use Rattle.dna_links.specs.User.{LinkEventValue, Up}

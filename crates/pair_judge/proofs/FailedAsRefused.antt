@@ -1,10 +1,10 @@
 -- The check that a message, an arrival or an event does not pass is the one for which both layers refuse it.
 use Rattle.std.proofs.Common.{◌≡◌, ℕ, Bool, true, false, cond, Option, Some, None, List, Result, Ok, Err, refl, sym, ap, ◌∙◌, option_map}
-use Rattle.capture.specs.declared.fate.Fate.{Fate}
-use Rattle.capture.specs.declared.fate.Fate.TheVariants.{Kept}
-use Rattle.capture.specs.Fates.{is_kept, is_met}
-use Rattle.capture.specs.declared.event.Event.{Event}
-use Rattle.capture.specs.declared.event.Event.TheVariants as events
+use Rattle.capture_record.specs.declared.fate.Fate.{Fate}
+use Rattle.capture_record.specs.declared.fate.Fate.TheVariants.{Kept}
+use Rattle.capture_record.specs.Fates.{is_kept, is_met}
+use Rattle.capture_record.specs.declared.event.Event.{Event}
+use Rattle.capture_record.specs.declared.event.Event.TheVariants as events
 use Rattle.ddcmp_msg.specs.Message.{MessageValue}
 use Rattle.ddcmp_station.specs.Failed as of_station
 use Rattle.ddcmp_station.specs.declared.failed.FailedArrival.{FailedArrival}

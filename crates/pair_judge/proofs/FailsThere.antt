@@ -6,10 +6,10 @@ use Rattle.std.proofs.lemmas.Bool.{cases_lt, lt-ltb, le-ltb}
 use Rattle.two_nodes.specs.Nodes.{Outcome, advance, answered, concluded}
 use Rattle.two_nodes.specs.Nodes.Outcome.{Made, Waits, Refused}
 use Rattle.two_nodes.specs.Nodes as any
-use Rattle.capture.specs.declared.fate.Fate.{Fate}
-use Rattle.capture.specs.declared.fate.Fate.TheVariants.{NotKept}
-use Rattle.capture.specs.declared.record.Record.{Record}
-use Rattle.capture.specs.declared.record.Record.TheVariants.{Sent, Received, Noise, User}
+use Rattle.capture_record.specs.declared.fate.Fate.{Fate}
+use Rattle.capture_record.specs.declared.fate.Fate.TheVariants.{NotKept}
+use Rattle.capture_record.specs.declared.record.Record.{Record}
+use Rattle.capture_record.specs.declared.record.Record.TheVariants.{Sent, Received, Noise, User}
 use Rattle.ddcmp_msg.specs.Message.{MessageValue}
 use Rattle.ddcmp_msg.specs.Reading.{ReadingValue, reading, Sound}
 use Rattle.dna_station.specs.Book.{ArrivalValue}

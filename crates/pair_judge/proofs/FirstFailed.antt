@@ -1,9 +1,9 @@
 -- The first check of a reason, found from the last one on.
 use Rattle.std.proofs.Common.{◌≡◌, ℕ, false, Option, Some, None, List, [], ◌∷◌, refl, sym, ap, ◌∙◌, subst, option_map}
 use Rattle.wire_base.specs.declared.side.Side.{Side}
-use Rattle.capture.specs.declared.entry.Entry.{Entry}
-use Rattle.capture.specs.declared.entry.Entry.TheVariants as entries
-use Rattle.capture.specs.Entries.{record_with}
+use Rattle.capture_record.specs.declared.entry.Entry.{Entry}
+use Rattle.capture_record.specs.declared.entry.Entry.TheVariants as entries
+use Rattle.capture_record.specs.Entries.{record_with}
 use Rattle.dna_links.specs.declared.queue.Queues.{Queues}
 use Rattle.dna_node.specs.WireLayers.{WireLayers}
 use Rattle.pair_judge.specs.declared.failed_check.FailedCheck.{FailedCheck}

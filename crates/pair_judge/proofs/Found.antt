@@ -1,7 +1,7 @@
 -- How the judge ends: its finding is that of all captures that go on behind what was read.
 use Rattle.std.proofs.Common.{◌≡◌, ℕ, Bool, true, false, List, [], ◌∷◌, ◌++◌, length, Option, refl, sym, ap, subst, ◌∙◌, append-nil, append_assoc}
-use Rattle.capture.specs.declared.record.Record.{Record}
-use Rattle.capture.specs.Entries.{record_with}
+use Rattle.capture_record.specs.declared.record.Record.{Record}
+use Rattle.capture_record.specs.Entries.{record_with}
 use Rattle.capture.specs.SoFar.{TheEnd, GoesOn, GoesOnBy}
 use Rattle.wire_base.specs.declared.side.Side.TheVariants.{A, B}
 use Rattle.wire_base.specs.declared.side.Side.{Side}

@@ -1,8 +1,8 @@
 -- What became of an event at one end alone is what its node makes of it.
 use Rattle.std.proofs.Common.{◌≡◌, refl, ap, ◌∙◌}
-use Rattle.capture.specs.declared.event.Event.{Event}
-use Rattle.capture.specs.declared.record.Record.{Record}
-use Rattle.capture.specs.declared.record.Record.TheVariants.{User}
+use Rattle.capture_record.specs.declared.event.Event.{Event}
+use Rattle.capture_record.specs.declared.record.Record.{Record}
+use Rattle.capture_record.specs.declared.record.Record.TheVariants.{User}
 use Rattle.dna_station.specs.declared.refusal.StepRefusal.{StepRefusal}
 use Rattle.dna_node.specs.Alone.{Refuses, ThisEnd, does, step_alone}
 use Rattle.dna_node.specs.WireLayers.{WireLayers}

@@ -9,9 +9,9 @@ use Rattle.capture.specs.declared.fault.CaptureFault.{CaptureFault}
 use Rattle.capture.specs.declared.fault.CaptureFault.TheVariants.{Departs, Failed}
 use Rattle.capture.specs.declared.limit.TheConstants.{MAX_RECORDS}
 use Rattle.capture.specs.declared.phase.Phase.TheVariants.{Reading}
-use Rattle.capture.specs.declared.record.Record.{Record}
-use Rattle.capture.specs.declared.entry.Entry.{Entry}
-use Rattle.capture.specs.Entries.{record_with}
+use Rattle.capture_record.specs.declared.record.Record.{Record}
+use Rattle.capture_record.specs.declared.entry.Entry.{Entry}
+use Rattle.capture_record.specs.Entries.{record_with}
 use Rattle.capture.specs.Departing.{HeadDeparts, RecordDeparts}
 use Rattle.capture.specs.Lines.{to_come}
 use Rattle.capture.specs.Reader.{CaptureState, FaultShows, Opens, NextGives}

@@ -1,8 +1,8 @@
 -- What both layers make of an arrival whose packet the links meet before the station does.
 use Rattle.std.proofs.Common.{◌≡◌, true, Option, Some, None, List, ℕ, Result, Ok, Err, refl, sym, ap, subst, ◌∙◌}
 use Rattle.std.specs.Result.{IsOk}
-use Rattle.capture.specs.declared.fate.Fate.{Fate}
-use Rattle.capture.specs.Fates.{is_kept, is_met}
+use Rattle.capture_record.specs.declared.fate.Fate.{Fate}
+use Rattle.capture_record.specs.Fates.{is_kept, is_met}
 use Rattle.dna_station.specs.declared.tag.Tag.{Tag}
 use Rattle.dna_links.specs.declared.tag.LinkTag.{LinkTag}
 use Rattle.dna_links.specs.Links.{Carried}

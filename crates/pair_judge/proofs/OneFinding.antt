@@ -11,7 +11,7 @@ use Rattle.two_nodes.proofs.Closed.{exchange_run}
 use Rattle.two_nodes.proofs.Order.{one_end}
 use Rattle.wire_base.specs.declared.side.Side.{Side}
 use Rattle.wire_base.specs.declared.side.Side.TheVariants.{A, B}
-use Rattle.capture.specs.declared.record.Record.{Record}
+use Rattle.capture_record.specs.declared.record.Record.{Record}
 use Rattle.dna_station.specs.declared.head.Head.{Head}
 use Rattle.dna_node.specs.declared.finding.Cause.{Cause}
 use Rattle.dna_node.specs.declared.finding.Cause.TheVariants.{Step, NoSuchUnit, NoOrder}

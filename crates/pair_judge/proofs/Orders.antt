@@ -3,7 +3,7 @@ use Rattle.std.proofs.Common.{◌≡◌, ℕ, Bool, true, false, cond, ◌⊎◌
 use Rattle.wire_base.specs.declared.side.Side.{Side}
 use Rattle.wire_base.specs.declared.side.Side.TheVariants.{A, B}
 use Rattle.two_nodes.specs.Nodes.{Done, IsRun, Nodes, World}
-use Rattle.capture.specs.declared.record.Record.{Record}
+use Rattle.capture_record.specs.declared.record.Record.{Record}
 use Rattle.pair_judge.specs.Faulty.{is_side}
 use Rattle.dna_node.specs.Kind.{NodeKind}
 use Rattle.pair_judge.specs.Ends.{ShownEnds}

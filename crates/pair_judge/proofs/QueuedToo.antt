@@ -1,7 +1,7 @@
 -- Nodes with queues beside nodes without, of the same two texts: each run of these is one of those, with the same counts.
 use Rattle.std.proofs.Common.{ℕ, List, Some, Ok, Err, sym, ap, ◌∙◌}
 use Rattle.two_nodes.specs.Nodes.{World, Run}
-use Rattle.capture.specs.declared.record.Record.{Record}
+use Rattle.capture_record.specs.declared.record.Record.{Record}
 use Rattle.dna_station.specs.declared.head.Head.{Head}
 use Rattle.dna_links.specs.declared.queue.Queues.TheVariants.{With}
 use Rattle.dna_node.specs.AsMuch.{IsRunWithQueues}

@@ -4,7 +4,7 @@ use Rattle.std.proofs.lemmas.List.{length-map}
 use Rattle.two_nodes.specs.Nodes.{Outcome, Run, advance}
 use Rattle.two_nodes.specs.Nodes.Outcome.{Made, Waits, Refused}
 use Rattle.two_nodes.specs.Cutting.{Cut, cut_outcome, cut_world}
-use Rattle.capture.specs.declared.record.Record.{Record}
+use Rattle.capture_record.specs.declared.record.Record.{Record}
 use Rattle.dna_station.specs.declared.head.Head.{Head}
 use Rattle.dna_station.specs.declared.refusal.StepRefusal.{StepRefusal}
 use Rattle.dna_links.specs.declared.queue.Queues.{Queues}

@@ -16,7 +16,7 @@ use Rattle.dna_station.specs.WireStation.{load}
 use Rattle.dna_node.specs.WireLayers.{WireLayers, WireLayersUnit, new_wire_layers_node, wire_layers_start}
 use Rattle.pair_judge.specs.declared.summary.Summary.{Summary}
 use Rattle.pair_judge.specs.Heads.{head_of}
-use Rattle.capture.specs.declared.record.Record.{Record}
+use Rattle.capture_record.specs.declared.record.Record.{Record}
 use Rattle.pair_judge.specs.declared.course.Course.{Course}
 use Rattle.pair_judge.specs.declared.line.Line.{Line}
 use Rattle.pair_judge.specs.Order.{MadeRecord}

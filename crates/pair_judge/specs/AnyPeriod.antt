@@ -3,7 +3,7 @@
 -- number can be told of it: the kind is the node as a program keeps it. To be believed is that this node, the wire node of a judged pair without
 -- the rule on periods, is what is meant. Nothing is claimed of what is delivered: that may come of another start, twice or out of order.
 use Rattle.std.specs.Prelude.{◌≢◌, List, length}
-use Rattle.capture.specs.declared.record.Record.{Record}
+use Rattle.capture_record.specs.declared.record.Record.{Record}
 use Rattle.dna_station.specs.declared.head.Head.{Head}
 use Rattle.dna_station.specs.declared.tag.Tag.{Tag}
 use Rattle.dna_station.specs.PeriodRule.{of_any_period}

@@ -1,6 +1,6 @@
 -- What one end is judged as, without the other: a node over both layers, or a station alone.
 use Rattle.std.specs.Prelude.{ℕ, List, length}
-use Rattle.capture.specs.declared.record.Record.{Record}
+use Rattle.capture_record.specs.declared.record.Record.{Record}
 use Rattle.dna_station.specs.declared.head.Head.{Head}
 use Rattle.dna_station.specs.Machine.{NodeOf}
 use Rattle.dna_station.specs.WireNode.{WireNode}

@@ -2,7 +2,7 @@
 use Rattle.std.specs.Prelude.{◌≡◌, ℕ, List, ◌++◌, length, map, count_by, Option, Some, None}
 use Rattle.std.specs.Option.{option_to_list}
 use Rattle.wire_base.specs.declared.side.Side.TheVariants.{A}
-use Rattle.capture.specs.declared.record.Record.{Record}
+use Rattle.capture_record.specs.declared.record.Record.{Record}
 use Rattle.capture.specs.SoFar.{ReadSoFar, IsReadSoFar}
 use Rattle.ddcmp_station.specs.View.{view_of}
 use Rattle.dna_station.specs.declared.refusal.StepRefusal.{StepRefusal}

@@ -5,8 +5,8 @@ use Rattle.wire_base.specs.declared.side.Side.{Side}
 use Rattle.wire_base.specs.declared.side.Side.TheVariants.{A, B}
 use Rattle.two_nodes.specs.Nodes.{Half, World, Run, advance}
 use Rattle.two_nodes.specs.Nodes.Outcome.{Waits as Waiting, Refused as IsRefused}
-use Rattle.capture.specs.declared.record.Record.{Record}
-use Rattle.capture.specs.Entries.{record_with}
+use Rattle.capture_record.specs.declared.record.Record.{Record}
+use Rattle.capture_record.specs.Entries.{record_with}
 use Rattle.capture.specs.SoFar.{ReadSoFar, IsReadSoFar}
 use Rattle.ddcmp_station.specs.View.{true_view}
 use Rattle.ddcmp_station.specs.declared.view.StationView.{StationView}

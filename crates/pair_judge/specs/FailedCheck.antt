@@ -2,13 +2,13 @@
 -- The checks of a station are named in `Failed` of `ddcmp_station`, those of its links in `FailedSending`, `FailedArrival` and `FailedEvent` of
 -- `nsp_link`; in which order they come is that of `WireLayers` of `dna_node` and `Machine` of `dna_station`.
 use Rattle.std.specs.Prelude.{ℕ, ◌-◌, slice_get, Bool, false, if◌then◌else◌, nat_lt, Option, Some, None, option_map, List, Result, Ok, Err}
-use Rattle.capture.specs.declared.event.Event.{Event}
-use Rattle.capture.specs.declared.event.Event.TheVariants as user
-use Rattle.capture.specs.declared.fate.Fate.{Fate}
-use Rattle.capture.specs.declared.fate.Fate.TheVariants.{NotKept}
-use Rattle.capture.specs.Fates.{is_kept, is_met}
-use Rattle.capture.specs.declared.record.Record.{Record}
-use Rattle.capture.specs.declared.record.Record.TheVariants.{Sent, Received, Noise, User}
+use Rattle.capture_record.specs.declared.event.Event.{Event}
+use Rattle.capture_record.specs.declared.event.Event.TheVariants as user
+use Rattle.capture_record.specs.declared.fate.Fate.{Fate}
+use Rattle.capture_record.specs.declared.fate.Fate.TheVariants.{NotKept}
+use Rattle.capture_record.specs.Fates.{is_kept, is_met}
+use Rattle.capture_record.specs.declared.record.Record.{Record}
+use Rattle.capture_record.specs.declared.record.Record.TheVariants.{Sent, Received, Noise, User}
 use Rattle.ddcmp_msg.specs.Message.{MessageValue}
 use Rattle.ddcmp_msg.specs.Reading.{ReadingValue, reading, Sound, Malformed}
 use Rattle.ddcmp_msg.specs.Reading as read

@@ -5,7 +5,7 @@ use Rattle.wire_base.specs.declared.side.Side.TheVariants.{A, B}
 use Rattle.capture.specs.declared.fault.CaptureFault.{CaptureFault}
 use Rattle.capture.specs.declared.fault.CaptureFault.TheVariants as capture
 use Rattle.capture.specs.declared.fault.Departure.{Departure}
-use Rattle.capture.specs.declared.record.Record.{Record}
+use Rattle.capture_record.specs.declared.record.Record.{Record}
 use Rattle.capture.specs.SoFar.{ReadSoFar, IsReadSoFar, DepartsBehind, HeadDepartsAt}
 use Rattle.dna_node.specs.Kind.{NodeKind, IsRunOf}
 use Rattle.pair_judge.specs.declared.fault.JudgeFault.{JudgeFault}

@@ -2,7 +2,7 @@
 use Rattle.std.specs.Prelude.{◌≡◌, ℕ, List, Option}
 use Rattle.wire_base.specs.declared.side.Side.{Side}
 use Rattle.wire_base.specs.declared.side.Side.TheVariants.{A, B}
-use Rattle.capture.specs.declared.record.Record.{Record}
+use Rattle.capture_record.specs.declared.record.Record.{Record}
 use Rattle.capture.specs.SoFar.{Behind, TheEnd, ReadSoFar, IsReadSoFar, GoesOn}
 use Rattle.dna_node.specs.declared.finding.Cause.{Cause}
 use Rattle.dna_node.specs.declared.finding.Cause.TheVariants.{Step, NoSuchUnit, NoOrder}

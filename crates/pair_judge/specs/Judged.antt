@@ -1,6 +1,6 @@
 -- What an answer of the judge says of the bytes that its two readers had left.
 use Rattle.std.specs.Prelude.{◌≡◌, ℕ, List, Option, Result, Ok, Err, IfSome}
-use Rattle.capture.specs.declared.record.Record.{Record}
+use Rattle.capture_record.specs.declared.record.Record.{Record}
 use Rattle.capture.specs.Range.{IsText}
 use Rattle.dna_station.specs.declared.head.Head.{Head}
 use Rattle.dna_node.specs.Kind.{NodeKind, IsRunOf}

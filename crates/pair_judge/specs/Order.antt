@@ -3,9 +3,9 @@ use Rattle.std.specs.Prelude.{◌≡◌, if◌then◌else◌, ℕ, List, [], ◌
 use Rattle.wire_base.specs.declared.side.Side.{Side}
 use Rattle.wire_base.specs.declared.side.Side.TheVariants.{A, B}
 use Rattle.two_nodes.specs.Nodes.{IsRun, Nodes, World}
-use Rattle.capture.specs.Entries.{record_with}
-use Rattle.capture.specs.declared.entry.Entry.{Entry}
-use Rattle.capture.specs.declared.record.Record.{Record}
+use Rattle.capture_record.specs.Entries.{record_with}
+use Rattle.capture_record.specs.declared.entry.Entry.{Entry}
+use Rattle.capture_record.specs.declared.record.Record.{Record}
 use Rattle.pair_judge.specs.Faulty.{is_side}
 
 -- a record that a side made

@@ -3,7 +3,7 @@ use Rattle.std.specs.Prelude.{◌≡◌, ◌≢◌, ℕ, ◌<◌, List, length, 
 use Rattle.wire_base.specs.Side.{other_side}
 use Rattle.wire_base.specs.declared.side.Side.{Side}
 use Rattle.two_nodes.specs.Past.{Offends}
-use Rattle.capture.specs.declared.record.Record.{Record}
+use Rattle.capture_record.specs.declared.record.Record.{Record}
 use Rattle.capture.specs.Range.{IsText}
 use Rattle.capture.specs.SoFar.{ReadSoFar, IsReadSoFar}
 use Rattle.dna_node.specs.declared.finding.Cause.{Cause}

@@ -1,6 +1,6 @@
 -- What the summary of one side counts, over the records of its capture and the links of its node.
 use Rattle.std.specs.Prelude.{ℕ, ◌+◌, ◌<◌, ◌^◌, List, length, count_by}
-use Rattle.capture.specs.declared.record.Record.{Record}
+use Rattle.capture_record.specs.declared.record.Record.{Record}
 use Rattle.dna_station.specs.Machine.{is_sent}
 use Rattle.dna_node.specs.Kind.{NodeKind, KindNode}
 use Rattle.dna_node.specs.WireLayers.{WireLayers}

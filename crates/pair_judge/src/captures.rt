@@ -3,7 +3,7 @@
 ghost use Rattle.std.specs.Prelude.{◌≡◌, ◌∷◌, ◌++◌, List, length};
 ghost use Rattle.two_nodes.specs.Nodes.{Run, advance};
 ghost use Rattle.two_nodes.specs.Nodes as any;
-ghost use Rattle.capture.specs.declared.record.Record.{Record};
+ghost use Rattle.capture_record.specs.declared.record.Record.{Record};
 ghost use Rattle.dna_station.specs.declared.head.Head.{Head};
 ghost use Rattle.dna_node.specs.declared.finding.Cause.TheVariants as causes;
 ghost use Rattle.dna_node.specs.declared.finding.Finding.TheVariants as findings;

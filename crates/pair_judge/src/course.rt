@@ -2,9 +2,9 @@
 
 ghost use Rattle.std.specs.Prelude.{◌≡◌, ◌≢◌, true, IfOk, IfErr, List, [], ◌∷◌, ◌++◌, Option, ℕ};
 ghost use Rattle.capture.specs.Faulty.{CountsReads, is_failed_read};
-ghost use Rattle.capture.specs.declared.record.Record.{Record};
-ghost use Rattle.capture.specs.Entries.{record_with};
-ghost use Rattle.capture.specs.Range.{NumbersFit};
+ghost use Rattle.capture_record.specs.declared.record.Record.{Record};
+ghost use Rattle.capture_record.specs.Entries.{record_with};
+ghost use Rattle.capture_record.specs.Range.{NumbersFit};
 ghost use Rattle.capture.specs.declared.phase.Phase.TheVariants as Phase;
 ghost use Rattle.capture.specs.Lines.{to_come};
 ghost use Rattle.capture.specs.declared.fault.CaptureFault.TheVariants as CaptureFault;
@@ -21,7 +21,8 @@ use crate::made_entry::MadeEntry;
 use crate::making::{Made, make};
 use crate::observer::Observer;
 use crate::top::Top;
-use capture::{CaptureFault, CaptureReader, Entry, text_read_on};
+use capture::{CaptureFault, CaptureReader, text_read_on};
+use capture_record::Entry;
 use dna_station::StepRefusal;
 use std::alloc::AllocError;
 use std::io::Read;

@@ -1,9 +1,9 @@
 //! An event of the user of a side: what it makes of the side's layers and counts. No line has a part in that.
 
 ghost use Rattle.std.specs.Prelude.{◌≡◌, ◌^◌, ◌<◌, OnOk, OnErr, IfErr};
-ghost use Rattle.capture.specs.declared.event.Event.TheVariants as Event;
-ghost use Rattle.capture.specs.declared.record.Record.TheVariants.{User};
-ghost use Rattle.capture.specs.Entries.{record_with};
+ghost use Rattle.capture_record.specs.declared.event.Event.TheVariants as Event;
+ghost use Rattle.capture_record.specs.declared.record.Record.TheVariants.{User};
+ghost use Rattle.capture_record.specs.Entries.{record_with};
 ghost use Rattle.dna_links.specs.User.{view};
 ghost use Rattle.dna_node.specs.WireLayers.{WireLayers};
 ghost use Rattle.dna_station.specs.WireStation.{load};
@@ -19,7 +19,7 @@ use crate::layers::Layers;
 use crate::step_fault::StepFault;
 use crate::summary::SideSummary;
 use crate::top::Top;
-use capture::Entry;
+use capture_record::Entry;
 use ddcmp_station::StationEvent;
 use nsp_link::LinkEvent;
 

@@ -1,8 +1,8 @@
 //! What holds of the check that a record does not pass.
 
 ghost use Rattle.std.specs.Prelude.{◌≡◌, option_map};
-ghost use Rattle.capture.specs.declared.event.Event.{Event};
-ghost use Rattle.capture.specs.declared.fate.Fate.{Fate};
+ghost use Rattle.capture_record.specs.declared.event.Event.{Event};
+ghost use Rattle.capture_record.specs.declared.fate.Fate.{Fate};
 ghost use Rattle.ddcmp_msg.specs.Message.{MessageValue};
 ghost use Rattle.dna_station.specs.Book.{ArrivalValue};
 ghost use Rattle.dna_links.specs.declared.queue.Queues.{Queues};

@@ -2,8 +2,8 @@
 
 ghost use Rattle.std.specs.Prelude.{◌≡◌, ℕ, List, Some, false, true};
 ghost use Rattle.ddcmp_msg.specs.Reading.{reading};
-ghost use Rattle.capture.specs.Entries.{record_with};
-ghost use Rattle.capture.specs.declared.record.Record.TheVariants as Record;
+ghost use Rattle.capture_record.specs.Entries.{record_with};
+ghost use Rattle.capture_record.specs.declared.record.Record.TheVariants as Record;
 ghost use Rattle.dna_node.specs.WireLayers.{WireLayersUnit};
 ghost use Rattle.dna_station.specs.Line.{damage};
 ghost use Rattle.nsp_link.specs.Kinds.{queues_of};
@@ -16,7 +16,7 @@ use crate::held_link::HeldLink;
 use crate::layers::Layers;
 use crate::line::Line;
 use crate::receipt::coming;
-use capture::{Entry, Fate};
+use capture_record::{Entry, Fate};
 use ddcmp_msg::{Reading, read_unit};
 use ddcmp_station::Arrival;
 use nsp_link::LinkEvent;

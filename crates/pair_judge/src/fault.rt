@@ -4,7 +4,7 @@ use capture::Departure;
 use wire_base::Side;
 
 /// What was wrong with the text of one side. Its lines are counted from 1 on, and line 1 is its head.
-#[derive(Clone, Copy, Debug, PartialEq, Eq)]
+#[derive(Clone, Copy, PartialEq, Eq)]
 pub enum TextFault {
     /// The line departs from the format in this way.
     Departs { kind: Departure, line: u64 },
@@ -13,7 +13,7 @@ pub enum TextFault {
 }
 
 /// Why there is no verdict.
-#[derive(Clone, Copy, Debug, PartialEq, Eq)]
+#[derive(Clone, Copy, PartialEq, Eq)]
 pub enum JudgeFault {
     /// A text was faulty, or could not be read, as far as it was read by then.
     Capture { side: Side, fault: TextFault },

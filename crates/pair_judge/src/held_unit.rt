@@ -4,7 +4,7 @@ ghost use Rattle.std.specs.Prelude.{◌≡◌};
 ghost use Rattle.ddcmp_msg.specs.Reading.{reading};
 
 use crate::held_link::HeldLink;
-use capture::Bytes;
+use capture_record::Bytes;
 use dna_links::LinkTag;
 use std::marker::Model;
 

@@ -1,7 +1,7 @@
 //! A verdict with both ends as they are where it is given.
 
 ghost use Rattle.std.specs.Prelude.{◌≡◌, None, Some, IfSome, option_map, slice_get};
-ghost use Rattle.capture.specs.Entries.{record_with};
+ghost use Rattle.capture_record.specs.Entries.{record_with};
 ghost use Rattle.nsp_link.specs.View as link;
 ghost use Rattle.pair_judge.specs.Finding.{of_side};
 ghost use Rattle.pair_judge.specs.inner.Ends.{ends_shown};
@@ -12,7 +12,7 @@ use crate::line::Line;
 use crate::side_end::SideEnd;
 use crate::stopped::Stopped;
 use crate::verdict::Verdict;
-use capture::Entry;
+use capture_record::Entry;
 use ddcmp_station::StationView;
 use nsp_link::LinkView;
 use std::marker::Model;

@@ -1,6 +1,6 @@
 //! The nodes that the judge runs, and those that it takes the ends for, for the laws of any two nodes.
 
-ghost use Rattle.capture.specs.declared.record.Record.{Record};
+ghost use Rattle.capture_record.specs.declared.record.Record.{Record};
 ghost use Rattle.dna_station.specs.declared.refusal.StepRefusal.{StepRefusal};
 ghost use Rattle.dna_station.specs.inner.Tells.{machine_tells};
 ghost use Rattle.dna_node.specs.Kind.{KindNode, KindUnit, kind_pair};

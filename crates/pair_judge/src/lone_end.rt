@@ -1,10 +1,10 @@
 //! One end whose other side is not known, as far as the judge has gone along its capture.
 
 ghost use Rattle.std.specs.Prelude.{◌≡◌, ◌+◌, ◌≤◌, [], IfOk};
-ghost use Rattle.capture.specs.declared.record.Record.TheVariants as Record;
-ghost use Rattle.capture.specs.Entries.{record_with};
-ghost use Rattle.capture.specs.Range.{NumbersFit};
-ghost use Rattle.capture.specs.declared.limit.TheConstants.{MAX_HINT};
+ghost use Rattle.capture_record.specs.declared.record.Record.TheVariants as Record;
+ghost use Rattle.capture_record.specs.Entries.{record_with};
+ghost use Rattle.capture_record.specs.Range.{NumbersFit};
+ghost use Rattle.capture_record.specs.declared.limit.TheConstants.{MAX_HINT};
 ghost use Rattle.dna_node.specs.WireLayers.{new_wire_layers_node};
 ghost use Rattle.pair_judge.specs.Summary.{counts_of};
 ghost use Rattle.pair_judge.specs.inner.LoneEnd.{HasRoomAlone, IfFailsAlone, MadeAloneIs, head_in, node_of_end, summary_of_end};
@@ -19,7 +19,8 @@ use crate::noise::hear;
 use crate::step_fault::StepFault;
 use crate::summary::SideSummary;
 use crate::top::Top;
-use capture::{CaptureReader, Entry, Fate};
+use capture::CaptureReader;
+use capture_record::{Entry, Fate};
 use ddcmp_msg::{Reading, read_unit};
 use dna_station::{Head, StepRefusal};
 use receiving::{Came, receive};

@@ -1,6 +1,6 @@
 //! A record that a side made, as the judge lends it to its observer.
 
-use capture::Entry;
+use capture_record::Entry;
 use std::marker::Model;
 use wire_base::Side;
 

@@ -2,10 +2,10 @@
 
 ghost use Rattle.std.specs.Prelude.{◌≡◌, ◌≤◌, IfOk, IfErr};
 ghost use Rattle.ddcmp_msg.specs.Reading.{IsSound, reading};
-ghost use Rattle.capture.specs.declared.record.Record.TheVariants as Record;
-ghost use Rattle.capture.specs.Entries.{record_with};
-ghost use Rattle.capture.specs.Range.{NumbersFit};
-ghost use Rattle.capture.specs.declared.limit.TheConstants.{MAX_HINT};
+ghost use Rattle.capture_record.specs.declared.record.Record.TheVariants as Record;
+ghost use Rattle.capture_record.specs.Entries.{record_with};
+ghost use Rattle.capture_record.specs.Range.{NumbersFit};
+ghost use Rattle.capture_record.specs.declared.limit.TheConstants.{MAX_HINT};
 ghost use Rattle.pair_judge.specs.Counting.{shows_damage};
 ghost use Rattle.pair_judge.specs.inner.Lines.{Shows};
 ghost use Rattle.pair_judge.specs.Summary.{HasRoom};
@@ -22,7 +22,7 @@ use crate::receipt::{Receipt, receive};
 use crate::sending::send;
 use crate::step_fault::StepFault;
 use crate::top::Top;
-use capture::{Entry, Fate};
+use capture_record::{Entry, Fate};
 use dna_station::StepRefusal;
 use std::alloc::{AllocError, Global};
 

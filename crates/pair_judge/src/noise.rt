@@ -9,7 +9,7 @@ use crate::held_link::HeldLink;
 use crate::layers::Layers;
 use crate::step_fault::StepFault;
 use crate::top::Top;
-use capture::Fate;
+use capture_record::Fate;
 use ddcmp_msg::{Reading, read_unit};
 use ddcmp_station::Arrival;
 use dna_station::StepRefusal;

@@ -1,7 +1,7 @@
 //! What there is to know of a reason besides its number and its name.
 
 /// What the rule is about that a record breaks.
-#[derive(Clone, Copy, Debug, PartialEq, Eq)]
+#[derive(Clone, Copy, PartialEq, Eq)]
 pub enum Matter {
     /// Which bytes are a sound message.
     Soundness,
@@ -30,7 +30,7 @@ pub enum Matter {
 }
 
 /// By whose fault a record is refused.
-#[derive(Clone, Copy, Debug, PartialEq, Eq)]
+#[derive(Clone, Copy, PartialEq, Eq)]
 pub enum Blame {
     /// The node that sent the unit, or composed the packet.
     Sender,

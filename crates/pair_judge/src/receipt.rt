@@ -18,7 +18,7 @@ use crate::line::Line;
 use crate::line_unit::LineUnit;
 use crate::step_fault::StepFault;
 use crate::top::Top;
-use capture::Fate;
+use capture_record::Fate;
 use ddcmp_msg::{Reading, read_sound, read_unit};
 use ddcmp_station::Arrival;
 use dna_station::StepRefusal;

@@ -1,7 +1,7 @@
 //! One end as it is where a verdict is given.
 
 ghost use Rattle.std.specs.Prelude.{◌≡◌, None, Some, IfSome, option_map, slice_get};
-ghost use Rattle.capture.specs.Entries.{record_with};
+ghost use Rattle.capture_record.specs.Entries.{record_with};
 ghost use Rattle.nsp_link.specs.View as link;
 ghost use Rattle.pair_judge.specs.inner.EndStopped.{shown_lone};
 ghost use Rattle.pair_judge.specs.inner.Ends.{shown_end};
@@ -13,7 +13,8 @@ use crate::course::{Ahead, Course};
 use crate::layers::Layers;
 use crate::line::Line;
 use crate::lone_end::LoneEnd;
-use capture::{CaptureReader, Entry};
+use capture::CaptureReader;
+use capture_record::Entry;
 use ddcmp_station::StationView;
 use nsp_link::{LinkView, Nodes};
 use std::marker::Model;

@@ -3,7 +3,7 @@
 ghost use Rattle.std.specs.Prelude.{◌≡◌, ◌≤◌, ◌<◌, length, IfOk, IfSome, vec_capacity};
 ghost use Rattle.pair_judge.specs.declared.spare.TheConstants.{MOST};
 
-use capture::Bytes;
+use capture_record::Bytes;
 use std::alloc::{AllocError, Global};
 
 /// As many spare ones are kept at most: the units that a station may send without an answer.

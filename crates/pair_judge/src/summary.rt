@@ -28,7 +28,7 @@ pub struct SideSummary {
 }
 
 /// The counts of an accepted pair.
-#[derive(Clone, Copy, Debug, PartialEq, Eq)]
+#[derive(Clone, Copy, PartialEq, Eq)]
 pub struct Summary {
     /// Of side a.
     pub a: SideSummary,

@@ -4,7 +4,7 @@ ghost use Rattle.std.specs.Prelude.{◌≡◌, ◌≢◌, IfOk, IfErr, List, Opt
 ghost use Rattle.wire_base.specs.Tally.{tally_faults, tally_lent};
 ghost use Rattle.wire_base.specs.declared.side.Side.{Side};
 ghost use Rattle.capture.specs.declared.fault.CaptureFault.TheVariants as CaptureFault;
-ghost use Rattle.capture.specs.declared.record.Record.{Record};
+ghost use Rattle.capture_record.specs.declared.record.Record.{Record};
 ghost use Rattle.capture.specs.Faulty.{CountsReads};
 ghost use Rattle.capture.specs.Lines.{to_come};
 ghost use Rattle.pair_judge.specs.inner.Course.{MayRead, along};

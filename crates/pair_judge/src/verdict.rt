@@ -5,7 +5,7 @@ use crate::summary::Summary;
 use wire_base::Side;
 
 /// The answer on two captures.
-#[derive(Clone, Copy, Debug, PartialEq, Eq)]
+#[derive(Clone, Copy, PartialEq, Eq)]
 pub enum Verdict {
     /// Together they are a run; the counts of both sides.
     Accepted(Summary),

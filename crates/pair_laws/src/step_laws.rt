@@ -1,7 +1,8 @@
 //! The laws on the steps of scripts and on how many records they make, applied.
 
 ghost use Rattle.std.specs.Prelude.{◌≡◌, ◌<◌, ◌≤◌, Ok, length};
-ghost use Rattle.capture.specs.declared.limit.TheConstants.{MAX_LINK, MAX_RECORDS};
+ghost use Rattle.capture_record.specs.declared.limit.TheConstants.{MAX_LINK};
+ghost use Rattle.capture.specs.declared.limit.TheConstants.{MAX_RECORDS};
 ghost use Rattle.dna_play.specs.Played.{Played, play, plays_step};
 ghost use Rattle.dna_play.specs.PlayRun.{StartsOnce};
 ghost use Rattle.dna_play.specs.Script.{Deliver, Open, Script, ScriptStep};

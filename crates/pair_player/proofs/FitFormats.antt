@@ -4,12 +4,12 @@ use Rattle.std.proofs.Common.{refl}
 use Rattle.std.specs.List.{AllByRecursion}
 use Rattle.ddcmp_msg.specs.Message.{MessageValue}
 use Rattle.ddcmp_msg.specs.Reading.{ReadingValue, HeaderBad, DataBad, reading}
-use Rattle.capture.specs.declared.event.Event.{Event}
-use Rattle.capture.specs.declared.event.Event.TheVariants as events
-use Rattle.capture.specs.Fates.{is_met}
+use Rattle.capture_record.specs.declared.event.Event.{Event}
+use Rattle.capture_record.specs.declared.event.Event.TheVariants as events
+use Rattle.capture_record.specs.Fates.{is_met}
 use Rattle.capture.specs.declared.format.Format.TheVariants.{One}
-use Rattle.capture.specs.declared.limit.TheConstants.{MAX_HINT, MAX_LINK, MAX_MESSAGE, MAX_UNIT}
-use Rattle.capture.specs.declared.record.Record.TheVariants.{Received, User}
+use Rattle.capture_record.specs.declared.limit.TheConstants.{MAX_HINT, MAX_LINK, MAX_MESSAGE, MAX_UNIT}
+use Rattle.capture_record.specs.declared.record.Record.TheVariants.{Received, User}
 use Rattle.capture.specs.Range.{IsInFormat}
 use Rattle.dna_station.specs.declared.state.StationEvent.TheVariants as station_events
 use Rattle.dna_station.specs.Table.{user_refusal}

@@ -4,7 +4,7 @@ use Rattle.std.specs.Prelude.{length, slice_get}
 use Rattle.std.specs.List.{AllByRecursion}
 use Rattle.std.specs.Option.{IfSome}
 use Rattle.std.proofs.lemmas.Bool.{and_parts}
-use Rattle.capture.specs.Range.{IsLink}
+use Rattle.capture_record.specs.Range.{IsLink}
 use Rattle.dna_packet.specs.declared.ack_word.AckWord.{AckWord}
 use Rattle.dna_packet.specs.Nsp.{NspValue, SegmentValue, DataSegment}
 use Rattle.dna_links.specs.declared.port.LinkTest.TheVariants.{ActedOn}

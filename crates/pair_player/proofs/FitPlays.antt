@@ -7,9 +7,10 @@ use Rattle.std.specs.Result.{result_map_both}
 use Rattle.wire_base.specs.declared.side.Side.{Side}
 use Rattle.wire_base.specs.declared.side.Side.TheVariants.{A, B}
 use Rattle.capture.specs.declared.limit.TheConstants.{MAX_RECORDS}
-use Rattle.capture.specs.declared.record.Record.{Record}
+use Rattle.capture_record.specs.declared.record.Record.{Record}
 use Rattle.capture.specs.declared.format.Format.TheVariants.{One}
-use Rattle.capture.specs.Range.{IsInFormat, IsRecord}
+use Rattle.capture_record.specs.Range.{IsRecord}
+use Rattle.capture.specs.Range.{IsInFormat}
 use Rattle.dna_play.specs.Script.{StepValue, ScriptStep, Script, format_of, has_of_three}
 use Rattle.dna_play.specs.ScriptText.{IsScript, IsStep, step_bytes}
 use Rattle.dna_play.specs.Stop.{Stop, if_made, plays_all}

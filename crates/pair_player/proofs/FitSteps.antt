@@ -8,15 +8,15 @@ use Rattle.std.proofs.lemmas.Bool.{and_parts}
 use Rattle.ddcmp_msg.specs.Message.{MessageValue}
 use Rattle.ddcmp_msg.specs.Reading.{ReadingValue, reading, HeaderBad, DataBad}
 use Rattle.ddcmp_msg.specs.Spelling.{spelling}
-use Rattle.capture.specs.declared.limit.TheConstants.{MAX_HINT, MAX_LINK, MAX_UNIT, MAX_MESSAGE}
-use Rattle.capture.specs.declared.event.Event.{Event}
-use Rattle.capture.specs.declared.event.Event.TheVariants as events
-use Rattle.capture.specs.declared.fate.Fate.{Fate}
-use Rattle.capture.specs.declared.fate.Fate.TheVariants.{Dropped}
-use Rattle.capture.specs.Fates.{is_kept, is_met}
-use Rattle.capture.specs.declared.record.Record.TheVariants.{Sent, Received, User}
-use Rattle.capture.specs.declared.record.Record.TheVariants as recorded
-use Rattle.capture.specs.Range.{IsLink, IsRecord}
+use Rattle.capture_record.specs.declared.limit.TheConstants.{MAX_HINT, MAX_LINK, MAX_UNIT, MAX_MESSAGE}
+use Rattle.capture_record.specs.declared.event.Event.{Event}
+use Rattle.capture_record.specs.declared.event.Event.TheVariants as events
+use Rattle.capture_record.specs.declared.fate.Fate.{Fate}
+use Rattle.capture_record.specs.declared.fate.Fate.TheVariants.{Dropped}
+use Rattle.capture_record.specs.Fates.{is_kept, is_met}
+use Rattle.capture_record.specs.declared.record.Record.TheVariants.{Sent, Received, User}
+use Rattle.capture_record.specs.declared.record.Record.TheVariants as recorded
+use Rattle.capture_record.specs.Range.{IsLink, IsRecord}
 use Rattle.dna_station.specs.declared.state.StationEvent.TheVariants as station_events
 use Rattle.dna_links.specs.declared.port.LinkTest.TheVariants.{CalledBy, LiveAt}
 use Rattle.dna_links.specs.declared.port.Phase.TheVariants.{Confirming, Disconnecting}

@@ -6,8 +6,8 @@ use Rattle.std.specs.Io.KnownBytes.{Appends}
 use Rattle.capture.specs.declared.format.Format.{Format}
 use Rattle.capture.specs.declared.format.Format.TheVariants.{One, Three}
 use Rattle.capture.specs.declared.hint.HintForm.TheVariants.{Number, Wide}
-use Rattle.capture.specs.declared.record.Record.{Record}
-use Rattle.capture.specs.declared.record.Record.TheVariants.{Received}
+use Rattle.capture_record.specs.declared.record.Record.{Record}
+use Rattle.capture_record.specs.declared.record.Record.TheVariants.{Received}
 use Rattle.capture.specs.Paged.{HandsOver}
 use Rattle.capture.specs.Text.{capture_text, head_line, record_line, record_lines}
 use Rattle.dna_play.specs.Script.{ScriptStep, has_of_three, is_of_three}

@@ -5,7 +5,8 @@ use Rattle.std.specs.Fmt.{decimal}
 use Rattle.std.proofs.lemmas.Fmt.{length-decimal-le}
 use Rattle.ddcmp_msg.specs.Message.{IsBytes}
 use Rattle.wire_base.specs.Side.{side_letter}
-use Rattle.capture.specs.declared.limit.TheConstants.{MAX_HINT, MAX_LINE, MAX_UNIT, MAX_MESSAGE}
+use Rattle.capture_record.specs.declared.limit.TheConstants.{MAX_HINT, MAX_UNIT, MAX_MESSAGE}
+use Rattle.capture.specs.declared.limit.TheConstants.{MAX_LINE}
 use Rattle.capture.specs.Text.{spaced, bytes_text}
 use Rattle.capture.proofs.PartLaws.{HasNo, HasNo-append}
 use Rattle.capture.proofs.NumberLaws.{decimal_lacks}

@@ -3,8 +3,9 @@ use Rattle.std.proofs.Common.{◌≡◌, ℕ, ◌≤◌, List, [], length, Optio
 use Rattle.std.specs.List.{AllByRecursion}
 use Rattle.capture.specs.declared.format.Format.{Format}
 use Rattle.capture.specs.declared.limit.TheConstants.{MAX_RECORDS}
-use Rattle.capture.specs.declared.record.Record.{Record}
-use Rattle.capture.specs.Range.{IsInFormat, IsNode, IsRecord, IsText}
+use Rattle.capture_record.specs.declared.record.Record.{Record}
+use Rattle.capture_record.specs.Range.{IsRecord}
+use Rattle.capture.specs.Range.{IsInFormat, IsNode, IsText}
 use Rattle.capture.specs.Text.{capture_text}
 use Rattle.capture.proofs.ListedSoFar.{goes_on}
 use Rattle.dna_node.specs.LayersPair.{IsLayersRun}

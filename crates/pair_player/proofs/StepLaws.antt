@@ -7,8 +7,8 @@ use Rattle.std.proofs.lemmas.Bool.{cond_both}
 use Rattle.std.proofs.lemmas.Slice.Eq.{bytes_eq-Decides}
 use Rattle.ddcmp_msg.specs.Message.{IsBytes}
 use Rattle.capture.specs.declared.fault.Departure.{Departure}
-use Rattle.capture.specs.declared.limit.TheConstants.{MAX_HINT, MAX_LINK, MAX_UNIT, MAX_MESSAGE}
-use Rattle.capture.specs.Range.{IsLink}
+use Rattle.capture_record.specs.declared.limit.TheConstants.{MAX_HINT, MAX_LINK, MAX_UNIT, MAX_MESSAGE}
+use Rattle.capture_record.specs.Range.{IsLink}
 use Rattle.capture.specs.Text.{spaced}
 use Rattle.capture.specs.Reading.{◌>>=◌, must, or_else, after, cut_at, number_at, positive_at, bytes_at, message_at}
 use Rattle.capture.proofs.PartLaws.{after_takes, cut_takes, cut_again}

@@ -1,7 +1,7 @@
 //! The units on the line to one end.
 
 ghost use Rattle.std.specs.Prelude.{◌≡◌, ◌≤◌, ◌++◌, ◌∷◌, [], drop, length, OnErr, OnOk};
-ghost use Rattle.capture.specs.declared.limit.TheConstants.{MAX_MESSAGE};
+ghost use Rattle.capture_record.specs.declared.limit.TheConstants.{MAX_MESSAGE};
 ghost use Rattle.pair_player.specs.inner.Line.{first_of};
 
 use std::alloc::{AllocError, Global};
@@ -16,7 +16,7 @@ pub struct SentUnit {
 
 impl Model for SentUnit {
     ghost use Rattle.std.specs.Prelude.{◌≤◌, List, ℕ, length};
-    ghost use Rattle.capture.specs.declared.limit.TheConstants.{MAX_MESSAGE};
+    ghost use Rattle.capture_record.specs.declared.limit.TheConstants.{MAX_MESSAGE};
 
     ghost Value = { List ℕ };
 

@@ -1,7 +1,7 @@
 //! What a player answers of a whole script.
 
 /// Every step of the script was made, and both captures are written.
-#[derive(Clone, Copy, Debug, PartialEq, Eq)]
+#[derive(Clone, Copy, PartialEq, Eq)]
 pub struct Played {
     /// How many steps the script has.
     pub steps: u64,

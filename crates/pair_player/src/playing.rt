@@ -26,7 +26,7 @@ use std::io::{Read, Write};
 use wire_base::{Side, Tally};
 
 /// A step needs format 3, and lines were written in format 1.
-#[derive(Clone, Copy, Debug, PartialEq, Eq)]
+#[derive(Clone, Copy, PartialEq, Eq)]
 pub struct NeedsFormat3;
 
 // A script whose head was read, both ends before its first step, and the heads of both captures.

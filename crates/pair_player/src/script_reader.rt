@@ -3,7 +3,8 @@
 use crate::limit::MAX_STEPS;
 use crate::step::LineEntry;
 use crate::words::line_into;
-use capture::{Departure, ListItem, ListReader, MAX_MESSAGE};
+use capture::{Departure, ListItem, ListReader};
+use capture_record::MAX_MESSAGE;
 
 /// What a script lists: steps. What is read of one beside its message or noise is a [`LineEntry`]. A script may have 100,000,000 of them; a line
 /// departs with `Syntax` where it is no step's, and with `TooLong` where it is one except that it has a message of more than 65,535 bytes, or
@@ -11,7 +12,7 @@ use capture::{Departure, ListItem, ListReader, MAX_MESSAGE};
 pub struct Steps;
 
 impl ListItem for Steps {
-    ghost use Rattle.capture.specs.declared.limit.TheConstants.{MAX_MESSAGE};
+    ghost use Rattle.capture_record.specs.declared.limit.TheConstants.{MAX_MESSAGE};
     ghost use Rattle.dna_play.specs.Script.{ScriptStep};
     ghost use Rattle.dna_play.specs.ScriptText.{script_form};
     ghost use Rattle.pair_player.specs.Step.{line_with};

@@ -1,19 +1,19 @@
 //! One step of a script: what one end of the line does.
 
 ghost use Rattle.std.specs.Prelude.{◌≡◌, ◌≤◌, ℕ, List};
-ghost use Rattle.capture.specs.declared.limit.TheConstants.{MAX_MESSAGE as MOST};
+ghost use Rattle.capture_record.specs.declared.limit.TheConstants.{MAX_MESSAGE as MOST};
 ghost use Rattle.dna_play.specs.Script.{is_of_three};
 ghost use Rattle.dna_play.specs.ScriptText.{most_bytes};
 ghost use Rattle.pair_player.specs.Step.{line_with, plain, step_with, view_of_line};
 
-use capture::{MAX_MESSAGE, MAX_UNIT};
+use capture_record::{MAX_MESSAGE, MAX_UNIT};
 use wire_base::Side;
 
 /// What an end does, or what becomes of the next unit that is on the line to it, except for its message or noise, which is kept beside it.
 /// It is small and lends nothing.
 ///
 /// Addresses of links are from 1 to 65,535: `link` is one of this end, `partner` one of the other end.
-#[derive(Clone, Copy, Debug, PartialEq, Eq)]
+#[derive(Clone, Copy, PartialEq, Eq)]
 pub enum Step {
     /// The user starts the station.
     Start,
@@ -113,7 +113,7 @@ impl Step {
 }
 
 /// One line of a script after its head. Its message or noise is lent by the reader.
-#[derive(Clone, Copy, Debug, PartialEq, Eq)]
+#[derive(Clone, Copy, PartialEq, Eq)]
 pub struct ScriptStep<'a> {
     /// The end that the step is of.
     pub side: Side,
@@ -123,7 +123,7 @@ pub struct ScriptStep<'a> {
 }
 
 /// A line of a script except for its message or noise.
-#[derive(Clone, Copy, Debug, PartialEq, Eq)]
+#[derive(Clone, Copy, PartialEq, Eq)]
 pub struct LineEntry {
     pub side: Side,
     pub step: Step,

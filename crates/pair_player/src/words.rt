@@ -3,15 +3,14 @@
 ghost use Rattle.std.specs.Prelude.{◌≡◌, ◌≤◌, length, IfOk};
 ghost use Rattle.std.specs.Option.{option_map};
 ghost use Rattle.capture.specs.Reading.{must};
-ghost use Rattle.capture.specs.declared.limit.TheConstants.{MAX_MESSAGE};
+ghost use Rattle.capture_record.specs.declared.limit.TheConstants.{MAX_MESSAGE};
 ghost use Rattle.pair_player.specs.Step.{plain};
 ghost use Rattle.pair_player.specs.inner.Entries.{parted, told};
 ghost use Rattle.pair_player.specs.inner.Reading.{damage_at, line_at, link_step_at, plain_at, step_at};
 
 use crate::step::{LineEntry, Step};
-use capture::{
-    Departure, MAX_HINT, after, bytes_into, cut_at, link_of, message_of, number_of, side_of,
-};
+use capture::{Departure, after, bytes_into, cut_at, link_of, message_of, number_of, side_of};
+use capture_record::MAX_HINT;
 
 // A step of one word.
 #[tactic(auto, unfolding(crate::specs::inner::Reading::plain_at))]

@@ -1,8 +1,8 @@
 -- When the units of receipts had passed, record by record.
 use Rattle.std.proofs.Common.{◌≡◌, ℕ, ◌+◌, ◌-◌, ◌≤◌, ◌<◌, Option, Some, None, List, [], ◌∷◌, ◌++◌, drop, length, refl, sym, ap, subst, ◌∙◌, arith}
 use Rattle.std.proofs.Common.{length-append}
-use Rattle.capture.specs.declared.record.Record.{Record}
-use Rattle.capture.specs.declared.record.Record.TheVariants.{Sent, Received, Noise, User}
+use Rattle.capture_record.specs.declared.record.Record.{Record}
+use Rattle.capture_record.specs.declared.record.Record.TheVariants.{Sent, Received, Noise, User}
 use Rattle.placing.specs.Placed.{AllCome, AllFollow, HintsRise, IsInTime, NextIsPast, NextIsSent, Puts, Units, Waiting}
 use Rattle.placing.specs.Placed.{other_count, records_of, units_sent, with_other, with_own}
 use Rattle.placing.specs.inner.Coming.{HoldsBefore, HoldsOn, Lasts}

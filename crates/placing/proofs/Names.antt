@@ -1,8 +1,8 @@
 -- Which units of the other side the receipts name.
 use Rattle.std.proofs.Common.{◌≡◌, ℕ, Option, Some, None, List, [], ◌∷◌, ◌++◌, refl, sym, ap, subst, ◌∙◌, arith}
 use Rattle.std.proofs.Common.{append_assoc, length-append}
-use Rattle.capture.specs.declared.record.Record.{Record}
-use Rattle.capture.specs.declared.record.Record.TheVariants.{Sent, Received, Noise, User}
+use Rattle.capture_record.specs.declared.record.Record.{Record}
+use Rattle.capture_record.specs.declared.record.Record.TheVariants.{Sent, Received, Noise, User}
 use Rattle.placing.specs.Placed.{AllFollow, HavePassed, IsUnit, NameUnits, NextIsPast, NextIsSent, Puts, Units, Waiting}
 use Rattle.placing.specs.Placed.{nothing, records_of, with_other, with_own}
 

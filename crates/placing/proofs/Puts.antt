@@ -1,16 +1,16 @@
 -- Lines that are put one after another.
 use Rattle.std.proofs.Common.{◌≡◌, ℕ, ◌+◌, Option, Some, None, List, [], ◌∷◌, ◌++◌, drop, refl, sym, ap, subst, ◌∙◌}
 use Rattle.std.proofs.lemmas.List.{append_assoc, append-nil}
-use Rattle.capture.specs.declared.record.Record.{Record}
-use Rattle.capture.specs.declared.fate.Fate.{Fate}
-use Rattle.capture.specs.declared.record.Record.TheVariants.{Sent, Received, Noise, User}
-use Rattle.capture.specs.declared.event.Event.{Event}
+use Rattle.capture_record.specs.declared.record.Record.{Record}
+use Rattle.capture_record.specs.declared.fate.Fate.{Fate}
+use Rattle.capture_record.specs.declared.record.Record.TheVariants.{Sent, Received, Noise, User}
+use Rattle.capture_record.specs.declared.event.Event.{Event}
 use Rattle.capture.specs.declared.hint.HintForm.TheVariants.{Number}
 use Rattle.capture.specs.Text.{record_line, record_lines}
-use Rattle.capture.specs.declared.event.Event.TheVariants as events
-use Rattle.capture.specs.declared.entry.Entry.{Entry}
-use Rattle.capture.specs.declared.entry.Entry.TheVariants as entries
-use Rattle.capture.specs.Entries.{record_with}
+use Rattle.capture_record.specs.declared.event.Event.TheVariants as events
+use Rattle.capture_record.specs.declared.entry.Entry.{Entry}
+use Rattle.capture_record.specs.declared.entry.Entry.TheVariants as entries
+use Rattle.capture_record.specs.Entries.{record_with}
 use Rattle.placing.specs.inner.Aside.{IsOfNoUnit}
 use Rattle.placing.specs.Placed.{Units, Waiting, AllFollow, IsInTime, records_of, Puts, units_sent}
 

@@ -1,7 +1,7 @@
 //! Whether both sides are explained together.
 
 /// What has to go together in what is found.
-#[derive(Clone, Copy, Debug, PartialEq, Eq)]
+#[derive(Clone, Copy, PartialEq, Eq)]
 pub enum Explained {
     /// Both sides: what one received, the other sent, and the periods of both go together.
     Together,

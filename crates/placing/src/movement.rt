@@ -3,7 +3,7 @@
 use crate::station::Station;
 
 /// What a side does next.
-#[derive(Clone, Copy, Debug, PartialEq, Eq)]
+#[derive(Clone, Copy, PartialEq, Eq)]
 pub(crate) enum Move {
     /// Its next unit is sent. `is_new`: it gives a packet its number.
     Send { is_new: bool },
@@ -20,7 +20,7 @@ pub(crate) enum Move {
 }
 
 /// What a side does, where the other side's units that it does not name are lost.
-#[derive(Clone, Copy, Debug, PartialEq, Eq)]
+#[derive(Clone, Copy, PartialEq, Eq)]
 pub(crate) enum Made {
     /// Its next unit is sent.
     Send { is_new: bool },
@@ -34,7 +34,7 @@ pub(crate) enum Made {
 
 /// Where a side may be: its station, how many of the other side's units came or were lost, how many packets it kept, and the last step of the
 /// way that leads there.
-#[derive(Clone, Copy, Debug, PartialEq, Eq)]
+#[derive(Clone, Copy, PartialEq, Eq)]
 pub(crate) struct Standing {
     pub(crate) station: Station,
     pub(crate) come: u64,

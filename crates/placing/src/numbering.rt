@@ -3,7 +3,7 @@
 use crate::said::Said;
 
 /// The last number that a side gave a packet. A start begins anew.
-#[derive(Clone, Copy, Debug, PartialEq, Eq)]
+#[derive(Clone, Copy, PartialEq, Eq)]
 pub(crate) struct Numbering {
     last: u8,
 }

@@ -3,14 +3,14 @@
 use crate::carried::{message_of, next_number};
 use crate::numbering::Numbering;
 use crate::said::Said;
-use capture::MAX_MESSAGE;
+use capture_record::MAX_MESSAGE;
 use dna_packet::{Nsp, Segment};
 use std::alloc::{AllocError, Global};
 use std::collections::{BTreeMap, BTreeSet};
 
 // The last segment that passed of the link which has an own address: its far address, its number, and the side's unit that began the message it is
 // of with how many bytes of that passed, unless it ended one.
-#[derive(Clone, Copy, Debug, PartialEq, Eq)]
+#[derive(Clone, Copy, PartialEq, Eq)]
 struct Given {
     far: u16,
     number: u16,

@@ -1,7 +1,7 @@
 //! A unit that passed.
 
 ghost use Rattle.std.specs.Prelude.{◌≡◌, ◌≤◌, length, IfOk};
-ghost use Rattle.capture.specs.declared.limit.TheConstants.{MAX_UNIT};
+ghost use Rattle.capture_record.specs.declared.limit.TheConstants.{MAX_UNIT};
 
 use std::alloc::{AllocError, Global};
 use std::marker::Model;
@@ -15,7 +15,7 @@ pub(crate) struct PassedUnit {
 
 impl Model for PassedUnit {
     ghost use Rattle.std.specs.Prelude.{◌≤◌, List, ℕ, length};
-    ghost use Rattle.capture.specs.declared.limit.TheConstants.{MAX_UNIT};
+    ghost use Rattle.capture_record.specs.declared.limit.TheConstants.{MAX_UNIT};
 
     ghost Value = { List ℕ };
 

@@ -1,7 +1,7 @@
 //! One side, and what is written of it.
 
 ghost use Rattle.std.specs.Prelude.{◌≡◌, ◌≤◌, [], length, IfOk, OnOk};
-ghost use Rattle.capture.specs.declared.limit.TheConstants.{MAX_UNIT};
+ghost use Rattle.capture_record.specs.declared.limit.TheConstants.{MAX_UNIT};
 ghost use Rattle.placing.specs.Placed.{Puts, nothing, with_other, with_own};
 
 use crate::search::Search;

@@ -13,7 +13,7 @@ use dna_station::{State, Tag};
 pub(crate) use sending::But;
 
 /// What a station keeps except its packets (DDCMP 4.1, station variables). All numbers of messages are those of the line, modulo 256.
-#[derive(Clone, Copy, Debug, PartialEq, Eq)]
+#[derive(Clone, Copy, PartialEq, Eq)]
 pub(crate) struct Station {
     pub(crate) state: State,
     // its period: how many units it had sent when it began, and one more

@@ -1,7 +1,7 @@
 //! A link as its user and its packets tell of it.
 
 /// What a user does with a link (NSP 4.0, session control interface), before a packet that tells of it is sent.
-#[derive(Clone, Copy, Debug, PartialEq, Eq)]
+#[derive(Clone, Copy, PartialEq, Eq)]
 pub(crate) enum UserAct {
     Open { link: u16 },
     Accept { partner: u16, link: u16 },
@@ -20,7 +20,7 @@ pub(crate) struct Answer {
 }
 
 /// What is assumed of a unit: whether its call is given up, and whether it begins something anew.
-#[derive(Clone, Copy, Debug, PartialEq, Eq)]
+#[derive(Clone, Copy, PartialEq, Eq)]
 pub(crate) struct Taken {
     pub(crate) is_given_up: bool,
     pub(crate) is_anew: Option<bool>,
@@ -36,7 +36,7 @@ pub(crate) enum Phase {
 }
 
 /// What was sent of a link.
-#[derive(Clone, Copy, Debug, PartialEq, Eq, PartialOrd, Ord)]
+#[derive(Clone, Copy, PartialEq, Eq, PartialOrd, Ord)]
 pub(crate) enum Sent {
     Nothing,
     OfRun,
@@ -46,7 +46,7 @@ pub(crate) enum Sent {
 /// The link that got an own address last, while something of it may still be sent: its far address, 0 while it calls; whether it was opened
 /// here; whether it is assumed that its user gives it up while it calls; whether what came ended it, after which what waits in the queues of its node is still sent; of the segments the
 /// last number that was given, and whether a message is handed in whose last segment is not sent yet.
-#[derive(Clone, Copy, Debug, PartialEq, Eq)]
+#[derive(Clone, Copy, PartialEq, Eq)]
 pub(crate) struct UserLink {
     pub(crate) far: u16,
     pub(crate) phase: Phase,

@@ -1,10 +1,10 @@
 //! The units that are not written yet, and the lines that are.
 
 ghost use Rattle.std.specs.Prelude.{◌≡◌, ◌≤◌, ◌<◌, ◌+◌, ◌-◌, ◌↔◌, IsTrue, [], ◌∷◌, ◌++◌, drop, length, None, IfSome, OnOk, OnErr};
-ghost use Rattle.capture.specs.Entries.{record_with};
+ghost use Rattle.capture_record.specs.Entries.{record_with};
 ghost use Rattle.capture.specs.Text.{record_line};
 ghost use Rattle.capture.specs.declared.hint.HintForm.TheVariants.{Number};
-ghost use Rattle.capture.specs.declared.limit.TheConstants.{MAX_UNIT, MAX_HINT, MAX_MESSAGE};
+ghost use Rattle.capture_record.specs.declared.limit.TheConstants.{MAX_UNIT, MAX_HINT, MAX_MESSAGE};
 ghost use Rattle.placing.specs.inner.Aside.{IsOfNoUnit};
 ghost use Rattle.placing.specs.Placed.{IsInTime, Puts, nothing, with_other, with_own};
 
@@ -16,7 +16,8 @@ use crate::open_messages::OpenMessages;
 use crate::passed_unit::PassedUnit;
 use crate::turned::Turned;
 use crate::user_links::UserLinks;
-use capture::{Entry, MAX_HINT, put_line};
+use capture::put_line;
+use capture_record::{Entry, MAX_HINT};
 use std::alloc::{AllocError, Global};
 use std::collections::VecDeque;
 use std::marker::Model;
@@ -43,7 +44,7 @@ pub(crate) struct Waiting {
 
 impl Model for Waiting {
     ghost use Rattle.std.specs.Prelude.{◌+◌, ◌≤◌, length};
-    ghost use Rattle.capture.specs.declared.limit.TheConstants.{MAX_HINT};
+    ghost use Rattle.capture_record.specs.declared.limit.TheConstants.{MAX_HINT};
     ghost use Rattle.placing.specs.Placed.{Waiting};
 
     ghost Value = { Waiting };

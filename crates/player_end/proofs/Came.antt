@@ -2,13 +2,13 @@
 use Rattle.std.proofs.Common.{◌≡◌, ℕ, ◌+◌, ◌≤◌, Bool, true, false, cond, Option, Some, None, List, [], ◌∷◌, ◌++◌, Result, Ok, Err, refl, sym, ap, ap₂}
 use Rattle.std.proofs.Common.{◌∙◌, append_assoc, le-leb}
 use Rattle.std.proofs.lemmas.List.{append-nil}
-use Rattle.capture.specs.declared.fate.Fate.{Fate}
-use Rattle.capture.specs.declared.fate.Fate.TheVariants.{Dropped}
-use Rattle.capture.specs.Fates.{is_kept, is_met}
+use Rattle.capture_record.specs.declared.fate.Fate.{Fate}
+use Rattle.capture_record.specs.declared.fate.Fate.TheVariants.{Dropped}
+use Rattle.capture_record.specs.Fates.{is_kept, is_met}
 use Rattle.capture.specs.declared.hint.HintForm.TheVariants.{Number}
-use Rattle.capture.specs.declared.limit.TheConstants.{MAX_HINT}
-use Rattle.capture.specs.declared.record.Record.{Record}
-use Rattle.capture.specs.declared.record.Record.TheVariants.{Received}
+use Rattle.capture_record.specs.declared.limit.TheConstants.{MAX_HINT}
+use Rattle.capture_record.specs.declared.record.Record.{Record}
+use Rattle.capture_record.specs.declared.record.Record.TheVariants.{Received}
 use Rattle.capture.specs.Text.{record_line, record_lines}
 use Rattle.ddcmp_msg.specs.Reading.{ReadingValue, reading}
 use Rattle.dna_packet.specs.Nsp.{NspValue}

@@ -4,7 +4,7 @@ use Rattle.std.proofs.Common.{subst, ap, ap₂, ◌∙◌, arith, add-one, appen
 use Rattle.std.proofs.lemmas.Bool.{lt-leb}
 use Rattle.std.specs.Prelude.{nat_le}
 use Rattle.std.proofs.lemmas.List.{append-nil, drop-drop}
-use Rattle.capture.specs.declared.limit.TheConstants.{MAX_MESSAGE}
+use Rattle.capture_record.specs.declared.limit.TheConstants.{MAX_MESSAGE}
 use Rattle.capture.specs.declared.hint.HintForm.TheVariants.{Number}
 use Rattle.capture.specs.Text.{record_lines}
 use Rattle.dna_links.proofs.Cut.Ended.{Splits, splits}

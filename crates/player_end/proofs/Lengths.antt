@@ -1,7 +1,7 @@
 -- How long a unit is at most.
 use Rattle.std.proofs.Common.{◌≡◌, ◌≤◌, length, refl, arith, length-append}
 use Rattle.wire_base.specs.BlockCheck.{check_bytes}
-use Rattle.capture.specs.declared.limit.TheConstants.{MAX_MESSAGE}
+use Rattle.capture_record.specs.declared.limit.TheConstants.{MAX_MESSAGE}
 use Rattle.ddcmp_msg.specs.Message.{MessageValue, Data, IsInRange}
 use Rattle.ddcmp_msg.specs.Spelling.{header, with_check, rest_of, spelling}
 

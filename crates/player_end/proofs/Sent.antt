@@ -9,7 +9,7 @@ use Rattle.dna_packet.specs.Nsp.{NspValue, nsp_bytes}
 use Rattle.dna_packet.specs.Packet.{packet_bytes}
 use Rattle.dna_packet.specs.Packet as packets
 use Rattle.capture.specs.declared.hint.HintForm.TheVariants.{Number}
-use Rattle.capture.specs.declared.record.Record.TheVariants.{Sent}
+use Rattle.capture_record.specs.declared.record.Record.TheVariants.{Sent}
 use Rattle.capture.specs.Text.{record_line}
 use Rattle.dna_station.specs.WireStation.{StationVariables}
 use Rattle.dna_play.specs.NextSent.{LinkChoice, Choice, SendNew}

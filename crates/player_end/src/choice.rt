@@ -4,7 +4,7 @@ use crate::duty::Duty;
 use ddcmp_msg::NakReason;
 
 /// The two addresses and the reason of a DC.
-#[derive(Clone, Copy, Debug, PartialEq, Eq)]
+#[derive(Clone, Copy, PartialEq, Eq)]
 pub struct EndConfirm {
     pub dst: u16,
     pub src: u16,
@@ -12,7 +12,7 @@ pub struct EndConfirm {
 }
 
 /// The next message of the links.
-#[derive(Clone, Copy, Debug, PartialEq, Eq)]
+#[derive(Clone, Copy, PartialEq, Eq)]
 pub enum LinkChoice {
     /// The oldest DC that is owed.
     Confirms(EndConfirm),
@@ -21,7 +21,7 @@ pub enum LinkChoice {
 }
 
 /// The next unit.
-#[derive(Clone, Copy, Debug, PartialEq, Eq)]
+#[derive(Clone, Copy, PartialEq, Eq)]
 pub enum Choice {
     Strt,
     Stack,

@@ -14,7 +14,7 @@ use crate::given_piece::GivenPiece;
 use crate::held_packet::HeldPacket;
 use crate::link_ends::LinkEnds;
 use crate::station_end::StationEnd;
-use capture::MAX_HINT;
+use capture_record::MAX_HINT;
 use dna_station::Head;
 use std::alloc::{AllocError, Global};
 use std::marker::Model;

@@ -2,11 +2,12 @@
 
 ghost use Rattle.std.specs.Prelude.{◌≡◌, ◌≤◌, ℕ, List, [], ◌∷◌, length, IfOk};
 ghost use Rattle.wire_base.specs.Tally.{tally_lent};
-ghost use Rattle.capture.specs.Entries.{record_with};
+ghost use Rattle.capture_record.specs.Entries.{record_with};
 ghost use Rattle.placing.specs.Placed.{units_sent};
 ghost use Rattle.tap_answer.specs.Before.{HasBefore};
 
-use capture::{CaptureFault, CaptureReader, Entry};
+use capture::{CaptureFault, CaptureReader};
+use capture_record::Entry;
 use std::alloc::Global;
 use std::io::Read;
 use wire_base::Tally;

@@ -5,7 +5,7 @@ use Rattle.wire_base.specs.Tally.{AppendsBeginning, CountedFault}
 use Rattle.capture.specs.declared.fault.CaptureFault.TheVariants.{Departs, Read, OutOfMemory, Failed}
 use Rattle.capture.specs.declared.fault.Departure.{Departure}
 use Rattle.capture.specs.declared.hint.HintForm.{HintForm}
-use Rattle.capture.specs.declared.record.Record.{Record}
+use Rattle.capture_record.specs.declared.record.Record.{Record}
 use Rattle.capture.specs.Faulty.{CountsReads, is_read_fault}
 use Rattle.capture.specs.Lines.{IsCutBehind}
 use Rattle.capture.specs.SoFar.{ToCome, TheEnd, so_far, IsReadSoFar, DepartsBehind, HeadDepartsAt}

@@ -2,17 +2,18 @@
 
 ghost use Rattle.std.specs.Prelude.{◌≡◌, ◌+◌, ◌*◌, ◌≤◌, ◌∷◌, ◌++◌, length, codes};
 ghost use Rattle.std.specs.Fmt.{decimal};
-ghost use Rattle.capture.specs.Entries.{record_with};
-ghost use Rattle.capture.specs.Range.{IsRecord};
+ghost use Rattle.capture_record.specs.Entries.{record_with};
+ghost use Rattle.capture_record.specs.Range.{IsRecord};
 ghost use Rattle.capture.specs.Text.{bytes_text, spaced};
-ghost use Rattle.capture.specs.declared.limit.TheConstants.{MAX_MESSAGE};
+ghost use Rattle.capture_record.specs.declared.limit.TheConstants.{MAX_MESSAGE};
 ghost use Rattle.capture.specs.declared.page.TheConstants.{PAGE_SIZE};
 ghost use Rattle.ddcmp_msg.specs.Message.{view};
 ghost use Rattle.ddcmp_msg.specs.Reading.{reading, reading_view};
 ghost use Rattle.text_commands.specs.declared.shown_line.TheConstants.{LINE};
 ghost use Rattle.text_commands.specs.Shown.{flags_digits, data_words, message_words, reading_words, unit_words, record_words, shown_line};
 
-use capture::{Entry, Fate, Page};
+use capture::Page;
+use capture_record::{Entry, Fate};
 use ddcmp_msg::{Flags, Message, Reading, read_unit};
 
 /// More bytes than a line has: two digits for each byte of a longest message, and some words and numbers.

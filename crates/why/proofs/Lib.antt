@@ -1,3 +1,2 @@
 mod Beginnings
-mod Bits
 mod Kept

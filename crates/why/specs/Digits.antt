@@ -1,16 +1,16 @@
 -- The first bytes of a record that are compared with those of its node, and the node's, as hexadecimal digits.
 use Rattle.std.specs.Prelude.{ℕ, nat_le, if◌then◌else◌, Option, Some, None, Result, Ok, Err, List, [], length, take}
 use Rattle.hex.specs.Hex.{encode_lower}
-use Rattle.capture.specs.declared.entry.Entry.{Entry}
-use Rattle.capture.specs.declared.entry.Entry.TheVariants as entries
+use Rattle.capture_record.specs.declared.entry.Entry.{Entry}
+use Rattle.capture_record.specs.declared.entry.Entry.TheVariants as entries
 use Rattle.dna_packet.specs.declared.fault.NspFault.{NspFault}
 use Rattle.dna_packet.specs.Nsp.{NspValue, DataSegment}
 use Rattle.dna_packet.specs.ReadingNsp.{nsp_at}
 use Rattle.dna_packet.specs.ReadingPacket.{packet_at}
 use Rattle.dna_links.specs.WireLinks.{WireLinks}
 use Rattle.nsp_link.specs.Due.{due_at_links, due_to_user}
+use Rattle.record_words.specs.Layers.{message_in_unit, message_of}
 use Rattle.why.specs.declared.digits.Fronts as declared
-use Rattle.why.specs.Layers.{message_in_unit, message_of}
 
 -- the digits of both
 pub record Fronts : Type 0 where

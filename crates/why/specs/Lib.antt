@@ -1,6 +1,4 @@
--- What the numbers and names are that are said of a refused record, and its first line
-pub mod Layers
-pub mod Subject
+-- What the digits are that are said of a refused record, and its first line
 pub mod Digits
 pub mod Refused
 pub mod inner

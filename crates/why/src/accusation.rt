@@ -4,7 +4,7 @@ ghost use Rattle.std.specs.Prelude.{◌≡◌};
 ghost use Rattle.pair_judge.specs.Reason.{reason_matter};
 ghost use Rattle.why.specs.Refused as spec;
 
-use capture::Entry;
+use capture_record::Entry;
 use pair_judge::{Accused, Blame, Matter, Reason};
 use std::fmt;
 use wire_base::Side;
@@ -52,7 +52,7 @@ pub enum Accusation {
 }
 
 /// What is known of nodes with a queue between NSP and DDCMP at a refused record.
-#[derive(Clone, Copy, Debug, PartialEq, Eq)]
+#[derive(Clone, Copy, PartialEq, Eq)]
 pub enum Excuse {
     /// They are refused at this record too, or no queue explains such a reason.
     Refused,

@@ -1,20 +1,20 @@
 //! What is seen where a check is not passed, and what is allowed there.
 
-use crate::arrival_checks::{write_arrival_allowed, write_arrival_seen};
 use crate::checks::Check;
 use crate::digits::Fronts;
-use crate::link_arrival_checks::{write_link_arrival_allowed, write_link_arrival_seen};
-use crate::link_event_checks::{write_link_event_allowed, write_link_event_seen};
-use crate::link_sending_checks::{write_link_sending_allowed, write_link_sending_seen};
-use crate::nsp_words::nsp_fault_words;
-use crate::packet_words::packet_fault_words;
-use crate::past::Lines;
-use crate::state_line::state_name;
-use crate::station_checks::{write_sending_allowed, write_sending_seen};
-use crate::undetected::{came_byte, sent_byte, write_byte};
-use crate::unit_words::{ReadingName, ReadingWords};
-use crate::words::plural;
 use pair_judge::{Awaited, FailedCheck};
+use record_words::lines::Lines;
+use record_words::nsp_words::nsp_fault_words;
+use record_words::packet_words::packet_fault_words;
+use record_words::unit_words::{ReadingName, ReadingWords};
+use record_words::words::plural;
+use side_words::arrival_checks::{write_arrival_allowed, write_arrival_seen};
+use side_words::link_arrival_checks::{write_link_arrival_allowed, write_link_arrival_seen};
+use side_words::link_event_checks::{write_link_event_allowed, write_link_event_seen};
+use side_words::link_sending_checks::{write_link_sending_allowed, write_link_sending_seen};
+use side_words::state_line::state_name;
+use side_words::station_checks::{write_sending_allowed, write_sending_seen};
+use side_words::undetected::{came_byte, sent_byte, write_byte};
 use std::fmt::{self, Formatter, Write};
 use wire_base::Side;
 

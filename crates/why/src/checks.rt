@@ -1,17 +1,17 @@
 //! The check that the refused record does not pass, over both layers and the line.
 
-use crate::arrival_checks::arrival_check;
 use crate::check_words::{Allowed, Seen};
 use crate::digits::Fronts;
-use crate::link_arrival_checks::link_arrival_check;
-use crate::link_event_checks::link_event_check;
-use crate::link_sending_checks::link_sending_check;
-use crate::past::Lines;
 use crate::rules::{RuleKeys, put_rule};
-use crate::station_checks::sending_check;
-use crate::wrapped::put_wrapped;
 use ddcmp_msg::Reading;
 use pair_judge::{FailedCheck, Reason};
+use record_words::lines::Lines;
+use record_words::wrapped::put_wrapped;
+use side_words::arrival_checks::arrival_check;
+use side_words::link_arrival_checks::link_arrival_check;
+use side_words::link_event_checks::link_event_check;
+use side_words::link_sending_checks::link_sending_check;
+use side_words::station_checks::sending_check;
 use std::alloc::{AllocError, Global};
 use std::fmt::{self, Formatter, Write};
 use wire_base::Side;

@@ -5,14 +5,12 @@ ghost use Rattle.dna_packet.specs.Nsp as nsp;
 ghost use Rattle.dna_packet.specs.ReadingNsp.{nsp_at};
 ghost use Rattle.why.specs.Digits as spec;
 
-use crate::layers::{message_in, message_in_unit};
-use crate::undetected::Differing;
-use crate::words::words_if;
-use capture::Entry;
+use capture_record::Entry;
 use dna_packet::{Nsp, read_nsp};
 use pair_judge::SideEnd;
+use record_words::layers::{message_in, message_in_unit};
+use side_words::undetected::Differing;
 use std::alloc::{AllocError, Global};
-use std::fmt;
 
 /// The digits of both, at most sixteen bytes of each; the short name of the unit that the record names, with a comma and a blank after it, or
 /// nothing; and where the record's bytes have that name too, the first byte in which they differ.
@@ -115,25 +113,5 @@ fn due_by<'e>(end: &'e SideEnd, message: &Nsp) -> &'e [u8]
             None => &[],
         },
         _ => &[],
-    }
-}
-
-/// The front of so many bytes after these words, with two dots where it does not tell all of them. Printed as `: 0506..`; nothing where there
-/// is no byte.
-#[derive(Clone, Copy)]
-pub struct FrontBehind<'l, 't> {
-    pub lead: &'l str,
-    pub front: &'t str,
-    pub count: usize,
-}
-
-impl fmt::Display for FrontBehind<'_, '_> {
-    fn fmt<W: fmt::Write>(&self, f: &mut fmt::Formatter<W>) -> fmt::Result {
-        let FrontBehind { lead, front, count } = *self;
-        if count == 0 {
-            return Ok(());
-        }
-        let dots = words_if(front.len() / 2 < count, "..");
-        write!(f, "{lead}{front}{dots}")
     }
 }

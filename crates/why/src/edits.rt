@@ -1,8 +1,8 @@
 //! What small edits of the captures tell.
 
 use crate::queued::QueuedAnswer;
-use crate::words::NumberOr;
-use crate::wrapped::{INDENT, put_wrapped};
+use record_words::words::NumberOr;
+use record_words::wrapped::{INDENT, put_wrapped};
 use std::alloc::AllocError;
 use std::fmt::{self, Formatter, Write};
 
@@ -10,7 +10,7 @@ use std::fmt::{self, Formatter, Write};
 pub const FEW_RECORDS: u64 = 20;
 
 /// How many small edits near the refusal were judged, and how many of them make the pair a run. Printed as one JSON object with its LF.
-#[derive(Clone, Copy, Debug, PartialEq, Eq)]
+#[derive(Clone, Copy, PartialEq, Eq)]
 pub struct EditsTried {
     /// How many were judged.
     pub tried: u64,

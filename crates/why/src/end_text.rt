@@ -6,16 +6,16 @@ ghost use Rattle.why.specs.Refused.{BeginsWith, line_of_end, refused_line};
 
 use crate::accusation::{Accusation, AccusedRow, NobodyObject};
 use crate::ends::state_at;
-use crate::form::Form;
-use crate::past::Lines;
 use crate::queued::{QueuedAnswer, QueuedObject, QueuedRow, Whole};
 use crate::refused_line::RefusedLine;
 use crate::refused_record::{Beside, RefusedRecord, end_told, record_objects, record_rows};
-use crate::state_line::StateLine;
-use crate::subject::addresses_of;
-use capture::Entry;
+use capture_record::Entry;
 use ddcmp_station::StationView;
 use pair_judge::{FailedCheck, Reason, SideEnd};
+use record_words::lines::Lines;
+use side_words::form::Form;
+use side_words::state_line::StateLine;
+use side_words::subject::addresses_of;
 use std::alloc::{AllocError, Global};
 use wire_base::Side;
 

@@ -3,10 +3,10 @@
 ghost use Rattle.std.specs.Prelude.{◌≡◌, ◌++◌, IfOk, OnOk};
 ghost use Rattle.why.specs.inner.Ends as spec;
 
-use crate::link_line::is_live;
-use crate::state_line::StateLine;
 use nsp_link::LinkView;
 use pair_judge::SideEnd;
+use side_words::link_line::is_live;
+use side_words::state_line::StateLine;
 use std::alloc::{AllocError, Global};
 use wire_base::Side;
 

@@ -1,54 +1,23 @@
-//! What is said of a record that a judge refused: what its bytes say, layer by layer; the check that was not passed, with what is seen there
-//! and what is allowed; and the variables of both ends. It judges nothing, reads and writes no file, and knows no capture.
+//! What is said of a record that a judge refused: the check that was not passed, with its rule; both ends as they were before it; and who is accused.
+//! It judges nothing, reads and writes no file, and knows no capture.
 #![tactic(auto)]
 
 mod accusation;
-mod ack_words;
-mod arrival_checks;
-mod calls;
-mod causes;
 mod check_words;
 mod checks;
-mod damage_words;
-mod data_bytes;
 mod digits;
 mod edits;
 mod end_text;
 mod ends;
-mod event_words;
 mod explanations;
-mod faulty_line;
-mod form;
 mod front_texts;
-mod layers;
-mod link_arrival_checks;
-mod link_check_fields;
-mod link_event_checks;
-mod link_line;
-mod link_sending_checks;
-mod nsp_words;
 mod other_end;
-mod packet_words;
 mod past;
-mod piece_fields;
 mod queued;
-mod record;
-mod record_told;
 mod refused_line;
 mod refused_record;
 mod rules;
-mod side_past;
-mod sides;
-mod state_line;
-mod state_text;
-mod station_checks;
-mod subject;
-mod text_scan;
-mod undetected;
-mod unit_words;
 mod why_text;
-mod words;
-mod wrapped;
 
 pub use accusation::{Accusation, AccusedRow, Excuse, NobodyObject};
 pub use checks::{Check, CheckObject, check_rows};
@@ -56,14 +25,8 @@ pub use digits::Fronts;
 pub use edits::{EditLine, EditsTried, FEW_RECORDS, RecorderRow, put_edit};
 pub use end_text::{EndRefusal, why_end_json, why_end_rows};
 pub use explanations::{Explanation, explanation_of};
-pub use faulty_line::{FaultyLine, faulty_line_rows};
 pub use front_texts::FrontTexts;
-pub use past::{Lines, LinkPast};
+pub use past::LinkPast;
 pub use queued::QueuedAnswer;
-pub use record::{BYTES_SHOWN, record_json, record_text};
 pub use refused_record::Beside;
-pub use sides::{LINKS_SHOWN, side_json, side_text};
-pub use state_line::StateLine;
-pub use subject::{Addresses, addresses_of};
-pub use undetected::Differing;
 pub use why_text::{AlsoAsked, Refusal, Shown, why_json, why_rows};

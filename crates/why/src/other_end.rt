@@ -6,15 +6,16 @@ ghost use Rattle.ddcmp_msg.specs.Reading.{reading_view};
 ghost use Rattle.why.specs.inner.OtherEnd as spec;
 
 use crate::checks::seen_and_allowed;
-use crate::layers::{message_in_unit, packet_in};
-use crate::nsp_words::MessageWords;
-use crate::packet_words::{NodesWords, RoutingWords};
 use crate::rules::RuleKeys;
-use crate::words::{Range, short_number_or, words_if};
 use ddcmp_msg::{Message, Reading, read_unit};
 use ddcmp_station::StationView;
 use nsp_link::{LinkView, Nodes};
 use pair_judge::{Matter, Reason};
+use record_words::layers::{message_in_unit, packet_in};
+use record_words::nsp_words::MessageWords;
+use record_words::packet_words::RoutingWords;
+use record_words::words::{Range, short_number_or, words_if};
+use side_words::nodes::nodes_words;
 use std::alloc::{AllocError, Global};
 use std::fmt::{self, Formatter, Write};
 
@@ -141,7 +142,7 @@ impl fmt::Display for AllowedThere<'_> {
                 write!(f, "RESP {range}")
             }
             Matter::Nodes => {
-                let nodes = NodesWords { nodes };
+                let nodes = nodes_words(nodes);
                 write!(
                     f,
                     "{nodes}: from the peer in the head to the node in the head"

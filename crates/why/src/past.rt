@@ -1,36 +1,15 @@
 //! In which lines of a capture the links of a side got their addresses, and in which they ended.
 
 use crate::accusation::Excuse;
-use crate::layers::{message_in, message_in_unit};
-use crate::side_past::SidePast;
-use crate::subject::Addresses;
-use capture::Entry;
+use capture_record::Entry;
 use dna_packet::{Nsp, read_nsp};
 use pair_judge::Reason;
+use record_words::layers::{message_in, message_in_unit};
+use record_words::lines::Lines;
+use record_words::side_past::SidePast;
+use side_words::subject::Addresses;
 use std::alloc::{AllocError, Global};
 use wire_base::Side;
-
-/// The lines that an answer names beside the refused one; `None` where none is known.
-#[derive(Clone, Copy, Debug, PartialEq, Eq)]
-pub struct Lines {
-    /// In which the live link with the own address that the record names got it.
-    pub since: Option<u64>,
-    /// In which the last link with the addresses that the record names ended.
-    pub ended: Option<u64>,
-    /// At which the other side waits.
-    pub other_at: Option<u64>,
-}
-
-impl Lines {
-    /// None is known.
-    pub fn none() -> Lines {
-        Lines {
-            since: None,
-            ended: None,
-            other_at: None,
-        }
-    }
-}
 
 /// What the records of both sides tell of their links, one after another.
 #[derive(Drop)]

@@ -1,15 +1,15 @@
 //! What is answered of the same captures as those of nodes with queues.
 
 use crate::accusation::Excuse;
-use crate::words::words_if;
 use capture::Departure;
 use pair_judge::Reason;
+use record_words::words::words_if;
 use std::fmt::{self, Formatter, Write};
 use wire_base::Side;
 
 /// What is answered of the same captures as those of nodes with a queue between NSP and DDCMP, where such a node may do what is refused: of a pair by
 /// `check --queued`, of one end by `alone --queued`.
-#[derive(Clone, Copy, Debug, PartialEq, Eq)]
+#[derive(Clone, Copy, PartialEq, Eq)]
 pub enum QueuedAnswer {
     /// It was not asked, and nothing is excused: no queue explains such a reason, or such nodes were judged already.
     NotAsked,
@@ -64,7 +64,7 @@ fn is_of_what_lacks(reason: Reason) -> bool {
 }
 
 /// Of what it is told.
-#[derive(Clone, Copy, Debug, PartialEq, Eq)]
+#[derive(Clone, Copy, PartialEq, Eq)]
 pub enum Whole {
     /// Of a pair.
     Pair,

@@ -5,18 +5,18 @@ ghost use Rattle.why.specs.Refused.{BeginsWith, refused_line};
 
 use crate::checks::{Check, CheckObject, check_rows};
 use crate::ends::live_links;
-use crate::form::Form;
 use crate::front_texts::FrontTexts;
 use crate::other_end::{OtherEnd, OtherEndObject, other_end_rows};
-use crate::past::Lines;
-use crate::record::{record_json, record_text};
 use crate::refused_line::RefusedLine;
-use crate::sides::{side_json, side_text};
-use crate::state_line::StateLine;
-use crate::subject::{Addresses, addresses_of, subjects};
-use capture::Entry;
+use capture_record::Entry;
 use ddcmp_msg::read_unit;
 use pair_judge::{FailedCheck, SideEnd};
+use record_words::lines::Lines;
+use record_words::record::{record_json, record_text};
+use side_words::form::Form;
+use side_words::sides::{side_json, side_text};
+use side_words::state_line::StateLine;
+use side_words::subject::{Addresses, addresses_of, subjects};
 use std::alloc::{AllocError, Global};
 
 /// A refused record, of a pair or of one end alone.

@@ -1,8 +1,8 @@
 //! The rule of each reason.
 
 use crate::explanations::{Explanation, explanation_of};
-use crate::wrapped::put_wrapped;
 use pair_judge::Reason;
+use record_words::wrapped::put_wrapped;
 use std::alloc::AllocError;
 use std::fmt::{self, Formatter, Write};
 

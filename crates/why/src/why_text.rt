@@ -6,14 +6,14 @@ ghost use Rattle.why.specs.Refused.{BeginsWith, line_of, refused_line};
 use crate::accusation::{Accusation, AccusedRow, NobodyObject};
 use crate::edits::{EditsTried, RecorderRow, so_row};
 use crate::ends::state_at;
-use crate::form::Form;
-use crate::past::Lines;
 use crate::queued::{QueuedAnswer, QueuedObject, QueuedRow, Whole};
 use crate::refused_line::RefusedLine;
 use crate::refused_record::{Beside, RefusedRecord, end_told, record_objects, record_rows};
-use crate::subject::{Addresses, addresses_of};
-use capture::Entry;
+use capture_record::Entry;
 use pair_judge::{FailedCheck, JudgedEnds, Reason};
+use record_words::lines::Lines;
+use side_words::form::Form;
+use side_words::subject::{Addresses, addresses_of};
 use std::alloc::{AllocError, Global};
 use wire_base::Side;
 

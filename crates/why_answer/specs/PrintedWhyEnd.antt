@@ -1,6 +1,6 @@
 -- What `why` prints of an answer of the judge of one end, as far as it is claimed, and with which status it ends.
 use Rattle.std.specs.Prelude.{◌≡◌, ℕ, ◌⊎◌, List, Some, Result, Ok, Err, IfOk, codes}
-use Rattle.capture.specs.Entries.{record_with}
+use Rattle.capture_record.specs.Entries.{record_with}
 use Rattle.capture.specs.Faulty.{CountsReads, is_failed_read}
 use Rattle.capture.specs.declared.fault.CaptureFault.{CaptureFault}
 use Rattle.capture.specs.declared.fault.CaptureFault.TheVariants.{OutOfMemory}

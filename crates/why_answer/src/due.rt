@@ -1,6 +1,6 @@
 //! The lines that the bytes of records tell of: where they are missing, and in front of which line they belong.
 
-use capture::{Entry, Fate};
+use capture_record::{Entry, Fate};
 use ddcmp_msg::{Message, NakReason, Reading, read_unit};
 use dna_packet::{Nsp, Packet, Segment, read_nsp, read_packet};
 use edited::{Damage, Due, Row, Stretch};

@@ -18,12 +18,10 @@ use printing::check::{print, print_out_of_memory};
 use printing::end_text::end_text;
 use printing::how::Form;
 use printing::layers::{Layers, failed_end_over, watch_end_over};
+use side_words::subject::addresses_of;
 use std::alloc::{AllocError, Global};
 use std::io::{Read, Seek, Write};
-use why::{
-    Accusation, Beside, EndRefusal, LinkPast, QueuedAnswer, addresses_of, why_end_json,
-    why_end_rows,
-};
+use why::{Accusation, Beside, EndRefusal, LinkPast, QueuedAnswer, why_end_json, why_end_rows};
 use wire_base::{Side, Tally};
 
 /// What is judged, how the answer is printed, and the name of the capture in it.

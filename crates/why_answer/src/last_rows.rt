@@ -3,7 +3,7 @@
 ghost use Rattle.std.specs.Prelude.{[], IfOk, IfErr};
 ghost use Rattle.why_answer.specs.LastRows.{WereTold};
 
-use capture::Entry;
+use capture_record::Entry;
 use ladder::{Keep, Ladder};
 use pair_judge::{MadeEntry, Observer};
 use std::alloc::{AllocError, Global};

@@ -1,6 +1,7 @@
 //! The records of a capture near one of its lines.
 
-use capture::{CaptureFault, CaptureReader, Entry, Format, HintForm, MAX_RECORDS};
+use capture::{CaptureFault, CaptureReader, Format, HintForm, MAX_RECORDS};
+use capture_record::Entry;
 use edited::{Row, Stretch};
 use pair_judge::JudgedEnds;
 use std::alloc::{AllocError, Global};

@@ -3,7 +3,7 @@
 use crate::last_rows::ROWS_BEFORE;
 use crate::recorder::ComesLater;
 use crate::telling::Printout;
-use capture::{Entry, Fate};
+use capture_record::{Entry, Fate};
 use ladder::{Drawn, Ladder, Sending, What};
 use std::alloc::{AllocError, Global};
 use wire_base::Side;

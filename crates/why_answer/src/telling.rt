@@ -9,19 +9,18 @@ ghost use Rattle.why_answer.specs.PrintedWhy.{IsAccused, IsTold, PrintsAcceptanc
 use crate::last_rows::LastRows;
 use crate::recorder::Tried;
 use crate::rows_before::{rungs_of, tell_later};
-use capture::Entry;
+use capture_record::Entry;
 use ladder::Ladder;
 use pair_judge::{JudgedEnds, Reason, Summary, Verdict, Watched};
 use printing::check::{print, print_failed_read, print_out_of_memory};
 use printing::how::Form;
 use printing::layers::{Layers, failed_over};
 use printing::text::{FAILED, verdict_text};
+use record_words::lines::Lines;
+use side_words::subject::addresses_of;
 use std::alloc::{AllocError, Global};
 use std::io::Write;
-use why::{
-    Accusation, Excuse, Lines, LinkPast, QueuedAnswer, Refusal, Shown, addresses_of, why_json,
-    why_rows,
-};
+use why::{Accusation, Excuse, LinkPast, QueuedAnswer, Refusal, Shown, why_json, why_rows};
 use wire_base::{Side, Tally, write_whole};
 
 /// The status of a refusal.

@@ -3,7 +3,7 @@
 use crate::both_near::BothNear;
 use crate::judged_again::PairChanges;
 use crate::right_units::right_units;
-use capture::Entry;
+use capture_record::Entry;
 use edited::{Change, Mistake, Row, with_bytes};
 use pair_judge::{JudgedEnds, Matter, Verdict};
 use printing::layers::{Layers, failed_over};

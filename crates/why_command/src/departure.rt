@@ -1,13 +1,13 @@
 //! What `why` adds below the line of a fault: where a line departs from the format of captures, and what would be right there.
 
 use capture::{CaptureFault, Departure, MAX_LINE};
+use departure_words::{FaultyLine, faulty_line_rows};
 use pair_judge::{JudgeFault, TextFault};
 use printing::check::{print, print_failed_read};
 use printing::layers::{Layers, judge_end_over, judge_over};
 use printing::text::FAULTY;
 use std::alloc::{AllocError, Global};
 use std::io::{Read, Seek, Write};
-use why::{FaultyLine, faulty_line_rows};
 use wire_base::{Side, Tally};
 
 // How many bytes of a text are kept from its beginning, at least.

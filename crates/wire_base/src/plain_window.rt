@@ -4,7 +4,7 @@ use crate::{PushFault, Seq, Window};
 use std::alloc::{AllocError, AllocFailed, Global};
 
 /// A window over a list, whose first number is a count that wraps at 2^64.
-#[derive(Debug, Drop)]
+#[derive(Drop)]
 pub struct PlainWindow<T, const M: u16> {
     first: u64,
     items: Vec<T>,

@@ -6,7 +6,7 @@ use std::alloc::{AllocError, Global};
 
 /// A window over a ring, whose memory is taken when it is made. Its first number is a wire value, and its `push` takes no
 /// memory.
-#[derive(Debug, Drop)]
+#[derive(Drop)]
 pub struct RingWindow<T, const M: u16> {
     first: Seq<M>,
     items: HeapCircularBuffer<T>,

@@ -4,7 +4,7 @@ ghost use Rattle.wire_base.specs.Seq.{IsLift, wire_distance, wire_value};
 use std::marker::Model;
 
 /// The wire value of a number: the number modulo `M`, which is 256 in DDCMP and 4,096 in NSP. No call takes memory.
-#[derive(Clone, Copy, Debug, PartialEq, Eq)]
+#[derive(Clone, Copy, PartialEq, Eq)]
 pub struct Seq<const M: u16> {
     value: u16,
 }

@@ -12,7 +12,7 @@ use std::{error, fmt};
 /// interrupted call among them, or where a `write` takes no byte of a piece that has some. At `u64::MAX` the count stays.
 /// The count is known of direct calls alone: what the library builds from them, as `write_all` or `read_to_end`, tries an
 /// interrupted call again and does not say how often.
-#[derive(Debug, Drop)]
+#[derive(Drop)]
 pub struct Tally<T> {
     lent: T,
     faults: u64,

@@ -6,7 +6,7 @@ use crate::Seq;
 use std::alloc::{AllocError, Global};
 
 /// Why a window took no further item.
-#[derive(Clone, Copy, Debug, PartialEq, Eq)]
+#[derive(Clone, Copy, PartialEq, Eq)]
 pub enum PushFault {
     /// It holds as many items as it may.
     Full,

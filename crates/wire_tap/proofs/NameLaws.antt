@@ -1,7 +1,7 @@
 -- Which units of the other side receipts are of, record by record.
 use Rattle.std.proofs.Common.{ℕ, List, [], ◌∷◌, ◌++◌, sym, ap, ◌∙◌, arith, append_assoc, append-nil}
-use Rattle.capture.specs.declared.record.Record.{Record}
-use Rattle.capture.specs.declared.record.Record.TheVariants.{Sent, Received, Noise, User}
+use Rattle.capture_record.specs.declared.record.Record.{Record}
+use Rattle.capture_record.specs.declared.record.Record.TheVariants.{Sent, Received, Noise, User}
 use Rattle.placing.specs.Placed.{HavePassed, IsUnit, NameUnits, Waiting}
 use Rattle.placing.specs.inner.Coming.{Lasts}
 use Rattle.wire_base.specs.declared.side.Side.{Side}

@@ -3,7 +3,7 @@ use Rattle.std.proofs.Common.{◌≡◌, ℕ, ◌+◌, ◌<◌, ◌^◌, List, [
 use Rattle.std.proofs.Common.{◌∙◌, arith, append_assoc, append-nil, length-append}
 use Rattle.wire_base.specs.declared.side.Side.{Side}
 use Rattle.capture.specs.declared.hint.HintForm.TheVariants.{Number}
-use Rattle.capture.specs.declared.record.Record.{Record}
+use Rattle.capture_record.specs.declared.record.Record.{Record}
 use Rattle.capture.specs.Paged.{HandsOver}
 use Rattle.capture.specs.Text.{record_lines}
 use Rattle.framer.specs.Framing.{Framing, framing, joined}

@@ -3,7 +3,7 @@ use Rattle.std.proofs.Common.{◌≡◌, ℕ, ◌+◌, ◌≤◌, ◌<◌, List,
 use Rattle.std.proofs.Common.{append_assoc, append-nil, length-append}
 use Rattle.wire_base.specs.Side.{other_side}
 use Rattle.wire_base.specs.declared.side.Side.{Side}
-use Rattle.capture.specs.declared.record.Record.{Record}
+use Rattle.capture_record.specs.declared.record.Record.{Record}
 use Rattle.placing.specs.Placed.{AllCome, HavePassed, HintsRise, Units, Waiting, nothing, other_count, units_sent}
 use Rattle.placing.specs.inner.Coming.{HoldsOn}
 use Rattle.placing.proofs.Coming.{come-append, come_on, holds_on, rise-append, rise_higher}

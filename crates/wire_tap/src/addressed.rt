@@ -4,7 +4,7 @@ use ddcmp_msg::{Message, Reading, read_unit};
 use dna_packet::{Nsp, Packet, read_nsp, read_packet};
 
 /// From which node to which the packet of a data unit goes, as its side sees it.
-#[derive(Clone, Copy, Debug, PartialEq, Eq)]
+#[derive(Clone, Copy, PartialEq, Eq)]
 pub(crate) enum Addressed {
     /// There is no packet with addresses, or it is on its way back.
     Nowhere,

@@ -6,7 +6,7 @@ use crate::accusation::Exception;
 use crate::addressed::Addressed;
 
 /// By what a unit is accused.
-#[derive(Clone, Copy, Debug, PartialEq, Eq)]
+#[derive(Clone, Copy, PartialEq, Eq)]
 pub(crate) enum Charge {
     /// No correct station sent it.
     Station,

@@ -4,7 +4,7 @@ use crate::tapped::Ending;
 use capture::CaptureFault;
 
 /// Why no more of a text is read.
-#[derive(Clone, Copy, Debug, PartialEq, Eq)]
+#[derive(Clone, Copy, PartialEq, Eq)]
 pub(crate) enum Stop {
     /// The captures end.
     Ends(Ending),

@@ -4,7 +4,7 @@ use placing::Explained;
 use wire_base::Side;
 
 /// What a tap is asked for.
-#[derive(Clone, Copy, Debug, PartialEq, Eq)]
+#[derive(Clone, Copy, PartialEq, Eq)]
 pub struct Asked {
     /// Whether no packet is read.
     pub line_alone: bool,

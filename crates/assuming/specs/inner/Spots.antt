@@ -1,7 +1,7 @@
 -- What is kept of a capture, of which the last pass asks where an assumption may stand.
 use Rattle.std.specs.Prelude.{◌≡◌, ℕ, List, [], ◌∷◌, ◌++◌, length}
 use Rattle.std.specs.List.{AllByRecursion}
-use Rattle.capture.specs.declared.record.Record.{Record}
+use Rattle.capture_record.specs.declared.record.Record.{Record}
 use Rattle.placing.specs.Placed.{units_sent}
 use Rattle.assuming.specs.Assuming.{IsCalled, IsSent, IsStart, kept_since}
 use Rattle.assuming.specs.declared.spots.Basis.{Basis}

@@ -1,7 +1,8 @@
 -- The fields of a reader of a capture.
 use Rattle.std.specs.Prelude.{◌≡◌, ◌-◌, ◌+◌, ◌≤◌, length, take}
 use Rattle.capture.specs.declared.reader.CaptureReader.TheInside.{Inside}
-use Rattle.capture.specs.declared.limit.TheConstants.{MAX_MESSAGE, MAX_RECORDS}
+use Rattle.capture_record.specs.declared.limit.TheConstants.{MAX_MESSAGE}
+use Rattle.capture.specs.declared.limit.TheConstants.{MAX_RECORDS}
 use Rattle.capture.specs.Range.{FormFits}
 use Rattle.capture.specs.Reader.{CaptureState}
 

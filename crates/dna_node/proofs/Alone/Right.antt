@@ -4,8 +4,8 @@ use Rattle.std.specs.Prelude.{slice_get}
 use Rattle.std.proofs.lemmas.Option.{slice_get-map}
 use Rattle.two_nodes.specs.Nodes.{Half, World}
 use Rattle.ddcmp_msg.specs.Message.{MessageValue, Data, Ack, Nak}
-use Rattle.capture.specs.declared.fate.Fate.TheVariants.{Kept}
-use Rattle.capture.specs.declared.record.Record.{Record}
+use Rattle.capture_record.specs.declared.fate.Fate.TheVariants.{Kept}
+use Rattle.capture_record.specs.declared.record.Record.{Record}
 use Rattle.dna_station.specs.declared.head.Head.{Head}
 use Rattle.dna_station.specs.declared.refusal.StationRefusal.{StationRefusal}
 use Rattle.dna_station.specs.declared.refusal.StepRefusal.{StepRefusal}

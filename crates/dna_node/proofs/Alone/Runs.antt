@@ -11,7 +11,7 @@ use Rattle.two_nodes.specs.Kept.{IsKept}
 use Rattle.two_nodes.specs.Past.{Offends}
 use Rattle.two_nodes.proofs.Closed.{exchange_run}
 use Rattle.two_nodes.proofs.Lasting.{lasts}
-use Rattle.capture.specs.declared.record.Record.{Record}
+use Rattle.capture_record.specs.declared.record.Record.{Record}
 use Rattle.dna_station.specs.declared.head.Head.{Head}
 use Rattle.dna_station.specs.declared.refusal.StepRefusal.{StepRefusal}
 use Rattle.dna_station.specs.Line.{UnitOf}

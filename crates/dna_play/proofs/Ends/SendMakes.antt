@@ -4,7 +4,7 @@ use Rattle.std.specs.List.{AllByRecursion}
 use Rattle.ddcmp_msg.specs.Message.{MessageValue}
 use Rattle.ddcmp_msg.specs.Spelling.{spelling}
 use Rattle.ddcmp_msg.proofs.ReadBack.{reading-spelling}
-use Rattle.capture.specs.declared.record.Record.TheVariants.{Sent}
+use Rattle.capture_record.specs.declared.record.Record.TheVariants.{Sent}
 use Rattle.dna_station.specs.declared.head.Head.{Head}
 use Rattle.dna_station.specs.Book.{body_of}
 use Rattle.dna_station.specs.Station.{Station}

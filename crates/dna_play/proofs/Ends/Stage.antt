@@ -5,7 +5,7 @@ use Rattle.std.specs.Option.{IfSome}
 use Rattle.std.specs.Prelude.{slice_get}
 use Rattle.two_nodes.specs.Nodes.{stepped}
 use Rattle.two_nodes.specs.Cutting.{cut_half}
-use Rattle.capture.specs.declared.limit.TheConstants.{MAX_LINK}
+use Rattle.capture_record.specs.declared.limit.TheConstants.{MAX_LINK}
 use Rattle.dna_station.specs.declared.head.Head.{Head}
 use Rattle.dna_station.specs.declared.state.State.TheVariants.{Halted}
 use Rattle.dna_station.specs.declared.state.StationEvent.{StationEvent}

@@ -15,8 +15,8 @@ use Rattle.dna_packet.specs.Packet as packets
 use Rattle.dna_packet.specs.Nsp.{NspValue, IsNsp, nsp_bytes, connect_fields, segment_flag, segnum, ConnectInitiate, DisconnectConfirm}
 use Rattle.dna_packet.proofs.PacketLemmas.{packet_again}
 use Rattle.dna_packet.proofs.NspAgain.{nsp_again}
-use Rattle.capture.specs.declared.record.Record.TheVariants.{Sent}
-use Rattle.capture.specs.declared.limit.TheConstants.{MAX_UNIT}
+use Rattle.capture_record.specs.declared.record.Record.TheVariants.{Sent}
+use Rattle.capture_record.specs.declared.limit.TheConstants.{MAX_UNIT}
 use Rattle.dna_station.specs.declared.head.Head.{Head}
 use Rattle.dna_station.specs.Book.{resp_of, num_of, body_of}
 use Rattle.dna_node.specs.Content.{message_in, content_of, content}

@@ -1,7 +1,7 @@
 -- What a script plays that starts each side at most once is a run of two captures, as a judge has it.
 use Rattle.std.proofs.Common.{◌≡◌, ℕ, ◌≤◌, List, take, Ok, Err, arith}
 use Rattle.two_nodes.specs.Nodes.{Run}
-use Rattle.capture.specs.declared.record.Record.{Record}
+use Rattle.capture_record.specs.declared.record.Record.{Record}
 use Rattle.dna_node.specs.LayersPair.{layers_pair, layers_start}
 use Rattle.dna_play.specs.Script.{Script}
 use Rattle.dna_play.specs.Stop.{Stopped}

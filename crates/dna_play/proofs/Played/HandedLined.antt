@@ -7,12 +7,12 @@ use Rattle.std.specs.List.{AllByRecursion}
 use Rattle.std.proofs.Math.Seq.{drop-nil}
 use Rattle.std.proofs.lemmas.Grind.{flat_map-append}
 use Rattle.std.proofs.lemmas.Option.{same_Some}
-use Rattle.capture.specs.declared.event.Event.TheVariants as events
-use Rattle.capture.specs.declared.limit.TheConstants.{MAX_MESSAGE}
-use Rattle.capture.specs.declared.record.Record.{Record}
-use Rattle.capture.specs.declared.record.Record.TheVariants.{User}
+use Rattle.capture_record.specs.declared.event.Event.TheVariants as events
+use Rattle.capture_record.specs.declared.limit.TheConstants.{MAX_MESSAGE}
+use Rattle.capture_record.specs.declared.record.Record.{Record}
+use Rattle.capture_record.specs.declared.record.Record.TheVariants.{User}
 use Rattle.capture.proofs.SoFarLaws.{All-behind}
-use Rattle.capture.specs.Range.{IsLink, IsRecord}
+use Rattle.capture_record.specs.Range.{IsLink, IsRecord}
 use Rattle.two_nodes.specs.Beginning.{BeginsWith}
 use Rattle.dna_links.specs.Segmentation.{Piece}
 use Rattle.dna_links.specs.Links.{LinkOf}

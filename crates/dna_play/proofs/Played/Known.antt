@@ -1,7 +1,7 @@
 -- In every run the head of an end stays, and the numbers of its links are in order.
 use Rattle.std.proofs.Common.{◌≡◌, List, refl, ◌∙◌}
 use Rattle.two_nodes.specs.Nodes.{Half, World, Run, Done, OfA, OfB}
-use Rattle.capture.specs.declared.record.Record.{Record}
+use Rattle.capture_record.specs.declared.record.Record.{Record}
 use Rattle.dna_node.specs.TagRules.{Rules, judged}
 use Rattle.dna_links.specs.Bounds.{AreLinksBounded}
 use Rattle.dna_links.specs.Runs.{LinkSide}

@@ -1,7 +1,7 @@
 -- Records that start a side so often, and give its link addresses in order; a delivery starts nothing and gives no address.
 use Rattle.std.proofs.Common.{◌≡◌, ℕ, ◌+◌, List, [], ◌∷◌, ◌++◌, refl, sym, ap, subst, arith}
 use Rattle.std.proofs.lemmas.Grind.{flat_map-append}
-use Rattle.capture.specs.declared.record.Record.{Record}
+use Rattle.capture_record.specs.declared.record.Record.{Record}
 use Rattle.dna_links.specs.User.{LinkEventValue}
 use Rattle.dna_links.specs.Captures.{given_address}
 use Rattle.dna_node.specs.LayersPair.{link_event_in, link_events}

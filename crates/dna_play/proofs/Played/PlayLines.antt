@@ -3,13 +3,13 @@ use Rattle.std.proofs.Common.{◌≡◌, ℕ, Bool, true, ◌&&◌, length, refl
 use Rattle.std.specs.Cmp.Derive.{both_true}
 use Rattle.std.proofs.lemmas.Bool.{and_parts}
 use Rattle.std.proofs.lemmas.Bool.Decides.{Decides-and}
-use Rattle.capture.specs.declared.limit.TheConstants.{MAX_HINT, MAX_LINK}
-use Rattle.capture.specs.declared.event.Event.{Event}
-use Rattle.capture.specs.declared.event.Event.TheVariants.{Start, Halt, Open, Accept, Reject, In, Up, Close}
-use Rattle.capture.specs.declared.event.Event.TheVariants.{Boot, Abort, Composed, Interrupt, Interrupted}
-use Rattle.capture.specs.declared.record.Record.{Record}
-use Rattle.capture.specs.declared.record.Record.TheVariants.{Received, User}
-use Rattle.capture.specs.Range.{IsLink, EventNumbersFit, NumbersFit, IsRecord, record_bytes, most_bytes}
+use Rattle.capture_record.specs.declared.limit.TheConstants.{MAX_HINT, MAX_LINK}
+use Rattle.capture_record.specs.declared.event.Event.{Event}
+use Rattle.capture_record.specs.declared.event.Event.TheVariants.{Start, Halt, Open, Accept, Reject, In, Up, Close}
+use Rattle.capture_record.specs.declared.event.Event.TheVariants.{Boot, Abort, Composed, Interrupt, Interrupted}
+use Rattle.capture_record.specs.declared.record.Record.{Record}
+use Rattle.capture_record.specs.declared.record.Record.TheVariants.{Received, User}
+use Rattle.capture_record.specs.Range.{IsLink, EventNumbersFit, NumbersFit, IsRecord, record_bytes, most_bytes}
 use Rattle.dna_play.specs.HasLine.{is_link, event_numbers_fit, numbers_fit, are_bytes, has_line}
 use Rattle.dna_play.proofs.Bytes.{bytes_told, bytes_tested}
 

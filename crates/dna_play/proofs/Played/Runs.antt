@@ -5,8 +5,8 @@ use Rattle.std.specs.List.{AllByRecursion}
 use Rattle.std.proofs.lemmas.Option.{same_Some}
 use Rattle.two_nodes.specs.Nodes.{World, Run, Done, Outcome, Made, advance}
 use Rattle.two_nodes.proofs.Order.{one_more_of_a, exchange}
-use Rattle.capture.specs.declared.record.Record.{Record}
-use Rattle.capture.specs.Range.{IsRecord}
+use Rattle.capture_record.specs.declared.record.Record.{Record}
+use Rattle.capture_record.specs.Range.{IsRecord}
 use Rattle.capture.proofs.SoFarLaws.{All-push}
 use Rattle.dna_station.specs.declared.head.Head.{Head}
 use Rattle.dna_station.specs.declared.refusal.StepRefusal.{StepRefusal}

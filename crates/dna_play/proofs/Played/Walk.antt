@@ -6,14 +6,14 @@ use Rattle.std.proofs.lemmas.List.{length-map}
 use Rattle.ddcmp_msg.specs.Message.{MessageValue}
 use Rattle.ddcmp_msg.specs.Reading.{ReadingValue, HeaderBad, DataBad, reading}
 use Rattle.ddcmp_msg.specs.Spelling.{spelling}
-use Rattle.capture.specs.declared.event.Event.{Event}
-use Rattle.capture.specs.declared.event.Event.TheVariants as events
-use Rattle.capture.specs.declared.fate.Fate.{Fate}
-use Rattle.capture.specs.declared.fate.Fate.TheVariants.{Dropped}
-use Rattle.capture.specs.Fates.{is_met}
-use Rattle.capture.specs.declared.limit.TheConstants.{MAX_LINK, MAX_HINT, MAX_UNIT, MAX_MESSAGE}
-use Rattle.capture.specs.declared.record.Record.{Record}
-use Rattle.capture.specs.declared.record.Record.TheVariants.{Sent, Noise, User}
+use Rattle.capture_record.specs.declared.event.Event.{Event}
+use Rattle.capture_record.specs.declared.event.Event.TheVariants as events
+use Rattle.capture_record.specs.declared.fate.Fate.{Fate}
+use Rattle.capture_record.specs.declared.fate.Fate.TheVariants.{Dropped}
+use Rattle.capture_record.specs.Fates.{is_met}
+use Rattle.capture_record.specs.declared.limit.TheConstants.{MAX_LINK, MAX_HINT, MAX_UNIT, MAX_MESSAGE}
+use Rattle.capture_record.specs.declared.record.Record.{Record}
+use Rattle.capture_record.specs.declared.record.Record.TheVariants.{Sent, Noise, User}
 use Rattle.dna_station.specs.declared.refusal.StationRefusal.{StationRefusal}
 use Rattle.dna_station.specs.declared.state.StationEvent.TheVariants as station_events
 use Rattle.dna_station.specs.Table.{user_refusal}

@@ -3,10 +3,10 @@ use Rattle.std.proofs.Common.{◌≡◌, ℕ, true, Option, Some, None, List, le
 use Rattle.std.specs.Prelude.{nat_le, slice_get}
 use Rattle.std.proofs.lemmas.Bool.{and_parts}
 use Rattle.std.proofs.lemmas.Option.{same_Some}
-use Rattle.capture.specs.Range.{IsLink, IsRecord}
-use Rattle.capture.specs.declared.event.Event.TheVariants as events
-use Rattle.capture.specs.declared.limit.TheConstants.{MAX_MESSAGE}
-use Rattle.capture.specs.declared.record.Record.TheVariants.{User}
+use Rattle.capture_record.specs.Range.{IsLink, IsRecord}
+use Rattle.capture_record.specs.declared.event.Event.TheVariants as events
+use Rattle.capture_record.specs.declared.limit.TheConstants.{MAX_MESSAGE}
+use Rattle.capture_record.specs.declared.record.Record.TheVariants.{User}
 use Rattle.dna_links.specs.Links.{LinkOf, changed, in_phase, with_segments}
 use Rattle.dna_links.specs.LookUps.{takes_messages, is_live, is_at}
 use Rattle.dna_links.specs.Queues.{ended}

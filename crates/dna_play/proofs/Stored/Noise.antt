@@ -1,7 +1,7 @@
 -- Bytes that nobody sent: an end of the player hears them exactly where a block check shows that they are damaged.
-use Rattle.capture.specs.declared.limit.TheConstants.{MAX_UNIT}
-use Rattle.capture.specs.declared.record.Record.TheVariants as recorded
-use Rattle.capture.specs.declared.record.Record.TheVariants.{Noise}
+use Rattle.capture_record.specs.declared.limit.TheConstants.{MAX_UNIT}
+use Rattle.capture_record.specs.declared.record.Record.TheVariants as recorded
+use Rattle.capture_record.specs.declared.record.Record.TheVariants.{Noise}
 use Rattle.ddcmp_msg.specs.Reading as read_as
 use Rattle.ddcmp_msg.specs.Reading.{ReadingValue, reading}
 use Rattle.dna_play.proofs.Ends.DamagedUnits.{ShownDamage, OfHeader, OfData, read_of, arrival_of}
@@ -11,7 +11,7 @@ use Rattle.dna_play.proofs.Played.Runs.{line_makes}
 use Rattle.dna_play.proofs.Played.Steps.{PlayHalf, Nothing, First}
 use Rattle.dna_play.proofs.Stored.Now.{StoredNow, facts_of}
 use Rattle.std.proofs.Common.{le-leb, ◌≡◌, ℕ, List, length, refl, sym, ap, ◌∙◌, inl, inr, false}
-use Rattle.capture.specs.Range.{IsRecord}
+use Rattle.capture_record.specs.Range.{IsRecord}
 use Rattle.dna_play.proofs.Played.PlayLines.{line_tested}
 use Rattle.dna_play.proofs.Stored.Stations.{station_came}
 use Rattle.dna_play.specs.StoredEnd.{StoredStation}

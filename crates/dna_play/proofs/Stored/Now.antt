@@ -1,7 +1,7 @@
 -- What is known of an end of the player beside the other when a step is made.
 use Rattle.std.specs.Prelude.{◌≤◌}
 use Rattle.std.proofs.Common.{[]}
-use Rattle.capture.specs.declared.limit.TheConstants.{MAX_HINT}
+use Rattle.capture_record.specs.declared.limit.TheConstants.{MAX_HINT}
 use Rattle.dna_play.proofs.Ends.Stage.{Stage}
 use Rattle.dna_play.proofs.Played.Facts.{Later, Facts}
 use Rattle.dna_play.proofs.Played.Steps.{Nothing}

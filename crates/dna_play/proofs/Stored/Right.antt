@@ -5,8 +5,8 @@ use Rattle.std.proofs.Common.{drop, length, refl, sym, subst, ap, ◌∙◌, add
 use Rattle.std.specs.Prelude.{slice_get, option_map}
 use Rattle.std.proofs.lemmas.Option.{same_Some, slice_get-map}
 use Rattle.two_nodes.proofs.NumberedSteps.{slice_get-drop}
-use Rattle.capture.specs.declared.limit.TheConstants.{MAX_LINK}
-use Rattle.capture.specs.declared.record.Record.{Record}
+use Rattle.capture_record.specs.declared.limit.TheConstants.{MAX_LINK}
+use Rattle.capture_record.specs.declared.record.Record.{Record}
 use Rattle.dna_node.specs.Layers.{LayersUnit}
 use Rattle.dna_play.specs.Script.{StepValue}
 use Rattle.dna_play.specs.StoredEnd.{StoredEnd}

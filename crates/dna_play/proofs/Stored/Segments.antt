@@ -4,8 +4,8 @@ use Rattle.std.specs.Prelude.{slice_get, length}
 use Rattle.std.proofs.lemmas.Bool.{and_parts}
 use Rattle.std.proofs.lemmas.List.{drop-drop, set-set}
 use Rattle.dna_packet.specs.Nsp.{NspValue, SegmentValue, DataSegment}
-use Rattle.capture.specs.declared.event.Event.TheVariants as events
-use Rattle.capture.specs.declared.record.Record.TheVariants.{User}
+use Rattle.capture_record.specs.declared.event.Event.TheVariants as events
+use Rattle.capture_record.specs.declared.record.Record.TheVariants.{User}
 use Rattle.dna_station.specs.declared.link_refusal.LinkRefusal.{LinkRefusal}
 use Rattle.dna_station.specs.declared.link_refusal.LinkRefusal.TheVariants.{CrossedLink}
 use Rattle.dna_station.specs.Station.{Station}
@@ -48,7 +48,7 @@ use Rattle.dna_play.proofs.Stored.Now.{StoredNow, facts_of}
 use Rattle.dna_play.proofs.Ends.TrueEnd.{End, links_of}
 use Rattle.dna_play.proofs.Ends.UpsFollow.{AllLined, AreDistinct, IsLined}
 use Rattle.dna_play.proofs.Played.PlayLines.{line_told}
-use Rattle.capture.specs.declared.limit.TheConstants.{MAX_MESSAGE}
+use Rattle.capture_record.specs.declared.limit.TheConstants.{MAX_MESSAGE}
 use Rattle.dna_play.proofs.Stored.Deliveries.{segments_got, gets_made}
 
 -- each message that is whole has a line

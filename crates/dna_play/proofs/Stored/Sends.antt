@@ -3,7 +3,7 @@ use Rattle.std.proofs.Common.{◌≡◌, Option, Some, None, List, [], ◌∷◌
 use Rattle.std.proofs.Common.{arith, length-drop, eq-eqb}
 use Rattle.ddcmp_msg.specs.Message.{MessageValue, Ack, Nak, Rep, Strt, Stack}
 use Rattle.ddcmp_msg.specs.Spelling.{spelling}
-use Rattle.capture.specs.declared.record.Record.TheVariants.{Sent}
+use Rattle.capture_record.specs.declared.record.Record.TheVariants.{Sent}
 use Rattle.dna_station.specs.StationBook as station_book
 use Rattle.dna_station.specs.WireStation.{StationVariables, HeldPacket}
 use Rattle.dna_links.specs.declared.queue.Queues.TheVariants.{Without}

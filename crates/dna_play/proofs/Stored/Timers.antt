@@ -1,6 +1,6 @@
 -- Steps without a record: a timer of the station, and a unit that is lost.
 use Rattle.std.proofs.Common.{◌≡◌, Some, refl, sym, ◌∙◌, le-leb}
-use Rattle.capture.specs.declared.limit.TheConstants.{MAX_HINT}
+use Rattle.capture_record.specs.declared.limit.TheConstants.{MAX_HINT}
 use Rattle.dna_station.specs.declared.state.State.{State}
 use Rattle.dna_station.specs.declared.state.State.TheVariants.{Halted, Istrt, Astrt}
 use Rattle.dna_station.specs.declared.state.State.TheVariants as states

@@ -2,10 +2,10 @@
 -- one the last record is refused where the earlier ones lead.
 use Rattle.std.proofs.Common.{List, [], ◌∷◌, ◌++◌}
 use Rattle.wire_base.specs.declared.side.Side.TheVariants.{A, B}
-use Rattle.capture.specs.declared.fate.Fate.TheVariants.{NotKept, Kept}
-use Rattle.capture.specs.declared.record.Record.{Record}
-use Rattle.capture.specs.declared.record.Record.TheVariants.{Sent, Received, User}
-use Rattle.capture.specs.declared.event.Event.TheVariants.{Start, Halt, Open, Accept, In, Up, Close}
+use Rattle.capture_record.specs.declared.fate.Fate.TheVariants.{NotKept, Kept}
+use Rattle.capture_record.specs.declared.record.Record.{Record}
+use Rattle.capture_record.specs.declared.record.Record.TheVariants.{Sent, Received, User}
+use Rattle.capture_record.specs.declared.event.Event.TheVariants.{Start, Halt, Open, Accept, In, Up, Close}
 use Rattle.dna_station.specs.declared.refusal.StationRefusal.TheVariants.{WrongState, WrongNumber}
 use Rattle.dna_station.specs.declared.refusal.StepRefusal.TheVariants.{BadPacket, BadNsp, Station as OfStation, Links as OfLinks}
 use Rattle.dna_station.specs.declared.link_refusal.LinkRefusal.TheVariants.{WrongNode, NoLink, WrongAck, WrongDelivery, CrossedLink, AddressInUse}

@@ -1,9 +1,9 @@
 -- The end of a link: DI, DC, and what may still be delivered.
 use Rattle.std.proofs.Common.{[], ◌∷◌, ◌++◌}
 use Rattle.wire_base.specs.declared.side.Side.TheVariants.{A, B}
-use Rattle.capture.specs.declared.fate.Fate.TheVariants.{Kept}
-use Rattle.capture.specs.declared.record.Record.TheVariants.{Sent, Received, User}
-use Rattle.capture.specs.declared.event.Event.TheVariants.{Open, Accept, Reject, In, Up, Close}
+use Rattle.capture_record.specs.declared.fate.Fate.TheVariants.{Kept}
+use Rattle.capture_record.specs.declared.record.Record.TheVariants.{Sent, Received, User}
+use Rattle.capture_record.specs.declared.event.Event.TheVariants.{Open, Accept, Reject, In, Up, Close}
 use Rattle.dna_station.specs.declared.refusal.StepRefusal.TheVariants.{Links as OfLinks}
 use Rattle.dna_station.specs.declared.link_refusal.LinkRefusal.TheVariants.{NoLink, WrongDelivery}
 use Rattle.dna_node.specs.declared.finding.Finding.TheVariants.{Accepted}

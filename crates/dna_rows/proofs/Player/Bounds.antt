@@ -4,9 +4,9 @@ use Rattle.std.specs.Prelude.{codes}
 use Rattle.ddcmp_msg.specs.Message.{Data, Rep}
 use Rattle.ddcmp_msg.specs.Reading.{HeaderBad, DataBad}
 use Rattle.dna_packet.specs.Nsp.{nsp_bytes}
-use Rattle.capture.specs.declared.record.Record.{Record}
-use Rattle.capture.specs.declared.record.Record.TheVariants.{User}
-use Rattle.capture.specs.declared.event.Event.TheVariants as event
+use Rattle.capture_record.specs.declared.record.Record.{Record}
+use Rattle.capture_record.specs.declared.record.Record.TheVariants.{User}
+use Rattle.capture_record.specs.declared.event.Event.TheVariants as event
 use Rattle.dna_links.specs.declared.port.Phase.TheVariants.{Running}
 use Rattle.dna_station.specs.declared.state.State.TheVariants as states
 use Rattle.dna_links.specs.Segmentation.{Piece, Unsent, next_piece}

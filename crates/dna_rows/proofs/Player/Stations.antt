@@ -1,8 +1,8 @@
 -- What a station sends of itself, in each of its states, and what becomes of what it owes.
 use Rattle.std.proofs.Common.{[], ◌∷◌, ◌++◌}
-use Rattle.capture.specs.declared.fate.Fate.TheVariants.{NotKept, Kept}
-use Rattle.capture.specs.declared.record.Record.TheVariants.{Sent, Received, Noise as OfNoise, User}
-use Rattle.capture.specs.declared.event.Event.TheVariants as event
+use Rattle.capture_record.specs.declared.fate.Fate.TheVariants.{NotKept, Kept}
+use Rattle.capture_record.specs.declared.record.Record.TheVariants.{Sent, Received, Noise as OfNoise, User}
+use Rattle.capture_record.specs.declared.event.Event.TheVariants as event
 use Rattle.dna_play.specs.Script.{Start, Halt, Timer, Send, Deliver, Refuse, Lose, Noise, Open}
 use Rattle.dna_play.specs.Stop.{BadStep}
 use Rattle.dna_rows.proofs.Units.{STRT, STACK, ACK, NAK, REP, CI, CONNECT_ACK, data_a, data_b}

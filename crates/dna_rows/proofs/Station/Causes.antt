@@ -1,8 +1,8 @@
 -- The causes of NAKs: they are counted, each for its own reason, and nothing but a NAK of that reason uses one up.
 use Rattle.std.proofs.Common.{ℕ, List, [], ◌∷◌, ◌++◌}
 use Rattle.wire_base.specs.declared.side.Side.TheVariants.{B}
-use Rattle.capture.specs.declared.fate.Fate.TheVariants.{NotKept, Kept}
-use Rattle.capture.specs.declared.record.Record.TheVariants.{Sent, Received, Noise}
+use Rattle.capture_record.specs.declared.fate.Fate.TheVariants.{NotKept, Kept}
+use Rattle.capture_record.specs.declared.record.Record.TheVariants.{Sent, Received, Noise}
 use Rattle.dna_station.specs.declared.refusal.StationRefusal.TheVariants.{NoCause}
 use Rattle.dna_station.specs.declared.refusal.StepRefusal.TheVariants.{Station as OfStation}
 use Rattle.dna_node.specs.declared.finding.Finding.TheVariants.{Accepted}

@@ -3,10 +3,10 @@
 use Rattle.std.proofs.Common.{List, [], ◌∷◌, ◌++◌}
 use Rattle.two_nodes.specs.Nodes.{Waits, Refused}
 use Rattle.wire_base.specs.declared.side.Side.TheVariants.{B}
-use Rattle.capture.specs.declared.fate.Fate.TheVariants.{NotKept, Kept}
-use Rattle.capture.specs.declared.record.Record.{Record}
-use Rattle.capture.specs.declared.record.Record.TheVariants.{Sent, Received, User}
-use Rattle.capture.specs.declared.event.Event.TheVariants.{Start, Halt}
+use Rattle.capture_record.specs.declared.fate.Fate.TheVariants.{NotKept, Kept}
+use Rattle.capture_record.specs.declared.record.Record.{Record}
+use Rattle.capture_record.specs.declared.record.Record.TheVariants.{Sent, Received, User}
+use Rattle.capture_record.specs.declared.event.Event.TheVariants.{Start, Halt}
 use Rattle.dna_station.specs.declared.refusal.StationRefusal.TheVariants.{WrongState, WrongResponse, WrongKeep, CrossedPeriod, WrongUserEvent}
 use Rattle.dna_station.specs.declared.refusal.StepRefusal.TheVariants.{NotAMessage, HintOrder, Undetected}
 use Rattle.dna_rows.proofs.Units.{computing, STRT, STACK, ACK}

@@ -1,10 +1,10 @@
 -- Worked rows of data transfer, computed from the definitions like those of startup.
 use Rattle.std.proofs.Common.{List, [], ◌∷◌, ◌++◌, ◌≡◌}
 use Rattle.wire_base.specs.declared.side.Side.TheVariants.{A, B}
-use Rattle.capture.specs.declared.fate.Fate.TheVariants.{NotKept, Kept}
-use Rattle.capture.specs.declared.record.Record.{Record}
-use Rattle.capture.specs.declared.record.Record.TheVariants.{Sent, Received, User}
-use Rattle.capture.specs.declared.event.Event.TheVariants.{Start, Halt}
+use Rattle.capture_record.specs.declared.fate.Fate.TheVariants.{NotKept, Kept}
+use Rattle.capture_record.specs.declared.record.Record.{Record}
+use Rattle.capture_record.specs.declared.record.Record.TheVariants.{Sent, Received, User}
+use Rattle.capture_record.specs.declared.event.Event.TheVariants.{Start, Halt}
 use Rattle.dna_station.specs.declared.refusal.StationRefusal.TheVariants.{WrongState, WrongNumber, WrongResponse, Changed, NoCause, WrongKeep}
 use Rattle.dna_station.specs.declared.refusal.StationRefusal.TheVariants.{WrongUserEvent}
 use Rattle.dna_rows.proofs.Units.{computing, ACK, NAK, REP, DATA, data_of}

@@ -3,9 +3,9 @@
 use Rattle.std.proofs.Common.{[], ◌∷◌, ◌++◌}
 use Rattle.two_nodes.specs.Nodes.{Waits, Refused}
 use Rattle.wire_base.specs.declared.side.Side.TheVariants.{A, B}
-use Rattle.capture.specs.declared.fate.Fate.TheVariants.{NotKept, Kept}
-use Rattle.capture.specs.declared.record.Record.TheVariants.{Sent, Received, User}
-use Rattle.capture.specs.declared.event.Event.TheVariants.{Start, Halt}
+use Rattle.capture_record.specs.declared.fate.Fate.TheVariants.{NotKept, Kept}
+use Rattle.capture_record.specs.declared.record.Record.TheVariants.{Sent, Received, User}
+use Rattle.capture_record.specs.declared.event.Event.TheVariants.{Start, Halt}
 use Rattle.dna_station.specs.declared.refusal.StationRefusal.TheVariants.{WrongState, NoCause, CrossedPeriod, WrongUserEvent}
 use Rattle.dna_station.specs.declared.refusal.StepRefusal.TheVariants.{NotAMessage, HintOrder, Undetected}
 use Rattle.dna_rows.proofs.Units.{computing, STRT, STACK, ACK, NAK, REP, DATA, data_of}

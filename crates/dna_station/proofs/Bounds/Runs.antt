@@ -2,8 +2,8 @@
 use Rattle.std.proofs.Common.{List, [], refl, arith}
 use Rattle.two_nodes.specs.Nodes.{Half, World, Run}
 use Rattle.two_nodes.specs.Kept.{IsKept}
-use Rattle.capture.specs.Fates.{is_kept}
-use Rattle.capture.specs.declared.record.Record.{Record}
+use Rattle.capture_record.specs.Fates.{is_kept}
+use Rattle.capture_record.specs.declared.record.Record.{Record}
 use Rattle.dna_station.specs.declared.head.Head.{Head}
 use Rattle.dna_station.specs.PeriodRule.{of_period}
 use Rattle.dna_station.specs.Line.{SentUnit}

@@ -7,7 +7,7 @@ use Rattle.std.proofs.lemmas.List.{get_or_past}
 use Rattle.std.proofs.lemmas.List.Folds.{flat_map-map}
 use Rattle.std.proofs.lemmas.Grind.{flat_map-append}
 use Rattle.two_nodes.proofs.Reached.{slice_get_none}
-use Rattle.capture.specs.declared.record.Record.{Record}
+use Rattle.capture_record.specs.declared.record.Record.{Record}
 use Rattle.dna_station.specs.Station.{Station, PastPeriod, past, all_given}
 use Rattle.dna_station.specs.Delivery.{AreAmong, DeliversFrom, IsDelivered, all_taken, delivered, periods, taken_by_period}
 use Rattle.two_nodes.specs.Beginning.{BeginsWith}

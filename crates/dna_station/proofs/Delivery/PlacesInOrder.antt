@@ -11,9 +11,9 @@ use Rattle.two_nodes.specs.Kept.{IsKept}
 use Rattle.two_nodes.proofs.Order.{slice_get-append}
 use Rattle.two_nodes.proofs.Listed.{next_at}
 use Rattle.ddcmp_msg.specs.Message.{MessageValue, Data}
-use Rattle.capture.specs.Fates.{is_kept}
-use Rattle.capture.specs.declared.record.Record.{Record}
-use Rattle.capture.specs.declared.record.Record.TheVariants.{Sent, Received, Noise, User}
+use Rattle.capture_record.specs.Fates.{is_kept}
+use Rattle.capture_record.specs.declared.record.Record.{Record}
+use Rattle.capture_record.specs.declared.record.Record.TheVariants.{Sent, Received, Noise, User}
 use Rattle.dna_station.specs.declared.head.Head.{Head}
 use Rattle.dna_station.specs.declared.state.StationEvent.TheVariants.{Start, Halt}
 use Rattle.dna_station.specs.Station.{Station, PastPeriod, past, packets_of, after_event}

@@ -5,8 +5,8 @@ use Rattle.std.proofs.lemmas.List.{length_push, nil_from_length}
 use Rattle.std.proofs.lemmas.Option.{same_Some}
 use Rattle.two_nodes.specs.Nodes.{Half, stepped}
 use Rattle.ddcmp_msg.specs.Message.{MessageValue, Data}
-use Rattle.capture.specs.Fates.{is_kept}
-use Rattle.capture.specs.declared.record.Record.{Record}
+use Rattle.capture_record.specs.Fates.{is_kept}
+use Rattle.capture_record.specs.declared.record.Record.{Record}
 use Rattle.dna_station.specs.declared.state.StationEvent.{StationEvent}
 use Rattle.dna_station.specs.declared.state.StationEvent.TheVariants.{Halt}
 use Rattle.dna_station.specs.Station.{Station, PastPeriod, new_station, past, after_event}

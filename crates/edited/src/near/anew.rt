@@ -10,7 +10,8 @@ use crate::line_changes::with_first_line;
 use crate::mistake::Mistake;
 use crate::row::Row;
 use crate::spelling::line_of;
-use capture::{Entry, Fate, Format, HintForm, put_head_line};
+use capture::{Format, HintForm, put_head_line};
+use capture_record::{Entry, Fate};
 use std::alloc::AllocError;
 
 pub(crate) fn add_anew(edits: &mut Edits, near: Near<'_>) -> Result<(), AllocError> {

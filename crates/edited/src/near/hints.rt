@@ -8,7 +8,8 @@ use crate::line_changes::line_replaced;
 use crate::mistake::Mistake;
 use crate::row::Row;
 use crate::spelling::receipt_line;
-use capture::{Entry, HintForm};
+use capture::HintForm;
+use capture_record::Entry;
 use std::alloc::AllocError;
 
 pub(crate) fn add_hints(edits: &mut Edits, near: Near<'_>) -> Result<(), AllocError> {

@@ -6,7 +6,7 @@ use crate::line_changes::line_replaced;
 use crate::mistake::Mistake;
 use crate::row::Row;
 use crate::spelling::receipt_line;
-use capture::{Entry, Fate};
+use capture_record::{Entry, Fate};
 use std::alloc::AllocError;
 
 /// How many rows in front of the refused one are looked at.

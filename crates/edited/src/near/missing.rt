@@ -9,7 +9,8 @@ use crate::line_changes::put_before;
 use crate::mistake::Mistake;
 use crate::row::{Damage, Due, Row};
 use crate::spelling::{line_of, receipt_line};
-use capture::{Entry, Fate, Format};
+use capture::Format;
+use capture_record::{Entry, Fate};
 use std::alloc::AllocError;
 use wire_base::Side;
 

@@ -5,8 +5,8 @@ use Rattle.std.specs.Prelude.{IfSome}
 use Rattle.ddcmp_msg.specs.Message.{IsBytes}
 use Rattle.ddcmp_msg.specs.Reading.{ReadingValue, reading}
 use Rattle.ddcmp_msg.specs.Reading as read_as
-use Rattle.capture.specs.declared.fate.Fate.{Fate}
-use Rattle.capture.specs.declared.fate.Fate.TheVariants as fates
+use Rattle.capture_record.specs.declared.fate.Fate.{Fate}
+use Rattle.capture_record.specs.declared.fate.Fate.TheVariants as fates
 use Rattle.dna_station.specs.declared.refusal.StepRefusal.TheVariants.{HintOrder}
 use Rattle.dna_links.specs.declared.queue.Queues.{Queues}
 use Rattle.dna_node.specs.WireLayers.{WireLayers, WireLayersNode}

@@ -5,11 +5,11 @@ use Rattle.two_nodes.specs.Nodes as any
 use Rattle.capture.specs.declared.fault.CaptureFault.{CaptureFault}
 use Rattle.capture.specs.declared.fault.CaptureFault.TheVariants as faults
 use Rattle.capture.specs.declared.phase.Phase.TheVariants.{Reading}
-use Rattle.capture.specs.declared.record.Record.{Record}
-use Rattle.capture.specs.declared.entry.Entry.{Entry}
-use Rattle.capture.specs.Entries.{record_with}
+use Rattle.capture_record.specs.declared.record.Record.{Record}
+use Rattle.capture_record.specs.declared.entry.Entry.{Entry}
+use Rattle.capture_record.specs.Entries.{record_with}
 use Rattle.capture.specs.Reader.{CaptureState}
-use Rattle.capture.specs.Range.{NumbersFit}
+use Rattle.capture_record.specs.Range.{NumbersFit}
 use Rattle.capture.specs.SoFar.{Behind, ToCome, TheEnd, ReadSoFar, so_far, IsReadSoFar, DepartsBehind}
 use Rattle.dna_station.specs.declared.refusal.StepRefusal.{StepRefusal}
 use Rattle.pair_judge.specs.declared.line.Line.{Line}

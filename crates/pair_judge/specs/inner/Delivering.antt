@@ -1,7 +1,7 @@
 -- What a run of two nodes delivers.
 use Rattle.std.specs.Prelude.{List}
 use Rattle.two_nodes.specs.Nodes.{World, Run}
-use Rattle.capture.specs.declared.record.Record.{Record}
+use Rattle.capture_record.specs.declared.record.Record.{Record}
 use Rattle.dna_station.specs.declared.head.Head.{Head}
 use Rattle.dna_node.specs.Kind.{NodeKind, KindNode, KindUnit, kind_pair, kind_start}
 

@@ -1,6 +1,6 @@
 -- One end where its judge stops.
 use Rattle.std.specs.Prelude.{◌≡◌, ℕ, List, ◌++◌, Option, Ok}
-use Rattle.capture.specs.declared.record.Record.{Record}
+use Rattle.capture_record.specs.declared.record.Record.{Record}
 use Rattle.capture.specs.Reader.{CaptureState}
 use Rattle.capture.specs.SoFar.{ReadSoFar, IsReadSoFar}
 use Rattle.dna_station.specs.declared.head.Head.{Head}

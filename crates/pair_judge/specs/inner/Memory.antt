@@ -1,12 +1,12 @@
 -- Which records may take memory, and so find that there is none.
 use Rattle.std.specs.Prelude.{◌≡◌, Bool, true, false, Option, Some, None, IsOk}
 use Rattle.ddcmp_msg.specs.Reading.{ReadingValue, reading, Sound, HeaderBad, DataBad, Malformed}
-use Rattle.capture.specs.declared.record.Record.{Record}
-use Rattle.capture.specs.declared.record.Record.TheVariants.{Sent, Received, Noise, User}
-use Rattle.capture.specs.declared.event.Event.{Event}
-use Rattle.capture.specs.declared.event.Event.TheVariants.{Composed}
-use Rattle.capture.specs.declared.fate.Fate.{Fate}
-use Rattle.capture.specs.Fates.{is_met}
+use Rattle.capture_record.specs.declared.record.Record.{Record}
+use Rattle.capture_record.specs.declared.record.Record.TheVariants.{Sent, Received, Noise, User}
+use Rattle.capture_record.specs.declared.event.Event.{Event}
+use Rattle.capture_record.specs.declared.event.Event.TheVariants.{Composed}
+use Rattle.capture_record.specs.declared.fate.Fate.{Fate}
+use Rattle.capture_record.specs.Fates.{is_met}
 use Rattle.dna_node.specs.Content.{link_event}
 use Rattle.dna_links.specs.User.{LinkEventValue}
 use Rattle.dna_station.specs.Machine.{Machine}

@@ -4,7 +4,7 @@ use Rattle.two_nodes.specs.Nodes.{Half, Run, World, advance}
 use Rattle.two_nodes.specs.Nodes.Outcome.{Waits, Refused}
 use Rattle.wire_base.specs.declared.side.Side.{Side}
 use Rattle.wire_base.specs.declared.side.Side.TheVariants.{A, B}
-use Rattle.capture.specs.declared.record.Record.{Record}
+use Rattle.capture_record.specs.declared.record.Record.{Record}
 use Rattle.capture.specs.SoFar.{GoesOn}
 use Rattle.dna_station.specs.declared.head.Head.{Head}
 use Rattle.dna_station.specs.Machine.{step}

@@ -1,7 +1,7 @@
 -- What became of a receipt, beside all units that the other side sent.
 use Rattle.std.specs.Prelude.{◌≡◌, ℕ, Bool, true, false, Some, None, Ok, Err, List, slice_get}
 use Rattle.ddcmp_msg.specs.Reading.{reading}
-use Rattle.capture.specs.declared.fate.Fate.{Fate}
+use Rattle.capture_record.specs.declared.fate.Fate.{Fate}
 use Rattle.dna_station.specs.declared.head.Head.{Head}
 use Rattle.dna_station.specs.declared.tag.Tag.{Tag}
 use Rattle.dna_station.specs.Book.{ArrivalValue, Sound, HeaderBad, DataBad}

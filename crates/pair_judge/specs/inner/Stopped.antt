@@ -1,6 +1,6 @@
 -- Both sides where the judge stops.
 use Rattle.std.specs.Prelude.{◌≡◌, ℕ, List, Option}
-use Rattle.capture.specs.declared.record.Record.{Record}
+use Rattle.capture_record.specs.declared.record.Record.{Record}
 use Rattle.pair_judge.specs.declared.judging.Found.{Found}
 use Rattle.pair_judge.specs.declared.stopped.Stopped.{Stopped}
 use Rattle.pair_judge.specs.Ends.{ShownEnds}

@@ -1,8 +1,8 @@
 -- What may be on top of the stations that the judge runs.
 use Rattle.std.specs.Prelude.{ℕ, ◌≡◌, Bool, true, false, None, Result, Ok, Err, length}
 use Rattle.ddcmp_msg.specs.Message.{MessageValue}
-use Rattle.capture.specs.declared.event.Event.{Event}
-use Rattle.capture.specs.declared.fate.Fate.{Fate}
+use Rattle.capture_record.specs.declared.event.Event.{Event}
+use Rattle.capture_record.specs.declared.fate.Fate.{Fate}
 use Rattle.dna_station.specs.declared.refusal.StepRefusal.{StepRefusal}
 use Rattle.dna_station.specs.declared.tag.Tag.{Tag}
 use Rattle.dna_links.specs.declared.tag.LinkTag.{LinkTag}

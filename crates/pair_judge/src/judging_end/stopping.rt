@@ -4,7 +4,7 @@ ghost use Rattle.std.specs.Prelude.{◌≡◌, ◌≢◌, [], Err, OnOk, IfOk, I
 ghost use Rattle.wire_base.specs.Tally.{tally_faults, tally_lent};
 ghost use Rattle.wire_base.specs.declared.side.Side.{Side};
 ghost use Rattle.capture.specs.declared.fault.CaptureFault.TheVariants as CaptureFault;
-ghost use Rattle.capture.specs.Entries.{record_with};
+ghost use Rattle.capture_record.specs.Entries.{record_with};
 ghost use Rattle.capture.specs.Faulty.{CountsReads, is_failed_read};
 ghost use Rattle.pair_judge.specs.EndJudged.{IsEndAnswer, IsJudgedAlone};
 ghost use Rattle.pair_judge.specs.Order.{TellsNext, made_by};
@@ -21,7 +21,8 @@ use crate::observer::Observer;
 use crate::reason::Reason;
 use crate::stopped_end::StoppedEnd;
 use crate::top::Top;
-use capture::{CaptureFault, CaptureReader, Entry, MAX_RECORDS, text_read_on, whole_text};
+use capture::{CaptureFault, CaptureReader, MAX_RECORDS, text_read_on, whole_text};
+use capture_record::Entry;
 use dna_node::Cause;
 use dna_station::StepRefusal;
 use std::alloc::{AllocError, Global};

@@ -7,7 +7,7 @@ use crate::held_link::HeldLink;
 use crate::step_fault::StepFault;
 use crate::top::Top;
 use crate::unit_tag::UnitTag;
-use capture::Fate;
+use capture_record::Fate;
 use ddcmp_msg::Message;
 use ddcmp_station::{Arrival, StationEvent};
 use dna_links::LinkTag;

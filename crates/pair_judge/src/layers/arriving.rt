@@ -15,7 +15,7 @@ use super::{Layers, OF_NO_LINK};
 use crate::held_link::HeldLink;
 use crate::packet::{Carried, content};
 use crate::step_fault::StepFault;
-use capture::Fate;
+use capture_record::Fate;
 use ddcmp_station::Arrival;
 use dna_links::LinkTag;
 use dna_packet::read_nsp;

@@ -21,7 +21,7 @@ use crate::carried::carried;
 use crate::failed_check::FailedCheck;
 use crate::held_link::HeldLink;
 use crate::packet::Carried;
-use capture::Fate;
+use capture_record::Fate;
 use ddcmp_msg::Message;
 use ddcmp_station::{Arrival, SendPermit, State};
 use dna_packet::read_nsp;

@@ -11,7 +11,7 @@ ghost use Rattle.pair_judge.specs.inner.Tops.{rules_by};
 
 use super::Layers;
 use crate::packet::{Carried, content};
-use capture::Fate;
+use capture_record::Fate;
 use ddcmp_station::Arrival;
 use dna_packet::read_nsp;
 use dna_station::{LinkRefusal, StepRefusal};

@@ -9,7 +9,7 @@ ghost use Rattle.dna_node.specs.TagRules.{judged_by};
 ghost use Rattle.nsp_link.specs.Kinds.{queues_of};
 ghost use Rattle.dna_node.specs.WireLayers.{WireLayers, first_tagged, wire_sends_first};
 ghost use Rattle.dna_station.specs.WireBook.{gives_new, wire_sending_refusal};
-ghost use Rattle.capture.specs.declared.event.Event.TheVariants as events;
+ghost use Rattle.capture_record.specs.declared.event.Event.TheVariants as events;
 ghost use Rattle.ddcmp_station.specs.Permit.{is_first, send_permit};
 ghost use Rattle.pair_judge.specs.inner.Memory.{IfNoMemory};
 ghost use Rattle.pair_judge.specs.inner.Packets.{lent_content};

@@ -1,7 +1,7 @@
 //! What the user of a side does.
 
 ghost use Rattle.std.specs.Prelude.{◌≡◌, ◌+◌, ◌^◌, ◌<◌, ◌≤◌, Ok, Err, Some, OnOk, OnErr, IfErr};
-ghost use Rattle.capture.specs.declared.event.Event.TheVariants as events;
+ghost use Rattle.capture_record.specs.declared.event.Event.TheVariants as events;
 ghost use Rattle.dna_station.specs.PeriodRule.{of_period};
 ghost use Rattle.dna_station.specs.WireNode.{wire_machine};
 ghost use Rattle.dna_links.specs.User.{view};

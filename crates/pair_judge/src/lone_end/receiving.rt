@@ -1,7 +1,7 @@
 //! A receipt at an end whose other side is not known: what came is taken as what the other end sent.
 
 ghost use Rattle.std.specs.Prelude.{◌≡◌, ◌+◌, ◌^◌, ◌<◌, ◌≤◌, IfOk};
-ghost use Rattle.capture.specs.Fates.{is_met};
+ghost use Rattle.capture_record.specs.Fates.{is_met};
 ghost use Rattle.ddcmp_msg.specs.Message.{view};
 ghost use Rattle.ddcmp_msg.specs.Reading.{reading};
 ghost use Rattle.dna_node.specs.Alone as alone;
@@ -13,7 +13,7 @@ use crate::end_verdict::Accused;
 use crate::layers::Layers;
 use crate::step_fault::StepFault;
 use crate::top::Top;
-use capture::Fate;
+use capture_record::Fate;
 use ddcmp_msg::{Message, Reading, read_unit};
 use ddcmp_station::Arrival;
 use dna_station::{StepRefusal, Tag};

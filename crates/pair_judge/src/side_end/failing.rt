@@ -1,7 +1,7 @@
 //! Which check the record ahead does not pass.
 
 ghost use Rattle.std.specs.Prelude.{◌≡◌, List, [], ◌∷◌, Option, Some, None, option_and_then, option_copied, slice_get};
-ghost use Rattle.capture.specs.Entries.{record_with};
+ghost use Rattle.capture_record.specs.Entries.{record_with};
 ghost use Rattle.ddcmp_msg.specs.Reading.{reading};
 ghost use Rattle.nsp_link.specs.Kinds.{queues_of};
 ghost use Rattle.nsp_link.specs.View.{rest_of};
@@ -18,7 +18,7 @@ use crate::failed_record::{failed_own, failed_record};
 use crate::layers::Layers;
 use crate::line::Line;
 use crate::reason::Reason;
-use capture::Entry;
+use capture_record::Entry;
 use ddcmp_msg::{Message, Reading, read_unit};
 use ddcmp_station::FailedArrival;
 use dna_packet::read_nsp;

@@ -1,7 +1,7 @@
 -- Reading the words of a script's line from left to right, with the first departure that is met.
 use Rattle.std.specs.Prelude.{ℕ, if◌then◌else◌, List, codes, Option, Some, None, Result, Ok, Err}
 use Rattle.std.specs.Str.{bytes_eq}
-use Rattle.capture.specs.declared.limit.TheConstants.{MAX_HINT, MAX_LINK, MAX_UNIT}
+use Rattle.capture_record.specs.declared.limit.TheConstants.{MAX_HINT, MAX_LINK, MAX_UNIT}
 use Rattle.capture.specs.declared.fault.Departure.{Departure}
 use Rattle.capture.specs.declared.fault.Departure.TheVariants.{Syntax}
 use Rattle.capture.specs.Reading.{◌>>=◌, must, after, cut_at, or_else, number_at, positive_at, bytes_at, message_at}

@@ -1,7 +1,7 @@
 -- Lines of no unit.
-use Rattle.capture.specs.declared.entry.Entry.{Entry}
-use Rattle.capture.specs.declared.entry.Entry.TheVariants.{Sent, Received, Noise, Start, Halt, Open, Accept, Reject, In, Up, Close, Boot}
-use Rattle.capture.specs.declared.entry.Entry.TheVariants.{Abort, Composed, Interrupt, Interrupted}
+use Rattle.capture_record.specs.declared.entry.Entry.{Entry}
+use Rattle.capture_record.specs.declared.entry.Entry.TheVariants.{Sent, Received, Noise, Start, Halt, Open, Accept, Reject, In, Up, Close, Boot}
+use Rattle.capture_record.specs.declared.entry.Entry.TheVariants.{Abort, Composed, Interrupt, Interrupted}
 
 -- it says of no unit that it was sent or came
 abbrev pub IsOfNoUnit : Entry → Type 0

@@ -7,7 +7,7 @@ use std::collections::VecDeque;
 use wire_base::Side;
 
 /// From this unit of a side on, counted from 0, its units were sent with this tag.
-#[derive(Clone, Copy, Debug, PartialEq, Eq)]
+#[derive(Clone, Copy, PartialEq, Eq)]
 pub(crate) struct Epoch {
     pub(crate) from: u64,
     pub(crate) tag: Tag,

@@ -12,7 +12,7 @@ use ddcmp_msg::NakReason;
 use dna_station::State;
 
 /// What is not asked of a unit that can't be sent.
-#[derive(Clone, Copy, Debug, PartialEq, Eq)]
+#[derive(Clone, Copy, PartialEq, Eq)]
 pub(crate) enum But {
     /// Whether data that are sent again have the same packet.
     Packet,

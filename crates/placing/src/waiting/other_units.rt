@@ -5,7 +5,7 @@ ghost use Rattle.placing.specs.Placed.{IsInTime, Puts};
 
 use super::Waiting;
 use crate::user_link::UserAct;
-use capture::{Entry, Fate};
+use capture_record::{Entry, Fate};
 use std::alloc::AllocError;
 
 impl Waiting {

@@ -8,7 +8,7 @@ use crate::carried::{message_of, next_number};
 use crate::numbering::Numbering;
 use crate::said::Said;
 use crate::user_link::{Taken, UserAct};
-use capture::{Entry, MAX_MESSAGE};
+use capture_record::{Entry, MAX_MESSAGE};
 use ddcmp_msg::{Flags, Message, NakReason, write_unit};
 use dna_packet::Nsp;
 use std::alloc::{AllocError, Global};

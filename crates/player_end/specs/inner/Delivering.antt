@@ -1,9 +1,9 @@
 -- What is delivered at once, as lines at the end of a text.
 use Rattle.std.specs.Prelude.{ℕ, ◌++◌, ◌<◌, if◌then◌else◌, Option, Some, None, List, [], length}
 use Rattle.std.specs.List.{flat_map}
-use Rattle.capture.specs.declared.event.Event.TheVariants.{Up}
-use Rattle.capture.specs.declared.record.Record.TheVariants.{User}
-use Rattle.capture.specs.declared.limit.TheConstants.{MAX_MESSAGE}
+use Rattle.capture_record.specs.declared.event.Event.TheVariants.{Up}
+use Rattle.capture_record.specs.declared.record.Record.TheVariants.{User}
+use Rattle.capture_record.specs.declared.limit.TheConstants.{MAX_MESSAGE}
 use Rattle.capture.specs.declared.hint.HintForm.TheVariants.{Number}
 use Rattle.capture.specs.Text.{record_line, record_lines}
 use Rattle.dna_packet.specs.Nsp.{NspValue}

@@ -2,7 +2,7 @@
 
 ghost use Rattle.std.specs.Prelude.{◌≡◌, ◌≤◌, ℕ, [], Ok, Err, Some, length, OnOk, IsOk, IfErr, IfSome};
 ghost use Rattle.std.specs.Option.{option_map};
-ghost use Rattle.capture.specs.declared.limit.TheConstants.{MAX_HINT, MAX_MESSAGE};
+ghost use Rattle.capture_record.specs.declared.limit.TheConstants.{MAX_HINT, MAX_MESSAGE};
 ghost use Rattle.ddcmp_msg.specs.Message.{view};
 ghost use Rattle.ddcmp_msg.specs.Reading.{reading, reading_view};
 ghost use Rattle.dna_packet.specs.Packet as packets;
@@ -20,7 +20,7 @@ use crate::fault::StepFault;
 use crate::given_piece::GivenPiece;
 use crate::held_packet::HeldPacket;
 use crate::link_ends::LinkEnds;
-use capture::{Entry, Fate, MAX_HINT, MAX_UNIT};
+use capture_record::{Entry, Fate, MAX_HINT, MAX_UNIT};
 use ddcmp_msg::{Reading, read_unit};
 use dna_packet::{Nsp, Packet, read_nsp, read_packet};
 use dna_station::body_of;

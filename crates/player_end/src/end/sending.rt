@@ -1,7 +1,7 @@
 //! What an end sends.
 
 ghost use Rattle.std.specs.Prelude.{◌≡◌, ◌<◌, ◌≤◌, ℕ, [], ◌∷◌, true, false, Ok, Err, Some, length, IfOk, IfErr};
-ghost use Rattle.capture.specs.declared.limit.TheConstants.{MAX_MESSAGE};
+ghost use Rattle.capture_record.specs.declared.limit.TheConstants.{MAX_MESSAGE};
 ghost use Rattle.dna_packet.specs.Packet.{packet_bytes};
 ghost use Rattle.dna_packet.specs.Packet as packets;
 ghost use Rattle.dna_play.specs.StoredPlay as stored;
@@ -21,7 +21,7 @@ use crate::given_piece::GivenPiece;
 use crate::held_packet::HeldPacket;
 use crate::link_ends::LinkEnds;
 use crate::station_end::StationEnd;
-use capture::Entry;
+use capture_record::Entry;
 use dna_packet::{Packet, write_packet};
 use dna_station::Head;
 use std::alloc::{AllocError, Global};

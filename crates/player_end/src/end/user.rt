@@ -1,8 +1,8 @@
 //! What the user of an end does, and its timers.
 
 ghost use Rattle.std.specs.Prelude.{◌≡◌, ◌+◌, ◌++◌, ◌<◌, ◌≤◌, [], Ok, Err, length, OnOk, IsOk, IfErr, IfSome, OnSome, IfNone};
-ghost use Rattle.capture.specs.declared.limit.TheConstants.{MAX_LINK, MAX_MESSAGE};
-ghost use Rattle.capture.specs.Entries.{record_with};
+ghost use Rattle.capture_record.specs.declared.limit.TheConstants.{MAX_LINK, MAX_MESSAGE};
+ghost use Rattle.capture_record.specs.Entries.{record_with};
 ghost use Rattle.capture.specs.declared.hint.HintForm.TheVariants as HintForm;
 ghost use Rattle.capture.specs.Text.{record_line};
 ghost use Rattle.dna_links.specs.LookUps as tests;
@@ -15,7 +15,8 @@ use crate::fault::StepFault;
 use crate::given_piece::GivenPiece;
 use crate::held_packet::HeldPacket;
 use crate::link_ends::LinkEnds;
-use capture::{Entry, MAX_LINK, MAX_MESSAGE, put_line};
+use capture::put_line;
+use capture_record::{Entry, MAX_LINK, MAX_MESSAGE};
 use dna_links::{LinkTest, Phase};
 use dna_station::State;
 use link_segments::{is_connected, takes_messages};

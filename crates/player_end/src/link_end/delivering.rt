@@ -2,7 +2,7 @@
 
 ghost use Rattle.std.specs.Prelude.{◌≡◌, ◌++◌, ◌≤◌, ◌<◌, true, Some, length, take, drop, OnOk, IfOk, IfErr};
 ghost use Rattle.std.specs.List.{AllByRecursion};
-ghost use Rattle.capture.specs.declared.limit.TheConstants.{MAX_MESSAGE};
+ghost use Rattle.capture_record.specs.declared.limit.TheConstants.{MAX_MESSAGE};
 ghost use Rattle.dna_packet.specs.AckWord.{IsAckWord};
 ghost use Rattle.dna_packet.specs.Nsp.{segment_view};
 ghost use Rattle.dna_links.specs.LookUps.{is_live};
@@ -14,7 +14,8 @@ ghost use Rattle.player_end.specs.Stepping.{Stopped};
 use super::LinkEnd;
 use crate::fault::StepFault;
 use crate::given_piece::GivenPiece;
-use capture::{Entry, MAX_MESSAGE, put_line};
+use capture::put_line;
+use capture_record::{Entry, MAX_MESSAGE};
 use dna_packet::Segment;
 use link_segments::Received;
 use std::alloc::{AllocError, Global};

@@ -2,7 +2,7 @@
 
 ghost use Rattle.std.specs.Prelude.{◌≡◌, ◌<◌, ◌≤◌, true, length, slice_get, IfSome, IfOk, OnOk, OnErr};
 ghost use Rattle.std.specs.Option.{option_map};
-ghost use Rattle.capture.specs.declared.limit.TheConstants.{MAX_MESSAGE};
+ghost use Rattle.capture_record.specs.declared.limit.TheConstants.{MAX_MESSAGE};
 ghost use Rattle.ddcmp_msg.specs.Message.{view, IsInRange};
 ghost use Rattle.ddcmp_msg.specs.Spelling.{spelling};
 ghost use Rattle.dna_station.specs.Table.{WINDOW, change_of};

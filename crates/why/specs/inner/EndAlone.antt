@@ -4,7 +4,7 @@ use Rattle.wire_base.specs.declared.side.Side.TheVariants.{A}
 use Rattle.ddcmp_station.specs.declared.view.StationView.{StationView}
 use Rattle.pair_judge.specs.Ends.{ShownEnd}
 use Rattle.why.specs.inner.Ends.{state_by}
-use Rattle.why.specs.declared.state_line.StateLine.{StateLine}
+use Rattle.side_words.specs.declared.state_line.StateLine.{StateLine}
 
 -- the end as it was before the record; which start of the other side its own goes with is not known
 abbrev pub unpaired : StationView → StationView

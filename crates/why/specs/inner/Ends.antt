@@ -5,8 +5,8 @@ use Rattle.wire_base.specs.declared.side.Side.{Side}
 use Rattle.nsp_link.specs.View.{view_of}
 use Rattle.nsp_link.specs.declared.view.LinkView.{LinkView}
 use Rattle.pair_judge.specs.Ends.{ShownEnd}
-use Rattle.why.specs.declared.state_line.StateLine.{StateLine}
-use Rattle.why.specs.inner.LinkLine.{is_live}
+use Rattle.side_words.specs.declared.state_line.StateLine.{StateLine}
+use Rattle.side_words.specs.LinkLine.{is_live}
 
 -- ---- what the ends show
 

@@ -8,7 +8,7 @@ use Rattle.capture.specs.declared.fault.CaptureFault.{CaptureFault}
 use Rattle.capture.specs.declared.fault.CaptureFault.TheVariants as of_text
 use Rattle.capture.specs.declared.format.Format.{Format}
 use Rattle.capture.specs.declared.hint.HintForm.TheVariants.{Number}
-use Rattle.capture.specs.declared.record.Record.{Record}
+use Rattle.capture_record.specs.declared.record.Record.{Record}
 use Rattle.capture.specs.Faulty.{is_read_fault}
 use Rattle.capture.specs.Paged.{HandsOver}
 use Rattle.capture.specs.Reader.{FaultShows}

@@ -2,7 +2,7 @@
 use Rattle.std.specs.Prelude.{◌≡◌, ℕ, ◌+◌, ◌-◌, ◌<◌, ◌^◌, min, List, [], ◌++◌, length, Option, Some, None}
 use Rattle.wire_base.specs.declared.side.Side.{Side}
 use Rattle.capture.specs.declared.hint.HintForm.TheVariants.{Number}
-use Rattle.capture.specs.declared.record.Record.{Record}
+use Rattle.capture_record.specs.declared.record.Record.{Record}
 use Rattle.capture.specs.Text.{record_lines}
 use Rattle.framer.specs.declared.kind.Kind.{Kind}
 use Rattle.framer.specs.Framing.{Framing, framing, only_left}

@@ -1,5 +1,5 @@
 use Rattle.std.proofs.Common.{ℕ, List, [], ◌∷◌, ◌++◌, length-append, subst, arith}
-use Rattle.capture.specs.Entries.{record_with}
+use Rattle.capture_record.specs.Entries.{record_with}
 use Rattle.assuming.specs.inner.Spots.{AreOf}
 use Rattle.assuming.proofs.loading.load.Goals as goal
 

@@ -3,7 +3,7 @@ use Rattle.wire_base.specs.Tally.{tally_lent}
 use Rattle.capture.specs.Lines.{to_come}
 use Rattle.capture.specs.SoFar.{IsReadSoFar, ToCome, so_far}
 use Rattle.capture.specs.declared.phase.Phase.TheVariants.{Reading}
-use Rattle.capture.specs.declared.record.Record.{Record}
+use Rattle.capture_record.specs.declared.record.Record.{Record}
 use Rattle.assuming.specs.inner.Spots.{AreOf}
 use Rattle.assuming.proofs.loading.load.Given as goal
 

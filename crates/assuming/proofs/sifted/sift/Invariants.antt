@@ -1,6 +1,6 @@
 use Rattle.std.proofs.Common.{List}
 use Rattle.std.specs.List.{AllByRecursion}
-use Rattle.capture.specs.declared.record.Record.{Record}
+use Rattle.capture_record.specs.declared.record.Record.{Record}
 use Rattle.assuming.specs.Assuming.{FitsIn}
 use Rattle.assuming.specs.inner.Spots.{AreOf}
 use Rattle.assuming.proofs.sifted.sift.Given as goal

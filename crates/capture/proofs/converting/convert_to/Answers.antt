@@ -1,5 +1,5 @@
 use Rattle.std.proofs.Common.{refl, ◌∙◌}
-use Rattle.capture.specs.Entries.{record_with}
+use Rattle.capture_record.specs.Entries.{record_with}
 use Rattle.capture.proofs.SoFarLaws.{form_marked}
 use Rattle.capture.proofs.ConvertLaws.{finished, line_on, line_short, lines_at_fault, no_head_written, not_in_format, some_taken, stopped}
 use Rattle.capture.proofs.EventLaws.{not_allowed}

@@ -1,4 +1,4 @@
-use Rattle.capture.specs.declared.limit.TheConstants.{MAX_MESSAGE}
+use Rattle.capture_record.specs.declared.limit.TheConstants.{MAX_MESSAGE}
 use Rattle.capture.specs.Reading.{message_at}
 use Rattle.capture.proofs.event_words.message_of.Goals as goal
 

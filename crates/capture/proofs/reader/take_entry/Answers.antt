@@ -1,6 +1,6 @@
 use Rattle.std.proofs.Common.{take, refl, ap, sym, ◌∙◌, arith}
 use Rattle.wire_base.specs.Tally.{tally_lent}
-use Rattle.capture.specs.Entries.{record_with}
+use Rattle.capture_record.specs.Entries.{record_with}
 use Rattle.capture.specs.Reading.{record_at}
 use Rattle.capture.proofs.TakeLaws.{line_consumed, record_ok, record_departs}
 use Rattle.capture.proofs.reader.take_entry.Goals as goal

@@ -1,7 +1,7 @@
 use Rattle.std.proofs.Common.{◌≡◌, [], ◌∷◌, ◌++◌, List, ℕ, refl, sym, ap, subst, ◌∙◌, append-nil, inl, inr}
 use Rattle.link_groups.specs.Groups.{AreGroupsOf, Binding}
-use Rattle.capture.specs.declared.record.Record.{Record}
-use Rattle.capture.specs.Entries.{record_with}
+use Rattle.capture_record.specs.declared.record.Record.{Record}
+use Rattle.capture_record.specs.Entries.{record_with}
 use Rattle.capture.specs.SoFar.{TheEnd, so_far}
 use Rattle.leaving_out.specs.About.{binding_of, bindings_of}
 use Rattle.leaving_out.proofs.Made.{none_bound, one_bound}

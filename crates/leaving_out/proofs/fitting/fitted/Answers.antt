@@ -1,8 +1,8 @@
 use Rattle.std.proofs.Common.{[], ◌∷◌, ◌++◌, List, ℕ, refl, sym, ap, ◌∙◌, append-nil, inl, inr}
 use Rattle.capture.specs.declared.format.Format.TheVariants.{Three}
 use Rattle.capture.specs.declared.hint.HintForm.TheVariants.{Wide}
-use Rattle.capture.specs.declared.record.Record.{Record}
-use Rattle.capture.specs.Entries.{record_with}
+use Rattle.capture_record.specs.declared.record.Record.{Record}
+use Rattle.capture_record.specs.Entries.{record_with}
 use Rattle.capture.specs.SoFar.{TheEnd, so_far}
 use Rattle.capture.specs.Text.{head_line, record_line}
 use Rattle.leaving_out.specs.declared.leaving.Head.{Head}

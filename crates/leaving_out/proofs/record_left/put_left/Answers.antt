@@ -1,8 +1,8 @@
 use Rattle.std.proofs.Common.{◌≤◌, ap, arith, length, subst}
 use Rattle.ddcmp_msg.specs.Message.{IsBytes}
-use Rattle.capture.specs.declared.entry.Entry.{Entry}
-use Rattle.capture.specs.Entries.{record_with}
-use Rattle.capture.specs.Range.{IsShort}
+use Rattle.capture_record.specs.declared.entry.Entry.{Entry}
+use Rattle.capture_record.specs.Entries.{record_with}
+use Rattle.capture_record.specs.Range.{IsShort}
 use Rattle.leaving_out.proofs.Kept.{packet_kept, unit_kept}
 use Rattle.leaving_out.proofs.record_left.put_left.Goals as goal
 

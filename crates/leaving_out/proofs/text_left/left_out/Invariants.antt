@@ -1,7 +1,7 @@
 use Rattle.std.proofs.Common.{◌≡◌, List}
 use Rattle.wire_base.specs.Tally.{tally_faults, tally_lent}
 use Rattle.capture.specs.declared.format.Format.TheVariants.{Three}
-use Rattle.capture.specs.declared.record.Record.{Record}
+use Rattle.capture_record.specs.declared.record.Record.{Record}
 use Rattle.capture.specs.Lines.{to_come}
 use Rattle.capture.specs.Text.{capture_text}
 use Rattle.leaving_out.specs.Records.{records_left}

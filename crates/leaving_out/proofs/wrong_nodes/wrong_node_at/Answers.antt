@@ -1,7 +1,7 @@
 use Rattle.std.proofs.Common.{◌≡◌, true, false, [], ◌∷◌, ◌++◌, List, ℕ, refl, sym, ap, ◌∙◌, arith, inl, inr}
-use Rattle.capture.specs.declared.record.Record.{Record}
+use Rattle.capture_record.specs.declared.record.Record.{Record}
 use Rattle.wire_base.specs.Tally.{tally_lent}
-use Rattle.capture.specs.Entries.{record_with}
+use Rattle.capture_record.specs.Entries.{record_with}
 use Rattle.capture.specs.Lines.{to_come}
 use Rattle.capture.specs.SoFar.{TheEnd, so_far}
 use Rattle.capture.proofs.SoFarLaws.{All-push}

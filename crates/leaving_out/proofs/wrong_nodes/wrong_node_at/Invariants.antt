@@ -1,6 +1,6 @@
 use Rattle.std.proofs.Common.{◌≡◌, List}
 use Rattle.wire_base.specs.Tally.{tally_faults, tally_lent}
-use Rattle.capture.specs.declared.record.Record.{Record}
+use Rattle.capture_record.specs.declared.record.Record.{Record}
 use Rattle.capture.specs.Lines.{to_come}
 use Rattle.leaving_out.specs.Texts.{NoWrongNode}
 use Rattle.leaving_out.proofs.Walk.{IsAt}

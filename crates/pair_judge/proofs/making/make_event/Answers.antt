@@ -1,5 +1,5 @@
 use Rattle.std.proofs.Common.{refl}
-use Rattle.capture.specs.Entries.{record_with}
+use Rattle.capture_record.specs.Entries.{record_with}
 use Rattle.pair_judge.proofs.Advances.{entered_made, entered_refused}
 use Rattle.pair_judge.proofs.making.make_event.Goals as goal
 

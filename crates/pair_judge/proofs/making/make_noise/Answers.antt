@@ -1,5 +1,5 @@
 use Rattle.std.proofs.Common.{refl}
-use Rattle.capture.specs.declared.record.Record.TheVariants.{Noise}
+use Rattle.capture_record.specs.declared.record.Record.TheVariants.{Noise}
 use Rattle.ddcmp_msg.specs.Reading.{reading}
 use Rattle.dna_node.specs.WireLayers.{WireLayers}
 use Rattle.pair_judge.specs.inner.Wire.{judge_hears}

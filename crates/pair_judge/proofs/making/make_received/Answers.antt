@@ -1,6 +1,6 @@
 use Rattle.std.proofs.Common.{◌≡◌, ◌+◌, refl, ap₂, ◌∙◌}
 use Rattle.ddcmp_msg.specs.Reading.{reading}
-use Rattle.capture.specs.declared.record.Record.TheVariants.{Received}
+use Rattle.capture_record.specs.declared.record.Record.TheVariants.{Received}
 use Rattle.pair_judge.specs.Counting.{shows_damage, more_if}
 use Rattle.pair_judge.specs.Summary.{counted}
 use Rattle.pair_judge.proofs.Advances.{receipt_made, receipt_refused}

@@ -1,7 +1,7 @@
 use Rattle.std.proofs.Common.{arith}
 use Rattle.wire_base.specs.Tally.{tally_lent}
 use Rattle.capture.specs.Lines.{to_come}
-use Rattle.capture.specs.Entries.{record_with}
+use Rattle.capture_record.specs.Entries.{record_with}
 use Rattle.tap_answer.proofs.BeforeLaws.{counting_begins, counting_done, counting_on}
 use Rattle.tap_answer.proofs.counting.units_before.Goals as goal
 

@@ -1,5 +1,5 @@
 use Rattle.std.proofs.Common.{ap, ◌+◌, ◌∙◌, ℕ}
-use Rattle.capture.specs.declared.record.Record.TheVariants.{Received}
+use Rattle.capture_record.specs.declared.record.Record.TheVariants.{Received}
 use Rattle.assuming.specs.inner.Spots.{Kept}
 use Rattle.assuming.proofs.SpotLaws.{goes_on, one_kept, spots_are}
 use Rattle.assuming.proofs.spots.Spots.keep.Goals as goal

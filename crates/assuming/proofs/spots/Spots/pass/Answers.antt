@@ -1,7 +1,7 @@
 use Rattle.std.proofs.Common.{[], ◌∷◌, ◌++◌, refl, sym, subst, ◌∙◌, arith}
-use Rattle.capture.specs.Entries.{record_with}
-use Rattle.capture.specs.declared.entry.Entry.{Entry}
-use Rattle.capture.specs.declared.record.Record.TheVariants.{Received}
+use Rattle.capture_record.specs.Entries.{record_with}
+use Rattle.capture_record.specs.declared.entry.Entry.{Entry}
+use Rattle.capture_record.specs.declared.record.Record.TheVariants.{Received}
 use Rattle.assuming.specs.inner.Spots.{AreOf}
 use Rattle.assuming.proofs.SpotLaws.{none_kept, others, stays}
 use Rattle.assuming.proofs.spots.Spots.pass.Goals as goal

@@ -1,6 +1,6 @@
 use Rattle.std.proofs.Common.{[], ◌∷◌, ◌++◌, sym, subst, arith}
 use Rattle.std.specs.List.{AllByRecursion}
-use Rattle.capture.specs.declared.record.Record.TheVariants.{Received}
+use Rattle.capture_record.specs.declared.record.Record.TheVariants.{Received}
 use Rattle.dna_packet.specs.Nsp.{view}
 use Rattle.assuming.specs.declared.spots.Basis.TheVariants.{Called}
 use Rattle.assuming.specs.inner.Spots.{IsSpot, Kept}

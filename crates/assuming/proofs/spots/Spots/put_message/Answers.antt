@@ -1,6 +1,6 @@
 use Rattle.std.proofs.Common.{sym, subst}
 use Rattle.std.specs.List.{AllByRecursion}
-use Rattle.capture.specs.declared.record.Record.TheVariants.{Sent}
+use Rattle.capture_record.specs.declared.record.Record.TheVariants.{Sent}
 use Rattle.std.proofs.Common.{[], ◌∷◌, ◌++◌}
 use Rattle.dna_packet.specs.Nsp.{view}
 use Rattle.assuming.specs.declared.spots.Basis.TheVariants.{Sends}

@@ -1,5 +1,5 @@
 use Rattle.std.proofs.Common.{refl, ap, ◌+◌, ◌∙◌, ℕ}
-use Rattle.capture.specs.declared.record.Record.TheVariants.{Sent}
+use Rattle.capture_record.specs.declared.record.Record.TheVariants.{Sent}
 use Rattle.assuming.specs.inner.Spots.{Kept}
 use Rattle.assuming.proofs.SpotLaws.{goes_on, spots_are}
 use Rattle.assuming.proofs.spots.Spots.send.Goals as goal

@@ -1,6 +1,6 @@
 use Rattle.std.proofs.Common.{[], ◌∷◌, ◌++◌, refl, sym, subst, ap}
-use Rattle.capture.specs.declared.event.Event.TheVariants.{Start}
-use Rattle.capture.specs.declared.record.Record.TheVariants.{User}
+use Rattle.capture_record.specs.declared.event.Event.TheVariants.{Start}
+use Rattle.capture_record.specs.declared.record.Record.TheVariants.{User}
 use Rattle.assuming.specs.declared.spots.Basis.TheVariants.{Starts}
 use Rattle.assuming.specs.inner.Spots.{AreOf, Kept, with_spot}
 use Rattle.assuming.proofs.SpotLaws.{goes_on, put_on, start_here}

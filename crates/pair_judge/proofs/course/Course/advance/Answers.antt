@@ -1,7 +1,7 @@
 use Rattle.std.proofs.Common.{sym, subst}
 use Rattle.std.proofs.lemmas.Result.{IfOk-weaker}
 use Rattle.capture.specs.Lines.{to_come}
-use Rattle.capture.specs.declared.record.Record.{Record}
+use Rattle.capture_record.specs.declared.record.Record.{Record}
 use Rattle.capture.specs.Reader.{CaptureState}
 use Rattle.wire_base.specs.Tally.{tally_lent}
 use Rattle.pair_judge.specs.declared.end.End.{End}

@@ -1,5 +1,5 @@
 use Rattle.std.proofs.Common.{◌-◌, ◌≤◌, length, sym, ◌∙◌, refl, arith, ltb-false}
-use Rattle.capture.specs.Entries.{record_with}
+use Rattle.capture_record.specs.Entries.{record_with}
 use Rattle.pair_judge.specs.inner.Lines.{held}
 use Rattle.pair_judge.specs.inner.Runs.{tag_of}
 use Rattle.pair_judge.proofs.Runs.{length-units_from}

@@ -4,7 +4,7 @@ use Rattle.wire_base.specs.declared.side.Side.TheVariants.{A}
 use Rattle.pair_judge.specs.EndShown.{told_alone}
 use Rattle.pair_judge.specs.Order.{MadeRecord, made_by}
 use Rattle.wire_base.specs.Tally.{tally_faults}
-use Rattle.capture.specs.Entries.{record_with}
+use Rattle.capture_record.specs.Entries.{record_with}
 use Rattle.capture.specs.Faulty.{CountsReads, is_read_fault}
 use Rattle.pair_judge.proofs.Courses.{GrowingLaws}
 use Rattle.pair_judge.proofs.LoneWalk.{fault_at, head_fault, made_on, room, started, stopped_at, stopped_ended}

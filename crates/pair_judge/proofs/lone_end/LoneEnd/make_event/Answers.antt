@@ -1,4 +1,4 @@
-use Rattle.capture.specs.Entries.{record_with}
+use Rattle.capture_record.specs.Entries.{record_with}
 use Rattle.pair_judge.proofs.LoneEnds.{entered_alone, refused_alone}
 use Rattle.pair_judge.proofs.lone_end.LoneEnd.make_event.Goals as goal
 

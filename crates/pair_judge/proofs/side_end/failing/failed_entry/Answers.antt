@@ -1,6 +1,6 @@
 use Rattle.std.proofs.Common.{[], Some, sym, subst}
-use Rattle.capture.specs.Entries.{record_with}
-use Rattle.capture.specs.declared.entry.Entry.{Entry}
+use Rattle.capture_record.specs.Entries.{record_with}
+use Rattle.capture_record.specs.declared.entry.Entry.{Entry}
 use Rattle.nsp_link.specs.Kinds.{queues_of}
 use Rattle.pair_judge.specs.FailedIn.{IsFirstOf, checks_alone}
 use Rattle.pair_judge.proofs.Entries.{no_receipt}

@@ -1,5 +1,5 @@
 use Rattle.std.proofs.Common.{sym}
-use Rattle.capture.specs.declared.event.Event.TheVariants as events
+use Rattle.capture_record.specs.declared.event.Event.TheVariants as events
 use Rattle.dna_links.specs.declared.port.Phase.TheVariants.{Confirming}
 use Rattle.dna_play.specs.LinkOwed.{ConfirmDuty}
 use Rattle.dna_play.specs.StoredLinks.{answered}

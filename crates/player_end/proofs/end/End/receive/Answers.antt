@@ -1,5 +1,5 @@
 use Rattle.std.proofs.Common.{◌≤◌, Bool, ap, subst, sym, ◌∙◌}
-use Rattle.capture.specs.declared.limit.TheConstants.{MAX_HINT}
+use Rattle.capture_record.specs.declared.limit.TheConstants.{MAX_HINT}
 use Rattle.ddcmp_msg.specs.Reading.{ReadingValue, reading_view}
 use Rattle.dna_play.specs.Receipt.{carried}
 use Rattle.dna_play.specs.StoredEnd.{StoredEnd}

@@ -1,0 +1,2 @@
+-- Where the layers of a record's bytes lie
+pub mod Layers
