@@ -11,7 +11,7 @@ ghost use Rattle.capture.specs.Faulty.{CountsReads, is_failed_line_read};
 ghost use Rattle.capture.specs.Lines.{FindsLine, FindsLf, ReadsAhead, to_come};
 
 use crate::fault::{Departure, LineFault};
-use crate::limit::{MAX_LINE};
+use crate::limit::MAX_LINE;
 use memchr::memchr;
 use std::alloc::{AllocError, Global};
 use std::io::Read;

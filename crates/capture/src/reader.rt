@@ -13,7 +13,7 @@ ghost use Rattle.capture.specs.Reader.{NextGives, Opens, TakesRecord, WhereReadF
 ghost use Rattle.capture.specs.Text.{format_number, format_of, record_text};
 
 use crate::fault::{CaptureFault, Departure, LineFault};
-use crate::limit::{MAX_RECORDS};
+use crate::limit::MAX_RECORDS;
 use crate::line_reader::LineReader;
 use crate::phase::Phase;
 use crate::record_words::{head_of, line_into};

@@ -7,7 +7,9 @@ ghost use Rattle.leaving_out.specs.Texts.{LeavesOut, departing, too_long_line};
 
 use crate::leaving::Leaving;
 use crate::record_left::put_left;
-use capture::{CaptureFault, CaptureReader, Departure, Format, MAX_LINE, MAX_RECORDS, put_head_line};
+use capture::{
+    CaptureFault, CaptureReader, Departure, Format, MAX_LINE, MAX_RECORDS, put_head_line,
+};
 use std::alloc::{AllocError, Global};
 use std::io::Read;
 use wire_base::{Side, Tally};
