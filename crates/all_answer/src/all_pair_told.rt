@@ -5,10 +5,10 @@ use crate::all_left::Beyond;
 use crate::all_pair::{PairCaptures, Telling};
 use crate::all_told::{Answer, Refusal, plain_object};
 use crate::onlooker::{Onlooker, Originals};
-use pair_judge::{JudgeFault, TextFault, Verdict, Watched};
+use pair_judge::{JudgeFault, TextFault, Verdict, Watched, judge};
 use printing::fault_told::FaultTold;
 use printing::how::Form;
-use printing::layers::{Layers, failed_over, watch_over};
+use printing::layers::Layers;
 use printing::objects::{fault_object, verdict_object, with_lf};
 use printing::text::{FAULTY, line_fault_text, verdict_status, verdict_text};
 use std::alloc::{AllocError, Global};
@@ -58,7 +58,13 @@ impl<A: Read + Seek, B: Read + Seek> PairCaptures<'_, '_, '_, A, B> {
         };
         let mut reader_a = read_again(Side::A, self.a)?;
         let mut reader_b = read_again(Side::B, self.b)?;
-        match watch_over(alloc, Layers::Station, &mut reader_a, &mut reader_b, rows) {
+        match judge(
+            alloc,
+            Layers::Station.of_period(),
+            &mut reader_a,
+            &mut reader_b,
+            rows,
+        ) {
             Ok(watched) if watched.ends.verdict() == verdict => {
                 let printout = Printout {
                     layers: Layers::Station,
@@ -189,7 +195,7 @@ fn explained_of(
     let Onlooker::Originals(Originals { rows, .. }) = observer else {
         return None;
     };
-    let (_, failed) = failed_over(printout.layers, &ends)?;
+    let (_, failed) = ends.failed(printout.layers)?;
     if failed.reason() != reason {
         return None;
     }
