@@ -3,7 +3,7 @@
 ghost use Rattle.std.specs.Prelude.{Some};
 ghost use Rattle.pair_judge.specs.EndJudged.{IsJudgedAlone};
 ghost use Rattle.pair_judge.specs.Watched.{only};
-ghost use Rattle.printing.specs.PrintedAlone.{end_of};
+ghost use Rattle.pair_judge.specs.JudgedAs.{end_of};
 
 use crate::all_judged::{AllFault, Captures, in_memory, of_text, read_again, read_on};
 use crate::all_left::NotJudged;
@@ -15,9 +15,9 @@ use crate::onlooker::{Onlooker, Originals};
 use capture::CaptureFault;
 use leaving_out::{Head, bind_all};
 use link_groups::{Groups, OwnAddress};
-use pair_judge::{Accused, EndVerdict, WatchedEnd, judge_line_end};
+use pair_judge::{Accused, EndVerdict, WatchedEnd, judge_end};
 use printing::end_text::end_status;
-use printing::layers::{Layers, judge_end_over, watch_end_over};
+use printing::layers::{Layers, judge_end_over};
 use std::alloc::Global;
 use std::io::{Read, Seek};
 use why_answer::end_telling::EndPrintout;
@@ -69,7 +69,7 @@ impl<A: Read + Seek> Captures for EndCapture<'_, '_, A> {
     }
 
     fn line(&mut self, alloc: Global, _any_period: bool) -> Result<Answer, AllFault> {
-        let of_line = judge_line_end(alloc, &mut read_again(Side::A, self.a)?);
+        let of_line = judge_end_over(alloc, Layers::Station, &mut read_again(Side::A, self.a)?);
         let verdict = of_text(Side::A, of_line)?;
         self.answer_of_line(alloc, verdict)
     }
@@ -148,7 +148,7 @@ impl<A: Read + Seek> EndCapture<'_, '_, A> {
         if let Some(known) = self.of_line.known(false) {
             return Ok(known);
         }
-        let of_line = judge_line_end(alloc, &mut read_again(Side::A, self.a)?);
+        let of_line = judge_end_over(alloc, Layers::Station, &mut read_again(Side::A, self.a)?);
         let refusal = match of_line {
             Err(CaptureFault::Departs { .. }) => None,
             judged => end_refusal_of(of_text(Side::A, judged)?),
@@ -196,5 +196,5 @@ fn judge_text<'t>(
 ) -> Result<WatchedEnd<Onlooker<'t>>, CaptureFault>
     ensures { IsJudgedAlone (end_of layers) (Some text.now) (only result (λ watched. watched.verdict)) }
 {
-    watch_end_over(alloc, layers, &mut Tally::new(text), onlooker)
+    judge_end(alloc, layers, &mut Tally::new(text), onlooker)
 }

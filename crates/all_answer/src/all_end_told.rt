@@ -7,11 +7,11 @@ use crate::all_pair::Telling;
 use crate::all_told::{Answer, Refusal, plain_object};
 use crate::onlooker::Onlooker;
 use capture::CaptureFault;
-use pair_judge::{Accused, EndVerdict, SideEnd, WatchedEnd};
+use pair_judge::{Accused, EndVerdict, SideEnd, WatchedEnd, judge_end};
 use printing::end_text::end_text;
 use printing::fault_told::FaultTold;
 use printing::how::Form;
-use printing::layers::{Layers, watch_end_over};
+use printing::layers::Layers;
 use printing::objects::{end_object, fault_object, with_lf};
 use printing::text::{FAULTY, line_fault_text};
 use std::alloc::{AllocError, Global};
@@ -98,7 +98,7 @@ impl<A: Read + Seek> EndCapture<'_, '_, A> {
     fn watched_line(&mut self, alloc: Global) -> Result<WatchedEnd<LastRows>, AllFault> {
         let rows = in_memory(LastRows::new(alloc))?;
         let mut reader = read_again(Side::A, self.a)?;
-        let watched = watch_end_over(alloc, Layers::Station, &mut reader, rows);
+        let watched = judge_end(alloc, Layers::Station, &mut reader, rows);
         of_text(Side::A, watched)
     }
 

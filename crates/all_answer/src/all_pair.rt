@@ -5,7 +5,7 @@ ghost use Rattle.wire_base.specs.Tally.{tally_lent};
 ghost use Rattle.pair_judge.specs.Ends.{verdict_in};
 ghost use Rattle.pair_judge.specs.Judged.{IsAnswer};
 ghost use Rattle.pair_judge.specs.Watched.{only};
-ghost use Rattle.printing.specs.Layers.{nodes_asked};
+ghost use Rattle.pair_judge.specs.JudgedAs.{nodes_by};
 ghost use Rattle.all_answer.specs.AllLeft.{AreBoundByBoth};
 
 use crate::all_judged::{AllFault, Captures, in_memory, of_text, read_again, read_on};
@@ -17,8 +17,8 @@ use crate::all_told::{Answer, Refusal};
 use crate::onlooker::{Onlooker, Originals};
 use leaving_out::{Head, bind_all};
 use link_groups::{Groups, OwnAddress};
-use pair_judge::{JudgeFault, TextFault, Verdict, Watched, judge_line, judge_line_any_period};
-use printing::layers::{Layers, judge_over, watch_any_period_over, watch_over};
+use pair_judge::{JudgeFault, JudgedAs, Nobody, TextFault, Verdict, Watched, judge};
+use printing::layers::{Layers, judge_over};
 use std::alloc::Global;
 use std::io::{Read, Seek};
 use why_answer::telling::Printout;
@@ -222,10 +222,16 @@ impl<A: Read + Seek, B: Read + Seek> PairCaptures<'_, '_, '_, A, B> {
     ) -> Result<Result<Verdict, JudgeFault>, AllFault> {
         let mut reader_a = read_again(Side::A, self.a)?;
         let mut reader_b = read_again(Side::B, self.b)?;
-        Ok(match any_period {
-            true => judge_line_any_period(alloc, &mut reader_a, &mut reader_b),
-            false => judge_line(alloc, &mut reader_a, &mut reader_b),
-        })
+        let asked = JudgedAs {
+            layers: Layers::Station,
+            any_period,
+        };
+        Ok(
+            match judge(alloc, asked, &mut reader_a, &mut reader_b, Nobody) {
+                Ok(watched) => Ok(watched.ends.verdict()),
+                Err(fault) => Err(fault),
+            },
+        )
     }
 
     // The answer on what is left, while this one looks on.
@@ -330,13 +336,11 @@ pub fn judge_texts<'t>(
     onlooker: Onlooker<'t>,
     texts: &LeftTexts,
 ) -> Result<Watched<Onlooker<'t>>, JudgeFault>
-    ensures { IsAnswer (nodes_asked layers any_period) (Some texts.now.a.items) (Some texts.now.b.items)
+    ensures { IsAnswer (nodes_by layers any_period) (Some texts.now.a.items) (Some texts.now.b.items)
         (verdict_in (only result (λ watched. watched.ends))) }
 {
     let mut reader_a = Tally::new(texts.a.as_slice());
     let mut reader_b = Tally::new(texts.b.as_slice());
-    if any_period {
-        return watch_any_period_over(alloc, layers, &mut reader_a, &mut reader_b, onlooker);
-    }
-    watch_over(alloc, layers, &mut reader_a, &mut reader_b, onlooker)
+    let asked = JudgedAs { layers, any_period };
+    judge(alloc, asked, &mut reader_a, &mut reader_b, onlooker)
 }

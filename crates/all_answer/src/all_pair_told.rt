@@ -6,10 +6,10 @@ use crate::all_pair::{PairCaptures, Telling, stopped_at};
 use crate::all_stops::Stops;
 use crate::all_told::{Answer, Refusal, plain_object};
 use crate::onlooker::Onlooker;
-use pair_judge::{JudgeFault, JudgedEnds, TextFault, Verdict, Watched};
+use pair_judge::{JudgeFault, JudgedEnds, TextFault, Verdict, Watched, judge};
 use printing::fault_told::FaultTold;
 use printing::how::Form;
-use printing::layers::{Layers, failed_over, watch_over};
+use printing::layers::Layers;
 use printing::objects::{fault_object, verdict_object, with_lf};
 use printing::text::{FAULTY, line_fault_text, verdict_status, verdict_text};
 use std::alloc::{AllocError, Global};
@@ -56,7 +56,13 @@ impl<A: Read + Seek, B: Read + Seek> PairCaptures<'_, '_, '_, A, B> {
     fn watched_line(&mut self, alloc: Global) -> Result<Watched<LastRows>, AllFault> {
         let rows = in_memory(LastRows::new(alloc))?;
         let (mut reader_a, mut reader_b) = both_again(self.a, self.b)?;
-        match watch_over(alloc, Layers::Station, &mut reader_a, &mut reader_b, rows) {
+        match judge(
+            alloc,
+            Layers::Station.of_period(),
+            &mut reader_a,
+            &mut reader_b,
+            rows,
+        ) {
             Ok(watched) => Ok(watched),
             Err(fault) => Err(AllFault::Judge(fault)),
         }
@@ -223,7 +229,7 @@ fn refused_of(verdict: Verdict) -> Option<Refused> {
 // is explained.
 fn explained_of(layers: Layers, ends: &JudgedEnds) -> Option<Refused> {
     let refused = refused_of(ends.verdict())?;
-    let (_, failed) = failed_over(layers, ends)?;
+    let (_, failed) = ends.failed(layers)?;
     match failed.reason() == refused.reason {
         true => Some(refused),
         false => None,

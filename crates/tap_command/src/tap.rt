@@ -12,7 +12,8 @@ ghost use Rattle.printing.specs.Printed.{Writes, fault_text, moved, stream_of};
 ghost use Rattle.printing.specs.Printed.{line_verdict_text as line_verdict_text_of, verdict_text as verdict_text_of};
 ghost use Rattle.tap_command.specs.PrintedTap.{ChecksTap, IsRefusedAt, TellsTapFault, no_unit_text, streams, wire_line_text};
 ghost use Rattle.tap_command.specs.inner.TapParts.{TellsTold, WritesBehind, both_streams};
-ghost use Rattle.printing.specs.Layers.{nodes_of, verdict_text_over};
+ghost use Rattle.pair_judge.specs.JudgedAs.{nodes_of};
+ghost use Rattle.printing.specs.Layers.{verdict_text_over};
 
 use capture::Departure;
 use pair_judge::Verdict;

@@ -2,7 +2,7 @@
 
 ghost use Rattle.std.specs.Prelude.{◌≡◌, true, IfOk};
 ghost use Rattle.wire_base.specs.Tally.{tally_lent};
-ghost use Rattle.printing.specs.PrintedAlone.{end_of};
+ghost use Rattle.pair_judge.specs.JudgedAs.{end_of};
 ghost use Rattle.tap_command.specs.PrintedTap.{BothPass};
 
 use crate::tap_files::{TapPaths, write_captures};

@@ -5,7 +5,7 @@ ghost use Rattle.wire_base.specs.Tally.{tally_lent};
 ghost use Rattle.tap_answer.specs.Telling.{telling};
 ghost use Rattle.printing.specs.Statuses.{EndsWith};
 ghost use Rattle.tap_command.specs.inner.TapStatus.{EndsAsTapped, told_status};
-ghost use Rattle.printing.specs.Layers.{nodes_of};
+ghost use Rattle.pair_judge.specs.JudgedAs.{nodes_of};
 
 use crate::tap::{ACCEPTED, Captured, RefusedAt, UNEXPLAINED, to_be_cut};
 use crate::tap_accused::{put_accused, put_passed, put_recording};

@@ -12,12 +12,12 @@ use crate::rows_before::end_rungs;
 use crate::telling::{REFUSED, accusation_knowing};
 use capture::CaptureFault;
 use ladder::Ladder;
-use pair_judge::{EndVerdict, Reason, SideEnd, SideSummary, WatchedEnd};
+use pair_judge::{EndVerdict, Reason, SideEnd, SideSummary, WatchedEnd, judge_end};
 use printing::alone::print_end_fault;
 use printing::check::{print, print_out_of_memory};
 use printing::end_text::end_text;
 use printing::how::Form;
-use printing::layers::{Layers, failed_end_over, watch_end_over};
+use printing::layers::Layers;
 use side_words::subject::addresses_of;
 use std::alloc::{AllocError, Global};
 use std::io::{Read, Seek, Write};
@@ -62,7 +62,7 @@ pub fn why_end_to<A: Read, B: Read + Seek, O: Write, E: Write>(
     let Ok(rows) = LastRows::new(alloc) else {
         return print_out_of_memory(err);
     };
-    let watched = match watch_end_over(alloc, printout.layers, a, rows) {
+    let watched = match judge_end(alloc, printout.layers, a, rows) {
         Ok(watched) => watched,
         Err(fault) => return print_end_fault(alloc, fault, err),
     };
@@ -190,7 +190,7 @@ fn refusal_of<'t>(
         place,
         reason,
         accusation: accusation_knowing(by_table, reason, has_begun, excuse),
-        failed: failed_end_over(layers, end, reason),
+        failed: end.failed_alone(layers, reason),
         says: entry,
         bytes,
         lines: past.lines(Side::A, addresses_of(entry, bytes)),

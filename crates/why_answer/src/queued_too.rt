@@ -2,11 +2,8 @@
 
 use crate::recorder::Tried;
 use capture::CaptureFault;
-use pair_judge::{
-    Accused, EndVerdict, JudgeFault, Matter, Reason, TextFault, Verdict, judge_queued,
-    judge_queued_end,
-};
-use printing::layers::Layers;
+use pair_judge::{Accused, EndVerdict, JudgeFault, Matter, Reason, TextFault, Verdict};
+use printing::layers::{Layers, judge_end_over, judge_over};
 use std::alloc::{AllocError, Global};
 use std::io::{Read, Seek};
 use why::QueuedAnswer;
@@ -42,7 +39,7 @@ fn ask_queues<A: Read + Seek, B: Read + Seek>(
     }
     let mut tally_a = Tally::new(&mut *a);
     let mut tally_b = Tally::new(&mut *b);
-    tried.queued = match judge_queued(alloc, &mut tally_a, &mut tally_b) {
+    tried.queued = match judge_over(alloc, Layers::Queued, &mut tally_a, &mut tally_b) {
         Ok(verdict) => answer_of(verdict),
         Err(
             JudgeFault::Capture {
@@ -84,7 +81,7 @@ pub fn end_with_queues<A: Read + Seek>(
     if a.rewind().is_err() {
         return Ok(QueuedAnswer::NotKnown);
     }
-    match judge_queued_end(alloc, &mut Tally::new(&mut *a)) {
+    match judge_end_over(alloc, Layers::Queued, &mut Tally::new(&mut *a)) {
         Ok(EndVerdict::Passed(_)) => Ok(QueuedAnswer::Accepted),
         Ok(
             EndVerdict::Refused {

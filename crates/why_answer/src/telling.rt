@@ -14,7 +14,7 @@ use ladder::Ladder;
 use pair_judge::{JudgedEnds, Reason, Summary, Verdict, Watched};
 use printing::check::{print, print_failed_read, print_out_of_memory};
 use printing::how::Form;
-use printing::layers::{Layers, failed_over};
+use printing::layers::Layers;
 use printing::text::{FAILED, verdict_text};
 use record_words::lines::Lines;
 use side_words::subject::addresses_of;
@@ -141,7 +141,7 @@ fn refusal_of<'t>(
     let Some((entry, bytes)) = ends.ahead(refused.side) else {
         return None;
     };
-    let Some((_, failed)) = failed_over(layers, ends) else {
+    let Some((_, failed)) = ends.failed(layers) else {
         return None;
     };
     let named = addresses_of(entry, bytes);

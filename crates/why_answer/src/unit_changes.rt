@@ -6,7 +6,7 @@ use crate::right_units::right_units;
 use capture_record::Entry;
 use edited::{Change, Mistake, Row, with_bytes};
 use pair_judge::{JudgedEnds, Matter, Verdict};
-use printing::layers::{Layers, failed_over};
+use printing::layers::Layers;
 use std::alloc::{AllocError, Global};
 use wire_base::Side;
 
@@ -20,7 +20,7 @@ pub fn unit_changes(
     near: &BothNear,
 ) -> Result<Vec<PairChanges>, AllocError> {
     let (own, other) = near.of(side);
-    let (Some((_, failed)), Some(row)) = (failed_over(layers, ends), own.row_ahead()) else {
+    let (Some((_, failed)), Some(row)) = (ends.failed(layers), own.row_ahead()) else {
         return Ok(Vec::new(alloc));
     };
     if row.entry != Entry::Sent {

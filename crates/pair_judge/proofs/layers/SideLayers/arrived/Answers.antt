@@ -7,7 +7,7 @@ use Rattle.dna_station.specs.WireStation.{WireStation}
 use Rattle.pair_judge.specs.inner.Tops.{rules_by}
 use Rattle.pair_judge.proofs.Arrives.{arrives_untaken, if_refused}
 use Rattle.pair_judge.proofs.Meets.{meets_kept, meets_refused}
-use Rattle.pair_judge.proofs.layers.Layers.arrived.Goals as goal
+use Rattle.pair_judge.proofs.layers.SideLayers.arrived.Goals as goal
 
 pub returns-in-Ok-keep-clause-ok : goal.returns-in-Ok-keep-clause-ok
 returns-in-Ok-keep-clause-ok g c =

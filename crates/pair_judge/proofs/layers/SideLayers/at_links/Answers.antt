@@ -5,7 +5,7 @@ use Rattle.dna_links.specs.User.{view}
 use Rattle.dna_links.specs.WireLinks.{wire_links_user}
 use Rattle.dna_node.specs.WireLayers.{WireLayers, with_wire_links}
 use Rattle.pair_judge.proofs.LinkEvents.{entered, made_by_links}
-use Rattle.pair_judge.proofs.layers.Layers.at_links.Goals as goal
+use Rattle.pair_judge.proofs.layers.SideLayers.at_links.Goals as goal
 
 pub returns-in-Err-Refused-clause-refused : goal.returns-in-Err-Refused-clause-refused
 returns-in-Err-Refused-clause-refused g c =

@@ -7,7 +7,7 @@ use Rattle.nsp_link.specs.Kinds.{queues_of}
 use Rattle.pair_judge.specs.inner.Packets.{lent_content}
 use Rattle.pair_judge.proofs.Arrives.{if_refused}
 use Rattle.pair_judge.proofs.Composes.{beside, composes_made, composes_refused}
-use Rattle.pair_judge.proofs.layers.Layers.composed.Goals as goal
+use Rattle.pair_judge.proofs.layers.SideLayers.composed.Goals as goal
 
 pub returns-in-Ok-clause-ok : goal.returns-in-Ok-clause-ok
 returns-in-Ok-clause-ok g c =

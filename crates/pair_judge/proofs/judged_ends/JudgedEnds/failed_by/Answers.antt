@@ -4,7 +4,7 @@ use Rattle.nsp_link.specs.Kinds.{queues_of}
 use Rattle.pair_judge.specs.Ends.{ShownEnds}
 use Rattle.pair_judge.specs.FailedIn.{IsFirstOf, checks_at}
 use Rattle.pair_judge.proofs.FirstFailed.{failed_in}
-use Rattle.pair_judge.proofs.judged_ends.JudgedEnds.failed.Goals as goal
+use Rattle.pair_judge.proofs.judged_ends.JudgedEnds.failed_by.Goals as goal
 
 pub returns-in-Some : goal.returns-in-Some
 returns-in-Some g c =

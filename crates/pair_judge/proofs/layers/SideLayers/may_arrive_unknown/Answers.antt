@@ -5,7 +5,7 @@ use Rattle.ddcmp_station.specs.Arrival.{arrival_view}
 use Rattle.dna_node.specs.WireLayers.{of_no_link}
 use Rattle.pair_judge.specs.inner.Tops.{rules_by}
 use Rattle.pair_judge.proofs.Meets.{meets_ok, meets_refused}
-use Rattle.pair_judge.proofs.layers.Layers.may_arrive_unknown.Goals as goal
+use Rattle.pair_judge.proofs.layers.SideLayers.may_arrive_unknown.Goals as goal
 
 pub returns-in-Some-clause-ok : goal.returns-in-Some-clause-ok
 returns-in-Some-clause-ok g c =
