@@ -16,10 +16,10 @@ ghost use Rattle.pair_judge.specs.inner.Answer.{verdict_of};
 ghost use Rattle.pair_judge.specs.inner.Opened.{OpensAt};
 ghost use Rattle.pair_judge.specs.inner.Stopped.{AreShownIn, IsStoppedIn, ends_of};
 
-use crate::judged_as::{JudgedAs, Layers};
 use crate::course::{Ahead, Course};
 use crate::end::End;
 use crate::fault::JudgeFault;
+use crate::judged_as::{JudgedAs, Layers};
 use crate::judged_ends::{JudgedEnds, ends_with};
 use crate::layers::{LinksOnTop, NothingOnTop, SideLayers};
 use crate::line::Line;

@@ -11,8 +11,8 @@ ghost use Rattle.pair_judge.specs.Watched.{only};
 
 mod stopping;
 
-use crate::judged_as::Layers;
 use crate::end_verdict::EndVerdict;
+use crate::judged_as::Layers;
 use crate::layers::{LinksOnTop, NothingOnTop};
 use crate::observer::Observer;
 use crate::side_end::SideEnd;
