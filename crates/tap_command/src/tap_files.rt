@@ -3,9 +3,7 @@
 ghost use Rattle.std.specs.Prelude.{◌≡◌, true, is_ok, IfOk};
 
 use crate::packet_capture::tell_packet_capture;
-use crate::tap::{
-    Captured, RefusedAt, print_no_unit, print_tap_fault, tap_line_to, tap_to, told_of_tap,
-};
+use crate::tap::{Captured, RefusedAt, print_no_unit, print_tap_fault, tap_to, told_of_tap};
 use crate::tap_apart::are_apart;
 use crate::tap_assuming::{assume_more, tell_too_long};
 use crate::tap_naming::named_unit;
@@ -38,7 +36,7 @@ pub struct TapPaths<'a> {
 }
 
 impl TapPaths<'_> {
-    /// What is judged.
+    /// What is judged: nodes with queues, since nobody who taps a line sees when a node acts; or stations and line alone.
     pub fn layers(&self) -> Layers {
         match self.line_alone {
             true => Layers::Station,
@@ -253,8 +251,8 @@ fn judge_captures<R: Files + AllocGlobal, O: Write, E: Write>(
 {
     let mut a = opened(rt, Wanted::by_path(Named::A, paths.a), err)?;
     let mut b = opened(rt, Wanted::by_path(Named::B, paths.b), err)?;
+    let layers = paths.layers();
     if let Form::Json = form {
-        let layers = paths.layers();
         return Ok(tap_json_to(
             rt.alloc(),
             layers,
@@ -266,8 +264,5 @@ fn judge_captures<R: Files + AllocGlobal, O: Write, E: Write>(
             err,
         ));
     }
-    if paths.line_alone {
-        return Ok(tap_line_to(rt.alloc(), &mut a, &mut b, captured, out, err));
-    }
-    Ok(tap_to(rt.alloc(), &mut a, &mut b, captured, out, err))
+    Ok(tap_to(rt.alloc(), layers, &mut a, &mut b, captured, out, err))
 }

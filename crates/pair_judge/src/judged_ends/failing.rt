@@ -9,9 +9,9 @@ ghost use Rattle.pair_judge.specs.Finding.{of_side};
 ghost use Rattle.pair_judge.specs.inner.Lines.{held};
 
 use super::JudgedEnds;
-use crate::judged_as::Layers;
 use crate::failed_cause::of_reason;
 use crate::failed_check::{Awaited, FailedCheck};
+use crate::judged_as::Layers;
 use crate::line::Line;
 use crate::reason::Reason;
 use crate::side_end::SideEnd;

@@ -11,12 +11,12 @@ ghost use Rattle.pair_judge.specs.FailedIn as spec;
 ghost use Rattle.pair_judge.specs.inner.Lines.{held};
 
 use super::SideEnd;
-use crate::judged_as::Layers;
 use crate::carried::carried;
 use crate::course::Ahead;
 use crate::failed_cause::of_reason;
 use crate::failed_check::{FailedCheck, NotSound};
 use crate::failed_record::{failed_own, failed_record};
+use crate::judged_as::Layers;
 use crate::layers::SideLayers;
 use crate::line::Line;
 use crate::reason::Reason;
