@@ -21,8 +21,8 @@ pub enum Layers {
 pub struct JudgedAs {
     /// Which layers.
     pub layers: Layers,
-    /// Whether stations ask no period: each acts on what comes by its bytes, whatever start of the other station it belongs to. So a pair is judged on
-    /// once it was refused for 13. The links ask for partners on (25).
+    /// Whether stations ask no period: each acts on what comes by its bytes, whatever start of the other station it belongs to. So a pair is judged
+    /// on once it was refused for 13. The links ask for partners on (25).
     pub any_period: bool,
 }
 

@@ -57,44 +57,42 @@ pub struct Watched<O: Observer> {
     pub observer: O,
 }
 
-/// Decides whether the texts that two readers give up to their ends are captures that together are a run of two nodes, over a line that loses, damages
-/// and adds noise but never repeats or reorders units. It is asked of which nodes: each is a DDCMP station with its NSP links on top, whose numbers have
-/// no bound; or one with queues; or the station alone; or one of these that asks no period.
+/// Decides whether the texts that two readers give up to their ends are captures that together are a run of two nodes, over a line that loses,
+/// damages and adds noise but never repeats or reorders units. It is asked of which nodes: each is a DDCMP station with its NSP links on top, whose
+/// numbers have no bound; or one with queues; or the station alone; or one of these that asks no period.
 ///
-/// Both texts are opened, a's first. Then a record is read only when its turn comes: side a's next one as long as a is
-/// neither blocked nor at its end, and otherwise one of b; a side is blocked where its next record is the receipt of a unit not
-/// yet sent. So a fault that comes after the record of a refusal is not met. Of each direction only the units above the last
-/// hint received are held.
+/// Both texts are opened, a's first. Then a record is read only when its turn comes: side a's next one as long as a is neither blocked nor at its
+/// end, and otherwise one of b; a side is blocked where its next record is the receipt of a unit not yet sent. So a fault that comes after the record
+/// of a refusal is not met. Of each direction only the units above the last hint received are held.
 ///
-/// `Accepted`: both texts are texts of captures, all records of both are one run of two such nodes, what
-/// was delivered to each side is, in order, of what the other was offered, and on each link of what its partner was handed, and the
-/// summary is the counts of the records and of the links. Of two texts of captures that are a run nothing else is answered, apart from
-/// want of memory and a failed read.
+/// `Accepted`: both texts are texts of captures, all records of both are one run of two such nodes, what was delivered to each side is, in order, of
+/// what the other was offered, and on each link of what its partner was handed, and the summary is the counts of the records and of the links. Of two
+/// texts of captures that are a run nothing else is answered, apart from want of memory and a failed read.
 ///
-/// `Refused`: however the texts go on after what was read of them by then, they are no run, and the named record is the place:
-/// it can't be made for this reason though all that it rests on can; or it waits for a unit that is never sent (`NoSuchUnit`); or
-/// neither side can go on (`NoOrder`). Where a record of each side can't be made, that of a is named; so the records alone tell what is
-/// answered, in whichever format they are spelled (`judged_in_any_format`).
+/// `Refused`: however the texts go on after what was read of them by then, they are no run, and the named record is the place: it can't be made for
+/// this reason though all that it rests on can; or it waits for a unit that is never sent (`NoSuchUnit`); or neither side can go on (`NoOrder`).
+/// Where a record of each side can't be made, that of a is named; so the records alone tell what is answered, in whichever format they are spelled
+/// (`judged_in_any_format`).
 ///
-/// `Capture`: the line of that side departs from the format as named, and all records before it, with those of the other side that
-/// were made, are a run; or a read of that side failed. `OutOfMemory`: an allocation was refused, or the observer wants memory. At every answer but a
-/// failed read of a side the count of its reader's failed calls stays as it was. After any answer the readers have given what was read ahead,
-/// and nothing is said of the rest. The contract says nothing of when `OutOfMemory` is answered, nor of the order of reading.
+/// `Capture`: the line of that side departs from the format as named, and all records before it, with those of the other side that were made, are a
+/// run; or a read of that side failed. `OutOfMemory`: an allocation was refused, or the observer wants memory. At every answer but a failed read of a
+/// side the count of its reader's failed calls stays as it was. After any answer the readers have given what was read ahead, and nothing is said of
+/// the rest. The contract says nothing of when `OutOfMemory` is answered, nor of the order of reading.
 ///
-/// Of stations alone (`Layers::Station`) the reasons are those of stations and line. What was delivered to each is, in every period and in order, of the
-/// packets that the other was offered. In the summary `links` is 0, and `up` counts lines that were not judged. Where both layers are accepted, so are
-/// they; what they refuse, both layers do not accept (`line_is_judged_too`). What is accepted without queues is accepted with them, with the same counts
-/// (`judged_with_queues_too`); and what is accepted where periods are asked, where none is (`judged_of_any_period_too`). There `CrossedPeriod` is never
-/// answered, nothing is said of what was delivered, and numbers are kept as a program does, modulo 256 and 4096.
+/// Of stations alone (`Layers::Station`) the reasons are those of stations and line. What was delivered to each is, in every period and in order, of
+/// the packets that the other was offered. In the summary `links` is 0, and `up` counts lines that were not judged. Where both layers are accepted,
+/// so are they; what they refuse, both layers do not accept (`line_is_judged_too`). What is accepted without queues is accepted with them, with the
+/// same counts (`judged_with_queues_too`); and what is accepted where periods are asked, where none is (`judged_of_any_period_too`). There
+/// `CrossedPeriod` is never answered, nothing is said of what was delivered, and numbers are kept as a program does, modulo 256 and 4096.
 ///
-/// The observer (`Nobody`, where only the verdict is wanted) is told of each record that is made, as it is made: of all that was read of both texts but
-/// the records ahead, in an order in which two such nodes can make them; wherever one stops, the records before are a run. It was told of nothing before;
-/// at a fault it is dropped.
+/// The observer (`Nobody`, where only the verdict is wanted) is told of each record that is made, as it is made: of all that was read of both texts
+/// but the records ahead, in an order in which two such nodes can make them; wherever one stops, the records before are a run. It was told of nothing
+/// before; at a fault it is dropped.
 ///
-/// Both ends are given as they are where the verdict is. They show which records are ahead, and how many were made. Where the verdict is `Refused`, the
-/// named record is the one ahead of its side, and where periods are asked `JudgedEnds::failed` names a check of this reason that it does not pass. Of
-/// nodes without queues (`Layers::Both`) besides: all records of the named side before the named one, and some of the other side, lead two nodes to a
-/// world in which the named record is refused for this reason, or waits; and both ends show this world.
+/// Both ends are given as they are where the verdict is. They show which records are ahead, and how many were made. Where the verdict is `Refused`,
+/// the named record is the one ahead of its side, and where periods are asked `JudgedEnds::failed` names a check of this reason that it does not
+/// pass. Of nodes without queues (`Layers::Both`) besides: all records of the named side before the named one, and some of the other side, lead two
+/// nodes to a world in which the named record is refused for this reason, or waits; and both ends show this world.
 pub fn judge<O: Observer, R: Read, S: Read>(
     alloc: Global,
     asked: JudgedAs,

@@ -32,27 +32,27 @@ pub struct WatchedEnd<O: Observer> {
     pub observer: O,
 }
 
-/// Decides of the text that a reader gives up to its end whether it is a capture whose records a node of a pair can make, whatever the capture
-/// of the other end may be: what came is taken as what the other end sent, and of hints it is only asked that they rise. It is asked over which layers:
-/// what the other end may not have sent is asked when it comes, also of a node with queues.
+/// Decides of the text that a reader gives up to its end whether it is a capture whose records a node of a pair can make, whatever the capture of the
+/// other end may be: what came is taken as what the other end sent, and of hints it is only asked that they rise. It is asked over which layers: what
+/// the other end may not have sent is asked when it comes, also of a node with queues.
 ///
 /// `Passed`: the text is a capture, and all of its records were made; their counts. Of such a text nothing else is answered, apart from want of
 /// memory and a failed read.
 ///
-/// `Refused`: however the text goes on after what was read of it by then, the named record is the first that can't be made: this end breaks the
-/// rule in it, or the other end did in what came. No such capture is a side of a run, whatever the other one is (`refused_alone_is_final`).
+/// `Refused`: however the text goes on after what was read of it by then, the named record is the first that can't be made: this end breaks the rule
+/// in it, or the other end did in what came. No such capture is a side of a run, whatever the other one is (`refused_alone_is_final`).
 ///
-/// `Departs`: the line departs from the format as named, and all records before it were made. `Read`: a read failed; at any other answer
-/// the count of the reader's failed calls stays as it was. `OutOfMemory`: an allocation was refused, for a reader's block or its room for bytes, the
-/// station's window, a packet, a link, a message that was handed in, or a segment that is held; or the observer wants memory.
+/// `Departs`: the line departs from the format as named, and all records before it were made. `Read`: a read failed; at any other answer the count of
+/// the reader's failed calls stays as it was. `OutOfMemory`: an allocation was refused, for a reader's block or its room for bytes, the station's
+/// window, a packet, a link, a message that was handed in, or a segment that is held; or the observer wants memory.
 ///
-/// Of a station alone (`Layers::Station`) the reasons are those of stations and line, and the other end is accused of `NotAMessage` and `WrongResponse`
-/// alone. In the summary `links` is 0, and `up` counts lines that were not judged.
+/// Of a station alone (`Layers::Station`) the reasons are those of stations and line, and the other end is accused of `NotAMessage` and
+/// `WrongResponse` alone. In the summary `links` is 0, and `up` counts lines that were not judged.
 ///
-/// The observer (`Nobody`, where only the verdict is wanted) is told of each record that is made, as one of side a. It was told of nothing before; at a
-/// fault it is dropped. The end is given as it is where the verdict is. Where that is `Refused`, the records before the named one lead the node of this
-/// end to a state in which it refuses the named one for this reason, and the end shows this state; the named record is the one ahead. Where it is
-/// `Passed`, none is ahead, and the end shows the state after all records. Of a station alone it shows no link: events of links count as made, but
+/// The observer (`Nobody`, where only the verdict is wanted) is told of each record that is made, as one of side a. It was told of nothing before; at
+/// a fault it is dropped. The end is given as it is where the verdict is. Where that is `Refused`, the records before the named one lead the node of
+/// this end to a state in which it refuses the named one for this reason, and the end shows this state; the named record is the one ahead. Where it
+/// is `Passed`, none is ahead, and the end shows the state after all records. Of a station alone it shows no link: events of links count as made, but
 /// nothing begins by them.
 ///
 /// ```text

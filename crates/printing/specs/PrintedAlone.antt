@@ -37,13 +37,6 @@ abbrev pub end_text_by : (line : Side → SideSummary → List ℕ) → EndVerdi
 end_text_by line (Passed counts) = codes "passed\n" ++ (line A counts ++ codes "\n")
 end_text_by line (Refused place accused reason) = refused_alone_text place accused reason
 
-abbrev pub end_text : EndVerdict → List ℕ
-end_text = end_text_by side_line
-
--- the same of a station alone
-abbrev pub line_end_text : EndVerdict → List ℕ
-line_end_text = end_text_by station_line
-
 -- ---- whether the links on top are judged too
 
 -- the line of counts of a side

@@ -3,7 +3,7 @@
 ghost use Rattle.std.specs.Prelude.{◌≡◌, true, is_ok, IfOk};
 
 use crate::packet_capture::tell_packet_capture;
-use crate::tap::{Captured, RefusedAt, print_no_unit, tap_line_to, tap_to, tell_tap_fault};
+use crate::tap::{Captured, RefusedAt, print_no_unit, tap_to, tell_tap_fault};
 use crate::tap_apart::are_apart;
 use crate::tap_assuming::{assume_more, tell_too_long};
 use crate::tap_naming::named_unit;
@@ -37,7 +37,7 @@ pub struct TapPaths<'a> {
 }
 
 impl TapPaths<'_> {
-    /// What is judged.
+    /// What is judged: nodes with queues, since nobody who taps a line sees when a node acts; or stations and line alone.
     pub fn layers(&self) -> Layers {
         match self.line_alone {
             true => Layers::Station,
@@ -276,7 +276,6 @@ fn judge_both<A: Read, B: Read, O: Write, E: Write>(
 {
     match form {
         Form::Json => tap_json_to(alloc, paths.layers(), paths.wire, a, b, captured, out, err),
-        Form::Rows if paths.line_alone => tap_line_to(alloc, a, b, captured, out, err),
-        Form::Rows => tap_to(alloc, a, b, captured, out, err),
+        Form::Rows => tap_to(alloc, paths.layers(), a, b, captured, out, err),
     }
 }

@@ -3,7 +3,7 @@ use Rattle.std.proofs.Common.{refl}
 use Rattle.pair_judge.specs.JudgedAs.{end_of}
 use Rattle.printing.specs.PrintedAlone.{end_text_over}
 use Rattle.printing.proofs.AnsweringAlone.{checks_fault, checks_nothing}
-use Rattle.printing.proofs.alone.alone_over.Goals as goal
+use Rattle.printing.proofs.alone.alone_to.Goals as goal
 
 pub returns-in-Err-end_text : goal.returns-in-Err-end_text
 returns-in-Err-end_text g c =

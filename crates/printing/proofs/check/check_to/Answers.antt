@@ -3,7 +3,7 @@ use Rattle.std.proofs.Common.{refl}
 use Rattle.pair_judge.specs.JudgedAs.{nodes_of}
 use Rattle.printing.specs.Layers.{verdict_text_over}
 use Rattle.printing.proofs.Answering.{checks_fault, checks_nothing}
-use Rattle.printing.proofs.check.check_over.Goals as goal
+use Rattle.printing.proofs.check.check_to.Goals as goal
 
 pub returns-in-Err-verdict_text : goal.returns-in-Err-verdict_text
 returns-in-Err-verdict_text g c = checks_nothing (nodes_of c.args.layers) (verdict_text_over c.args.layers) _ _ _ _ _ c.in-Ok.ensures.reads_a

@@ -6,7 +6,7 @@ use Rattle.pair_judge.specs.JudgedAs.{nodes_of}
 use Rattle.printing.specs.Layers.{verdict_text_over}
 use Rattle.tap_command.proofs.TapTelling.{tells_fault, tells_verdict, told_there}
 use Rattle.tap_answer.specs.Telling.{telling}
-use Rattle.tap_command.proofs.tap.tap_over.Goals as goal
+use Rattle.tap_command.proofs.tap.tap_to.Goals as goal
 
 pub returns-in_default-clause-checks : goal.returns-in_default-clause-checks
 returns-in_default-clause-checks g c =
