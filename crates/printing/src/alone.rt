@@ -5,7 +5,8 @@ ghost use Rattle.capture.specs.declared.fault.CaptureFault.TheVariants as Captur
 ghost use Rattle.dna_links.specs.declared.queue.Queues.TheVariants.{With};
 ghost use Rattle.pair_judge.specs.EndKind.{layers_alone, layers_alone_by, station_alone};
 ghost use Rattle.printing.specs.Printed.{moved};
-ghost use Rattle.printing.specs.PrintedAlone.{ChecksEnd, TellsEndFault, end_of, end_text_over};
+ghost use Rattle.pair_judge.specs.JudgedAs.{end_of};
+ghost use Rattle.printing.specs.PrintedAlone.{ChecksEnd, TellsEndFault, end_text_over};
 ghost use Rattle.printing.specs.PrintedAlone.{end_text as end_text_of, line_end_text as line_end_text_of};
 
 use crate::check::{print, print_failed_read, print_out_of_memory};

@@ -6,7 +6,8 @@ ghost use Rattle.dna_links.specs.declared.queue.Queues.TheVariants.{With};
 ghost use Rattle.dna_node.specs.Kind.{both_layers, layers_kind, stations_alone};
 ghost use Rattle.printing.specs.Printed.{Checks, TellsFault, Writes, moved, stream_of};
 ghost use Rattle.printing.specs.Printed.{failed_write_text, fault_text as text_of, line_verdict_text as line_verdict_text_of, verdict_text as verdict_text_of};
-ghost use Rattle.printing.specs.Layers.{nodes_of, verdict_text_over};
+ghost use Rattle.pair_judge.specs.JudgedAs.{nodes_of};
+ghost use Rattle.printing.specs.Layers.{verdict_text_over};
 
 use crate::layers::{Layers, judge_over};
 use crate::text::{FAILED, FAULTY, line_fault_text, verdict_status, verdict_text};

@@ -12,7 +12,8 @@ ghost use Rattle.printing.specs.Printed.{Writes, fault_text, moved, stream_of};
 ghost use Rattle.printing.specs.Printed.{line_verdict_text as line_verdict_text_of, verdict_text as verdict_text_of};
 ghost use Rattle.tap_command.specs.PrintedTap.{ChecksTap, IsRefusedAt, TellsTapFault, no_unit_text, streams, wire_line_text};
 ghost use Rattle.tap_command.specs.inner.TapParts.{TellsTold, WritesBehind, both_streams};
-ghost use Rattle.printing.specs.Layers.{nodes_of, verdict_text_over};
+ghost use Rattle.pair_judge.specs.JudgedAs.{nodes_of};
+ghost use Rattle.printing.specs.Layers.{verdict_text_over};
 
 use capture::Departure;
 use pair_judge::Verdict;
@@ -249,8 +250,14 @@ fn wire_fault_text(alloc: Global, kind: Departure, line: u64) -> Result<String, 
     format!(in alloc; "wire: {faulty}\n")
 }
 
-/// Why there are no whole captures of what passed, as it was told.
-pub fn told_of_tap(fault: TapFault, status: u8) -> FaultTold
+/// Prints why there are no whole captures, likewise; what was told.
+pub fn tell_tap_fault<E: Write>(alloc: Global, fault: TapFault, err: &mut Tally<E>) -> FaultTold {
+    let status = print_tap_fault(alloc, fault, err);
+    told_of_tap(fault, status)
+}
+
+// Why there are no whole captures of what passed, as it was told.
+fn told_of_tap(fault: TapFault, status: u8) -> FaultTold
     ensures { result.status ≡ status }
 {
     match fault {

@@ -7,11 +7,10 @@ use all_answer::all_pair_told::answer_of;
 use all_answer::all_stops::OfLine;
 use all_answer::all_told::{AllTold, Answer};
 use capture::CaptureFault;
-use pair_judge::{EndVerdict, JudgedEnds, Verdict};
+use pair_judge::{EndVerdict, JudgedEnds, Verdict, judge, judge_end};
 use printing::alone::print_end_fault;
 use printing::check::{print_failed_read, print_fault, print_out_of_memory};
 use printing::how::Form;
-use printing::layers::{watch_end_over, watch_over};
 use std::alloc::{AllocError, Global};
 use std::io::{Read, Seek, Write};
 use why_answer::end_telling::{EndPrintout, end_refused_text, print_passed};
@@ -36,7 +35,13 @@ pub fn why_all_to<A: Read + Seek, B: Read + Seek, O: Write, E: Write>(
     };
     let mut tally_a = Tally::new(&mut *a);
     let mut tally_b = Tally::new(&mut *b);
-    let watched = match watch_over(alloc, printout.layers, &mut tally_a, &mut tally_b, rows) {
+    let watched = match judge(
+        alloc,
+        printout.layers.of_period(),
+        &mut tally_a,
+        &mut tally_b,
+        rows,
+    ) {
         Ok(watched) => watched,
         Err(fault) => return print_fault(alloc, fault, err),
     };
@@ -100,7 +105,7 @@ pub fn why_all_end_to<A: Read + Seek, O: Write, E: Write>(
         return print_out_of_memory(err);
     };
     let mut tally = Tally::new(&mut *a);
-    let watched = match watch_end_over(alloc, printout.layers, &mut tally, rows) {
+    let watched = match judge_end(alloc, printout.layers, &mut tally, rows) {
         Ok(watched) => watched,
         Err(fault) => return print_end_fault(alloc, fault, err),
     };

@@ -4,9 +4,8 @@ ghost use Rattle.printing.specs.Printed.{moved};
 ghost use Rattle.why_answer.specs.PrintedWhy.{Explains};
 
 use crate::less_too::with_less_too;
-use pair_judge::{JudgedEnds, Verdict};
+use pair_judge::{JudgedEnds, Verdict, judge};
 use printing::check::{print_fault, print_out_of_memory};
-use printing::layers::watch_over;
 use std::alloc::{AllocError, Global};
 use std::io::{Read, Seek, Write};
 use why_answer::last_rows::LastRows;
@@ -37,7 +36,7 @@ pub fn why_to<A: Read + Seek, B: Read + Seek, O: Write, E: Write>(
     let layers = printout.layers;
     let mut tally_a = Tally::new(&mut *a);
     let mut tally_b = Tally::new(&mut *b);
-    let watched = match watch_over(alloc, layers, &mut tally_a, &mut tally_b, rows) {
+    let watched = match judge(alloc, layers.of_period(), &mut tally_a, &mut tally_b, rows) {
         Ok(watched) => watched,
         Err(fault) => return print_fault(alloc, fault, err),
     };

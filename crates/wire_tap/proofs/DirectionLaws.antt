@@ -12,8 +12,8 @@ use Rattle.framer.proofs.Passing.{ends_len}
 use Rattle.framer.proofs.Framings.{framing-nil}
 use Rattle.framer.proofs.Places.{at-units, left_within}
 use Rattle.wire_tap.specs.Units.{UnitPassed, message_of, unit_passed, with_lines}
-use Rattle.wire_tap.specs.declared.accused.Direction.{Direction}
-use Rattle.wire_tap.specs.declared.accused.Told.{Told}
+use Rattle.wire_tap.specs.declared.direction.Direction.{Direction}
+use Rattle.wire_tap.specs.declared.told.Told.{Told}
 use Rattle.wire_tap.specs.declared.begun.Begun.{Begun}
 use Rattle.wire_tap.specs.inner.Accused.{FindsAll, FindsNone, FindsOne, IsOnLine, IsTold, KeepsLines}
 use Rattle.wire_tap.proofs.PassedLaws.{lines-first}

@@ -17,9 +17,9 @@ use Rattle.wire_tap.specs.Accusing.{AccusesOne, IsCharged, IsDoubted}
 use Rattle.wire_tap.specs.Units.{UnitPassed, bytes_of, line_at, passed_in, with_lines}
 use Rattle.wire_tap.specs.declared.accusation.Accusation.{Accusation}
 use Rattle.wire_tap.specs.declared.accusation.Exception.{Exception}
-use Rattle.wire_tap.specs.declared.accused.Direction.{Direction}
+use Rattle.wire_tap.specs.declared.direction.Direction.{Direction}
 use Rattle.wire_tap.specs.declared.accused.Line.{Line}
-use Rattle.wire_tap.specs.declared.accused.Told.{Told}
+use Rattle.wire_tap.specs.declared.told.Told.{Told}
 use Rattle.wire_tap.specs.declared.accusers.Accusers.{Accusers}
 use Rattle.wire_tap.specs.declared.suspects.Suspect.{Suspect}
 use Rattle.wire_tap.specs.declared.tapped.Passed.{Passed}

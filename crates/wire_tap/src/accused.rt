@@ -1,33 +1,21 @@
 //! Which units no correct node sent, whatever came to it.
 
-ghost use Rattle.std.specs.Prelude.{◌≡◌, ◌<◌, ◌+◌, ◌-◌, [], ◌∷◌, ◌++◌, length, ◌^◌, ℕ, Bool, true, List, Option, Some, Ok, IfOk, OnOk};
+ghost use Rattle.std.specs.Prelude.{◌≡◌, ◌<◌, ◌+◌, [], ◌∷◌, ◌++◌, length, ℕ, Bool, true, List, Option, Ok, IfOk, OnOk};
 ghost use Rattle.wire_base.specs.Tally.{tally_lent};
 ghost use Rattle.capture.specs.declared.phase.Phase.TheVariants as phases;
 ghost use Rattle.capture.specs.Lines.{to_come};
 ghost use Rattle.wire_text.specs.WireText.{Piece, piece as piece_of};
 ghost use Rattle.wire_tap.specs.Accusing.{AreAccused, AreEither, FindsAccused};
-ghost use Rattle.wire_tap.specs.Units.{UnitPassed, message_of, unit_passed};
-ghost use Rattle.wire_tap.specs.inner.Accused.{
-  FindsAll,
-  FindsNext,
-  IsBehind,
-  IsLineBehind,
-  IsOnLine,
-  IsRead,
-  IsReading,
-  IsTold,
-  KeepsLines,
-  LeavesLess,
-  ReadsOn,
-};
+ghost use Rattle.wire_tap.specs.Units.{UnitPassed};
+ghost use Rattle.wire_tap.specs.inner.Accused.{IsLineBehind, IsRead, IsReading, IsTold, ReadsOn};
 
 use crate::accusation::Accused;
-use crate::begun::Begun;
+use crate::direction::Direction;
 use crate::evidence::Evidence;
 use crate::fault::{TapFault, reading_fault};
 use crate::sifting::Suspects;
 use crate::suspects::SideAccused;
-use framer::{Found, Framer, Kind};
+use crate::told::Told;
 use std::alloc::{AllocError, Global};
 use std::io::Read;
 use wire_base::{Side, Tally};
@@ -67,38 +55,6 @@ struct Line {
     a: Direction,
     b: Direction,
     told: Told,
-}
-
-// How the units of a direction are found.
-#[derive(Drop)]
-struct Direction {
-    side: Side,
-    framer: Framer,
-    begun: Begun,
-    // how many units of both sides had passed before what the framer holds
-    order: u64,
-}
-
-// Both sides, and what shows that not all that they sent passed.
-#[derive(Drop)]
-struct Told {
-    a: SideAccused,
-    b: SideAccused,
-    evidence: Evidence,
-}
-
-// A unit's side, the line of its first byte, and how many units of both sides had passed before that.
-#[derive(Clone, Copy)]
-struct Place {
-    side: Side,
-    line: u64,
-    order: u64,
-}
-
-// What is left of a piece.
-enum Next<'a> {
-    Rest(&'a [u8]),
-    UsedUp,
 }
 
 impl Line {
@@ -189,150 +145,5 @@ impl Line {
             segment_b: self.told.b.segment,
         };
         suspects.sift(&self.told.evidence)
-    }
-}
-
-impl Direction {
-    // Nothing passed yet.
-    fn new(alloc: Global, side: Side) -> Result<Direction, AllocError>
-        ensures { IfOk result (IsBehind side []) }
-    {
-        Ok(Direction {
-            side,
-            framer: Framer::new(alloc)?,
-            begun: Begun::NOTHING,
-            order: 0,
-        })
-    }
-
-    // These bytes passed.
-    fn pass_bytes(&mut self, piece: &[u8], line: u64, told: &mut Told) -> Result<(), AllocError>
-        ensures { (line_alone : Bool) (a b : ℕ) (passed : List UnitPassed) (lines : ℕ → ℕ) (place : ℕ) → IsTold line_alone a b passed told.old
-            → KeepsLines lines place (length self.old.framer.held) self.old.begun
-            → IsOnLine lines place (length self.old.framer.held) (length piece.now) line
-            → OnOk result (FindsAll line_alone a b self.old.side passed lines place (self.old.framer.held ++ piece.now) self.new told.new) }
-    {
-        let mut rest = piece;
-        let most = self.framer.held().len() + piece.len() + 1;
-        for _ in 0..most {
-            match self.pass_next(rest, line, told)? {
-                Next::Rest(behind) => rest = behind,
-                Next::UsedUp => return Ok(()),
-            }
-        }
-        unreachable!()
-    }
-
-    // The first unit in what is held and these bytes passed.
-    fn pass_next<'a>(
-        &mut self,
-        piece: &'a [u8],
-        line: u64,
-        told: &mut Told,
-    ) -> Result<Next<'a>, AllocError>
-        ensures finds { (line_alone : Bool) (a b : ℕ) (passed : List UnitPassed) (lines : ℕ → ℕ) (place : ℕ) → IsTold line_alone a b passed told.old
-            → KeepsLines lines place (length self.old.framer.held) self.old.begun
-            → IsOnLine lines place (length self.old.framer.held) (length piece.entry.now) line
-            → IfOk result (λ next. FindsNext line_alone a b self.old.side passed lines place (self.old.framer.held ++ piece.entry.now) next
-            self.new told.new) }
-        ensures less { IfOk result (LeavesLess (self.old.framer.held ++ piece.entry.now) (length piece.entry.now) self.new) }
-        ensures side { self.new.side ≡ self.old.side }
-    {
-        let held = self.framer.held().len();
-        let order = self.order_of(held, told.evidence.order);
-        match self.framer.next(piece) {
-            Found::Unit {
-                kind,
-                strays,
-                unit,
-                rest,
-            } => {
-                told.evidence.skip(self.side, strays as u64);
-                let first = first_place(held, piece.len(), unit.len(), rest.len());
-                let line = self.begun.line_at(held, first, line);
-                let side = self.side;
-                told.find(kind, unit, Place { side, line, order })?;
-                Ok(Next::Rest(rest))
-            }
-            Found::Completed { kind, strays, rest } => {
-                told.evidence.skip(self.side, strays as u64);
-                let unit = self.framer.completed();
-                let first = first_place(held, piece.len(), unit.len(), rest.len());
-                let line = self.begun.line_at(held, first, line);
-                let side = self.side;
-                told.find(kind, unit, Place { side, line, order })?;
-                Ok(Next::Rest(rest))
-            }
-            Found::More { strays } => {
-                told.evidence.skip(self.side, strays as u64);
-                let now = self.framer.held().len();
-                self.begun.hold(held, piece.len(), line, now);
-                self.order = order_kept(now <= piece.len(), told.evidence.order, self.order);
-                Ok(Next::UsedUp)
-            }
-        }
-    }
-
-    // How many units had passed before the first of so many bytes that are held, or before the piece after them.
-    fn order_of(&self, held: usize, now: u64) -> u64 {
-        if held == 0 { now } else { self.order }
-    }
-
-    // What is held is no unit.
-    fn end(&self, evidence: &mut Evidence) {
-        evidence.end(self.side, self.framer.held().len() as u64, self.order);
-    }
-}
-
-// So many units had passed before what is held: it begins in this piece, or in an earlier one.
-fn order_kept(is_in_piece: bool, now: u64, before: u64) -> u64 {
-    if is_in_piece { now } else { before }
-}
-
-// The place of a unit in so many bytes that are held and a piece, where so many follow it.
-fn first_place(held: usize, piece: usize, unit: usize, rest: usize) -> usize
-    ensures { held + piece < 2 ^ 64 → result ≡ held + piece - (unit + rest) }
-{
-    held.saturating_add(piece)
-        .saturating_sub(rest)
-        .saturating_sub(unit)
-}
-
-impl Told {
-    // One unit of this kind was found there; maintenance messages are told to nobody.
-    fn find(&mut self, kind: Kind, unit: &[u8], at: Place) -> Result<(), AllocError>
-        ensures { (line_alone : Bool) (a b : ℕ) (passed : List UnitPassed) → IsTold line_alone a b passed self.old
-            → OnOk result (IsTold line_alone a b (passed ++ message_of (Some kind) (unit_passed at.side unit.now at.line)) self.new) }
-    {
-        match kind {
-            Kind::Control | Kind::Data => self.pass(unit, at),
-            Kind::Maintenance => {
-                self.evidence.find(at.side);
-                Ok(())
-            }
-        }
-    }
-
-    fn pass(&mut self, unit: &[u8], at: Place) -> Result<(), AllocError>
-        ensures { (line_alone : Bool) (a b : ℕ) (passed : List UnitPassed) → IsTold line_alone a b passed self.old
-            → OnOk result (IsTold line_alone a b (passed ++ unit_passed at.side unit.now at.line ∷ []) self.new) }
-    {
-        let order = self.evidence.order;
-        match at.side {
-            Side::A => {
-                let passed = self.a.pass(unit, at.line, order, &mut self.b)?;
-                let goes = self.a.goes_where(unit);
-                self.evidence.pass(unit, passed, goes, at.order);
-                self.evidence.find(Side::A);
-                Ok(())
-            }
-            Side::B => {
-                let passed = self.b.pass(unit, at.line, order, &mut self.a)?;
-                let goes = self.b.goes_where(unit);
-                self.evidence.pass(unit, passed, goes, at.order);
-                self.evidence.find(Side::B);
-                Ok(())
-            }
-        }
     }
 }

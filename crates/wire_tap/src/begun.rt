@@ -42,3 +42,12 @@ impl Begun {
         }
     }
 }
+
+/// The place of a unit in so many bytes that are held and a piece, where so many follow it.
+pub(crate) fn first_place(held: usize, piece: usize, unit: usize, rest: usize) -> usize
+    ensures { held + piece < 2 ^ 64 → result ≡ held + piece - (unit + rest) }
+{
+    held.saturating_add(piece)
+        .saturating_sub(rest)
+        .saturating_sub(unit)
+}

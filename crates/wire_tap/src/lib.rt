@@ -10,6 +10,7 @@ mod accused;
 mod accusers;
 mod addressed;
 mod begun;
+mod direction;
 mod evidence;
 mod exception;
 mod fault;
@@ -23,6 +24,7 @@ mod stop;
 mod suspects;
 mod tapped;
 mod tapping;
+mod told;
 
 pub use accusation::{Accusation, Accused, Broken, Exception};
 pub use accused::find_accused;

@@ -16,6 +16,7 @@ ghost use Rattle.wire_tap.specs.inner.Side.{
   units_state,
 };
 
+use crate::begun::{Begun, first_place};
 use crate::tapped::{Ending, Passed, Skipped, Units};
 use capture_record::MAX_UNIT;
 use framer::{Found, Framer, Kind};
@@ -28,8 +29,8 @@ use wire_base::Side;
 pub(crate) struct SideTap {
     pub(crate) framer: Framer,
     pub(crate) units: SideUnits,
-    // the line on which what the framer holds began
-    begun: u64,
+    // the lines of what the framer holds
+    begun: Begun,
 }
 
 /// The units that a side sent so far.
@@ -81,7 +82,7 @@ impl SideTap {
                     bytes: 0,
                 },
             },
-            begun: 0,
+            begun: Begun::NOTHING,
         })
     }
 
@@ -121,6 +122,7 @@ impl SideTap {
             (side_state self.old) (side_state self.new)) }
         ensures other { IfOk result (λ next. TellsNext (self.old.framer.held ++ piece.entry.now) next other.old other.new) }
     {
+        let held = self.framer.held().len();
         match self.framer.next(piece) {
             Found::Unit {
                 kind,
@@ -136,13 +138,12 @@ impl SideTap {
             }
             Found::Completed { kind, strays, rest } => {
                 self.units.skip(strays);
-                let begun = At {
-                    line: self.begun,
-                    ..at
-                };
+                let unit = self.framer.completed();
+                let first = first_place(held, piece.len(), unit.len(), rest.len());
+                let line = self.begun.line_at(held, first, at.line);
                 match self
                     .units
-                    .pass(kind, self.framer.completed(), begun, other, search)?
+                    .pass(kind, unit, At { line, ..at }, other, search)?
                 {
                     Some(ending) => Ok(Next::Ends(ending)),
                     None => Ok(Next::Rest(rest)),
@@ -150,9 +151,8 @@ impl SideTap {
             }
             Found::More { strays } => {
                 self.units.skip(strays);
-                if self.framer.held().len() <= piece.len() {
-                    self.begun = at.line;
-                }
+                let now = self.framer.held().len();
+                self.begun.hold(held, piece.len(), at.line, now);
                 Ok(Next::UsedUp)
             }
         }

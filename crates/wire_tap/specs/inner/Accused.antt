@@ -15,11 +15,11 @@ use Rattle.accusing_segments.specs.Answers as segments
 use Rattle.wire_tap.specs.Accusing.{IsCharged, IsDoubted, head_of, seen}
 use Rattle.wire_tap.specs.Units.{UnitPassed, bytes_of, line_at, passed_in, units_by, with_lines}
 use Rattle.wire_tap.specs.inner.Side.{counted}
-use Rattle.wire_tap.specs.declared.accused.Direction.{Direction}
+use Rattle.wire_tap.specs.declared.direction.Direction.{Direction}
 use Rattle.wire_tap.specs.declared.accused.Line.{Line}
-use Rattle.wire_tap.specs.declared.accused.Next.{Next}
-use Rattle.wire_tap.specs.declared.accused.Next.TheVariants as next
-use Rattle.wire_tap.specs.declared.accused.Told.{Told}
+use Rattle.wire_tap.specs.declared.direction.Next.{Next}
+use Rattle.wire_tap.specs.declared.direction.Next.TheVariants as next
+use Rattle.wire_tap.specs.declared.told.Told.{Told}
 use Rattle.wire_tap.specs.declared.accusers.Accusers.{Accusers}
 use Rattle.wire_tap.specs.declared.accusers.PacketAccusers.{PacketAccusers}
 use Rattle.wire_tap.specs.declared.accusers.Said.{Said}

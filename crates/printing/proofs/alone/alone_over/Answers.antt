@@ -1,6 +1,7 @@
 -- What is printed of a fault is told by `print_end_fault`; where there is no memory for the text of a verdict, the answer is `out of memory`.
 use Rattle.std.proofs.Common.{refl}
-use Rattle.printing.specs.PrintedAlone.{end_of, end_text_over}
+use Rattle.pair_judge.specs.JudgedAs.{end_of}
+use Rattle.printing.specs.PrintedAlone.{end_text_over}
 use Rattle.printing.proofs.AnsweringAlone.{checks_fault, checks_nothing}
 use Rattle.printing.proofs.alone.alone_over.Goals as goal
 

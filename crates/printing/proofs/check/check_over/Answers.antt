@@ -1,6 +1,7 @@
 -- What is printed of a fault is told by `print_fault`; where there is no memory for the text of a verdict, the answer is `out of memory`.
 use Rattle.std.proofs.Common.{refl}
-use Rattle.printing.specs.Layers.{nodes_of, verdict_text_over}
+use Rattle.pair_judge.specs.JudgedAs.{nodes_of}
+use Rattle.printing.specs.Layers.{verdict_text_over}
 use Rattle.printing.proofs.Answering.{checks_fault, checks_nothing}
 use Rattle.printing.proofs.check.check_over.Goals as goal
 

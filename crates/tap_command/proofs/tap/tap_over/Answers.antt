@@ -2,7 +2,8 @@
 use Rattle.std.proofs.Common.{refl}
 use Rattle.printing.specs.Printed.{moved}
 use Rattle.tap_command.specs.PrintedTap.{streams}
-use Rattle.printing.specs.Layers.{nodes_of, verdict_text_over}
+use Rattle.pair_judge.specs.JudgedAs.{nodes_of}
+use Rattle.printing.specs.Layers.{verdict_text_over}
 use Rattle.tap_command.proofs.TapTelling.{tells_fault, tells_verdict, told_there}
 use Rattle.tap_answer.specs.Telling.{telling}
 use Rattle.tap_command.proofs.tap.tap_over.Goals as goal

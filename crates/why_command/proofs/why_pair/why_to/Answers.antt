@@ -17,7 +17,7 @@ returns-in-Err-refused_text g c = explains_nothing c.args.printout.layers c.args
 
 pub returns-in-Accepted : goal.returns-in-Accepted
 returns-in-Accepted g c =
-    let told = c.in-Ok-watch_over in
+    let told = c.in-Ok-judge in
     let of_a = c.new-tally_a.ensures.lent in
     let of_b = c.new-tally_b.ensures.lent in
     explains_acceptance c.args.printout.layers c.args.printout.form _ _ _ _ _ told.watched.ends
@@ -26,7 +26,7 @@ returns-in-Accepted g c =
 
 pub returns-in-Ok-refused_text : goal.returns-in-Ok-refused_text
 returns-in-Ok-refused_text g c =
-    let told = c.in-Ok-watch_over in
+    let told = c.in-Ok-judge in
     let of_a = c.new-tally_a.ensures.lent in
     let of_b = c.new-tally_b.ensures.lent in
     explains_refusal c.args.printout.layers c.args.printout.form _ _ _ _ _ told.watched.ends
