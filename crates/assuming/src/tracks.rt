@@ -6,7 +6,7 @@ use std::collections::BTreeSet;
 use wire_base::Side;
 
 /// Points at which the same may be assumed, of one side and one address.
-#[derive(Clone, Copy, Debug, PartialEq, Eq)]
+#[derive(Clone, Copy, PartialEq, Eq)]
 pub(crate) enum Track {
     /// Starts of this side.
     Starts(Side),
