@@ -6,7 +6,7 @@ ghost use Rattle.pair_judge.specs.Watched.{only};
 ghost use Rattle.pair_judge.specs.JudgedAs.{nodes_of};
 
 use coverage::{Counts, Cover, ROWS, STATION_ROWS, judge_covered};
-use pair_judge::{JudgeFault, MadeEntry, Observer, Verdict, judge};
+use pair_judge::{JudgeFault, JudgedEnds, MadeEntry, Observer, Verdict, Watched, judge};
 use printing::layers::Layers;
 use std::alloc::{AllocError, Global};
 use std::io::Read;
@@ -37,11 +37,15 @@ pub fn judge_went<A: Read, B: Read>(
 {
     match layers {
         Layers::Both => match judge_covered(alloc, a, b) {
-            Ok(watched) => Ok(Went {
-                verdict: watched.ends.verdict(),
-                a: watched.observer.of_side(Side::A),
-                b: watched.observer.of_side(Side::B),
-            }),
+            Ok(watched) => {
+                let went = Went {
+                    verdict: watched.ends.verdict(),
+                    a: watched.observer.of_side(Side::A),
+                    b: watched.observer.of_side(Side::B),
+                };
+                let_go(watched.ends);
+                Ok(went)
+            }
             Err(fault) => Err(fault),
         },
         Layers::Queued => judge_queued_went(alloc, a, b),
@@ -61,11 +65,15 @@ fn judge_queued_went<A: Read, B: Read>(
         return Err(JudgeFault::OutOfMemory);
     };
     match judge(alloc, Layers::Queued.of_period(), a, b, CoverRows { cover }) {
-        Ok(watched) => Ok(Went {
-            verdict: watched.ends.verdict(),
-            a: watched.observer.cover.of_side(Side::A),
-            b: watched.observer.cover.of_side(Side::B),
-        }),
+        Ok(watched) => {
+            let went = Went {
+                verdict: watched.ends.verdict(),
+                a: watched.observer.cover.of_side(Side::A),
+                b: watched.observer.cover.of_side(Side::B),
+            };
+            let_go(watched.ends);
+            Ok(went)
+        }
         Err(fault) => Err(fault),
     }
 }
@@ -88,21 +96,32 @@ fn judge_line_went<A: Read, B: Read>(
         b,
         CoverRows { cover },
     ) {
-        Ok(watched) => Ok(Went {
-            verdict: watched.ends.verdict(),
-            a: of_stations(watched.observer.cover.of_side(Side::A)),
-            b: of_stations(watched.observer.cover.of_side(Side::B)),
-        }),
+        Ok(watched) => {
+            let went = Went {
+                verdict: watched.ends.verdict(),
+                a: of_stations(watched.observer.cover.of_side(Side::A)),
+                b: of_stations(watched.observer.cover.of_side(Side::B)),
+            };
+            let_go(watched.ends);
+            Ok(went)
+        }
         Err(fault) => Err(fault),
     }
 }
+
+/// Drops both ends. Where a function drops them by itself, its proof follows the drop of all their parts; here that is done once.
+pub(crate) fn let_go(_ends: JudgedEnds) {}
 
 // Counts of no record: `coverage` makes them only where it judges.
 fn nothing_covered(alloc: Global) -> Result<Cover, JudgeFault> {
     let mut a = Tally::new(NOTHING_A);
     let mut b = Tally::new(NOTHING_B);
     match judge_covered(alloc, &mut a, &mut b) {
-        Ok(watched) => Ok(watched.observer),
+        Ok(watched) => {
+            let Watched { ends, observer } = watched;
+            let_go(ends);
+            Ok(observer)
+        }
         Err(fault) => Err(fault),
     }
 }

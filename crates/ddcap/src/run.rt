@@ -126,34 +126,41 @@ impl<R: Files + AllocGlobal, O: Write, E: Write> Program<'_, '_, '_, R, O, E> {
         printout: EndPrintout<'_>,
     ) -> Result<u8, FaultTold> {
         let mut file = opened_plain(self.rt, Wanted::by_path(Named::A, printout.name), self.err)?;
-        let alloc = self.rt.alloc();
         let mut again = EndAgain {
             file: another_of(&file),
             has_failed: false,
         };
+        Ok(self.why_opened(refusals, printout, &mut file, &mut again))
+    }
+
+    fn why_opened(
+        &mut self,
+        refusals: Refusals,
+        printout: EndPrintout<'_>,
+        file: &mut R::File,
+        again: &mut EndAgain<R::File>,
+    ) -> u8 {
+        let alloc = self.rt.alloc();
         let status = match refusals {
             Refusals::First => {
                 why_end_to(
                     alloc,
                     printout,
-                    &mut Tally::new(&mut file),
-                    &mut again,
+                    &mut Tally::new(&mut *file),
+                    again,
                     self.out,
                     self.err,
                 )
             }
-            Refusals::All => why_all_end_to(alloc, printout, &mut file, self.out, self.err),
+            Refusals::All => why_all_end_to(alloc, printout, &mut *file, self.out, self.err),
         };
         match (status, refusals) {
-            (FAULTY, _) => {
-                let layers = printout.layers;
-                Ok(explain_departure_of_end(alloc, layers, &mut file, self.err))
-            }
-            (REFUSED, _) if again.has_failed => Ok(print_failed_read(self.err, Side::A)),
+            (FAULTY, _) => explain_departure_of_end(alloc, printout.layers, file, self.err),
+            (REFUSED, _) if again.has_failed => print_failed_read(self.err, Side::A),
             (REFUSED, Refusals::First) => {
-                Ok(end_with_less(alloc, printout, &mut file, self.out, self.err))
+                end_with_less(alloc, printout, file, self.out, self.err)
             }
-            _ => Ok(status),
+            _ => status,
         }
     }
 

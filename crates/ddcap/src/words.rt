@@ -98,14 +98,24 @@ pub fn task_of<'a, S: AsStr>(alloc: Global, words: &'a [S]) -> Result<Task<'a>, 
         return Err(WordsFault::OutOfMemory);
     };
     match program.try_get_matches_from(words) {
-        Ok(matches) => match matches.subcommand() {
-            Some((word, found)) => task_after(alloc, word, found),
-            None => Err(WordsFault::BadWords),
-        },
-        Err(error) => match error.kind() {
-            ErrorKind::OutOfMemory => Err(WordsFault::OutOfMemory),
-            _ => Err(WordsFault::BadWords),
-        },
+        Ok(matches) => task_found(alloc, &matches),
+        Err(error) => Err(words_fault(error.kind())),
+    }
+}
+
+// Why the words can't be read.
+fn words_fault(kind: ErrorKind) -> WordsFault {
+    match kind {
+        ErrorKind::OutOfMemory => WordsFault::OutOfMemory,
+        _ => WordsFault::BadWords,
+    }
+}
+
+// What was found of the words.
+fn task_found<'a>(alloc: Global, matches: &ArgMatches<'a>) -> Result<Task<'a>, WordsFault> {
+    match matches.subcommand() {
+        Some((word, found)) => task_after(alloc, word, found),
+        None => Err(WordsFault::BadWords),
     }
 }
 

@@ -1,23 +1,14 @@
 //! `draw --all`: the rows of a pair, with a mark at each record that is refused.
 
-ghost use Rattle.std.specs.Prelude.{◌≤◌};
-ghost use Rattle.drawing.specs.declared.range.TheConstants.{MAX_ROWS};
-
-use all_answer::all_judged::{AllFault, find_all, in_memory, read_again};
+use all_answer::all_judged::{AllFault, find_all, read_again};
 use all_answer::all_left::NotJudged;
-use all_answer::all_pair::{LeftTexts, PairCaptures, judge_texts, stopped_at};
-use all_answer::all_stops::put_end;
-use all_answer::all_told::{AllTold, Refusal};
-use all_answer::onlooker::{Onlooker, Originals};
-use drawing::{DrawnPair, Range, tell_behind};
-use ladder::{Drawn, Fate, Keep, Ladder, Marked, Row};
-use pair_judge::{JudgeFault, TextFault, Verdict};
+use all_answer::all_pair::PairCaptures;
+use all_answer::all_told::{AllTold, Answer, Refusal};
+use ladder::{Drawn, Fate, Marked, Row};
+use pair_judge::Verdict;
 use printing::how::Form;
-use printing::layers::Layers;
 use std::alloc::{AllocError, Global};
 use std::io::{Read, Seek};
-use why::LinkPast;
-use why_answer::last_rows::LastRows;
 use wire_base::Side;
 
 // So wide is a row of the ladder.
@@ -27,7 +18,7 @@ const COLUMNS: usize = 80;
 #[derive(Drop)]
 pub struct AllFound {
     pub refusals: Vec<Refusal>,
-    not_judged: NotJudged,
+    pub not_judged: NotJudged,
 }
 
 /// All refusals of both captures; `None` where none leads on, and both files are at their beginnings again.
@@ -41,127 +32,21 @@ pub fn all_found<A: Read + Seek, B: Read + Seek>(
         read_again(Side::B, captures.b)?;
         return Ok(None);
     }
+    all_beyond(alloc, captures, first)
+}
+
+// All refusals, of which this first one leads on.
+fn all_beyond<A: Read + Seek, B: Read + Seek>(
+    alloc: Global,
+    captures: &mut PairCaptures<'_, '_, '_, A, B>,
+    first: Answer,
+) -> Result<Option<AllFound>, AllFault> {
     let mut told = AllTold::new(alloc, Form::Rows, false);
     let not_judged = find_all(alloc, captures, &mut told, first)?;
     Ok(Some(AllFound {
         refusals: told.into_refusals(),
         not_judged,
     }))
-}
-
-/// Rows that were drawn while what is left was judged.
-#[derive(Drop)]
-pub struct AllDrawn {
-    pub pair: DrawnPair,
-    /// How the judgement ends; at a line that departs it ends as if that were refused.
-    pub verdict: Verdict,
-    /// Whether what is left shows why.
-    pub is_shown: bool,
-}
-
-/// The rows of this range, as the captures have them, while what is left of both is judged: up to a line that departs, where one does. Where no start
-/// is named they begin so far before the first refusal that it is in their middle.
-pub fn all_drawn<A: Read + Seek, B: Read + Seek>(
-    alloc: Global,
-    captures: &mut PairCaptures<'_, '_, '_, A, B>,
-    range: Range,
-    all: &AllFound,
-) -> Result<AllDrawn, AllFault>
-    requires low { 1 ≤ range.rows }
-    requires high { range.rows ≤ MAX_ROWS }
-{
-    let any_period = all.not_judged.any_period();
-    let layers = captures.printout.layers;
-    let whole = captures.whole(alloc)?;
-    let mut left = captures.left(alloc, Side::B, &all.not_judged)?;
-    let departs = end_before_fault(alloc, layers, any_period, &mut left.texts)?;
-    let rows = LastRows {
-        ladder: in_memory(Ladder::new(alloc, kept(range, all.refusals.as_slice()), range.rows))?,
-        past: LinkPast::new(alloc),
-    };
-    let originals = in_memory(Originals::new(alloc, rows, &whole.a, &whole.b))?;
-    let onlooker = Onlooker::Originals(originals);
-    let watched = match judge_texts(alloc, layers, any_period, onlooker, &left.texts) {
-        Ok(watched) => watched,
-        Err(fault) => return Err(AllFault::Judge(fault)),
-    };
-    let ends = watched.ends;
-    let Onlooker::Originals(mut originals) = watched.observer else {
-        return Err(AllFault::OUT_OF_MEMORY);
-    };
-    let stopped = stopped_at(ends.verdict(), left.stops);
-    let verdict = verdict_of(ends.verdict(), stopped);
-    match verdict {
-        Verdict::Accepted(_) => originals.rows.ladder.end(),
-        Verdict::Refused { side, reason, .. } => {
-            in_memory(originals.refused(side, reason.is_of_changed_bytes()))?;
-            let ladder = &mut originals.rows.ladder;
-            if let Err(fault) = tell_behind(alloc, ladder, &ends, captures.a, captures.b) {
-                return Err(AllFault::Judge(fault));
-            }
-        }
-    }
-    let drawn = in_memory(originals.rows.ladder.drawn(alloc))?;
-    Ok(AllDrawn {
-        pair: DrawnPair { ends, drawn },
-        verdict,
-        is_shown: stopped.is_none() && !departs && all.not_judged.heads_fit(),
-    })
-}
-
-// Ends these texts before the line that departs, if the judgement comes to one; whether it does.
-fn end_before_fault(
-    alloc: Global,
-    layers: Layers,
-    any_period: bool,
-    texts: &mut LeftTexts,
-) -> Result<bool, AllFault> {
-    match judge_texts(alloc, layers, any_period, Onlooker::Nobody, texts) {
-        Ok(_) => Ok(false),
-        Err(
-            JudgeFault::Capture {
-                side,
-                fault: TextFault::Departs { line, .. },
-            },
-        ) => {
-            in_memory(put_end(texts.of_mut(side), line))?;
-            Ok(true)
-        }
-        Err(fault) => Err(AllFault::Judge(fault)),
-    }
-}
-
-// How the judgement ends, which is at this refusal if it stops there.
-fn verdict_of(verdict: Verdict, stopped: Option<Refusal>) -> Verdict {
-    match stopped {
-        Some(refusal) => Verdict::Refused {
-            side: refusal.side,
-            place: refusal.place,
-            reason: refusal.reason,
-        },
-        None => verdict,
-    }
-}
-
-// Which rows are kept.
-fn kept(range: Range, refusals: &[Refusal]) -> Keep {
-    if let Some(start) = range.start {
-        return Keep::From {
-            side: start.side,
-            line: start.line,
-        };
-    }
-    let Some(first) = refusals.first() else {
-        return Keep::First;
-    };
-    let before = (range.rows / 2) as u64;
-    if first.place <= before {
-        return Keep::First;
-    }
-    Keep::From {
-        side: first.side,
-        line: first.place.saturating_add(2).saturating_sub(before),
-    }
 }
 
 /// The rows, each with its LF, and with what is refused behind it. `AllocError` where there is no memory for them.
@@ -173,12 +58,23 @@ pub fn marked_rows(
     let mut text = String::new(alloc);
     for index in 0..drawn.len() {
         if let (Some(row), Some(words)) = (drawn.row(index), drawn.text(alloc, index)?) {
-            text.push_str(words.as_str())?;
-            put_marks(alloc, &mut text, row, words.len(), refusals)?;
-            text.push_str("\n")?;
+            put_row(alloc, &mut text, row, words.as_str(), refusals)?;
         }
     }
     Ok(text)
+}
+
+// A row in these words, with its marks.
+fn put_row(
+    alloc: Global,
+    text: &mut String,
+    row: &Row,
+    words: &str,
+    refusals: &[Refusal],
+) -> Result<(), AllocError> {
+    text.push_str(words)?;
+    put_marks(alloc, text, row, words.len(), refusals)?;
+    text.push_str("\n")
 }
 
 // The marks of a row of so many columns: that of a refused record is there already.

@@ -3,11 +3,10 @@
 ghost use Rattle.std.specs.Prelude.{◌≤◌};
 ghost use Rattle.drawing.specs.declared.range.TheConstants.{MAX_ROWS};
 
-use crate::all_draw::{
-    AllDrawn, AllFound, all_drawn, all_found, all_marked, all_words, marked_rows,
-};
+use crate::all_draw::{AllFound, all_found, all_marked, all_words, marked_rows};
+use crate::all_drawn::{AllDrawn, all_drawn};
 use crate::draw::draw_rows_to;
-use crate::picture::{Above, NoPicture, picture_of, svg_below};
+use crate::picture::{Above, NoPicture, let_go, picture_of, svg_below};
 use all_answer::all_judged::AllFault;
 use all_answer::all_pair::{PairCaptures, Telling};
 use all_answer::all_stops::OfLine;
@@ -52,15 +51,34 @@ pub fn draw_files<R: Files + AllocGlobal, O: Write, E: Write>(
 ) -> Result<u8, FaultTold> {
     let mut a = opened_plain(rt, Wanted::by_path(Named::A, asked.a), err)?;
     let mut b = opened_plain(rt, Wanted::by_path(Named::B, asked.b), err)?;
+    draw_opened(rt, asked, &mut a, &mut b, out, err)
+}
+
+// Draws what both files hold.
+fn draw_opened<R: Files + AllocGlobal, O: Write, E: Write>(
+    rt: &R,
+    asked: Asked<'_>,
+    a: &mut R::File,
+    b: &mut R::File,
+    out: &mut Tally<O>,
+    err: &mut Tally<E>,
+) -> Result<u8, FaultTold> {
     if asked.refusals == Refusals::All {
-        match all_found(rt.alloc(), &mut captures_of(asked, &mut a, &mut b)) {
-            Ok(Some(all)) => return draw_all(rt, asked, &mut a, &mut b, &all, out, err),
+        match all_found(rt.alloc(), &mut captures_of(asked, &mut *a, &mut *b)) {
+            Ok(Some(all)) => return draw_all(rt, asked, a, b, &all, out, err),
             Ok(None) => {}
-            Err(AllFault::ReadOnce(side)) => return Ok(print_read_once(err, side)),
-            Err(AllFault::Judge(fault)) => return Ok(print_fault(rt.alloc(), fault, err)),
+            Err(fault) => return Ok(print_all_fault(rt.alloc(), fault, err)),
         }
     }
-    draw_first(rt, asked, &mut a, &mut b, out, err)
+    draw_first(rt, asked, a, b, out, err)
+}
+
+// Prints why nothing is drawn of all refusals, and answers the status.
+fn print_all_fault<E: Write>(alloc: Global, fault: AllFault, err: &mut Tally<E>) -> u8 {
+    match fault {
+        AllFault::ReadOnce(side) => print_read_once(err, side),
+        AllFault::Judge(fault) => print_fault(alloc, fault, err),
+    }
 }
 
 // Draws both captures up to the first refusal.
@@ -104,18 +122,45 @@ fn draw_all<R: Files + AllocGlobal, O: Write, E: Write>(
         asked.range,
         all,
     );
-    let drawn = match drawn {
-        Ok(drawn) => drawn,
-        Err(AllFault::ReadOnce(side)) => return Ok(print_read_once(err, side)),
-        Err(AllFault::Judge(fault)) => return Ok(print_fault(alloc, fault, err)),
-    };
+    match drawn {
+        Ok(drawn) => {
+            let shown = AllShown {
+                drawn: &drawn,
+                refusals: all.refusals.as_slice(),
+            };
+            let status = print_all(rt, asked, shown, a, b, out, err);
+            let_go(drawn.pair.ends);
+            status
+        }
+        Err(fault) => Ok(print_all_fault(alloc, fault, err)),
+    }
+}
+
+// The rows that are shown, and all refusals.
+#[derive(Clone, Copy)]
+struct AllShown<'d> {
+    drawn: &'d AllDrawn,
+    refusals: &'d [Refusal],
+}
+
+// Prints the rows, or writes their picture.
+fn print_all<R: Files + AllocGlobal, O: Write, E: Write>(
+    rt: &R,
+    asked: Asked<'_>,
+    shown: AllShown<'_>,
+    a: &mut R::File,
+    b: &mut R::File,
+    out: &mut Tally<O>,
+    err: &mut Tally<E>,
+) -> Result<u8, FaultTold> {
+    let alloc = rt.alloc();
     let Some(path) = asked.svg else {
-        return match marked_rows(alloc, &drawn.pair.drawn, all.refusals.as_slice()) {
+        return match marked_rows(alloc, &shown.drawn.pair.drawn, shown.refusals) {
             Ok(text) => Ok(print(out, text.as_bytes(), REFUSED)),
             Err(_) => Ok(print_out_of_memory(err)),
         };
     };
-    match all_picture(alloc, asked, &drawn, a, b, all.refusals.as_slice()) {
+    match all_picture(alloc, asked, shown, a, b) {
         Ok(picture) => write_picture(rt, a, b, path, picture.as_slice(), REFUSED, err),
         Err(NoPicture::Memory) => Ok(print_out_of_memory(err)),
         Err(NoPicture::Read(side)) => Ok(print_failed_read(err, side)),
@@ -150,12 +195,12 @@ fn above_all(
 fn all_picture<A: Read + Seek, B: Read + Seek>(
     alloc: Global,
     asked: Asked<'_>,
-    all: &AllDrawn,
+    shown: AllShown<'_>,
     a: &mut A,
     b: &mut B,
-    refusals: &[Refusal],
 ) -> Result<Vec<u8>, NoPicture> {
-    let Ok(words) = above_all(alloc, asked, all.verdict, refusals) else {
+    let all = shown.drawn;
+    let Ok(words) = above_all(alloc, asked, all.verdict, shown.refusals) else {
         return Err(NoPicture::Memory);
     };
     let AboveAll {

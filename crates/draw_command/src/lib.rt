@@ -2,6 +2,7 @@
 #![tactic(auto)]
 
 mod all_draw;
+mod all_drawn;
 pub mod draw;
 pub mod draw_files;
 mod picture;

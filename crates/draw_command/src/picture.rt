@@ -1,6 +1,7 @@
 //! `draw --svg`: the ladder of two captures as a picture.
 
-ghost use Rattle.std.specs.Prelude.{◌≤◌, IfOk};
+ghost use Rattle.std.specs.Prelude.{◌≤◌, ℕ, IfOk, List, Ok, Option};
+ghost use Rattle.dna_node.specs.Kind.{NodeKind};
 ghost use Rattle.ladder.specs.Xml.{IsDocument};
 ghost use Rattle.pair_judge.specs.Judged.{IsAnswer};
 ghost use Rattle.pair_judge.specs.JudgedAs.{nodes_of};
@@ -38,7 +39,7 @@ pub enum NoPicture {
 
 /// The same rows as `draw_to` writes, as a picture with this title, which is well-formed XML whatever the rows and the title are. `Err`: as for
 /// `draw_to`; nothing is written by this.
-#[tactic(auto, using(crate::proofs::Pictures::judged_so, crate::proofs::Pictures::wanting_memory, crate::proofs::Pictures::failed_read))]
+#[tactic(auto, using(crate::proofs::Pictures::judged_so))]
 pub fn picture_of<A: Read + Seek, B: Read + Seek>(
     alloc: Global,
     a: &mut A,
@@ -51,11 +52,31 @@ pub fn picture_of<A: Read + Seek, B: Read + Seek>(
     ensures answer { IsAnswer (nodes_of range.layers) (A.remaining a.old) (B.remaining b.old) (verdict_answered result) }
     ensures picture { IfOk result (λ picture. IsDocument picture.svg.items) }
 {
-    let pair = match drawing_of(alloc, a, b, range) {
-        Ok(pair) => pair,
-        Err(fault) => return Err(fault),
-    };
-    match svg_of(alloc, range.layers, &pair, a, b, title) {
+    match drawing_of(alloc, a, b, range) {
+        Ok(pair) => {
+            let picture = picture_drawn(alloc, range.layers, &pair, a, b, title);
+            let_go(pair.ends);
+            picture
+        }
+        Err(fault) => Err(fault),
+    }
+}
+
+// The picture of these rows, or why there is none.
+#[tactic(auto, using(crate::proofs::Pictures::wanting_memory, crate::proofs::Pictures::failed_read))]
+fn picture_drawn<A: Read + Seek, B: Read + Seek>(
+    alloc: Global,
+    layers: Layers,
+    pair: &DrawnPair,
+    a: &mut A,
+    b: &mut B,
+    title: &str,
+) -> Result<Picture, JudgeFault>
+    ensures answer { (nodes : NodeKind) (text_a text_b : Option (List ℕ)) → IsAnswer nodes text_a text_b (Ok pair.now.ends.verdict)
+        → IsAnswer nodes text_a text_b (verdict_answered result) }
+    ensures picture { IfOk result (λ picture. IsDocument picture.svg.items) }
+{
+    match svg_of(alloc, layers, pair, a, b, title) {
         Ok(svg) => Ok(Picture {
             verdict: pair.ends.verdict(),
             svg,
@@ -164,6 +185,10 @@ fn verdict_words(alloc: Global, verdict: Verdict) -> Result<String, AllocError> 
         }
     }
 }
+
+/// Drops both ends. Where a function holds them and ends in several ways, the proof follows each way through the drop of all their parts; here it
+/// does so once.
+pub(crate) fn let_go(_ends: JudgedEnds) {}
 
 // What is said of the check that the refused record does not pass, as an object; nothing where none is refused.
 fn check_words(
