@@ -6,18 +6,18 @@ from collections import namedtuple
 from sources.items import all_code, all_definitions
 
 NAMED = {name: crate for crate, names in {
-    'pair_judge': 'judge judge_line judge_end judge_line_end',
+    'pair_judge': 'judge judge_end',
     'pair_player': 'play',
     'capture': 'convert',
     'wire_tap': 'tap',
     'coverage': 'judge_covered',
-    'printing': 'check_to check_line_to alone_to alone_line_to',
+    'printing': 'check_to alone_to',
     'why_answer': 'why_end_to',
     'text_commands': 'show_to convert_to play_to',
     'why_command': 'why_to',
     'cover_command': 'cover_pair print_covered',
     'draw_command': 'draw_rows_to',
-    'tap_command': 'tap_to tap_line_to',
+    'tap_command': 'tap_to',
     'ddcap': 'help_to explain_to',
 }.items() for name in names.split()}
 Closure = namedtuple('Closure', 'definitions lines files whole used used_lines')

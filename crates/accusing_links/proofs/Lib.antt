@@ -3,6 +3,8 @@ pub mod Packets
 pub mod Held
 -- the addresses of its node and of the other one stay
 pub mod Answered
+pub mod Finds
+pub mod Along
 pub mod Addresses
 -- no link has the address 0
 pub mod Named
@@ -35,6 +37,8 @@ pub mod Follows
 pub mod FollowRows
 pub mod FollowSteps
 pub mod FollowSends
+-- and its words tell of it
+pub mod FollowSaid
 pub mod Inverted
 pub mod Numbered
 pub mod Phases

@@ -17,7 +17,7 @@ use Rattle.accusing_links.proofs.Passing.{AsNumbers}
 use Rattle.accusing_links.proofs.Sends.{IsOnward, AreOnward}
 use Rattle.accusing_links.proofs.Follows.{AreKnown}
 use Rattle.accusing_links.proofs.FollowSteps.{not_both}
-use Rattle.accusing_links.proofs.FollowSends.{IsAtLeast}
+use Rattle.accusing_links.proofs.FollowSaid.{IsAtLeast}
 
 pub or_cases : (a b : Bool) → (a || b) ≡ true → (a ≡ true) ⊎ (b ≡ true)
 or_cases true b e = inl refl

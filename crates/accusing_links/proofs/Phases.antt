@@ -17,7 +17,8 @@ use Rattle.accusing_links.specs.Back.{is_word, said_in, call_of, bit, calls_of, 
 use Rattle.accusing_links.proofs.Passing.{or_same}
 use Rattle.accusing_links.proofs.Follows.{NoneTo, OneTo, AreFollowed, none_followed, one_followed, known_followed}
 use Rattle.accusing_links.proofs.FollowSteps.{IsPlain, IsConnect, not_both}
-use Rattle.accusing_links.proofs.FollowSends.{Says, IsAtLeast, AreAtLeast}
+use Rattle.accusing_links.proofs.FollowSends.{Says}
+use Rattle.accusing_links.proofs.FollowSaid.{IsAtLeast, AreAtLeast}
 
 -- ---- what was sent
 

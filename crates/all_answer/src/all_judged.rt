@@ -62,37 +62,53 @@ pub fn find_all<C: Captures>(
     first: Answer,
 ) -> Result<NotJudged, AllFault> {
     let mut answer = first;
-    let mut not_judged = None;
-    for _ in 0..MOST_TOLD {
-        let Some((refusal, beyond)) = answer.leads_beyond() else {
+    in_memory(told.leading(&answer))?;
+    let mut left = captures.bound(alloc)?;
+    find_on(alloc, captures, told, &mut answer, &mut left)?;
+    Ok(left)
+}
+
+// Goes on from this answer, which was told if it leads on: what it leads to is left out and the rest judged, until that leads no further.
+fn find_on<C: Captures>(
+    alloc: Global,
+    captures: &mut C,
+    told: &mut AllTold,
+    answer: &mut Answer,
+    left: &mut NotJudged,
+) -> Result<(), AllFault> {
+    for count in 1..MOST_TOLD + 1 {
+        let Some(led) = answer.leads_beyond() else {
             break;
         };
-        in_memory(told.refused(&answer, refusal, beyond))?;
-        let mut left = match not_judged {
-            Some(left) => left,
-            None => captures.bound(alloc)?,
-        };
-        let address = match beyond {
-            Beyond::Links => captures.address_of(alloc, refusal)?,
-            _ => None,
-        };
-        let goes_on = left.leave(beyond, address);
-        answer = captures.judged(alloc, &left)?;
-        if !goes_on {
-            in_memory(told.ends(&answer))?;
-            return Ok(left);
+        if !leave(alloc, captures, led, answer, left)? {
+            return in_memory(told.ends(answer));
         }
-        not_judged = Some(left);
+        if count < MOST_TOLD {
+            in_memory(told.leading(answer))?;
+        }
     }
-    let left = match not_judged {
-        Some(left) => left,
-        None => captures.bound(alloc)?,
+    in_memory(match answer.leads_beyond() {
+        Some((refusal, _)) => told.goes_on(refusal),
+        None => told.ends(answer),
+    })
+}
+
+// Leaves out what this refusal leads to, and judges the rest: that is the answer then. Whether more is left out by it.
+fn leave<C: Captures>(
+    alloc: Global,
+    captures: &mut C,
+    led: (Refusal, Beyond),
+    answer: &mut Answer,
+    left: &mut NotJudged,
+) -> Result<bool, AllFault> {
+    let (refusal, beyond) = led;
+    let address = match beyond {
+        Beyond::Links => captures.address_of(alloc, refusal)?,
+        _ => None,
     };
-    match answer.leads_beyond() {
-        Some((refusal, _)) => in_memory(told.goes_on(refusal))?,
-        None => in_memory(told.ends(&answer))?,
-    }
-    Ok(left)
+    let goes_on = left.leave(beyond, address);
+    *answer = captures.judged(alloc, left)?;
+    Ok(goes_on)
 }
 
 /// The answer without the links that this refusal is about; `None` where it is about none.
@@ -105,11 +121,20 @@ pub fn judge_without<C: Captures>(
         return Ok(None);
     };
     let mut left = captures.bound(alloc)?;
+    judge_left(alloc, captures, refusal, &mut left)
+}
+
+fn judge_left<C: Captures>(
+    alloc: Global,
+    captures: &mut C,
+    refusal: Refusal,
+    left: &mut NotJudged,
+) -> Result<Option<Answer>, AllFault> {
     let address = captures.address_of(alloc, refusal)?;
     if !left.leave(Beyond::Links, address) {
         return Ok(None);
     }
-    Ok(Some(captures.judged(alloc, &left)?))
+    Ok(Some(captures.judged(alloc, left)?))
 }
 
 /// Prints this first answer and, where it leads on, all refusals and what is left; and answers the status. Where a file can't be read again from its
@@ -123,13 +148,35 @@ pub fn print_all<C: Captures, O: Write, E: Write>(
     err: &mut Tally<E>,
 ) -> Result<u8, JudgeFault> {
     if first.leads_beyond().is_none() {
-        return match told.only(&first) {
-            Ok(()) => Ok(print(out, told.bytes(), first.status)),
-            Err(_) => Err(JudgeFault::OutOfMemory),
-        };
+        return print_only(&mut told, &first, out);
     }
-    match find_all(alloc, captures, &mut told, first) {
-        Ok(_) => Ok(print(out, told.bytes(), REFUSED)),
+    let found = match find_all(alloc, captures, &mut told, first) {
+        Ok(_) => Ok(()),
+        Err(fault) => Err(fault),
+    };
+    print_found(&told, found, out, err)
+}
+
+fn print_only<O: Write>(
+    told: &mut AllTold,
+    first: &Answer,
+    out: &mut Tally<O>,
+) -> Result<u8, JudgeFault> {
+    match told.only(first) {
+        Ok(()) => Ok(print(out, told.bytes(), first.status)),
+        Err(_) => Err(JudgeFault::OutOfMemory),
+    }
+}
+
+// Prints what was told of the refusals that were found.
+fn print_found<O: Write, E: Write>(
+    told: &AllTold,
+    found: Result<(), AllFault>,
+    out: &mut Tally<O>,
+    err: &mut Tally<E>,
+) -> Result<u8, JudgeFault> {
+    match found {
+        Ok(()) => Ok(print(out, told.bytes(), REFUSED)),
         Err(AllFault::ReadOnce(side)) => match print(out, told.bytes(), REFUSED) {
             REFUSED => Ok(print_read_once(err, side)),
             failed => Ok(failed),

@@ -5,23 +5,22 @@ ghost use Rattle.wire_base.specs.Tally.{tally_lent};
 ghost use Rattle.pair_judge.specs.Ends.{verdict_in};
 ghost use Rattle.pair_judge.specs.Judged.{IsAnswer};
 ghost use Rattle.pair_judge.specs.Watched.{only};
-ghost use Rattle.printing.specs.Layers.{nodes_asked};
+ghost use Rattle.pair_judge.specs.JudgedAs.{nodes_by};
 ghost use Rattle.all_answer.specs.AllLeft.{AreBoundByBoth};
 
 use crate::all_judged::{AllFault, Captures, in_memory, of_text, read_again, read_on};
 use crate::all_left::NotJudged;
 use crate::all_pair_told::refusal_of;
 use crate::all_read::{address_of, head_of, text_left, text_whole, wrong_node_of};
-use crate::all_stops::{OfLine, Stops, put_stop, stop_of};
+use crate::all_stops::{OfLine, Stops, stop_of};
 use crate::all_told::{Answer, Refusal};
 use crate::onlooker::{Onlooker, Originals};
-use leaving_out::bind_all;
+use leaving_out::{Head, bind_all};
 use link_groups::{Groups, OwnAddress};
-use pair_judge::{JudgeFault, TextFault, Verdict, Watched, judge_line, judge_line_any_period};
-use printing::layers::{Layers, judge_over, watch_any_period_over, watch_over};
+use pair_judge::{JudgeFault, JudgedAs, Nobody, TextFault, Verdict, Watched, judge};
+use printing::layers::{Layers, judge_over};
 use std::alloc::Global;
 use std::io::{Read, Seek};
-use why_answer::last_rows::LastRows;
 use why_answer::telling::Printout;
 use wire_base::{Side, Tally};
 
@@ -93,19 +92,14 @@ impl<A: Read + Seek, B: Read + Seek> Captures for PairCaptures<'_, '_, '_, A, B>
     }
 
     fn judged(&mut self, alloc: Global, not_judged: &NotJudged) -> Result<Answer, AllFault> {
+        let any_period = not_judged.any_period();
         if self.telling != Telling::Explained {
             let left = self.left(alloc, Side::B, not_judged)?;
-            return self.answer_left(alloc, not_judged, Onlooker::Nobody, &left);
+            return self.answer_left(alloc, any_period, Onlooker::Nobody, &left);
         }
-        let kept = match not_judged.heads_fit() {
-            true => Side::B,
-            false => self.refused_side(alloc, not_judged)?,
-        };
+        let kept = self.kept_side(alloc, not_judged)?;
         let left = self.left(alloc, kept, not_judged)?;
-        let whole = self.whole(alloc)?;
-        let rows = in_memory(LastRows::new(alloc))?;
-        let originals = in_memory(Originals::new(alloc, rows, &whole.a, &whole.b))?;
-        self.answer_left(alloc, not_judged, Onlooker::Originals(originals), &left)
+        self.answer_explained(alloc, any_period, &left)
     }
 
     fn passed(&self) -> &'static str {
@@ -137,9 +131,14 @@ impl<A: Read + Seek, B: Read + Seek> PairCaptures<'_, '_, '_, A, B> {
 
     // Nothing is left out. These belong together.
     fn all_judged(&mut self, alloc: Global, groups: Groups) -> Result<NotJudged, AllFault> {
+        let (head_of_a, head_of_b) = self.heads(alloc)?;
+        in_memory(NotJudged::nothing(alloc, groups, head_of_a, head_of_b))
+    }
+
+    fn heads(&mut self, alloc: Global) -> Result<(Head, Head), AllFault> {
         let head_of_a = head_of(alloc, Side::A, self.a)?;
         let head_of_b = head_of(alloc, Side::B, self.b)?;
-        in_memory(NotJudged::nothing(alloc, groups, head_of_a, head_of_b))
+        Ok((head_of_a, head_of_b))
     }
 
     /// What is left of both captures, each to its stop. Where the heads do not fit, this side's is kept: what its own records have, they have there.
@@ -150,29 +149,30 @@ impl<A: Read + Seek, B: Read + Seek> PairCaptures<'_, '_, '_, A, B> {
         not_judged: &NotJudged,
     ) -> Result<Left, AllFault> {
         let stops = self.stops(alloc, not_judged)?;
-        let mut a = text_left(alloc, kept, Side::A, not_judged, self.a)?;
-        let mut b = text_left(alloc, kept, Side::B, not_judged, self.b)?;
-        in_memory(put_stop(&mut a, stops.a))?;
-        in_memory(put_stop(&mut b, stops.b))?;
-        Ok(Left {
-            texts: LeftTexts { a, b },
-            stops,
-        })
+        let mut texts = self.texts_left(alloc, kept, not_judged)?;
+        in_memory(stops.put(&mut texts.a, &mut texts.b))?;
+        Ok(Left { texts, stops })
     }
 
-    // Of which side a record of what is left is refused; b where none is.
-    fn refused_side(&mut self, alloc: Global, not_judged: &NotJudged) -> Result<Side, AllFault> {
-        let Left { texts, .. } = self.left(alloc, Side::B, not_judged)?;
-        let layers = self.printout.layers;
-        let any_period = not_judged.any_period();
-        match judge_texts(alloc, layers, any_period, Onlooker::Nobody, &texts) {
-            Ok(watched) => match watched.ends.verdict() {
-                Verdict::Accepted(_) => Ok(Side::B),
-                Verdict::Refused { side, .. } => Ok(side),
-            },
-            Err(JudgeFault::OutOfMemory) => Err(AllFault::OUT_OF_MEMORY),
-            Err(_) => Ok(Side::B),
+    fn texts_left(
+        &mut self,
+        alloc: Global,
+        kept: Side,
+        not_judged: &NotJudged,
+    ) -> Result<LeftTexts, AllFault> {
+        let a = text_left(alloc, kept, Side::A, not_judged, self.a)?;
+        let b = text_left(alloc, kept, Side::B, not_judged, self.b)?;
+        Ok(LeftTexts { a, b })
+    }
+
+    // Which side's head is kept, where they do not fit: that of which a record of what is left is refused; b where none is.
+    fn kept_side(&mut self, alloc: Global, not_judged: &NotJudged) -> Result<Side, AllFault> {
+        if not_judged.heads_fit() {
+            return Ok(Side::B);
         }
+        let left = self.left(alloc, Side::B, not_judged)?;
+        let layers = self.printout.layers;
+        refused_side(verdict_on(alloc, layers, not_judged.any_period(), &left.texts))
     }
 
     // At which records the judgement stops. Of the line alone there are none: nothing is left out of that.
@@ -222,43 +222,59 @@ impl<A: Read + Seek, B: Read + Seek> PairCaptures<'_, '_, '_, A, B> {
     ) -> Result<Result<Verdict, JudgeFault>, AllFault> {
         let mut reader_a = read_again(Side::A, self.a)?;
         let mut reader_b = read_again(Side::B, self.b)?;
-        Ok(match any_period {
-            true => judge_line_any_period(alloc, &mut reader_a, &mut reader_b),
-            false => judge_line(alloc, &mut reader_a, &mut reader_b),
-        })
+        let asked = JudgedAs {
+            layers: Layers::Station,
+            any_period,
+        };
+        Ok(
+            match judge(alloc, asked, &mut reader_a, &mut reader_b, Nobody) {
+                Ok(watched) => Ok(watched.ends.verdict()),
+                Err(fault) => Err(fault),
+            },
+        )
     }
 
     // The answer on what is left, while this one looks on.
     fn answer_left(
         &mut self,
         alloc: Global,
-        not_judged: &NotJudged,
+        any_period: bool,
         onlooker: Onlooker<'_>,
         left: &Left,
     ) -> Result<Answer, AllFault> {
         let layers = self.printout.layers;
-        match judge_texts(
-            alloc,
-            layers,
-            not_judged.any_period(),
-            onlooker,
-            &left.texts,
-        ) {
-            Ok(watched) => match stopped_at(watched.ends.verdict(), left.stops) {
-                Some(refusal) => self.answer_stopped(alloc, refusal),
-                None => self.answer_watched(alloc, watched),
-            },
-            Err(JudgeFault::OutOfMemory) => Err(AllFault::OUT_OF_MEMORY),
+        match judge_texts(alloc, layers, any_period, onlooker, &left.texts) {
+            Ok(mut watched) => self.answer_watched(alloc, &mut watched, left.stops),
             Err(fault) => self.answer_departed(alloc, fault),
         }
+    }
+
+    // The same, with the rows of the captures themselves.
+    fn answer_explained(
+        &mut self,
+        alloc: Global,
+        any_period: bool,
+        left: &Left,
+    ) -> Result<Answer, AllFault> {
+        let whole = self.whole(alloc)?;
+        let originals = in_memory(Originals::begun(alloc, &whole.a, &whole.b))?;
+        self.answer_left(alloc, any_period, Onlooker::Originals(originals), left)
     }
 
     /// The texts of both captures, with nothing left out.
     pub fn whole(&mut self, alloc: Global) -> Result<LeftTexts, AllFault> {
         let groups = in_memory(Groups::new(alloc))?;
         let judges_all = self.all_judged(alloc, groups)?;
-        let a = text_whole(alloc, Side::A, &judges_all, self.a)?;
-        let b = text_whole(alloc, Side::B, &judges_all, self.b)?;
+        self.texts_whole(alloc, &judges_all)
+    }
+
+    fn texts_whole(
+        &mut self,
+        alloc: Global,
+        judges_all: &NotJudged,
+    ) -> Result<LeftTexts, AllFault> {
+        let a = text_whole(alloc, Side::A, judges_all, self.a)?;
+        let b = text_whole(alloc, Side::B, judges_all, self.b)?;
         Ok(LeftTexts { a, b })
     }
 }
@@ -268,6 +284,28 @@ pub fn stopped_at(verdict: Verdict, stops: Stops) -> Option<Refusal> {
     match verdict {
         Verdict::Accepted(_) => None,
         Verdict::Refused { side, place, .. } => stops.at(side, place),
+    }
+}
+
+// The verdict on these texts alone.
+fn verdict_on(
+    alloc: Global,
+    layers: Layers,
+    any_period: bool,
+    texts: &LeftTexts,
+) -> Result<Verdict, JudgeFault> {
+    match judge_texts(alloc, layers, any_period, Onlooker::Nobody, texts) {
+        Ok(watched) => Ok(watched.ends.verdict()),
+        Err(fault) => Err(fault),
+    }
+}
+
+// Of which side a record is refused; b where none is.
+fn refused_side(judged: Result<Verdict, JudgeFault>) -> Result<Side, AllFault> {
+    match judged {
+        Ok(Verdict::Refused { side, .. }) => Ok(side),
+        Err(JudgeFault::OutOfMemory) => Err(AllFault::OUT_OF_MEMORY),
+        _ => Ok(Side::B),
     }
 }
 
@@ -298,13 +336,11 @@ pub fn judge_texts<'t>(
     onlooker: Onlooker<'t>,
     texts: &LeftTexts,
 ) -> Result<Watched<Onlooker<'t>>, JudgeFault>
-    ensures { IsAnswer (nodes_asked layers any_period) (Some texts.now.a.items) (Some texts.now.b.items)
+    ensures { IsAnswer (nodes_by layers any_period) (Some texts.now.a.items) (Some texts.now.b.items)
         (verdict_in (only result (λ watched. watched.ends))) }
 {
     let mut reader_a = Tally::new(texts.a.as_slice());
     let mut reader_b = Tally::new(texts.b.as_slice());
-    if any_period {
-        return watch_any_period_over(alloc, layers, &mut reader_a, &mut reader_b, onlooker);
-    }
-    watch_over(alloc, layers, &mut reader_a, &mut reader_b, onlooker)
+    let asked = JudgedAs { layers, any_period };
+    judge(alloc, asked, &mut reader_a, &mut reader_b, onlooker)
 }

@@ -2,21 +2,22 @@
 
 use crate::all_judged::{AllFault, in_memory, read_again};
 use crate::all_left::Beyond;
-use crate::all_pair::{PairCaptures, Telling};
+use crate::all_pair::{PairCaptures, Telling, stopped_at};
+use crate::all_stops::Stops;
 use crate::all_told::{Answer, Refusal, plain_object};
-use crate::onlooker::{Onlooker, Originals};
-use pair_judge::{JudgeFault, TextFault, Verdict, Watched};
+use crate::onlooker::Onlooker;
+use pair_judge::{JudgeFault, JudgedEnds, TextFault, Verdict, Watched, judge};
 use printing::fault_told::FaultTold;
 use printing::how::Form;
-use printing::layers::{Layers, failed_over, watch_over};
+use printing::layers::Layers;
 use printing::objects::{fault_object, verdict_object, with_lf};
 use printing::text::{FAULTY, line_fault_text, verdict_status, verdict_text};
 use std::alloc::{AllocError, Global};
 use std::io::{Read, Seek};
 use why_answer::last_rows::LastRows;
 use why_answer::recorder::Tried;
-use why_answer::telling::{Printout, Refused, refused_text};
-use wire_base::Side;
+use why_answer::telling::{Printout, Refused, text_of_refused};
+use wire_base::{Side, Tally};
 
 impl<A: Read + Seek, B: Read + Seek> PairCaptures<'_, '_, '_, A, B> {
     /// This answer, in the words of `check`.
@@ -42,44 +43,57 @@ impl<A: Read + Seek, B: Read + Seek> PairCaptures<'_, '_, '_, A, B> {
     /// A verdict of a station, or of the line. Where an explanation is asked for and the captures' own line is refused so, it is explained by that,
     /// since it shows what the captures have; else it is told by its line alone.
     pub fn answer_of_line(&mut self, alloc: Global, verdict: Verdict) -> Result<Answer, AllFault> {
-        let Verdict::Refused {
-            side,
-            place,
-            reason,
-        } = verdict
-        else {
-            return self.answer(alloc, verdict);
-        };
-        if self.telling != Telling::Explained {
-            return self.answer(alloc, verdict);
-        }
-        let Ok(rows) = LastRows::new(alloc) else {
-            return Err(AllFault::OUT_OF_MEMORY);
-        };
-        let mut reader_a = read_again(Side::A, self.a)?;
-        let mut reader_b = read_again(Side::B, self.b)?;
-        match watch_over(alloc, Layers::Station, &mut reader_a, &mut reader_b, rows) {
-            Ok(watched) if watched.ends.verdict() == verdict => {
-                let printout = Printout {
-                    layers: Layers::Station,
-                    ..self.printout
-                };
-                let refused = Refused {
-                    side,
-                    place,
-                    reason,
-                };
-                let tried = Tried::not_asked(alloc, printout.layers);
-                let text = in_memory(refused_text(alloc, printout, refused, watched, tried))?;
-                Ok(answer_of(verdict, text.into_bytes()))
+        match refused_of(verdict) {
+            Some(refused) if self.telling == Telling::Explained => {
+                let mut watched = self.watched_line(alloc)?;
+                self.line_explained(alloc, refused, &mut watched, verdict)
             }
-            Ok(_) => self.answer(alloc, verdict),
+            _ => self.answer(alloc, verdict),
+        }
+    }
+
+    // The captures' own line, as it is judged with the last rows.
+    fn watched_line(&mut self, alloc: Global) -> Result<Watched<LastRows>, AllFault> {
+        let rows = in_memory(LastRows::new(alloc))?;
+        let (mut reader_a, mut reader_b) = both_again(self.a, self.b)?;
+        match judge(
+            alloc,
+            Layers::Station.of_period(),
+            &mut reader_a,
+            &mut reader_b,
+            rows,
+        ) {
+            Ok(watched) => Ok(watched),
             Err(fault) => Err(AllFault::Judge(fault)),
         }
     }
 
-    /// The refusal of a record at which the judgement of what is left stops.
-    pub fn answer_stopped(&mut self, alloc: Global, refusal: Refusal) -> Result<Answer, AllFault> {
+    // What is told of this verdict, where the line was judged so.
+    fn line_explained(
+        &self,
+        alloc: Global,
+        refused: Refused,
+        watched: &mut Watched<LastRows>,
+        verdict: Verdict,
+    ) -> Result<Answer, AllFault> {
+        if watched.ends.verdict() != verdict {
+            return self.answer(alloc, verdict);
+        }
+        let printout = Printout {
+            layers: Layers::Station,
+            ..self.printout
+        };
+        explained(
+            alloc,
+            printout,
+            refused,
+            &watched.ends,
+            &mut watched.observer,
+        )
+    }
+
+    // The refusal of a record at which the judgement of what is left stops.
+    fn answer_stopped(&mut self, alloc: Global, refusal: Refusal) -> Result<Answer, AllFault> {
         let verdict = Verdict::Refused {
             side: refusal.side,
             place: refusal.place,
@@ -91,24 +105,27 @@ impl<A: Read + Seek, B: Read + Seek> PairCaptures<'_, '_, '_, A, B> {
         }
     }
 
-    /// The answer on what is left, explained where that is asked for.
+    /// The answer on what is left, whose texts stop there; explained where that is asked for.
     pub fn answer_watched(
         &mut self,
         alloc: Global,
-        watched: Watched<Onlooker<'_>>,
+        watched: &mut Watched<Onlooker<'_>>,
+        stops: Stops,
     ) -> Result<Answer, AllFault> {
         let verdict = watched.ends.verdict();
+        if let Some(refusal) = stopped_at(verdict, stops) {
+            return self.answer_stopped(alloc, refusal);
+        }
         if ends_it(verdict) {
             return self.answer_of_line(alloc, verdict);
         }
-        match explained_of(self.printout, verdict, watched) {
-            Some((refused, watched)) => {
-                let tried = Tried::not_asked(alloc, self.printout.layers);
-                let text = in_memory(refused_text(alloc, self.printout, refused, watched, tried))?;
-                Ok(answer_of(verdict, text.into_bytes()))
-            }
-            None => self.answer(alloc, verdict),
+        if let Onlooker::Originals(originals) = &mut watched.observer
+            && let Some(refused) = explained_of(self.printout.layers, &watched.ends)
+        {
+            let rows = &mut originals.rows;
+            return explained(alloc, self.printout, refused, &watched.ends, rows);
         }
+        self.answer(alloc, verdict)
     }
 
     /// The answer where the text of a side departs.
@@ -170,37 +187,51 @@ pub fn answer_of(verdict: Verdict, text: Vec<u8>) -> Answer {
     }
 }
 
-// What is explained: a refusal of which a check of its reason is named, with the last rows. Where periods are not asked, that check may be of another
-// reason, and nothing is explained.
-fn explained_of(
+// What is told of this refusal.
+fn explained(
+    alloc: Global,
     printout: Printout<'_>,
-    verdict: Verdict,
-    watched: Watched<Onlooker<'_>>,
-) -> Option<(Refused, Watched<LastRows>)> {
-    let Verdict::Refused {
-        side,
-        place,
-        reason,
-    } = verdict
-    else {
-        return None;
-    };
-    let Watched { ends, observer } = watched;
-    let Onlooker::Originals(Originals { rows, .. }) = observer else {
-        return None;
-    };
-    let (_, failed) = failed_over(printout.layers, &ends)?;
-    if failed.reason() != reason {
-        return None;
+    refused: Refused,
+    ends: &JudgedEnds,
+    rows: &mut LastRows,
+) -> Result<Answer, AllFault> {
+    let tried = Tried::not_asked(alloc, printout.layers);
+    let text = in_memory(text_of_refused(alloc, printout, refused, ends, rows, &tried))?;
+    Ok(answer_of(ends.verdict(), text.into_bytes()))
+}
+
+// Both files from their beginnings on. A fault of a's is told before one of b's.
+fn both_again<'a, 'b, A: Read + Seek, B: Read + Seek>(
+    a: &'a mut A,
+    b: &'b mut B,
+) -> Result<(Tally<&'a mut A>, Tally<&'b mut B>), AllFault> {
+    let reader_a = read_again(Side::A, a)?;
+    let reader_b = read_again(Side::B, b)?;
+    Ok((reader_a, reader_b))
+}
+
+fn refused_of(verdict: Verdict) -> Option<Refused> {
+    match verdict {
+        Verdict::Accepted(_) => None,
+        Verdict::Refused {
+            side,
+            place,
+            reason,
+        } => Some(Refused {
+            side,
+            place,
+            reason,
+        }),
     }
-    let refused = Refused {
-        side,
-        place,
-        reason,
-    };
-    let watched = Watched {
-        ends,
-        observer: rows,
-    };
-    Some((refused, watched))
+}
+
+// What is explained: a refusal of which a check of its reason is named. Where periods are not asked, that check may be of another reason, and nothing
+// is explained.
+fn explained_of(layers: Layers, ends: &JudgedEnds) -> Option<Refused> {
+    let refused = refused_of(ends.verdict())?;
+    let (_, failed) = ends.failed(layers)?;
+    match failed.reason() == refused.reason {
+        true => Some(refused),
+        false => None,
+    }
 }

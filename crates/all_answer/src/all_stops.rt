@@ -55,6 +55,12 @@ impl Stops {
             _ => None,
         }
     }
+
+    /// Ends these texts of what is left of both captures at their stops. `AllocError` where there is no memory.
+    pub fn put(self, text_a: &mut Vec<u8>, text_b: &mut Vec<u8>) -> Result<(), AllocError> {
+        put_stop(text_a, self.a)?;
+        put_stop(text_b, self.b)
+    }
 }
 
 /// The record of this side at which it stops: that which the line refuses, or the first `wrong` one, whichever comes first. What the line refuses for

@@ -84,8 +84,8 @@ impl AllTold {
         self.refusals
     }
 
-    /// An answer that leads on, and to what.
-    pub fn refused(
+    // An answer that leads on, and to what.
+    fn refused(
         &mut self,
         answer: &Answer,
         refusal: Refusal,
@@ -96,6 +96,14 @@ impl AllTold {
         self.pending = beyond;
         self.refusals.push(refusal)?;
         Ok(())
+    }
+
+    /// An answer, if it leads on.
+    pub fn leading(&mut self, answer: &Answer) -> Result<(), AllocError> {
+        match answer.leads_beyond() {
+            Some((refusal, beyond)) => self.refused(answer, refusal, beyond),
+            None => Ok(()),
+        }
     }
 
     /// The only answer.
@@ -159,9 +167,13 @@ pub fn plain_object(
         return Ok(object.into_bytes());
     };
     let mut object = Vec::new(alloc);
-    put(&mut object, "{\"what\": \"refused\"")?;
-    put_place(alloc, &mut object, refusal.side, refusal.place)?;
-    put_reason(alloc, &mut object, refusal.reason)?;
-    put(&mut object, "}\n")?;
+    put_refused(alloc, &mut object, refusal)?;
     Ok(object)
+}
+
+fn put_refused(alloc: Global, object: &mut Vec<u8>, refusal: Refusal) -> Result<(), AllocError> {
+    put(object, "{\"what\": \"refused\"")?;
+    put_place(alloc, object, refusal.side, refusal.place)?;
+    put_reason(alloc, object, refusal.reason)?;
+    put(object, "}\n")
 }

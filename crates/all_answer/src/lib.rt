@@ -2,6 +2,7 @@
 #![tactic(auto)]
 
 pub mod all_end;
+mod all_end_told;
 pub mod all_judged;
 pub mod all_left;
 pub mod all_pair;

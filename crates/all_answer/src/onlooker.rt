@@ -44,9 +44,18 @@ impl<'t> Originals<'t> {
         text_a: &'t [u8],
         text_b: &'t [u8],
     ) -> Result<Originals<'t>, AllocError> {
-        let a = Original::new(alloc, text_a)?;
-        let b = Original::new(alloc, text_b)?;
+        let (a, b) = Original::both(alloc, text_a, text_b)?;
         Ok(Originals { rows, a, b })
+    }
+
+    /// The same, with the last rows, of which none was told yet.
+    pub fn begun(
+        alloc: Global,
+        text_a: &'t [u8],
+        text_b: &'t [u8],
+    ) -> Result<Originals<'t>, AllocError> {
+        let rows = LastRows::new(alloc)?;
+        Originals::new(alloc, rows, text_a, text_b)
     }
 
     fn of_side(&mut self, side: Side) -> (&mut LastRows, &mut Option<Original<'t>>) {
@@ -88,6 +97,16 @@ struct Original<'t> {
 }
 
 impl<'t> Original<'t> {
+    fn both(
+        alloc: Global,
+        text_a: &'t [u8],
+        text_b: &'t [u8],
+    ) -> Result<(Option<Original<'t>>, Option<Original<'t>>), AllocError> {
+        let a = Original::new(alloc, text_a)?;
+        let b = Original::new(alloc, text_b)?;
+        Ok((a, b))
+    }
+
     fn new(alloc: Global, text: &'t [u8]) -> Result<Option<Original<'t>>, AllocError> {
         let mut reader = Tally::new(text);
         match CaptureReader::open(alloc, &mut reader) {

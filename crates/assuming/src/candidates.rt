@@ -1,15 +1,11 @@
 //! What may be assumed for a record that is refused, in the order in which it is tried.
 
-use crate::event::{Act, What};
+use crate::event::What;
 use crate::point::{Choice, Kind, Point};
+use crate::refused::{MOST, Refused};
 use crate::seeker::Seeker;
 use std::alloc::{AllocError, Global};
 use wire_base::Side;
-
-// So many points back from the record something is assumed at most; of each kind at so many that are nearest to it.
-const BACK: usize = 8_192;
-
-const MOST: usize = 16;
 
 /// What is assumed at this place, which is not what is assumed there now. Of two that mend the one of the lower rank is taken.
 #[derive(Clone, Copy)]
@@ -18,16 +14,6 @@ pub(crate) struct Candidate {
     pub(crate) key: u64,
     pub(crate) choice: Option<Choice>,
     pub(crate) rank: u8,
-}
-
-// The record that is refused: its side, which message it is, and the addresses as that side sees them.
-#[derive(Clone, Copy)]
-struct Refused {
-    side: Side,
-    is_sent: bool,
-    what: What,
-    own: u16,
-    far: u16,
 }
 
 // Candidates in the order in which they are tried: first that a message means something else, or that a call was answered earlier; then that fewer
@@ -44,7 +30,7 @@ struct Sorted {
 
 impl Seeker<'_> {
     /// What may be assumed for the record at this place, in that order. `AllocError` where there is no memory for it.
-    pub(crate) fn candidates(&self, number: usize) -> Result<Vec<Candidate>, AllocError> {
+    pub(crate) fn candidates(&mut self, number: usize) -> Result<Vec<Candidate>, AllocError> {
         let mut sorted = Sorted::new(self.alloc);
         let Some(refused) = self.refused(number) else {
             return Ok(sorted.meant);
@@ -52,37 +38,10 @@ impl Seeker<'_> {
         for point in &self.refused {
             self.put_point(*point, refused, &mut sorted)?;
         }
-        for behind in 0..self.points.len().min(BACK) {
-            let place = self.points.len() - behind - 1;
-            if sorted.is_full() {
-                break;
-            }
-            if let Some(point) = self.points.get(place) {
-                self.put_point(*point, refused, &mut sorted)?;
-            }
+        for point in &self.near(refused)? {
+            self.put_point(*point, refused, &mut sorted)?;
         }
         sorted.all()
-    }
-
-    fn refused(&self, number: usize) -> Option<Refused> {
-        let (side, _, event) = self.log.at(number)?;
-        match event.act {
-            Act::Sends(said) => Some(Refused {
-                side,
-                is_sent: true,
-                what: said.what,
-                own: said.from,
-                far: said.to,
-            }),
-            Act::Keeps { said, .. } => Some(Refused {
-                side,
-                is_sent: false,
-                what: said.what,
-                own: said.to,
-                far: said.from,
-            }),
-            Act::Starts => None,
-        }
     }
 
     fn put_point(
@@ -170,21 +129,6 @@ impl Seeker<'_> {
     }
 }
 
-impl Refused {
-    // Whether something that is assumed there may matter to it: one address of the link is the same.
-    fn is_about(self, point: Point) -> bool {
-        let (own, far) = match point.side == self.side {
-            true => (point.own, point.far),
-            false => (point.far, point.own),
-        };
-        is_same(own, self.own) || is_same(far, self.far)
-    }
-}
-
-fn is_same(address: u16, other: u16) -> bool {
-    address == other && address != 0
-}
-
 fn put(
     candidates: &mut Vec<Candidate>,
     point: Point,
@@ -252,14 +196,6 @@ impl Sorted {
         put_reversed(&mut all, own_boots, 3)?;
         put_reversed(&mut all, other_boots, 3)?;
         Ok(all)
-    }
-
-    // Whether there is no room for another.
-    fn is_full(&self) -> bool {
-        if self.meant.len() < MOST || self.kept.len() < MOST || self.given_up.len() < MOST {
-            return false;
-        }
-        self.own_boots.len() >= MOST && self.other_boots.len() >= MOST
     }
 }
 

@@ -20,6 +20,7 @@ mod places;
 mod point;
 mod proposals;
 mod receiving;
+mod refused;
 mod run_message;
 mod seeker;
 mod sending;
@@ -27,6 +28,7 @@ mod sifted;
 mod spots;
 mod steps;
 mod tags;
+mod tracks;
 
 pub use assumptions::{Assumptions, assume};
 pub use lines::tell_lines;

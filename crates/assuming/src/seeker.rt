@@ -4,6 +4,7 @@ use crate::book::Book;
 use crate::log::Log;
 use crate::point::{Choice, Kind, Point, key_of};
 use crate::tags::Tags;
+use crate::tracks::Tracks;
 use std::alloc::{AllocError, Global};
 use std::collections::BTreeMap;
 use wire_base::Side;
@@ -31,6 +32,8 @@ pub(crate) struct Seeker<'l> {
     pub(crate) tags: Tags,
     pub(crate) book: Book,
     pub(crate) points: Vec<Point>,
+    // those of the points that were looked at since they were passed
+    pub(crate) tracks: Tracks,
     // the points of the step that was refused last
     pub(crate) refused: Vec<Point>,
     // the spot of the first unit at which a user's message is longer than a capture can tell
@@ -48,6 +51,7 @@ impl<'l> Seeker<'l> {
             tags: Tags::of(alloc, log)?,
             book: Book::new(alloc),
             points: Vec::new(alloc),
+            tracks: Tracks::new(alloc),
             refused: Vec::new(alloc),
             too_long: None,
             chosen: BTreeMap::new(alloc),

@@ -46,6 +46,7 @@ impl Seeker<'_> {
     fn back(&mut self, number: usize) -> Result<(), AllocError> {
         if let Some(mark) = self.marks.get(number).copied() {
             self.book.take_back(mark.changes)?;
+            self.tracks.truncate(self.points.as_slice(), mark.points);
             self.points.truncate(mark.points);
             self.marks.truncate(number);
         }

@@ -1,11 +1,11 @@
 //! `check` and `alone` between the names of their files and their status.
 
 use crate::all_files::{alone_all_file, check_all_pair};
-use printing::alone::{alone_line_to, alone_queued_to, alone_to};
+use printing::alone::alone_to;
 use printing::answers::{
     alone_json_to, check_json_to, check_named_to, not_judged, print_name, print_told,
 };
-use printing::check::{check_line_to, check_queued_to, check_to};
+use printing::check::check_to;
 use printing::files::{Named, Told, Wanted, open_to_read, opened, told_fault_of};
 use printing::how::{Form, How, Refusals};
 use printing::layers::Layers;
@@ -69,11 +69,7 @@ fn check_pair<R: Files + AllocGlobal, O: Write, E: Write>(
         Ok(pair) => pair,
         Err(told) => return told.status,
     };
-    match layers {
-        Layers::Both => check_to(rt.alloc(), &mut a, &mut b, out, err),
-        Layers::Queued => check_queued_to(rt.alloc(), &mut a, &mut b, out, err),
-        Layers::Station => check_line_to(rt.alloc(), &mut a, &mut b, out, err),
-    }
+    check_to(rt.alloc(), layers, &mut a, &mut b, out, err)
 }
 
 // One of several pairs.
@@ -143,10 +139,6 @@ pub fn alone_file<R: Files + AllocGlobal, O: Write, E: Write>(
     };
     match how.form {
         Form::Json => alone_json_to(rt.alloc(), how.layers, path, &mut a, out, err),
-        Form::Rows => match how.layers {
-            Layers::Both => alone_to(rt.alloc(), &mut a, out, err),
-            Layers::Queued => alone_queued_to(rt.alloc(), &mut a, out, err),
-            Layers::Station => alone_line_to(rt.alloc(), &mut a, out, err),
-        },
+        Form::Rows => alone_to(rt.alloc(), how.layers, &mut a, out, err),
     }
 }

@@ -3,13 +3,10 @@
 ghost use Rattle.wire_base.specs.Tally.{tally_lent};
 ghost use Rattle.pair_judge.specs.Judged.{IsAnswer};
 ghost use Rattle.pair_judge.specs.Watched.{only};
-ghost use Rattle.printing.specs.Layers.{nodes_of};
+ghost use Rattle.pair_judge.specs.JudgedAs.{nodes_of};
 
 use coverage::{Counts, Cover, ROWS, STATION_ROWS, judge_covered};
-use pair_judge::{
-    JudgeFault, JudgedEnds, MadeEntry, Observer, Verdict, Watched, judge_line_told,
-    judge_queued_told,
-};
+use pair_judge::{JudgeFault, JudgedEnds, MadeEntry, Observer, Verdict, Watched, judge};
 use printing::layers::Layers;
 use std::alloc::{AllocError, Global};
 use std::io::Read;
@@ -67,7 +64,7 @@ fn judge_queued_went<A: Read, B: Read>(
     let Ok(cover) = nothing_covered(alloc) else {
         return Err(JudgeFault::OutOfMemory);
     };
-    match judge_queued_told(alloc, a, b, CoverRows { cover }) {
+    match judge(alloc, Layers::Queued.of_period(), a, b, CoverRows { cover }) {
         Ok(watched) => {
             let went = Went {
                 verdict: watched.ends.verdict(),
@@ -92,7 +89,13 @@ fn judge_line_went<A: Read, B: Read>(
     let Ok(cover) = nothing_covered(alloc) else {
         return Err(JudgeFault::OutOfMemory);
     };
-    match judge_line_told(alloc, a, b, CoverRows { cover }) {
+    match judge(
+        alloc,
+        Layers::Station.of_period(),
+        a,
+        b,
+        CoverRows { cover },
+    ) {
         Ok(watched) => {
             let went = Went {
                 verdict: watched.ends.verdict(),

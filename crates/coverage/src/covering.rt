@@ -13,7 +13,7 @@ ghost use Rattle.coverage.specs.Covered.{WasCovered};
 
 use crate::cover::Cover;
 use dna_node::{layers_run_as_stations, refused_station_alone_is_final};
-use pair_judge::{JudgeFault, Watched, judge_told};
+use pair_judge::{JudgeFault, Layers, Watched, judge};
 use std::alloc::Global;
 use std::io::Read;
 use wire_base::Tally;
@@ -36,7 +36,7 @@ pub fn judge_covered<R: Read, S: Read>(
 {
     layers_run_as_stations();
     refused_station_alone_is_final();
-    match judge_told::<Cover, R, S>(alloc, a, b, Cover::new()) {
+    match judge(alloc, Layers::Both.of_period(), a, b, Cover::new()) {
         Ok(watched) => Ok(watched),
         Err(fault) => Err(fault),
     }

@@ -3,12 +3,12 @@
 ghost use Rattle.std.specs.Prelude.{◌≤◌, IfSome};
 ghost use Rattle.drawing.specs.declared.range.TheConstants.{MAX_ROWS};
 
-use crate::judging_words::refusals_of;
+use crate::judging_words::{judged_layers_of, refusals_of};
 use crate::words::WordsFault;
 use capture::{MAX_RECORDS, positive_of};
 use clap::ArgMatches;
 use draw_command::draw_files::Asked;
-use drawing::{Judging, MAX_ROWS, ROWS, Range, Start};
+use drawing::{MAX_ROWS, ROWS, Range, Start};
 use wire_base::Side;
 
 /// What the words ask for: a line from 2 on, of side a or b, and 1 to 200 rows.
@@ -31,11 +31,8 @@ pub fn drawing_asked<'a>(found: &ArgMatches<'a>) -> Result<Asked<'a>, WordsFault
         },
     };
     let svg = found.get_str("svg");
-    let judging = match (found.get_flag("line"), found.get_flag("queued")) {
-        (true, true) => return Err(WordsFault::BadWords),
-        (true, false) => Judging::Line,
-        (false, true) => Judging::Queued,
-        (false, false) => Judging::Links,
+    let Some(layers) = judged_layers_of(found) else {
+        return Err(WordsFault::BadWords);
     };
     Ok(Asked {
         a,
@@ -43,7 +40,7 @@ pub fn drawing_asked<'a>(found: &ArgMatches<'a>) -> Result<Asked<'a>, WordsFault
         range: Range {
             start,
             rows,
-            judging,
+            layers,
         },
         svg,
         refusals: refusals_of(found),

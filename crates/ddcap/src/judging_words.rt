@@ -121,8 +121,8 @@ fn form_of(found: &ArgMatches<'_>) -> Form {
     }
 }
 
-// What is judged; `None` where two kinds of node are named.
-fn judged_layers_of(found: &ArgMatches<'_>) -> Option<Layers> {
+/// What is judged; `None` where two kinds of node are named.
+pub fn judged_layers_of(found: &ArgMatches<'_>) -> Option<Layers> {
     match (found.get_flag("line"), found.get_flag("queued")) {
         (true, true) => None,
         (true, false) => Some(Layers::Station),

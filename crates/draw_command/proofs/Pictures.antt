@@ -7,11 +7,12 @@ use Rattle.pair_judge.specs.Judged.{IfTold, IsAcceptance, IsAnswer, IsExact}
 use Rattle.pair_judge.specs.declared.fault.JudgeFault.TheVariants.{Capture, OutOfMemory}
 use Rattle.pair_judge.specs.declared.fault.TextFault.TheVariants.{Read}
 use Rattle.pair_judge.specs.declared.verdict.Verdict.{Verdict}
-use Rattle.drawing.specs.Drawing.{IsPicture, kind_by}
+use Rattle.drawing.specs.Drawing.{IsPicture}
+use Rattle.pair_judge.specs.JudgedAs.{nodes_of}
 use Rattle.drawing.specs.declared.range.Range.{Range}
 
 pub judged_so : (range : Range) (text_a text_b : Option (List ℕ)) (verdict : Verdict) (drawn : DrawnView)
-    → IsPicture range text_a text_b verdict drawn → IsAnswer (kind_by range.judging) text_a text_b (Ok verdict)
+    → IsPicture range text_a text_b verdict drawn → IsAnswer (nodes_of range.layers) text_a text_b (Ok verdict)
 judged_so range text_a text_b verdict drawn picture = picture.judged
 
 read_exact_by : (nodes : NodeKind) (text_a text_b : Option (List ℕ)) (side : Side)

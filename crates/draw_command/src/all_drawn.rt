@@ -12,11 +12,8 @@ use all_answer::all_told::Refusal;
 use all_answer::onlooker::{Onlooker, Originals};
 use drawing::{DrawnPair, Range, tell_behind};
 use ladder::{Drawn, Keep, Ladder};
-use pair_judge::{
-    JudgeFault, JudgedEnds, TextFault, Verdict, Watched, judge_any_period, judge_line_any_period,
-    judge_queued_any_period,
-};
-use printing::layers::{Layers, judge_over};
+use pair_judge::{JudgeFault, JudgedAs, JudgedEnds, Nobody, TextFault, Verdict, Watched, judge};
+use printing::layers::Layers;
 use std::alloc::Global;
 use std::io::{Read, Seek};
 use why::LinkPast;
@@ -206,13 +203,19 @@ fn verdict_on(
 ) -> Result<Verdict, JudgeFault> {
     let mut a = Tally::new(texts.a.as_slice());
     let mut b = Tally::new(texts.b.as_slice());
-    if !any_period {
-        return judge_over(alloc, layers, &mut a, &mut b);
-    }
-    match layers {
-        Layers::Both => judge_any_period(alloc, &mut a, &mut b),
-        Layers::Queued => judge_queued_any_period(alloc, &mut a, &mut b),
-        Layers::Station => judge_line_any_period(alloc, &mut a, &mut b),
+    match judge(
+        alloc,
+        JudgedAs { layers, any_period },
+        &mut a,
+        &mut b,
+        Nobody,
+    ) {
+        Ok(watched) => {
+            let verdict = watched.ends.verdict();
+            let_go(watched.ends);
+            Ok(verdict)
+        }
+        Err(fault) => Err(fault),
     }
 }
 

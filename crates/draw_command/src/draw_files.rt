@@ -6,7 +6,7 @@ ghost use Rattle.drawing.specs.declared.range.TheConstants.{MAX_ROWS};
 use crate::all_draw::{AllFound, all_found, all_marked, all_words, marked_rows};
 use crate::all_drawn::{AllDrawn, all_drawn};
 use crate::draw::draw_rows_to;
-use crate::picture::{Above, NoPicture, layers_of, let_go, picture_of, svg_below};
+use crate::picture::{Above, NoPicture, let_go, picture_of, svg_below};
 use all_answer::all_judged::AllFault;
 use all_answer::all_pair::{PairCaptures, Telling};
 use all_answer::all_stops::OfLine;
@@ -214,7 +214,7 @@ fn all_picture<A: Read + Seek, B: Read + Seek>(
         marked: marked.as_slice(),
         is_checked: all.is_shown,
     };
-    svg_below(alloc, asked.range.judging, &all.pair, a, b, above)
+    svg_below(alloc, asked.range.layers, &all.pair, a, b, above)
 }
 
 // The captures of these files.
@@ -224,7 +224,7 @@ fn captures_of<'n, 'a, 'b, A: Read + Seek, B: Read + Seek>(
     b: &'b mut B,
 ) -> PairCaptures<'n, 'a, 'b, A, B> {
     let printout = Printout {
-        layers: layers_of(asked.range.judging),
+        layers: asked.range.layers,
         form: Form::Rows,
         full: false,
         name_a: asked.a,

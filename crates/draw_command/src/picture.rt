@@ -3,16 +3,15 @@
 ghost use Rattle.std.specs.Prelude.{◌≤◌, IfOk};
 ghost use Rattle.ladder.specs.Xml.{IsDocument};
 ghost use Rattle.pair_judge.specs.Judged.{IsAnswer};
-ghost use Rattle.drawing.specs.Drawing.{kind_by};
+ghost use Rattle.pair_judge.specs.JudgedAs.{nodes_of};
 ghost use Rattle.drawing.specs.declared.range.TheConstants.{MAX_ROWS};
 ghost use Rattle.draw_command.specs.PrintedDrawing.{verdict_answered};
 
 use capture::CaptureFault;
 use ddcmp_msg::read_unit;
-use drawing::{DrawnPair, Judging, MAX_ROWS, Range, drawing_of};
+use drawing::{DrawnPair, MAX_ROWS, Range, drawing_of};
 use ladder::{Caption, Marked};
-use pair_judge::{JudgeFault, JudgedEnds, TextFault, Verdict};
-use printing::layers::{Layers, failed_over};
+use pair_judge::{JudgeFault, JudgedEnds, Layers, TextFault, Verdict};
 use record_words::lines::Lines;
 use std::alloc::{AllocError, Global};
 use std::io::{Read, Seek};
@@ -49,14 +48,14 @@ pub fn picture_of<A: Read + Seek, B: Read + Seek>(
 ) -> Result<Picture, JudgeFault>
     requires low { 1 ≤ range.rows }
     requires high { range.rows ≤ MAX_ROWS }
-    ensures answer { IsAnswer (kind_by range.judging) (A.remaining a.old) (B.remaining b.old) (verdict_answered result) }
+    ensures answer { IsAnswer (nodes_of range.layers) (A.remaining a.old) (B.remaining b.old) (verdict_answered result) }
     ensures picture { IfOk result (λ picture. IsDocument picture.svg.items) }
 {
     let pair = match drawing_of(alloc, a, b, range) {
         Ok(pair) => pair,
         Err(fault) => return Err(fault),
     };
-    let svg = svg_of(alloc, range.judging, &pair, a, b, title);
+    let svg = svg_of(alloc, range.layers, &pair, a, b, title);
     let verdict = pair.ends.verdict();
     let_go(pair.ends);
     match svg {
@@ -73,7 +72,7 @@ pub fn picture_of<A: Read + Seek, B: Read + Seek>(
 
 fn svg_of<A: Read + Seek, B: Read + Seek>(
     alloc: Global,
-    judging: Judging,
+    layers: Layers,
     pair: &DrawnPair,
     a: &mut A,
     b: &mut B,
@@ -90,7 +89,7 @@ fn svg_of<A: Read + Seek, B: Read + Seek>(
         marked: &[],
         is_checked: true,
     };
-    svg_below(alloc, judging, pair, a, b, above)
+    svg_below(alloc, layers, pair, a, b, above)
 }
 
 /// What is written above the rows of a picture, and which records get a box beside the refused one.
@@ -106,7 +105,7 @@ pub struct Above<'t> {
 /// The rows of a pair as a picture below these words. `Err`: memory was wanting, or a read failed.
 pub fn svg_below<A: Read + Seek, B: Read + Seek>(
     alloc: Global,
-    judging: Judging,
+    layers: Layers,
     pair: &DrawnPair,
     a: &mut A,
     b: &mut B,
@@ -115,7 +114,7 @@ pub fn svg_below<A: Read + Seek, B: Read + Seek>(
     ensures { IfOk result (λ text. IsDocument text.items) }
 {
     let check = match above.is_checked {
-        true => checked(alloc, judging, pair, a, b)?,
+        true => checked(alloc, layers, pair, a, b)?,
         false => String::new(alloc),
     };
     let (seen, allowed) = seen_and_allowed(check.as_str());
@@ -135,7 +134,7 @@ pub fn svg_below<A: Read + Seek, B: Read + Seek>(
 // What is said of the check that the refused record does not pass. `Err`: memory was wanting, or a read failed.
 fn checked<A: Read + Seek, B: Read + Seek>(
     alloc: Global,
-    judging: Judging,
+    layers: Layers,
     pair: &DrawnPair,
     a: &mut A,
     b: &mut B,
@@ -144,7 +143,7 @@ fn checked<A: Read + Seek, B: Read + Seek>(
         Ok(unit) => unit,
         Err(why) => return Err(why),
     };
-    match check_words(alloc, judging, &pair.ends, &unit) {
+    match check_words(alloc, layers, &pair.ends, &unit) {
         Ok(words) => Ok(words),
         Err(_) => Err(NoPicture::Memory),
     }
@@ -170,29 +169,17 @@ fn verdict_words(alloc: Global, verdict: Verdict) -> Result<String, AllocError> 
 /// does so once.
 pub(crate) fn let_go(_ends: JudgedEnds) {}
 
-/// The layers that are judged so.
-pub fn layers_of(judging: Judging) -> Layers {
-    match judging {
-        Judging::Links => Layers::Both,
-        Judging::Queued => Layers::Queued,
-        Judging::Line => Layers::Station,
-    }
-}
-
 // What is said of the check that the refused record does not pass, as an object; nothing where none is refused.
 fn check_words(
     alloc: Global,
-    judging: Judging,
+    layers: Layers,
     ends: &JudgedEnds,
     unit: &Option<Vec<u8>>,
 ) -> Result<String, AllocError> {
     let Verdict::Refused { side, reason, .. } = ends.verdict() else {
         return Ok(String::new(alloc));
     };
-    let (Some((_, failed)), Some((entry, bytes))) = (
-        failed_over(layers_of(judging), ends),
-        ends.ahead(side),
-    ) else {
+    let (Some((_, failed)), Some((entry, bytes))) = (ends.failed(layers), ends.ahead(side)) else {
         return Ok(String::new(alloc));
     };
     if failed.reason() != reason {

@@ -17,18 +17,18 @@ use Rattle.pair_judge.specs.Watched.{WasTold}
 use Rattle.pair_judge.specs.declared.fault.JudgeFault.{JudgeFault}
 use Rattle.pair_judge.specs.declared.fault.JudgeFault.TheVariants.{Capture, OutOfMemory}
 use Rattle.pair_judge.specs.declared.fault.TextFault.TheVariants.{Departs, Read}
+use Rattle.pair_judge.specs.JudgedAs.{nodes_of}
 use Rattle.pair_judge.specs.declared.reason.Reason.{Reason}
 use Rattle.pair_judge.specs.declared.verdict.Verdict.{Verdict}
 use Rattle.pair_judge.specs.declared.verdict.Verdict.TheVariants.{Accepted, Refused}
 use Rattle.pair_judge.proofs.Orders.{told_so}
 use Rattle.drawing.specs.declared.begun.Begun.{Begun}
 use Rattle.drawing.specs.declared.drawing.DrawnPair.{DrawnPair}
-use Rattle.drawing.specs.declared.range.Judging.{Judging}
 use Rattle.drawing.specs.declared.range.Range.{Range}
 use Rattle.drawing.specs.declared.range.Start.{Start}
 use Rattle.drawing.specs.declared.telling.BothEnds.{BothEnds}
 use Rattle.drawing.specs.declared.telling.Onward.{Onward}
-use Rattle.drawing.specs.Drawing.{IsDrawing, IsLadder, IsLadderBy, IsPicture, TellsAhead, kind_by}
+use Rattle.drawing.specs.Drawing.{IsDrawing, IsLadder, IsLadderBy, IsPicture, TellsAhead}
 use Rattle.drawing.specs.Telling.{WereTold, keep_by, keep_for, keep_of}
 use Rattle.drawing.specs.inner.Ending.{EndsDrawing, IsBegun}
 use Rattle.drawing.specs.inner.Kept.{IsEnds, IsOnward, Rest}
@@ -84,15 +84,10 @@ failed_answer nodes text_a text_b fault fails = record {
   faulty = faulty_by nodes text_a text_b fault fails;
 }
 
--- by whichever judge
-pub answered : (judging which : Judging) (text_a text_b : Option (List ℕ)) (answer : Answer) → judging ≡ which
-    → IsAnswer (kind_by which) text_a text_b answer → IsAnswer (kind_by judging) text_a text_b answer
-answered judging which text_a text_b answer is so = subst (λ (j : Judging). IsAnswer (kind_by j) text_a text_b answer) (sym is) so
-
 -- the rows of a ladder that was told of what is kept
 picture_so : (range : Range) (text_a text_b : Option (List ℕ)) (ends : ShownEnds) (drawn : DrawnView) (begun : Begun) (after : LadderView)
-    → (order : WasTold (kind_by range.judging) text_a text_b ends (IsBegun (keep_of range ends.verdict) range.rows begun))
-    → IsAnswer (kind_by range.judging) text_a text_b (Ok ends.verdict)
+    → (order : WasTold (nodes_of range.layers) text_a text_b ends (IsBegun (keep_of range ends.verdict) range.rows begun))
+    → IsAnswer (nodes_of range.layers) text_a text_b (Ok ends.verdict)
     → ((rest : List MadeRecord) → Rest begun.is_all rest → IsLadderBy rest ends.verdict ends begun.ladder after)
     → IsDrawn after.kept after.ended drawn → IsPicture range text_a text_b ends.verdict drawn
 picture_so range text_a text_b ends drawn begun after told judged ending drawn_so =
@@ -103,31 +98,31 @@ picture_so range text_a text_b ends drawn begun after told judged ending drawn_s
       gives = refl;
       made = begun.ladder;
       rest = all.0;
-      told = told_so (kind_by range.judging) text_a text_b ends _ (WereTold (keep_of range ends.verdict) range.rows begun.ladder all.0) told all.1;
+      told = told_so (nodes_of range.layers) text_a text_b ends _ (WereTold (keep_of range ends.verdict) range.rows begun.ladder all.0) told all.1;
       after = after;
       ladder = ending all.0 all.2;
       drawn_so = drawn_so;
     }
 
 drawing_so : (range : Range) (text_a text_b : Option (List ℕ)) (ends : ShownEnds) (begun : Begun) (result : Result DrawnPair JudgeFault)
-    → IsAnswer (kind_by range.judging) text_a text_b (Ok ends.verdict)
-    → WasTold (kind_by range.judging) text_a text_b ends (IsBegun (keep_of range ends.verdict) range.rows begun)
+    → IsAnswer (nodes_of range.layers) text_a text_b (Ok ends.verdict)
+    → WasTold (nodes_of range.layers) text_a text_b ends (IsBegun (keep_of range ends.verdict) range.rows begun)
     → EndsDrawing ends begun result → IsDrawing range text_a text_b result
 drawing_so range text_a text_b ends begun (Ok pair) judged told ending =
     subst (λ (shown : ShownEnds). IsPicture range text_a text_b shown.verdict pair.drawn) (sym ending.1)
     (picture_so range text_a text_b ends pair.drawn begun ending.0 told judged ending.2 ending.3)
-drawing_so range text_a text_b ends begun (Err fault) judged told fails = failed_answer (kind_by range.judging) text_a text_b fault fails
+drawing_so range text_a text_b ends begun (Err fault) judged told fails = failed_answer (nodes_of range.layers) text_a text_b fault fails
 
 pub ends_so : (range : Range) (text_a text_b : Option (List ℕ)) (ends : ShownEnds) (telling : BothEnds) (begun : Begun)
-    (result : Result DrawnPair JudgeFault) → range.start ≡ None → IsAnswer (kind_by range.judging) text_a text_b (Ok ends.verdict)
-    → WasTold (kind_by range.judging) text_a text_b ends (IsEnds telling)
+    (result : Result DrawnPair JudgeFault) → range.start ≡ None → IsAnswer (nodes_of range.layers) text_a text_b (Ok ends.verdict)
+    → WasTold (nodes_of range.layers) text_a text_b ends (IsEnds telling)
     → ((order : List MadeRecord) → IsEnds telling order → IsBegun (keep_for keep.First keep.Last ends.verdict) range.rows begun order)
     → EndsDrawing ends begun result → IsDrawing range text_a text_b result
 ends_so range text_a text_b ends telling begun result none judged told begins ending =
     let keeps : keep_of range ends.verdict ≡ keep_for keep.First keep.Last ends.verdict =
     ap (λ (start : Option Start). keep_for (keep_by keep.First start) (keep_by keep.Last start) ends.verdict) none in
     drawing_so range text_a text_b ends begun result judged
-    (told_so (kind_by range.judging) text_a text_b ends (IsEnds telling) (IsBegun (keep_of range ends.verdict) range.rows begun) told
+    (told_so (nodes_of range.layers) text_a text_b ends (IsEnds telling) (IsBegun (keep_of range ends.verdict) range.rows begun) told
     (subst (λ (k : Keep). IsBegun k range.rows begun told.order) (sym keeps) (begins told.order told.is_told)))
     ending
 
@@ -136,8 +131,8 @@ same_keep side line (Accepted summary) = refl
 same_keep side line (Refused at place reason) = refl
 
 pub onward_so : (range : Range) (text_a text_b : Option (List ℕ)) (ends : ShownEnds) (telling : Onward) (start : Start) (begun : Begun)
-    (result : Result DrawnPair JudgeFault) → range.start ≡ Some start → IsAnswer (kind_by range.judging) text_a text_b (Ok ends.verdict)
-    → WasTold (kind_by range.judging) text_a text_b ends (IsOnward telling)
+    (result : Result DrawnPair JudgeFault) → range.start ≡ Some start → IsAnswer (nodes_of range.layers) text_a text_b (Ok ends.verdict)
+    → WasTold (nodes_of range.layers) text_a text_b ends (IsOnward telling)
     → ((order : List MadeRecord) → IsOnward telling order → IsBegun (keep.From start.side start.line) range.rows begun order)
     → EndsDrawing ends begun result → IsDrawing range text_a text_b result
 onward_so range text_a text_b ends telling start begun result some judged told begins ending =
@@ -145,7 +140,7 @@ onward_so range text_a text_b ends telling start begun result some judged told b
     ap (λ (s : Option Start). keep_for (keep_by keep.First s) (keep_by keep.Last s) ends.verdict) some
     ∙ same_keep start.side start.line ends.verdict in
     drawing_so range text_a text_b ends begun result judged
-    (told_so (kind_by range.judging) text_a text_b ends (IsOnward telling) (IsBegun (keep_of range ends.verdict) range.rows begun) told
+    (told_so (nodes_of range.layers) text_a text_b ends (IsOnward telling) (IsBegun (keep_of range ends.verdict) range.rows begun) told
     (subst (λ (k : Keep). IsBegun k range.rows begun told.order) (sym keeps) (begins told.order told.is_told)))
     ending
 

@@ -5,13 +5,12 @@ use Rattle.wire_base.specs.Tally.{AppendsBeginning, CountedFault}
 use Rattle.wire_base.specs.declared.side.Side.{Side}
 use Rattle.capture_record.specs.Entries.{record_with}
 use Rattle.capture_record.specs.declared.entry.Entry.{Entry}
-use Rattle.dna_links.specs.declared.queue.Queues.TheVariants.{With}
-use Rattle.dna_node.specs.Kind.{NodeKind, both_layers, layers_kind, stations_alone}
 use Rattle.ladder.specs.Drawn.{DrawnView, IsDrawn}
 use Rattle.ladder.specs.Ladder.{LadderView, refused}
 use Rattle.pair_judge.specs.Ends.{ShownEnds}
 use Rattle.pair_judge.specs.Finding.{of_side}
 use Rattle.pair_judge.specs.Judged.{IsAnswer}
+use Rattle.pair_judge.specs.JudgedAs.{nodes_of}
 use Rattle.pair_judge.specs.Order.{MadeRecord}
 use Rattle.pair_judge.specs.Reason.{is_of_changed_bytes}
 use Rattle.pair_judge.specs.Watched.{WasTold}
@@ -22,17 +21,8 @@ use Rattle.pair_judge.specs.declared.fault.JudgeFault.{JudgeFault}
 use Rattle.drawing.specs.declared.drawing.DrawnPair.{DrawnPair}
 use Rattle.drawing.specs.declared.fault.DrawFault.{DrawFault}
 use Rattle.drawing.specs.declared.fault.DrawFault.TheVariants.{Judge, Write}
-use Rattle.drawing.specs.declared.range.Judging.{Judging}
-use Rattle.drawing.specs.declared.range.Judging.TheVariants as judging
 use Rattle.drawing.specs.declared.range.Range.{Range}
 use Rattle.drawing.specs.Telling.{WereFollowed, WereTold, keep_of}
-
--- ---- what is judged
-
-abbrev pub kind_by : Judging → NodeKind
-kind_by judging.Links = both_layers
-kind_by judging.Queued = layers_kind With
-kind_by judging.Line = stations_alone
 
 -- ---- the ladder
 
@@ -63,12 +53,12 @@ IsLadderBy (next ∷ more) verdict ends made after = after ≡ made
 -- This is drawn of two texts in this range: the judge answers the verdict of them, and the ladder was told of the records in an order in which
 -- two nodes can make them, and then of the refused one.
 pub record IsPicture (range : Range) (text_a text_b : Option (List ℕ)) (verdict : Verdict) (drawn : DrawnView) : Type 0 where
-  pub judged : IsAnswer (kind_by range.judging) text_a text_b (Ok verdict)
+  pub judged : IsAnswer (nodes_of range.layers) text_a text_b (Ok verdict)
   pub ends : ShownEnds
   pub gives : ends.verdict ≡ verdict
   pub made : LadderView
   pub rest : List MadeRecord
-  pub told : WasTold (kind_by range.judging) text_a text_b ends (WereTold (keep_of range verdict) range.rows made rest)
+  pub told : WasTold (nodes_of range.layers) text_a text_b ends (WereTold (keep_of range verdict) range.rows made rest)
   pub after : LadderView
   pub ladder : IsLadderBy rest verdict ends made after
   pub drawn_so : IsDrawn after.kept after.ended drawn
@@ -77,7 +67,7 @@ pub record IsPicture (range : Range) (text_a text_b : Option (List ℕ)) (verdic
 
 abbrev pub IsDrawing : Range → (text_a text_b : Option (List ℕ)) → Result DrawnPair JudgeFault → Type 0
 IsDrawing range text_a text_b (Ok pair) = IsPicture range text_a text_b pair.ends.verdict pair.drawn
-IsDrawing range text_a text_b (Err fault) = IsAnswer (kind_by range.judging) text_a text_b (Err fault)
+IsDrawing range text_a text_b (Err fault) = IsAnswer (nodes_of range.layers) text_a text_b (Err fault)
 
 -- ---- what is written
 
@@ -98,4 +88,4 @@ Draws range text_a text_b out (Err Write) =
     (verdict : Verdict) × (drawn : DrawnView) × IsPicture range text_a text_b verdict drawn
     × (text : List ℕ) × AppendsBeginning out.old out.new text × CountedFault out.old_faults out.new_faults
 Draws range text_a text_b out (Err (Judge fault)) =
-    IsAnswer (kind_by range.judging) text_a text_b (Err fault) × (out.new ≡ out.old) × (out.new_faults ≡ out.old_faults)
+    IsAnswer (nodes_of range.layers) text_a text_b (Err fault) × (out.new ≡ out.old) × (out.new_faults ≡ out.old_faults)

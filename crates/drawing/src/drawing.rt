@@ -4,6 +4,7 @@ ghost use Rattle.std.specs.Prelude.{◌≡◌, ◌≤◌, [], IfErr, IfOk, List,
 ghost use Rattle.ladder.specs.declared.rows.Keep.TheVariants.{First, Last};
 ghost use Rattle.pair_judge.specs.Ends.{verdict_in};
 ghost use Rattle.pair_judge.specs.Judged.{IsAnswer, JudgesOrFails};
+ghost use Rattle.pair_judge.specs.JudgedAs.{nodes_of};
 ghost use Rattle.pair_judge.specs.Order.{MadeRecord};
 ghost use Rattle.pair_judge.specs.Watched.{WasTold, only};
 ghost use Rattle.wire_base.specs.Tally.{tally_faults, tally_lent};
@@ -16,18 +17,15 @@ ghost use Rattle.drawing.specs.inner.Kept.{IsEnds, Rest};
 use crate::begun::Begun;
 use crate::behind::tell_behind;
 use crate::fault::DrawFault;
-use crate::range::{Judging, MAX_ROWS, Range, Start};
+use crate::range::{MAX_ROWS, Range, Start};
 use crate::telling::{BothEnds, Onward};
 use ladder::{Drawn, Ladder};
-use pair_judge::{
-    JudgeFault, JudgedEnds, Observer, Reason, Verdict, Watched, judge_line_told, judge_queued_told,
-    judge_told,
-};
+use pair_judge::{JudgeFault, JudgedEnds, Layers, Observer, Reason, Verdict, Watched, judge};
 use std::alloc::{AllocError, Global};
 use std::io::{Read, Seek, Write};
 use wire_base::{Side, Tally, write_whole};
 
-/// The rows of a pair, with both ends as `judge_told` shows them: which record of each is ahead, and how many were made.
+/// The rows of a pair, with both ends as `judge` gives them: which record of each is ahead, and how many were made.
 #[derive(Drop)]
 pub struct DrawnPair {
     pub ends: JudgedEnds,
@@ -70,7 +68,7 @@ pub fn draw_to<A: Read + Seek, B: Read + Seek, O: Write>(
     }
 }
 
-/// The rows of this range, with both ends as `judge_told` shows them. `Err`: there is no verdict, memory was wanting, or a read failed.
+/// The rows of this range, with both ends as `judge` gives them. `Err`: there is no verdict, memory was wanting, or a read failed.
 pub fn drawing_of<A: Read + Seek, B: Read + Seek>(
     alloc: Global,
     a: &mut A,
@@ -103,7 +101,7 @@ fn ends_drawn<A: Read + Seek, B: Read + Seek>(
     let Ok(telling) = BothEnds::new(alloc) else {
         return Err(JudgeFault::OutOfMemory);
     };
-    let Watched { ends, observer } = match judged(alloc, a, b, range.judging, telling) {
+    let Watched { ends, observer } = match judged(alloc, a, b, range.layers, telling) {
         Ok(watched) => watched,
         Err(fault) => return Err(fault),
     };
@@ -130,7 +128,7 @@ fn onward_drawn<A: Read + Seek, B: Read + Seek>(
     let Ok(telling) = Onward::new(alloc, start) else {
         return Err(JudgeFault::OutOfMemory);
     };
-    let Watched { ends, observer } = match judged(alloc, a, b, range.judging, telling) {
+    let Watched { ends, observer } = match judged(alloc, a, b, range.layers, telling) {
         Ok(watched) => watched,
         Err(fault) => return Err(fault),
     };
@@ -145,38 +143,24 @@ fn judged<O: Observer, A: Read, B: Read>(
     alloc: Global,
     a: &mut A,
     b: &mut B,
-    judging: Judging,
+    layers: Layers,
     observer: O,
 ) -> Result<Watched<O>, JudgeFault>
     requires { O.told observer [] }
-    ensures answer { IsAnswer (spec.kind_by judging) (A.remaining a.old) (B.remaining b.old)
+    ensures answer { IsAnswer (nodes_of layers) (A.remaining a.old) (B.remaining b.old)
         (verdict_in (only result (λ watched. watched.ends))) }
     ensures told { IfOk result (λ watched.
-        WasTold (spec.kind_by judging) (A.remaining a.old) (B.remaining b.old) watched.ends (O.told watched.observer)) }
+        WasTold (nodes_of layers) (A.remaining a.old) (B.remaining b.old) watched.ends (O.told watched.observer)) }
 {
     let mut reader_a = Tally::new(&mut *a);
     let mut reader_b = Tally::new(&mut *b);
-    judged_by(alloc, &mut reader_a, &mut reader_b, judging, observer)
-}
-
-fn judged_by<O: Observer, A: Read, B: Read>(
-    alloc: Global,
-    a: &mut Tally<A>,
-    b: &mut Tally<B>,
-    judging: Judging,
-    observer: O,
-) -> Result<Watched<O>, JudgeFault>
-    requires { O.told observer [] }
-    ensures answer { IsAnswer (spec.kind_by judging) (A.remaining (tally_lent a.old)) (B.remaining (tally_lent b.old))
-        (verdict_in (only result (λ watched. watched.ends))) }
-    ensures told { IfOk result (λ watched. WasTold (spec.kind_by judging) (A.remaining (tally_lent a.old)) (B.remaining (tally_lent b.old))
-        watched.ends (O.told watched.observer)) }
-{
-    match judging {
-        Judging::Links => judge_told(alloc, a, b, observer),
-        Judging::Queued => judge_queued_told(alloc, a, b, observer),
-        Judging::Line => judge_line_told(alloc, a, b, observer),
-    }
+    judge(
+        alloc,
+        layers.of_period(),
+        &mut reader_a,
+        &mut reader_b,
+        observer,
+    )
 }
 
 // A ladder that was told of the first records of an accepted pair, or of the last ones of a refused pair.

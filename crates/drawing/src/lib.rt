@@ -17,4 +17,4 @@ mod told_record;
 pub use behind::tell_behind;
 pub use drawing::{DrawnPair, draw_to, drawing_of};
 pub use fault::DrawFault;
-pub use range::{Judging, MAX_ROWS, ROWS, Range, Start};
+pub use range::{MAX_ROWS, ROWS, Range, Start};

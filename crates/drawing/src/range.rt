@@ -1,5 +1,6 @@
 //! Which rows are drawn.
 
+use pair_judge::Layers;
 use wire_base::Side;
 
 /// As many rows are drawn where no number is named.
@@ -15,19 +16,8 @@ pub struct Range {
     pub start: Option<Start>,
     /// How many they are at most, 1 to `MAX_ROWS`.
     pub rows: usize,
-    /// How both captures are judged.
-    pub judging: Judging,
-}
-
-/// How both captures are judged.
-#[derive(Clone, Copy, PartialEq, Eq)]
-pub enum Judging {
-    /// Stations with their links, as by [`pair_judge::judge`].
-    Links,
-    /// The same, of nodes with queues, as by [`pair_judge::judge_queued`].
-    Queued,
-    /// Stations and line alone, as by [`pair_judge::judge_line`].
-    Line,
+    /// Over which layers both captures are judged.
+    pub layers: Layers,
 }
 
 /// A record, by its side and its line.

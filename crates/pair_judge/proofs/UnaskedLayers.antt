@@ -44,13 +44,16 @@ use Rattle.dna_node.specs.Verdict.{IsVerdict}
 use Rattle.dna_node.specs.TagRules.{Rules}
 use Rattle.dna_node.specs.WireLayers as layers
 use Rattle.dna_node.specs.WireLayers.{WireLayers, LayersTag}
+use Rattle.pair_judge.specs.declared.fault.JudgeFault.{JudgeFault}
 use Rattle.pair_judge.specs.declared.reason.Reason.TheVariants as reasons
 use Rattle.pair_judge.specs.declared.verdict.Verdict.TheVariants as verdicts
 use Rattle.pair_judge.specs.declared.verdict.Verdict.TheVariants.{Accepted}
 use Rattle.pair_judge.specs.AnyPeriod.{AsksNoPeriod, any_period_by}
+use Rattle.pair_judge.specs.Ends.{ShownEnds, verdict_in}
 use Rattle.pair_judge.specs.Heads.{head_of}
 use Rattle.pair_judge.specs.Judged.{Answer, IsRefusalWhere}
 use Rattle.pair_judge.specs.Reason.{reason_of, reason_of_links, reason_of_station, reason_of_step}
+use Rattle.pair_judge.specs.Watched.{only}
 use Rattle.pair_judge.proofs.Unasked.{IsOther, RefusesOther, line, line_arrives, line_sends, line_user, refused_so}
 
 -- ---- both layers
@@ -182,3 +185,9 @@ module _ (kind : NodeKind) (refuses : RefusesOther kind.machine) where
       λ e. cause_so (head_of i.read_a) (head_of i.read_b) i.read_a.records i.read_b.records side place i.cause
       (i.finding i.read_a.records i.read_b.records (itself i.read_a.behind i.read_a.records) (itself i.read_b.behind i.read_b.records)).verdict
       (sym i.is_reason ∙ e)
+
+  -- the same of a verdict with both ends
+  pub unasked_ends : {W : Type 0} (text_a text_b : Option (List ℕ)) (ends : W → ShownEnds) (watched : Result W JudgeFault) →
+      IsRefusalWhere kind text_a text_b (verdict_in (only watched ends)) → IfOk watched (λ w. AsksNoPeriod (ends w).verdict)
+  unasked_ends text_a text_b ends (Err fault) i = tt
+  unasked_ends text_a text_b ends (Ok w) i = unasked text_a text_b (Ok (ends w).verdict) i

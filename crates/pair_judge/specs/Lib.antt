@@ -8,6 +8,7 @@ pub mod FailedCheck
 pub mod Faulty
 pub mod Refusal
 pub mod Judged
+pub mod JudgedAs
 pub mod AnyPeriod
 pub mod EndKind
 pub mod EndJudged

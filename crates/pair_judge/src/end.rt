@@ -2,7 +2,7 @@
 
 ghost use Rattle.std.specs.Prelude.{◌≡◌};
 
-use crate::layers::Layers;
+use crate::layers::SideLayers;
 use crate::line::Line;
 use crate::summary::SideSummary;
 use crate::top::Top;
@@ -13,7 +13,7 @@ use dna_station::Head;
 #[derive(Drop)]
 pub struct End {
     pub head: Head,
-    pub layers: Layers,
+    pub layers: SideLayers,
     pub line: Line,
     pub counts: SideSummary,
 }

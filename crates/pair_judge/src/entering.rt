@@ -15,7 +15,7 @@ ghost use Rattle.pair_judge.specs.inner.Making.{IsCarriedEntry, IsEvent};
 ghost use Rattle.pair_judge.specs.inner.Memory.{IfNoMemory, MayTakeMemory};
 ghost use Rattle.pair_judge.specs.inner.Steps.{IfRefused};
 
-use crate::layers::Layers;
+use crate::layers::SideLayers;
 use crate::step_fault::StepFault;
 use crate::summary::SideSummary;
 use crate::top::Top;
@@ -28,7 +28,7 @@ use nsp_link::LinkEvent;
 /// `Refused`: no node may do it. Then nothing changed. `OutOfMemory`: there is no memory for what the links keep of it.
 #[inline(always)]
 pub fn enter<T: Top>(
-    layers: &mut Layers,
+    layers: &mut SideLayers,
     counts: &mut SideSummary,
     entry: Entry,
     bytes: &[u8],
@@ -78,7 +78,7 @@ pub fn enter<T: Top>(
 // The station is started or halted.
 #[inline(always)]
 fn at_station<T: Top>(
-    layers: &mut Layers,
+    layers: &mut SideLayers,
     counts: &mut SideSummary,
     event: StationEvent,
 ) -> Result<(), StepFault>
@@ -102,7 +102,7 @@ fn at_station<T: Top>(
 // An event of one link.
 #[inline(always)]
 fn at_links<T: Top>(
-    layers: &mut Layers,
+    layers: &mut SideLayers,
     counts: &mut SideSummary,
     event: LinkEvent,
 ) -> Result<(), StepFault>
@@ -126,7 +126,7 @@ fn at_links<T: Top>(
 
 // The node starts anew.
 #[inline(always)]
-fn boot<T: Top>(layers: &mut Layers, counts: &mut SideSummary)
+fn boot<T: Top>(layers: &mut SideLayers, counts: &mut SideSummary)
     requires room { HasRoomFor counts.old }
     requires load { load layers.old.station < 2 ^ 63 }
     ensures { IsEntered T.top layers.old layers.new counts.old counts.new (User Event.Boot) }
@@ -138,7 +138,7 @@ fn boot<T: Top>(layers: &mut Layers, counts: &mut SideSummary)
 // A packet is composed that will never be sent.
 #[inline(always)]
 fn composed<T: Top>(
-    layers: &mut Layers,
+    layers: &mut SideLayers,
     counts: &mut SideSummary,
     packet: &[u8],
 ) -> Result<(), StepFault>

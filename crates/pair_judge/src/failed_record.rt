@@ -13,7 +13,7 @@ ghost use Rattle.pair_judge.specs.inner.Making.{is_receipt};
 
 use crate::failed_check::{FailedCheck, NotSound};
 use crate::held_link::HeldLink;
-use crate::layers::Layers;
+use crate::layers::SideLayers;
 use crate::line::Line;
 use crate::receipt::coming;
 use capture_record::{Entry, Fate};
@@ -25,7 +25,7 @@ use nsp_link::LinkEvent;
 /// allowed; `None` where it is made, or waits. The record is that of the entry and these bytes. Takes no memory.
 #[tactic(auto, using(crate::proofs::Entries::no_receipt))]
 pub fn failed_record<const QUEUES: u8>(
-    layers: &Layers,
+    layers: &SideLayers,
     incoming: &Line,
     entry: Entry,
     bytes: &[u8],
@@ -42,7 +42,7 @@ pub fn failed_record<const QUEUES: u8>(
 
 /// The same of a record that is no receipt, for which nothing is asked of the line. Takes no memory.
 pub fn failed_own<const QUEUES: u8>(
-    layers: &Layers,
+    layers: &SideLayers,
     entry: Entry,
     bytes: &[u8],
 ) -> Option<FailedCheck>
@@ -83,7 +83,7 @@ pub fn failed_own<const QUEUES: u8>(
 }
 
 // Bytes that are sent.
-fn failed_sent<const QUEUES: u8>(layers: &Layers, bytes: &[u8]) -> Option<FailedCheck>
+fn failed_sent<const QUEUES: u8>(layers: &SideLayers, bytes: &[u8]) -> Option<FailedCheck>
     ensures { result ≡ spec.failed_sent (queues_of QUEUES) layers.now (reading bytes.now) }
 {
     match read_unit(bytes) {
@@ -98,7 +98,7 @@ fn failed_sent<const QUEUES: u8>(layers: &Layers, bytes: &[u8]) -> Option<Failed
 
 // Bytes that come for the unit with this number.
 fn failed_receipt<const QUEUES: u8>(
-    layers: &Layers,
+    layers: &SideLayers,
     incoming: &Line,
     hint: u64,
     fate: Fate,
@@ -122,7 +122,7 @@ fn failed_receipt<const QUEUES: u8>(
 }
 
 // Bytes that nobody sent.
-fn failed_noise(layers: &Layers, bytes: &[u8]) -> Option<FailedCheck>
+fn failed_noise(layers: &SideLayers, bytes: &[u8]) -> Option<FailedCheck>
     ensures { result ≡ spec.failed_noise layers.now (damage (reading bytes.now)) }
 {
     let no_tag = HeldLink::new(&None);

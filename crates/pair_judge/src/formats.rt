@@ -20,9 +20,9 @@ use dna_node::{
 };
 use dna_station::wire_nodes_see_right;
 
-/// The same two captures are judged alike in whichever format their texts are, as of a capture and of what it was converted to. What `judge`
-/// (and `judge_line`) answers of two such texts is a verdict, want of memory or a failed read; and all their verdicts are one: `Accepted` with the
-/// same counts, or `Refused` with the same side, record and reason.
+/// The same two captures are judged alike in whichever format their texts are, as of a capture and of what it was converted to. What `judge` answers
+/// of two such texts, of both layers and of the line alone, is a verdict, want of memory or a failed read; and all their verdicts are one: `Accepted`
+/// with the same counts, or `Refused` with the same side, record and reason.
 pub fn judged_in_any_format()
     ensures alike { (a b : WholeCapture) (bytes_a bytes_b other_a other_b : List ℕ) (verdict other : Judgement) →
         AreTexts a b bytes_a bytes_b → AreTexts a b other_a other_b →
@@ -41,9 +41,9 @@ pub fn judged_in_any_format()
     whole_text();
 }
 
-/// What is judged of the nodes and what is judged of the line alone, of the same two texts. Where `judge` accepts them, `judge_line` does too,
-/// unless memory runs out or a read fails; so what `judge_line` refuses, `judge` never accepts, and of the texts of two captures it
-/// refuses them too, except for such a fault.
+/// What is judged of the nodes and what is judged of the line alone, of the same two texts. Where both layers are accepted, the line alone is
+/// too, unless memory runs out or a read fails; so where the line alone is refused, both layers are never accepted, and of the texts of two captures
+/// they are refused too, except for such a fault.
 pub fn line_is_judged_too()
     ensures accepted { (bytes_a bytes_b : List ℕ) (summary : Summary) (line : Answer) →
         IsAnswer both_layers (Some bytes_a) (Some bytes_b) (Ok (Accepted summary)) → IsAnswer stations_alone (Some bytes_a) (Some bytes_b) line →
@@ -56,8 +56,8 @@ pub fn line_is_judged_too()
     whole_text();
 }
 
-/// What is judged of nodes without queues and of nodes with them, of the same two texts. Where `judge` accepts them, `judge_queued` does, with the
-/// same counts, unless memory runs out or a read fails.
+/// What is judged of nodes without queues and of nodes with them, of the same two texts. Where they are accepted without queues, they are with
+/// them, with the same counts, unless memory runs out or a read fails.
 pub fn judged_with_queues_too()
     ensures { (bytes_a bytes_b : List ℕ) (summary : Summary) (queued : Answer) →
         IsAnswer both_layers (Some bytes_a) (Some bytes_b) (Ok (Accepted summary)) →
@@ -67,9 +67,9 @@ pub fn judged_with_queues_too()
     one_head_and_list();
 }
 
-/// What is judged of nodes that ask for periods and of nodes that ask for none, of the same two texts. Where `judge` accepts them,
-/// `judge_any_period` does, with the same counts, unless memory runs out or a read fails; and so with `judge_queued` and `judge_queued_any_period`,
-/// and with `judge_line` and `judge_line_any_period`. So what is refused without periods is never accepted with them.
+/// What is judged of nodes that ask for periods and of nodes that ask for none, of the same two texts. Where they are accepted as nodes that ask,
+/// they are as nodes that do not, with the same counts, unless memory runs out or a read fails; so of nodes without queues, of nodes with them, and
+/// of the line alone. So what is refused without periods is never accepted with them.
 pub fn judged_of_any_period_too()
     ensures nodes { (bytes_a bytes_b : List ℕ) (summary : Summary) (other : Answer) →
         IsAnswer both_layers (Some bytes_a) (Some bytes_b) (Ok (Accepted summary)) →

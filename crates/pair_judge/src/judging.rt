@@ -6,27 +6,24 @@ ghost use Rattle.wire_base.specs.Tally.{tally_faults, tally_lent};
 ghost use Rattle.wire_base.specs.declared.side.Side.{Side};
 ghost use Rattle.capture.specs.Faulty.{CountsReads};
 ghost use Rattle.capture.specs.Lines.{to_come};
-ghost use Rattle.dna_node.specs.Kind.{both_layers, stations_alone};
+ghost use Rattle.pair_judge.specs.JudgedAs.{AsksPeriods, NamesAsked, StandsAsked, nodes_asked};
 ghost use Rattle.pair_judge.specs.Ends.{verdict_in};
 ghost use Rattle.pair_judge.specs.Faulty.{IsJudgeFault, is_failed_read_of};
 ghost use Rattle.pair_judge.specs.Finding.{of_side};
-ghost use Rattle.pair_judge.specs.Judged.{IfTold, IsAcceptance, IsAnswer, IsExact, IsFaultyWhere, IsRefusalWhere};
+ghost use Rattle.pair_judge.specs.Judged.{IsAnswer};
 ghost use Rattle.pair_judge.specs.Watched.{WasTold, only};
 ghost use Rattle.pair_judge.specs.inner.Answer.{verdict_of};
 ghost use Rattle.pair_judge.specs.inner.Opened.{OpensAt};
 ghost use Rattle.pair_judge.specs.inner.Stopped.{AreShownIn, IsStoppedIn, ends_of};
 
-mod other_nodes;
-mod told;
-mod watched;
-
 use crate::course::{Ahead, Course};
 use crate::end::End;
 use crate::fault::JudgeFault;
+use crate::judged_as::{JudgedAs, Layers};
 use crate::judged_ends::{JudgedEnds, ends_with};
-use crate::layers::{Layers, LinksOnTop, NothingOnTop};
+use crate::layers::{LinksOnTop, NothingOnTop, SideLayers};
 use crate::line::Line;
-use crate::observer::{Nobody, Observer, Way};
+use crate::observer::{Observer, Way};
 use crate::reason::Reason;
 use crate::stopped::Stopped;
 use crate::summary::{SideSummary, Summary};
@@ -34,19 +31,13 @@ use crate::top::Top;
 use crate::turn::{side_fault, turn};
 use crate::verdict::Verdict;
 use capture::{CaptureReader, MAX_RECORDS, text_read_on, whole_text};
-use dna_node::Finding;
-use dna_station::Head;
-use nsp_link::WITHOUT_QUEUES;
-pub use other_nodes::{
-    judge_any_period, judge_line_any_period, judge_queued, judge_queued_any_period,
-};
+use ddcmp_station::view_shows_truth;
+use dna_links::LinkTag;
+use dna_node::{Finding, layers_run_as_stations, wire_layers_see_right};
+use dna_station::{Head, numbers_within_bounds};
+use nsp_link::{WITH_QUEUES, WITHOUT_QUEUES};
 use std::alloc::Global;
 use std::io::Read;
-pub use told::{
-    judge_any_period_told, judge_line_any_period_told, judge_line_told,
-    judge_queued_any_period_told, judge_queued_told, judge_told,
-};
-pub use watched::{Watched, judge_watched};
 use wire_base::{Side, Tally};
 
 // Each turn makes one record of a side or ends.
@@ -59,86 +50,91 @@ pub struct Found {
     pub summary: Summary,
 }
 
-/// Decides whether the texts that two readers give up to their ends are captures that together are a run of two nodes, each a DDCMP
-/// station with its NSP links on top, over a line that loses, damages and adds noise but never repeats or reorders units.
-///
-/// Both texts are opened, a's first. Then a record is read only when its turn comes: side a's next one as long as a is
-/// neither blocked nor at its end, and otherwise one of b; a side is blocked where its next record is the receipt of a unit not
-/// yet sent. So a fault that comes after the record of a refusal is not met. Of each direction only the units above the last
-/// hint received are held.
-///
-/// `Accepted`: both texts are texts of captures, all records of both are one run of two nodes whose numbers have no bound, what
-/// was delivered to each side is, in order, of what the other was offered, and on each link of what its partner was handed, and the
-/// summary is the counts of the records and of the links. Of two texts of captures that are a run nothing else is answered, apart from
-/// want of memory and a failed read.
-///
-/// `Refused`: however the texts go on after what was read of them by then, they are no run, and the named record is the place:
-/// it can't be made for this reason though all that it rests on can; or it waits for a unit that is never sent (`NoSuchUnit`); or
-/// neither side can go on (`NoOrder`). Where a record of each side can't be made, that of a is named; so the records alone tell what is
-/// answered, in whichever format they are spelled (`judged_in_any_format`).
-///
-/// `Capture`: the line of that side departs from the format as named, and all records before it, with those of the other side that
-/// were made, are a run; or a read of that side failed. `OutOfMemory`: an allocation was refused. At every answer but a failed read of a
-/// side the count of its reader's failed calls stays as it was. After any answer the readers have given what was read ahead,
-/// and nothing is said of the rest.
-///
-/// The contract says nothing of when `OutOfMemory` is answered, nor of the order of reading.
-pub fn judge<R: Read, S: Read>(
-    alloc: Global,
-    a: &mut Tally<R>,
-    b: &mut Tally<S>,
-) -> Result<Verdict, JudgeFault>
-    ensures exact { IfTold (R.remaining (tally_lent a.old)) (S.remaining (tally_lent b.old))
-        (λ bytes_a bytes_b. IsExact both_layers bytes_a bytes_b result) }
-    ensures accepted { IfTold (R.remaining (tally_lent a.old)) (S.remaining (tally_lent b.old))
-        (λ bytes_a bytes_b. IsAcceptance both_layers bytes_a bytes_b result) }
-    ensures refused { IsRefusalWhere both_layers (R.remaining (tally_lent a.old)) (S.remaining (tally_lent b.old)) result }
-    ensures faulty { IsFaultyWhere both_layers (R.remaining (tally_lent a.old)) (S.remaining (tally_lent b.old)) result }
-    ensures reads_a { CountsReads (is_failed_read_of Side.A result) (tally_faults a.old) (tally_faults a.new) }
-    ensures reads_b { CountsReads (is_failed_read_of Side.B result) (tally_faults b.old) (tally_faults b.new) }
-{
-    find::<LinksOnTop<true, WITHOUT_QUEUES>, R, S>(alloc, a, b)
+/// Both ends where a verdict is given, and who was told of the records before it.
+#[derive(Drop)]
+pub struct Watched<O: Observer> {
+    pub ends: JudgedEnds,
+    pub observer: O,
 }
 
-/// Decides the same of two stations alone: whether the two texts are captures that together are a run of two DDCMP stations over such a
-/// line. A packet is any bytes and is not read, so that it may be one of another layer or of a third node; and the events of the links,
-/// `u open` to `u up`, may come anywhere and are not judged. The reasons are those of stations and line.
+/// Decides whether the texts that two readers give up to their ends are captures that together are a run of two nodes, over a line that loses,
+/// damages and adds noise but never repeats or reorders units. It is asked of which nodes: each is a DDCMP station with its NSP links on top, whose
+/// numbers have no bound; or one with queues; or the station alone; or one of these that asks no period.
 ///
-/// All that is said of `judge` holds, with "DDCMP stations" for "nodes": the same texts are read in the same order, and refused, faulty
-/// and want of memory mean the same. `Accepted`: what was delivered to each side is, in every period and in order, of the packets that
-/// the other was offered. In the summary `links` is 0, and `up` counts lines that were not judged.
+/// Both texts are opened, a's first. Then a record is read only when its turn comes: side a's next one as long as a is neither blocked nor at its
+/// end, and otherwise one of b; a side is blocked where its next record is the receipt of a unit not yet sent. So a fault that comes after the record
+/// of a refusal is not met. Of each direction only the units above the last hint received are held.
 ///
-/// Where `judge` accepts two texts, so does this; what this refuses, `judge` does not accept (`line_is_judged_too`).
-pub fn judge_line<R: Read, S: Read>(
+/// `Accepted`: both texts are texts of captures, all records of both are one run of two such nodes, what was delivered to each side is, in order, of
+/// what the other was offered, and on each link of what its partner was handed, and the summary is the counts of the records and of the links. Of two
+/// texts of captures that are a run nothing else is answered, apart from want of memory and a failed read.
+///
+/// `Refused`: however the texts go on after what was read of them by then, they are no run, and the named record is the place: it can't be made for
+/// this reason though all that it rests on can; or it waits for a unit that is never sent (`NoSuchUnit`); or neither side can go on (`NoOrder`).
+/// Where a record of each side can't be made, that of a is named; so the records alone tell what is answered, in whichever format they are spelled
+/// (`judged_in_any_format`).
+///
+/// `Capture`: the line of that side departs from the format as named, and all records before it, with those of the other side that were made, are a
+/// run; or a read of that side failed. `OutOfMemory`: an allocation was refused, or the observer wants memory. At every answer but a failed read of a
+/// side the count of its reader's failed calls stays as it was. After any answer the readers have given what was read ahead, and nothing is said of
+/// the rest. The contract says nothing of when `OutOfMemory` is answered, nor of the order of reading.
+///
+/// Of stations alone (`Layers::Station`) the reasons are those of stations and line. What was delivered to each is, in every period and in order, of
+/// the packets that the other was offered. In the summary `links` is 0, and `up` counts lines that were not judged. Where both layers are accepted,
+/// so are they; what they refuse, both layers do not accept (`line_is_judged_too`). What is accepted without queues is accepted with them, with the
+/// same counts (`judged_with_queues_too`); and what is accepted where periods are asked, where none is (`judged_of_any_period_too`). There
+/// `CrossedPeriod` is never answered, nothing is said of what was delivered, and numbers are kept as a program does, modulo 256 and 4096.
+///
+/// The observer (`Nobody`, where only the verdict is wanted) is told of each record that is made, as it is made: of all that was read of both texts
+/// but the records ahead, in an order in which two such nodes can make them; wherever one stops, the records before are a run. It was told of nothing
+/// before; at a fault it is dropped.
+///
+/// Both ends are given as they are where the verdict is. They show which records are ahead, and how many were made. Where the verdict is `Refused`,
+/// the named record is the one ahead of its side, and where periods are asked `JudgedEnds::failed` names a check of this reason that it does not
+/// pass. Of nodes without queues (`Layers::Both`) besides: all records of the named side before the named one, and some of the other side, lead two
+/// nodes to a world in which the named record is refused for this reason, or waits; and both ends show this world.
+pub fn judge<O: Observer, R: Read, S: Read>(
     alloc: Global,
+    asked: JudgedAs,
     a: &mut Tally<R>,
     b: &mut Tally<S>,
-) -> Result<Verdict, JudgeFault>
-    ensures exact { IfTold (R.remaining (tally_lent a.old)) (S.remaining (tally_lent b.old))
-        (λ bytes_a bytes_b. IsExact stations_alone bytes_a bytes_b result) }
-    ensures accepted { IfTold (R.remaining (tally_lent a.old)) (S.remaining (tally_lent b.old))
-        (λ bytes_a bytes_b. IsAcceptance stations_alone bytes_a bytes_b result) }
-    ensures refused { IsRefusalWhere stations_alone (R.remaining (tally_lent a.old)) (S.remaining (tally_lent b.old)) result }
-    ensures faulty { IsFaultyWhere stations_alone (R.remaining (tally_lent a.old)) (S.remaining (tally_lent b.old)) result }
+    observer: O,
+) -> Result<Watched<O>, JudgeFault>
+    requires { O.told observer [] }
+    ensures answer { IsAnswer (nodes_asked asked) (R.remaining (tally_lent a.old)) (S.remaining (tally_lent b.old))
+        (verdict_in (only result (λ watched. watched.ends))) }
+    ensures stands { IfOk result (λ watched.
+        StandsAsked asked (R.remaining (tally_lent a.old)) (S.remaining (tally_lent b.old)) watched.ends) }
+    ensures fails { IfOk result (λ watched. NamesAsked asked watched.ends) }
+    ensures unasked { IfOk result (λ watched. AsksPeriods asked.any_period watched.ends.verdict) }
+    ensures told { IfOk result (λ watched.
+        WasTold (nodes_asked asked) (R.remaining (tally_lent a.old)) (S.remaining (tally_lent b.old)) watched.ends (O.told watched.observer)) }
     ensures reads_a { CountsReads (is_failed_read_of Side.A result) (tally_faults a.old) (tally_faults a.new) }
     ensures reads_b { CountsReads (is_failed_read_of Side.B result) (tally_faults b.old) (tally_faults b.new) }
 {
-    find::<NothingOnTop<true>, R, S>(alloc, a, b)
-}
-
-// Decides of both texts with this on top, while nobody looks on. It reads and fails as `judge` does.
-fn find<T: Top, R: Read, S: Read>(
-    alloc: Global,
-    a: &mut Tally<R>,
-    b: &mut Tally<S>,
-) -> Result<Verdict, JudgeFault>
-    ensures answer { IsAnswer T.top.kind (R.remaining (tally_lent a.old)) (S.remaining (tally_lent b.old)) result }
-    ensures reads_a { CountsReads (is_failed_read_of Side.A result) (tally_faults a.old) (tally_faults a.new) }
-    ensures reads_b { CountsReads (is_failed_read_of Side.B result) (tally_faults b.old) (tally_faults b.new) }
-{
-    match decide::<T, Nobody, R, S>(alloc, a, b, Nobody) {
-        Ok(watched) => Ok(watched.ends.verdict()),
-        Err(fault) => Err(fault),
+    layers_run_as_stations();
+    numbers_within_bounds();
+    view_shows_truth::<LinkTag>();
+    wire_layers_see_right();
+    match asked.any_period {
+        false => match asked.layers {
+            Layers::Both => {
+                decide::<LinksOnTop<true, WITHOUT_QUEUES>, O, R, S>(alloc, a, b, observer)
+            }
+            Layers::Queued => {
+                decide::<LinksOnTop<true, WITH_QUEUES>, O, R, S>(alloc, a, b, observer)
+            }
+            Layers::Station => decide::<NothingOnTop<true>, O, R, S>(alloc, a, b, observer),
+        },
+        true => match asked.layers {
+            Layers::Both => {
+                decide::<LinksOnTop<false, WITHOUT_QUEUES>, O, R, S>(alloc, a, b, observer)
+            }
+            Layers::Queued => {
+                decide::<LinksOnTop<false, WITH_QUEUES>, O, R, S>(alloc, a, b, observer)
+            }
+            Layers::Station => decide::<NothingOnTop<false>, O, R, S>(alloc, a, b, observer),
+        },
     }
 }
 
@@ -270,7 +266,7 @@ fn open<T: Top, R: Read>(
         own: capture.own(),
         peer: capture.peer(),
     };
-    let Ok(layers) = Layers::new(alloc, head) else {
+    let Ok(layers) = SideLayers::new(alloc, head) else {
         return Err(JudgeFault::OutOfMemory);
     };
     let end = End {

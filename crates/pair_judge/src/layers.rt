@@ -40,12 +40,12 @@ const OF_NO_LINK: LinkTag = LinkTag {
 /// this; this came. A packet counts for the links when it is first sent, and when it is kept. So each reason of the station comes before
 /// 15 and 17, which are of a packet that is first sent, and before the reasons of the links. A refusal changes nothing.
 #[derive(Drop)]
-pub struct Layers {
+pub struct SideLayers {
     station: Station,
     links: Links,
 }
 
-impl Model for Layers {
+impl Model for SideLayers {
     ghost use Rattle.dna_node.specs.WireLayers.{WireLayers};
 
     ghost Value = { WireLayers };
@@ -53,12 +53,12 @@ impl Model for Layers {
     ghost view = { λ l. record { station = l.station; links = l.links } };
 }
 
-impl Layers {
+impl SideLayers {
     /// Before any record, with the addresses of the head. `AllocError`: there is no room for the window of the station.
-    pub fn new(alloc: Global, head: Head) -> Result<Layers, AllocError>
+    pub fn new(alloc: Global, head: Head) -> Result<SideLayers, AllocError>
         ensures { IfOk result (λ layers. layers ≡ record { station = new_wire_station; links = new_wire_links head.own head.peer }) }
     {
-        Ok(Layers {
+        Ok(SideLayers {
             station: Station::new(alloc)?,
             links: Links::new(alloc, head.own, head.peer),
         })

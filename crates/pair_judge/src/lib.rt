@@ -19,6 +19,7 @@ mod fault;
 mod formats;
 mod held_link;
 mod held_unit;
+mod judged_as;
 mod judged_ends;
 mod judged_nodes;
 mod judging;
@@ -56,16 +57,10 @@ pub use fault::{JudgeFault, TextFault};
 pub use formats::{
     judged_in_any_format, judged_of_any_period_too, judged_with_queues_too, line_is_judged_too,
 };
+pub use judged_as::{JudgedAs, Layers};
 pub use judged_ends::JudgedEnds;
-pub use judging::{
-    Watched, judge, judge_any_period, judge_any_period_told, judge_line, judge_line_any_period,
-    judge_line_any_period_told, judge_line_told, judge_queued, judge_queued_any_period,
-    judge_queued_any_period_told, judge_queued_told, judge_told, judge_watched,
-};
-pub use judging_end::{
-    WatchedEnd, judge_end, judge_end_watched, judge_line_end, judge_line_end_watched,
-    judge_queued_end, judge_queued_end_watched,
-};
+pub use judging::{Watched, judge};
+pub use judging_end::{WatchedEnd, judge_end};
 pub use made_entry::MadeEntry;
 pub use observer::{Nobody, Observer};
 pub use reason::{REASONS, Reason};

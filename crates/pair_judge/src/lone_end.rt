@@ -14,7 +14,7 @@ mod receiving;
 
 use crate::end_verdict::Accused;
 use crate::entering::enter;
-use crate::layers::Layers;
+use crate::layers::SideLayers;
 use crate::noise::hear;
 use crate::step_fault::StepFault;
 use crate::summary::SideSummary;
@@ -31,7 +31,7 @@ use std::alloc::{AllocError, Global};
 #[derive(Drop)]
 pub struct LoneEnd {
     pub head: Head,
-    pub layers: Layers,
+    pub layers: SideLayers,
     pub front: u64,
     pub counts: SideSummary,
 }
@@ -58,7 +58,7 @@ impl LoneEnd {
             own: capture.own(),
             peer: capture.peer(),
         };
-        let Ok(layers) = Layers::new(alloc, head) else {
+        let Ok(layers) = SideLayers::new(alloc, head) else {
             return Err(AllocError);
         };
         Ok(LoneEnd {

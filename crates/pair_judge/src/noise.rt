@@ -6,7 +6,7 @@ ghost use Rattle.dna_station.specs.WireStation.{load};
 ghost use Rattle.pair_judge.specs.inner.Wire.{judge_hears};
 
 use crate::held_link::HeldLink;
-use crate::layers::Layers;
+use crate::layers::SideLayers;
 use crate::step_fault::StepFault;
 use crate::top::Top;
 use capture_record::Fate;
@@ -18,7 +18,7 @@ use dna_station::StepRefusal;
 /// line stays as it is.
 ///
 /// `NotNoise`: they show no damage, whether they read as a message or not. Takes no memory.
-pub fn hear<T: Top>(layers: &mut Layers, bytes: &[u8]) -> Result<(), StepRefusal>
+pub fn hear<T: Top>(layers: &mut SideLayers, bytes: &[u8]) -> Result<(), StepRefusal>
     requires { load layers.old.station < 2 ^ 63 }
     ensures ok { OnOk result (judge_hears T.top layers.old (reading bytes.now) ≡ Ok layers.new) }
     ensures refused { IfErr result (λ refusal. judge_hears T.top layers.old (reading bytes.now) ≡ Err refusal) }

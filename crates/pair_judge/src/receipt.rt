@@ -13,7 +13,7 @@ ghost use Rattle.pair_judge.specs.inner.Memory.{MayKeep};
 ghost use Rattle.pair_judge.specs.inner.Steps.{with_link};
 ghost use Rattle.pair_judge.specs.inner.Receipts.{IfFails, IfSound, ReceiptIs, came, is_damage, layers_move};
 
-use crate::layers::Layers;
+use crate::layers::SideLayers;
 use crate::line::Line;
 use crate::line_unit::LineUnit;
 use crate::step_fault::StepFault;
@@ -43,7 +43,7 @@ pub enum Receipt {
 /// no memory for what the links keep of a packet, which shows no damage and was kept.
 #[inline(always)]
 pub fn receive<T: Top>(
-    layers: &mut Layers,
+    layers: &mut SideLayers,
     line: &mut Line,
     hint: u64,
     fate: Fate,

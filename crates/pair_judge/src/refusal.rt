@@ -9,8 +9,8 @@ ghost use Rattle.pair_judge.specs.Refusal.{AreRefused, IsRefusal, WholeCapture};
 
 use capture::whole_text;
 
-/// Where the two readers' bytes are the texts of two captures, a refusal that `judge` (or `judge_line`) answers of them says that the captures are
-/// no run, and, except for `NoSuchUnit` and `NoOrder`, that the named record offends: all that it rests on can be made, and then the
+/// Where the two readers' bytes are the texts of two captures, a refusal that `judge` answers of them, of both layers or of the line alone, says that
+/// the captures are no run, and, except for `NoSuchUnit` and `NoOrder`, that the named record offends: all that it rests on can be made, and then the
 /// record can't, for the printed reason.
 pub fn refused_captures()
     ensures nodes { (a b : WholeCapture) (bytes_a bytes_b : List ℕ) (side : Of) (place : ℕ) (reason : Why) →

@@ -11,7 +11,7 @@ ghost use Rattle.pair_judge.specs.inner.Steps.{IfRefused, IsNotSent, IsSent};
 ghost use Rattle.pair_judge.specs.inner.Unit.{unit_of, tags_of, IsSoundReading};
 ghost use Rattle.pair_judge.specs.inner.Wire.{judge_sent_step};
 
-use crate::layers::Layers;
+use crate::layers::SideLayers;
 use crate::line::Line;
 use crate::step_fault::StepFault;
 use crate::top::Top;
@@ -29,7 +29,7 @@ use std::alloc::Global;
 #[inline(always)]
 pub fn send<T: Top>(
     alloc: Global,
-    layers: &mut Layers,
+    layers: &mut SideLayers,
     line: &mut Line,
     bytes: &[u8],
 ) -> Result<(), StepFault>
@@ -52,7 +52,7 @@ pub fn send<T: Top>(
 
 // The node sends the unit: the tags that it goes with.
 #[inline(always)]
-fn sent<T: Top>(layers: &mut Layers, bytes: &[u8]) -> Result<UnitTag, StepFault>
+fn sent<T: Top>(layers: &mut SideLayers, bytes: &[u8]) -> Result<UnitTag, StepFault>
     ensures sound { OnOk result (IsSoundReading (reading bytes.now)) }
     ensures ok { IfOk result (λ tag. (head : Head) (front : ℕ) → judge_sent_step T.top (node_at head layers.old front) bytes.now (reading bytes.now)
         ≡ Sends (node_at head layers.new front) (unit_of bytes.now (tags_of tag))) }

@@ -10,7 +10,7 @@ mod due;
 mod failing;
 
 use crate::course::{Ahead, Course};
-use crate::layers::Layers;
+use crate::layers::SideLayers;
 use crate::line::Line;
 use crate::lone_end::LoneEnd;
 use capture::CaptureReader;
@@ -24,7 +24,7 @@ use std::marker::Model;
 pub struct SideEnd {
     capture: CaptureReader,
     ahead: Ahead,
-    layers: Layers,
+    layers: SideLayers,
     records: u64,
     sent: u64,
     front: u64,

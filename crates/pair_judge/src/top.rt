@@ -25,7 +25,7 @@ ghost use Rattle.pair_judge.specs.inner.Unit.{tags_of};
 ghost use Rattle.pair_judge.specs.inner.Wire.{EndsAlike, JudgeTop, judge_hears};
 
 use crate::held_link::HeldLink;
-use crate::layers::Layers;
+use crate::layers::SideLayers;
 use crate::step_fault::StepFault;
 use crate::unit_tag::UnitTag;
 use capture_record::Fate;
@@ -40,7 +40,7 @@ pub trait Top {
     ghost top: { JudgeTop };
 
     /// The user starts or halts the station, which takes no memory.
-    fn start_or_halt(layers: &mut Layers, event: StationEvent) -> Result<(), StepRefusal>
+    fn start_or_halt(layers: &mut SideLayers, event: StationEvent) -> Result<(), StepRefusal>
         requires { load layers.old.station < 2 ^ 63 }
         ensures ok { OnOk result (top.machine.user layers.old (event_of_station event) ≡ Ok layers.new) }
         ensures refused { IfErr result (λ refusal. top.machine.user layers.old (event_of_station event) ≡ Err refusal) }
@@ -48,13 +48,13 @@ pub trait Top {
         ensures load { load layers.new.station ≤ load layers.old.station + 1 };
 
     /// The node starts anew: its station is halted, and its links are over. Takes no memory.
-    fn boot(layers: &mut Layers)
+    fn boot(layers: &mut SideLayers)
         requires { load layers.old.station < 2 ^ 63 }
         ensures boot { top.machine.user layers.old events.Boot ≡ Ok layers.new }
         ensures load { load layers.new.station ≤ load layers.old.station + 1 };
 
     /// A packet was composed that will never be sent.
-    fn composed(layers: &mut Layers, packet: &[u8]) -> Result<(), StepFault>
+    fn composed(layers: &mut SideLayers, packet: &[u8]) -> Result<(), StepFault>
         ensures ok { OnOk result (top.machine.user layers.old (events.Composed packet.now) ≡ Ok layers.new) }
         ensures refused { IfErr result (IfRefused (λ refusal. top.machine.user layers.old (events.Composed packet.now) ≡ Err refusal)) }
         ensures still { IfErr result (IfRefused (λ refusal. layers.new ≡ layers.old)) }
@@ -65,7 +65,7 @@ pub trait Top {
         ensures { (s : WireLayers) (event : Event) → IsCarried event → top.machine.user s event ≡ Ok s };
 
     /// An event of one of the links.
-    fn at_links(layers: &mut Layers, event: LinkEvent) -> Result<(), StepFault>
+    fn at_links(layers: &mut SideLayers, event: LinkEvent) -> Result<(), StepFault>
         requires { IsOfOneLink (link_view event) }
         ensures ok { OnOk result (top.machine.user layers.old (event_of_links (link_view event.entry)) ≡ Ok layers.new) }
         ensures refused { IfErr result (IfRefused (λ refusal. top.machine.user layers.old (event_of_links (link_view event.entry)) ≡ Err refusal)) }
@@ -75,7 +75,7 @@ pub trait Top {
         ensures station { layers.new.station ≡ layers.old.station };
 
     /// The node sent this message: the tags that its unit goes with.
-    fn sent(layers: &mut Layers, message: &Message) -> Result<UnitTag, StepFault>
+    fn sent(layers: &mut SideLayers, message: &Message) -> Result<UnitTag, StepFault>
         ensures ok { IfOk result (λ tag. top.machine.sends layers.old (view message.now) ≡ Ok (layers.new, tags_of tag)) }
         ensures refused { IfErr result (IfRefused (λ refusal. top.machine.sends layers.old (view message.now) ≡ Err refusal)) }
         ensures allowed { OnOk result (wire_sending_refusal layers.old.station (view message.now) ≡ None) }
@@ -85,7 +85,7 @@ pub trait Top {
 
     /// This came, with the tag of its packet, and the node kept the packet or did not.
     fn arrived(
-        layers: &mut Layers,
+        layers: &mut SideLayers,
         arrival: Arrival,
         link: &HeldLink,
         fate: Fate,
@@ -100,7 +100,11 @@ pub trait Top {
 
     /// This came of an end whose capture nobody has, and the node kept the packet or did not: as in `arrived`, but of what came no period and no
     /// link is known, so neither rule on those is asked.
-    fn arrived_unknown(layers: &mut Layers, arrival: Arrival, fate: Fate) -> Result<(), StepFault>
+    fn arrived_unknown(
+        layers: &mut SideLayers,
+        arrival: Arrival,
+        fate: Fate,
+    ) -> Result<(), StepFault>
         requires { load layers.old.station < 2 ^ 63 }
         ensures ok { OnOk result (top.alone.machine.arrives layers.old (with_link (Some of_no_link) (arrival_view arrival.entry)) fate
             ≡ Ok layers.new) }
@@ -110,21 +114,25 @@ pub trait Top {
         ensures load { load layers.new.station ≤ load layers.old.station + 1 };
 
     /// What `arrived_unknown` would refuse of this, asked without any change. Takes no memory.
-    fn may_arrive_unknown(layers: &Layers, arrival: Arrival, fate: Fate) -> Result<(), StepRefusal>
+    fn may_arrive_unknown(
+        layers: &SideLayers,
+        arrival: Arrival,
+        fate: Fate,
+    ) -> Result<(), StepRefusal>
         ensures ok { OnOk result (IsOk (top.alone.machine.arrives layers.now (with_link (Some of_no_link) (arrival_view arrival.entry)) fate)) }
         ensures refused { IfErr result (λ refusal.
             top.alone.machine.arrives layers.now (with_link (Some of_no_link) (arrival_view arrival.entry)) fate ≡ Err refusal) };
 
     /// Why no right other end sends this message now, whether its packet is taken or not. Takes no memory.
-    fn wrong_unit(layers: &Layers, message: &Message) -> Option<StepRefusal>
+    fn wrong_unit(layers: &SideLayers, message: &Message) -> Option<StepRefusal>
         ensures { result ≡ top.alone.wrong_unit layers.now (view message.now) };
 
     /// Why no right other end sends a packet that is taken now. Takes no memory.
-    fn wrong_taken(layers: &Layers, message: &Message) -> Option<StepRefusal>
+    fn wrong_taken(layers: &SideLayers, message: &Message) -> Option<StepRefusal>
         ensures { result ≡ top.alone.wrong_taken layers.now (view message.now) };
 
     /// How many links began.
-    fn links_begun(layers: &Layers) -> u64
+    fn links_begun(layers: &SideLayers) -> u64
         ensures { result ≡ top.links layers.now };
 
     /// What a run of the wire nodes shows of nodes of the kind, as a function that does nothing.

@@ -1,4 +1,4 @@
-//! What the refusal of two texts says of them, by the clause `refused` of `judge` and the laws on it.
+//! What the refusal of two texts says of them, by the clause `answer` of `judge` and the laws on it.
 
 ghost use Rattle.std.specs.Prelude.{◌≡◌, ℕ, List, IfSome, Some, Ok};
 ghost use Rattle.capture.specs.Range.{IsText};
@@ -8,7 +8,7 @@ ghost use Rattle.dna_node.specs.Kind.{both_layers};
 ghost use Rattle.pair_judge.specs.Judged.{IsAnswer};
 ghost use Rattle.pair_judge.specs.Refusal.{AreRefused, AreTexts, WholeCapture};
 
-use pair_judge::{Reason, Verdict, judge, judged_in_any_format, refused_captures};
+use pair_judge::{Layers, Nobody, Reason, Verdict, judge, judged_in_any_format, refused_captures};
 use std::alloc::Global;
 use wire_base::{Side, Tally};
 
@@ -26,14 +26,15 @@ pub fn refusal_of(alloc: Global, text_a: &[u8], text_b: &[u8]) -> Option<(Side, 
     judged_in_any_format();
     let mut a = Tally::new(text_a);
     let mut b = Tally::new(text_b);
-    match judge(alloc, &mut a, &mut b) {
-        Ok(
-            Verdict::Refused {
-                side,
-                place,
-                reason,
-            },
-        ) => Some((side, place, reason)),
-        _ => None,
+    let Ok(watched) = judge(alloc, Layers::Both.of_period(), &mut a, &mut b, Nobody) else {
+        return None;
+    };
+    match watched.ends.verdict() {
+        Verdict::Refused {
+            side,
+            place,
+            reason,
+        } => Some((side, place, reason)),
+        Verdict::Accepted(_) => None,
     }
 }

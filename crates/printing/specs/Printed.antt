@@ -55,10 +55,6 @@ verdict_text_by line (Refused side place reason) = refused_text side place reaso
 abbrev pub verdict_text : Verdict → List ℕ
 verdict_text = verdict_text_by side_line
 
--- the same of stations alone
-abbrev pub line_verdict_text : Verdict → List ℕ
-line_verdict_text = verdict_text_by station_line
-
 -- the first line of what `check` prints
 abbrev pub verdict_line : Verdict → List ℕ
 verdict_line (Accepted summary) = codes "accepted\n"

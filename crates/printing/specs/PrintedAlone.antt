@@ -6,7 +6,8 @@ use Rattle.wire_base.specs.declared.side.Side.TheVariants.{A}
 use Rattle.capture.specs.declared.fault.CaptureFault.{CaptureFault}
 use Rattle.capture.specs.declared.fault.CaptureFault.TheVariants.{Departs, Read, OutOfMemory, Failed}
 use Rattle.capture.specs.Faulty.{CountsReads, is_failed_read}
-use Rattle.dna_links.specs.declared.queue.Queues.TheVariants.{With}
+use Rattle.pair_judge.specs.declared.judged_as.Layers.{Layers}
+use Rattle.pair_judge.specs.declared.judged_as.Layers.TheVariants.{Both, Queued, Station}
 use Rattle.pair_judge.specs.declared.end_verdict.Accused.{Accused}
 use Rattle.pair_judge.specs.declared.end_verdict.Accused.TheVariants.{ThisEnd, OtherEnd}
 use Rattle.pair_judge.specs.declared.end_verdict.EndVerdict.{EndVerdict}
@@ -16,11 +17,9 @@ use Rattle.pair_judge.specs.declared.fault.TextFault.TheVariants as of_text
 use Rattle.pair_judge.specs.declared.reason.Reason.{Reason}
 use Rattle.pair_judge.specs.declared.summary.SideSummary.{SideSummary}
 use Rattle.pair_judge.specs.EndJudged.{EndAnswer, IsJudgedAlone}
-use Rattle.pair_judge.specs.EndKind.{EndKind, layers_alone, layers_alone_by, station_alone}
+use Rattle.pair_judge.specs.EndKind.{EndKind}
 use Rattle.pair_judge.specs.Reason.{reason_name, reason_number}
 use Rattle.printing.specs.Printed.{Moved, Writes, fault_text, side_line, station_line}
-use Rattle.printing.specs.declared.layers.Layers.{Layers}
-use Rattle.printing.specs.declared.layers.Layers.TheVariants.{Both, Queued, Station}
 
 -- after the reason: nothing more, or that it is the other end that broke the rule
 abbrev pub by_whom : Accused → List ℕ
@@ -38,20 +37,7 @@ abbrev pub end_text_by : (line : Side → SideSummary → List ℕ) → EndVerdi
 end_text_by line (Passed counts) = codes "passed\n" ++ (line A counts ++ codes "\n")
 end_text_by line (Refused place accused reason) = refused_alone_text place accused reason
 
-abbrev pub end_text : EndVerdict → List ℕ
-end_text = end_text_by side_line
-
--- the same of a station alone
-abbrev pub line_end_text : EndVerdict → List ℕ
-line_end_text = end_text_by station_line
-
 -- ---- whether the links on top are judged too
-
--- what one end is judged as
-abbrev pub end_of : Layers → EndKind
-end_of Both = layers_alone
-end_of Queued = layers_alone_by With
-end_of Station = station_alone
 
 -- the line of counts of a side
 abbrev pub counts_line : Layers → Side → SideSummary → List ℕ

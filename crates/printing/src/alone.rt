@@ -2,11 +2,9 @@
 
 ghost use Rattle.std.specs.Prelude.{◌≢◌};
 ghost use Rattle.capture.specs.declared.fault.CaptureFault.TheVariants as CaptureFault;
-ghost use Rattle.dna_links.specs.declared.queue.Queues.TheVariants.{With};
-ghost use Rattle.pair_judge.specs.EndKind.{layers_alone, layers_alone_by, station_alone};
 ghost use Rattle.printing.specs.Printed.{moved};
-ghost use Rattle.printing.specs.PrintedAlone.{ChecksEnd, TellsEndFault, end_of, end_text_over};
-ghost use Rattle.printing.specs.PrintedAlone.{end_text as end_text_of, line_end_text as line_end_text_of};
+ghost use Rattle.pair_judge.specs.JudgedAs.{end_of};
+ghost use Rattle.printing.specs.PrintedAlone.{ChecksEnd, TellsEndFault, end_text_over};
 
 use crate::check::{print, print_failed_read, print_out_of_memory};
 use crate::end_text::{end_status, end_text};
@@ -17,52 +15,13 @@ use std::alloc::Global;
 use std::io::{Read, Write};
 use wire_base::{Side, Tally};
 
-/// Judges the capture that a reader gives without that of the other end, prints the answer, and answers the status.
+/// Judges the capture that a reader gives without that of the other end, over these layers, prints the answer, and answers the status.
 ///
-/// A verdict is printed to `out`: `passed` and the line of counts, status 0, or `refused a RECORD line LINE: NUMBER NAME`, with
+/// A verdict is printed to `out`: `passed` and the line of counts, which of a station alone ends with its periods, status 0, or `refused a RECORD line LINE: NUMBER NAME`, with
 /// ` by the other end` after it where that end broke the rule, status 1. A fault is printed to `err`: the text's faulty line and its kind,
 /// status 2; a failed read or want of memory, status 3. The whole text is put together before the first write; where there is no memory
 /// for it, the answer is `out of memory`. A failed write ends the printing, with status 3.
 pub fn alone_to<A: Read, O: Write, E: Write>(
-    alloc: Global,
-    a: &mut Tally<A>,
-    out: &mut Tally<O>,
-    err: &mut Tally<E>,
-) -> u8
-    ensures { ChecksEnd layers_alone end_text_of (moved A.remaining a.old a.new) (moved O.contents out.old out.new)
-        (moved E.contents err.old err.new) result }
-{
-    alone_over(alloc, Layers::Both, a, out, err)
-}
-
-/// Judges a node with queues, and prints the answer as `alone_to` does.
-pub fn alone_queued_to<A: Read, O: Write, E: Write>(
-    alloc: Global,
-    a: &mut Tally<A>,
-    out: &mut Tally<O>,
-    err: &mut Tally<E>,
-) -> u8
-    ensures { ChecksEnd (layers_alone_by With) end_text_of (moved A.remaining a.old a.new) (moved O.contents out.old out.new)
-        (moved E.contents err.old err.new) result }
-{
-    alone_over(alloc, Layers::Queued, a, out, err)
-}
-
-/// Judges station and line alone, and prints the answer as `alone_to` does, but that the line of counts ends with the periods.
-pub fn alone_line_to<A: Read, O: Write, E: Write>(
-    alloc: Global,
-    a: &mut Tally<A>,
-    out: &mut Tally<O>,
-    err: &mut Tally<E>,
-) -> u8
-    ensures { ChecksEnd station_alone line_end_text_of (moved A.remaining a.old a.new) (moved O.contents out.old out.new)
-        (moved E.contents err.old err.new) result }
-{
-    alone_over(alloc, Layers::Station, a, out, err)
-}
-
-// The same over these layers.
-fn alone_over<A: Read, O: Write, E: Write>(
     alloc: Global,
     layers: Layers,
     a: &mut Tally<A>,

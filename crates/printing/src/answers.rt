@@ -3,7 +3,7 @@
 ghost use Rattle.std.specs.Prelude.{◌≡◌, IfErr};
 ghost use Rattle.wire_base.specs.Tally.{tally_lent};
 ghost use Rattle.printing.specs.Statuses.{EndsAsJudged, EndsWith};
-ghost use Rattle.printing.specs.Layers.{nodes_of};
+ghost use Rattle.pair_judge.specs.JudgedAs.{nodes_of};
 
 use crate::alone::print_end_fault;
 use crate::check::{print, print_fault, print_out_of_memory};

@@ -2,11 +2,10 @@
 
 ghost use Rattle.pair_judge.specs.declared.fault.JudgeFault.TheVariants.{Capture, OutOfMemory};
 ghost use Rattle.pair_judge.specs.declared.fault.TextFault.TheVariants.{Read as FailedRead};
-ghost use Rattle.dna_links.specs.declared.queue.Queues.TheVariants.{With};
-ghost use Rattle.dna_node.specs.Kind.{both_layers, layers_kind, stations_alone};
 ghost use Rattle.printing.specs.Printed.{Checks, TellsFault, Writes, moved, stream_of};
-ghost use Rattle.printing.specs.Printed.{failed_write_text, fault_text as text_of, line_verdict_text as line_verdict_text_of, verdict_text as verdict_text_of};
-ghost use Rattle.printing.specs.Layers.{nodes_of, verdict_text_over};
+ghost use Rattle.printing.specs.Printed.{failed_write_text, fault_text as text_of};
+ghost use Rattle.pair_judge.specs.JudgedAs.{nodes_of};
+ghost use Rattle.printing.specs.Layers.{verdict_text_over};
 
 use crate::layers::{Layers, judge_over};
 use crate::text::{FAILED, FAULTY, line_fault_text, verdict_status, verdict_text};
@@ -15,56 +14,14 @@ use std::alloc::Global;
 use std::io::{Read, Write};
 use wire_base::{Side, Tally, write_whole};
 
-/// Judges the captures that two readers give, prints the answer, and answers the status.
+/// Judges the captures that two readers give over these layers, prints the answer, and answers the status.
 ///
-/// A verdict is printed to `out`: `accepted` and a line a side, status 0, or `refused SIDE RECORD line LINE: NUMBER NAME`,
+/// A verdict is printed to `out`: `accepted` and a line a side, which of stations alone ends with its periods, status 0, or `refused SIDE RECORD line LINE: NUMBER NAME`,
 /// status 1. A fault is printed to `err`: a faulty text's line and kind, status 2; a failed read or want of memory,
 /// status 3. The whole text is put together before the first write, so that no allocation comes between two writes; where there
 /// is no memory for it, the answer is `out of memory`. That and a failed read are printed without memory, so that a failed
 /// read is always told. A failed write ends the printing, with status 3.
 pub fn check_to<A: Read, B: Read, O: Write, E: Write>(
-    alloc: Global,
-    a: &mut Tally<A>,
-    b: &mut Tally<B>,
-    out: &mut Tally<O>,
-    err: &mut Tally<E>,
-) -> u8
-    ensures { Checks both_layers verdict_text_of (moved A.remaining a.old a.new) (moved B.remaining b.old b.new)
-        (moved O.contents out.old out.new) (moved E.contents err.old err.new) result }
-{
-    check_over(alloc, Layers::Both, a, b, out, err)
-}
-
-/// Judges nodes with queues, and prints the answer as `check_to` does.
-pub fn check_queued_to<A: Read, B: Read, O: Write, E: Write>(
-    alloc: Global,
-    a: &mut Tally<A>,
-    b: &mut Tally<B>,
-    out: &mut Tally<O>,
-    err: &mut Tally<E>,
-) -> u8
-    ensures { Checks (layers_kind With) verdict_text_of (moved A.remaining a.old a.new) (moved B.remaining b.old b.new)
-        (moved O.contents out.old out.new) (moved E.contents err.old err.new) result }
-{
-    check_over(alloc, Layers::Queued, a, b, out, err)
-}
-
-/// Judges stations and line alone, and prints the answer as `check_to` does, but that a side's line of counts ends with its periods.
-pub fn check_line_to<A: Read, B: Read, O: Write, E: Write>(
-    alloc: Global,
-    a: &mut Tally<A>,
-    b: &mut Tally<B>,
-    out: &mut Tally<O>,
-    err: &mut Tally<E>,
-) -> u8
-    ensures { Checks stations_alone line_verdict_text_of (moved A.remaining a.old a.new) (moved B.remaining b.old b.new)
-        (moved O.contents out.old out.new) (moved E.contents err.old err.new) result }
-{
-    check_over(alloc, Layers::Station, a, b, out, err)
-}
-
-// The same over these layers.
-fn check_over<A: Read, B: Read, O: Write, E: Write>(
     alloc: Global,
     layers: Layers,
     a: &mut Tally<A>,

@@ -1,6 +1,7 @@
 //! The answers of words that judge, as JSON objects, in the keys of `why --json`. An object is put together without its LF.
 
 use crate::fault_told::{FaultKind, FaultTold};
+use crate::files::Named;
 use crate::layers::Layers;
 use pair_judge::{Accused, EndVerdict, Reason, SideSummary, Verdict};
 use std::alloc::{AllocError, Global};
@@ -17,22 +18,33 @@ pub fn verdict_object(
     name: &str,
     verdict: Verdict,
 ) -> Result<Vec<u8>, AllocError> {
+    let what = match verdict {
+        Verdict::Accepted(_) => "accepted",
+        Verdict::Refused { .. } => "refused",
+    };
+    let mut object = begun(alloc, what, name)?;
+    put_verdict(alloc, &mut object, layers, verdict)?;
+    ended(object)
+}
+
+fn put_verdict(
+    alloc: Global,
+    object: &mut Vec<u8>,
+    layers: Layers,
+    verdict: Verdict,
+) -> Result<(), AllocError> {
     match verdict {
         Verdict::Accepted(summary) => {
-            let mut object = begun(alloc, "accepted", name)?;
-            put_counts(alloc, &mut object, layers, Side::A, summary.a)?;
-            put_counts(alloc, &mut object, layers, Side::B, summary.b)?;
-            ended(object)
+            put_counts(alloc, object, layers, Side::A, summary.a)?;
+            put_counts(alloc, object, layers, Side::B, summary.b)
         }
         Verdict::Refused {
             side,
             place,
             reason,
         } => {
-            let mut object = begun(alloc, "refused", name)?;
-            put_place(alloc, &mut object, side, place)?;
-            put_reason(alloc, &mut object, reason)?;
-            ended(object)
+            put_place(alloc, object, side, place)?;
+            put_reason(alloc, object, reason)
         }
     }
 }
@@ -44,22 +56,31 @@ pub fn end_object(
     name: &str,
     verdict: EndVerdict,
 ) -> Result<Vec<u8>, AllocError> {
+    let what = match verdict {
+        EndVerdict::Passed(_) => "passed",
+        EndVerdict::Refused { .. } => "refused",
+    };
+    let mut object = begun(alloc, what, name)?;
+    put_end_verdict(alloc, &mut object, layers, verdict)?;
+    ended(object)
+}
+
+fn put_end_verdict(
+    alloc: Global,
+    object: &mut Vec<u8>,
+    layers: Layers,
+    verdict: EndVerdict,
+) -> Result<(), AllocError> {
     match verdict {
-        EndVerdict::Passed(counts) => {
-            let mut object = begun(alloc, "passed", name)?;
-            put_counts(alloc, &mut object, layers, Side::A, counts)?;
-            ended(object)
-        }
+        EndVerdict::Passed(counts) => put_counts(alloc, object, layers, Side::A, counts),
         EndVerdict::Refused {
             place,
             accused,
             reason,
         } => {
-            let mut object = begun(alloc, "refused", name)?;
-            put_place(alloc, &mut object, Side::A, place)?;
-            put_reason(alloc, &mut object, reason)?;
-            put(&mut object, accused_key(accused))?;
-            ended(object)
+            put_place(alloc, object, Side::A, place)?;
+            put_reason(alloc, object, reason)?;
+            put(object, accused_key(accused))
         }
     }
 }
@@ -67,25 +88,36 @@ pub fn end_object(
 /// A fault, where the first file has this name.
 pub fn fault_object(alloc: Global, name: &str, told: FaultTold) -> Result<Vec<u8>, AllocError> {
     let mut object = begun(alloc, "fault", name)?;
-    match told.named {
-        Some(named) => {
-            let part = format!(in alloc; ", \"side\": \"{named}\"")?;
-            put(&mut object, part.as_str())?;
-        }
-        None => put(&mut object, ", \"side\": null")?,
-    }
+    put_named(alloc, &mut object, told.named)?;
     put_kind(alloc, &mut object, told.kind)?;
     ended(object)
+}
+
+fn put_named(alloc: Global, object: &mut Vec<u8>, named: Option<Named>) -> Result<(), AllocError> {
+    let Some(named) = named else {
+        return put(object, ", \"side\": null");
+    };
+    let part = format!(in alloc; ", \"side\": \"{named}\"")?;
+    put(object, part.as_str())
 }
 
 /// The beginning of an object: what it is, and the name of the first file.
 pub fn begun(alloc: Global, what: &str, name: &str) -> Result<Vec<u8>, AllocError> {
     let mut object = Vec::new(alloc);
-    put(&mut object, "{\"what\": \"")?;
-    put(&mut object, what)?;
-    put(&mut object, "\", \"file\": ")?;
-    put_string(alloc, &mut object, name)?;
+    put_begun(alloc, &mut object, what, name)?;
     Ok(object)
+}
+
+fn put_begun(
+    alloc: Global,
+    object: &mut Vec<u8>,
+    what: &str,
+    name: &str,
+) -> Result<(), AllocError> {
+    put(object, "{\"what\": \"")?;
+    put(object, what)?;
+    put(object, "\", \"file\": ")?;
+    put_string(alloc, object, name)
 }
 
 /// The whole object.

@@ -56,9 +56,7 @@ pub fn written_pair<R: Files + AllocGlobal, E: Write>(
     keep_apart(rt, read, wanted_a, &a, err)?;
     let b = opened_to_write(rt, wanted_b, err)?;
     keep_apart_from_both(rt, read, &a, wanted_a, wanted_b, &b, err)?;
-    let a = emptied(rt, wanted_a, a, err)?;
-    let b = emptied(rt, wanted_b, b, err)?;
-    Ok((a, b))
+    emptied_pair(rt, wanted_a, wanted_b, a, b, err)
 }
 
 /// Opens two files to be written and read back, beside one that is read, the first one first, and waits for no other end of a pipe. `Err`: one of them
@@ -87,18 +85,14 @@ pub fn written_pair_beside_pair<R: Files + AllocGlobal, E: Write>(
     wanted_b: Wanted<'_>,
     err: &mut Tally<E>,
 ) -> Result<(Tally<R::File>, Tally<R::File>), FaultTold> {
-    let out_a = opened_to_write(rt, wanted_a, err)?;
-    keep_apart_from_pair(rt, a, b, wanted_a, &out_a, err)?;
-    let out_b = opened_to_write(rt, wanted_b, err)?;
-    keep_apart_from_pair(rt, a, b, wanted_b, &out_b, err)?;
+    let out_a = opened_beside_pair(rt, a, b, wanted_a, err)?;
+    let out_b = opened_beside_pair(rt, a, b, wanted_b, err)?;
     let beside = Beside {
         named: wanted_a.named,
         file: &out_a,
     };
     keep_apart(rt, &beside, wanted_b, &out_b, err)?;
-    let out_a = emptied(rt, wanted_a, out_a, err)?;
-    let out_b = emptied(rt, wanted_b, out_b, err)?;
-    Ok((out_a, out_b))
+    emptied_pair(rt, wanted_a, wanted_b, out_a, out_b, err)
 }
 
 /// Opens a file to be written, beside two that are read, and empties it. `Err` as for `written`.
@@ -109,9 +103,21 @@ pub fn written_beside_pair<R: Files + AllocGlobal, E: Write>(
     wanted: Wanted<'_>,
     err: &mut Tally<E>,
 ) -> Result<Tally<R::File>, FaultTold> {
+    let file = opened_beside_pair(rt, a, b, wanted, err)?;
+    emptied(rt, wanted, file, err)
+}
+
+// Opens it so, and leaves what it has.
+fn opened_beside_pair<R: Files + AllocGlobal, E: Write>(
+    rt: &R,
+    a: &R::File,
+    b: &R::File,
+    wanted: Wanted<'_>,
+    err: &mut Tally<E>,
+) -> Result<R::File, FaultTold> {
     let file = opened_to_write(rt, wanted, err)?;
     keep_apart_from_pair(rt, a, b, wanted, &file, err)?;
-    emptied(rt, wanted, file, err)
+    Ok(file)
 }
 
 // `Err`: the file to be written is the one that is read, or the one that is written first, or the system doesn't tell. That was told.
@@ -203,8 +209,32 @@ fn emptied<R: Files + AllocGlobal, E: Write>(
     file: R::File,
     err: &mut Tally<E>,
 ) -> Result<Tally<R::File>, FaultTold> {
-    match empty(&file) {
-        Ok(()) => Ok(Tally::new(file)),
+    empty_told(rt, wanted, &file, err)?;
+    Ok(Tally::new(file))
+}
+
+// Both lose what they have, the first one first.
+fn emptied_pair<R: Files + AllocGlobal, E: Write>(
+    rt: &R,
+    wanted_a: Wanted<'_>,
+    wanted_b: Wanted<'_>,
+    a: R::File,
+    b: R::File,
+    err: &mut Tally<E>,
+) -> Result<(Tally<R::File>, Tally<R::File>), FaultTold> {
+    empty_told(rt, wanted_a, &a, err)?;
+    empty_told(rt, wanted_b, &b, err)?;
+    Ok((Tally::new(a), Tally::new(b)))
+}
+
+fn empty_told<R: Files + AllocGlobal, E: Write>(
+    rt: &R,
+    wanted: Wanted<'_>,
+    file: &R::File,
+    err: &mut Tally<E>,
+) -> Result<(), FaultTold> {
+    match empty(file) {
+        Ok(()) => Ok(()),
         Err(error) => Err(told_fault_of(rt.alloc(), err, wanted, &error)),
     }
 }

@@ -2,8 +2,8 @@
 use Rattle.std.specs.Prelude.{ℕ, Bool, true, false, not, ◌==◌, if◌then◌else◌, Option, Some, None, Result, Ok, Err, List}
 use Rattle.std.specs.List.{filter, list_any}
 use Rattle.capture_record.specs.declared.entry.Entry.{Entry}
-use Rattle.capture_record.specs.declared.entry.Entry.TheVariants.{Sent, Received, Noise, Start, Halt, Open, Accept, Reject, In, Up, Close, Boot, Abort}
-use Rattle.capture_record.specs.declared.entry.Entry.TheVariants.{Composed, Interrupt, Interrupted}
+use Rattle.capture_record.specs.declared.entry.Entry.TheVariants.{Sent, Received, Noise, Start, Halt, Open, Accept, Reject, In, Up, Close, Boot}
+use Rattle.capture_record.specs.declared.entry.Entry.TheVariants.{Composed, Abort, Interrupt, Interrupted}
 use Rattle.dna_packet.specs.declared.fault.NspFault.{NspFault}
 use Rattle.dna_packet.specs.Nsp.{NspValue}
 use Rattle.dna_packet.specs.Nsp as nsp

@@ -1,5 +1,5 @@
-//! What is said of a side: the variables of its station and of its links, and the check of either that was not passed, with what is seen there and what
-//! is allowed. It judges nothing, and knows no reason of a refusal and no line.
+//! What is said of a side: the variables of its station and of its links, and the check of either that was not passed, with what is seen there and
+//! what is allowed. It judges nothing, and knows no reason of a refusal and no line.
 #![tactic(auto)]
 
 pub mod arrival_checks;

@@ -1,6 +1,6 @@
 //! What `tap` says of a packet capture in the place of the text of a wire: the command that makes that text.
 
-use crate::tap::{print_tap_fault, told_of_tap};
+use crate::tap::tell_tap_fault;
 use crate::tap_files::TapPaths;
 use capture::Departure;
 use printing::check::{print, print_out_of_memory};
@@ -37,7 +37,7 @@ pub fn tell_packet_capture<R: Files + AllocGlobal, E: Write>(
     if let Err(error) = again.read_exact(&mut first) {
         return match error.kind() {
             ErrorKind::UnexpectedEof => Ok(()),
-            _ => Err(read_failed(rt.alloc(), err)),
+            _ => Err(tell_tap_fault(rt.alloc(), TapFault::Read, err)),
         };
     }
     if !is_packet_capture(&first) {
@@ -54,29 +54,30 @@ pub fn tell_packet_capture<R: Files + AllocGlobal, E: Write>(
     Err(FaultTold::of(Named::Wire, kind, status))
 }
 
-fn read_failed<E: Write>(alloc: Global, err: &mut Tally<E>) -> FaultTold {
-    let status = print_tap_fault(alloc, TapFault::Read, err);
-    told_of_tap(TapFault::Read, status)
-}
-
 fn text_of(alloc: Global, paths: TapPaths<'_>) -> Result<Vec<u8>, AllocError> {
     let mut text = Vec::new(alloc);
-    let wire = without_ending(paths.wire);
-    text.extend_from_slice(TOLD.as_bytes())?;
-    put_name(&mut text, paths.wire, "")?;
-    text.extend_from_slice(b" > ")?;
-    put_name(&mut text, wire, ".wire")?;
-    text.extend_from_slice(b" && ./ddcap tap ")?;
-    if paths.line_alone {
-        text.extend_from_slice(b"--line ")?;
-    }
-    put_name(&mut text, wire, ".wire")?;
-    for path in [paths.a, paths.b] {
-        text.push(b' ')?;
-        put_name(&mut text, path, "")?;
-    }
-    text.push(b'\n')?;
+    put_text(&mut text, paths)?;
     Ok(text)
+}
+
+fn put_text(text: &mut Vec<u8>, paths: TapPaths<'_>) -> Result<(), AllocError> {
+    let wire = without_ending(paths.wire);
+    let tap = match paths.line_alone {
+        true => " && ./ddcap tap --line ",
+        false => " && ./ddcap tap ",
+    };
+    let words = [
+        (TOLD, paths.wire, ""),
+        (" > ", wire, ".wire"),
+        (tap, wire, ".wire"),
+        (" ", paths.a, ""),
+        (" ", paths.b, ""),
+    ];
+    for (before, name, ending) in words {
+        text.extend_from_slice(before.as_bytes())?;
+        put_name(text, name, ending)?;
+    }
+    text.extend_from_slice(b"\n")
 }
 
 // The name of a packet capture without what its kind is told by.

@@ -6,13 +6,11 @@ ghost use Rattle.pair_judge.specs.declared.fault.JudgeFault.TheVariants.{OutOfMe
 ghost use Rattle.pair_judge.specs.declared.reason.Reason.{Reason};
 ghost use Rattle.pair_judge.specs.declared.verdict.Verdict.TheVariants.{Refused};
 ghost use Rattle.wire_base.specs.declared.side.Side.{Side};
-ghost use Rattle.dna_links.specs.declared.queue.Queues.TheVariants.{With};
-ghost use Rattle.dna_node.specs.Kind.{layers_kind, stations_alone};
 ghost use Rattle.printing.specs.Printed.{Writes, fault_text, moved, stream_of};
-ghost use Rattle.printing.specs.Printed.{line_verdict_text as line_verdict_text_of, verdict_text as verdict_text_of};
 ghost use Rattle.tap_command.specs.PrintedTap.{ChecksTap, IsRefusedAt, TellsTapFault, no_unit_text, streams, wire_line_text};
 ghost use Rattle.tap_command.specs.inner.TapParts.{TellsTold, WritesBehind, both_streams};
-ghost use Rattle.printing.specs.Layers.{nodes_of, verdict_text_over};
+ghost use Rattle.pair_judge.specs.JudgedAs.{nodes_of};
+ghost use Rattle.printing.specs.Layers.{verdict_text_over};
 
 use capture::Departure;
 use pair_judge::Verdict;
@@ -59,48 +57,13 @@ pub struct RefusedAt {
     pub place: u64,
 }
 
-/// Judges the captures that two readers give, which a tap wrote, as those of nodes with queues, since nobody who taps a line sees when a node acts;
-/// prints the answer, and answers the status. Where they are refused, and were not cut for that, nothing is printed, and the answer is the refused
+/// Judges the captures that two readers give, which a tap wrote, over these layers; prints the answer, and answers the status. Where they are refused, and were not cut for that, nothing is printed, and the answer is the refused
 /// record.
 ///
 /// Printed to `out`: the verdict as `check_to` prints it, status 0, or `unexplained ..` or `apart: ..`, status 1, each followed by the boots and
 /// aborts that are assumed, by what it rests on, and what was skipped. To `err`: `.. too wide a choice`, status 2, and the faults that `check_to`
 /// tells, with their statuses.
 pub fn tap_to<A: Read, B: Read, O: Write, E: Write>(
-    alloc: Global,
-    a: &mut Tally<A>,
-    b: &mut Tally<B>,
-    captured: Captured<'_>,
-    out: &mut Tally<O>,
-    err: &mut Tally<E>,
-) -> Result<u8, RefusedAt>
-    ensures checks { ChecksTap (layers_kind With) verdict_text_of captured.entry
-        (streams (moved A.remaining a.old a.new) (moved B.remaining b.old b.new)
-        (moved O.contents out.old out.new) (moved E.contents err.old err.new)) result }
-    ensures cut { captured.entry.is_cut ≡ true → is_ok result ≡ true }
-{
-    tap_over(alloc, Layers::Queued, a, b, captured, out, err)
-}
-
-/// Judges stations and line alone, and prints the answer as `tap_to` does, with the verdict as `check_line_to` prints it.
-pub fn tap_line_to<A: Read, B: Read, O: Write, E: Write>(
-    alloc: Global,
-    a: &mut Tally<A>,
-    b: &mut Tally<B>,
-    captured: Captured<'_>,
-    out: &mut Tally<O>,
-    err: &mut Tally<E>,
-) -> Result<u8, RefusedAt>
-    ensures checks { ChecksTap stations_alone line_verdict_text_of captured.entry
-        (streams (moved A.remaining a.old a.new) (moved B.remaining b.old b.new)
-        (moved O.contents out.old out.new) (moved E.contents err.old err.new)) result }
-    ensures cut { captured.entry.is_cut ≡ true → is_ok result ≡ true }
-{
-    tap_over(alloc, Layers::Station, a, b, captured, out, err)
-}
-
-// The same over these layers.
-fn tap_over<A: Read, B: Read, O: Write, E: Write>(
     alloc: Global,
     layers: Layers,
     a: &mut Tally<A>,
@@ -249,8 +212,14 @@ fn wire_fault_text(alloc: Global, kind: Departure, line: u64) -> Result<String, 
     format!(in alloc; "wire: {faulty}\n")
 }
 
-/// Why there are no whole captures of what passed, as it was told.
-pub fn told_of_tap(fault: TapFault, status: u8) -> FaultTold
+/// Prints why there are no whole captures, likewise; what was told.
+pub fn tell_tap_fault<E: Write>(alloc: Global, fault: TapFault, err: &mut Tally<E>) -> FaultTold {
+    let status = print_tap_fault(alloc, fault, err);
+    told_of_tap(fault, status)
+}
+
+// Why there are no whole captures of what passed, as it was told.
+fn told_of_tap(fault: TapFault, status: u8) -> FaultTold
     ensures { result.status ≡ status }
 {
     match fault {

@@ -2,15 +2,15 @@
 
 ghost use Rattle.std.specs.Prelude.{◌≡◌, true, IfOk};
 ghost use Rattle.wire_base.specs.Tally.{tally_lent};
-ghost use Rattle.printing.specs.PrintedAlone.{end_of};
+ghost use Rattle.pair_judge.specs.JudgedAs.{end_of};
 ghost use Rattle.tap_command.specs.PrintedTap.{BothPass};
 
 use crate::tap_files::{TapPaths, write_captures};
-use crate::tap_naming::Unit;
+use crate::tap_naming::{Unit, tell_failed_read};
 use capture::CaptureFault;
 use pair_judge::EndVerdict;
 use placing::{Assumed, Explained, Turn};
-use printing::check::{print_failed_read, print_out_of_memory};
+use printing::check::print_out_of_memory;
 use printing::fault_told::FaultTold;
 use printing::files::{Named, Wanted, opened};
 use printing::layers::{Layers, judge_end_over};
@@ -67,13 +67,7 @@ fn are_explained<R: Files + AllocGlobal, E: Write>(
     let mut b = opened(rt, Wanted::by_path(Named::B, paths.b), err)?;
     match both_pass(rt.alloc(), paths.layers(), &mut a, &mut b) {
         Ok(both) => Ok(both),
-        Err((_, CaptureFault::OutOfMemory)) => {
-            Err(FaultTold::out_of_memory(print_out_of_memory(err)))
-        }
-        Err((side, _)) => {
-            let status = print_failed_read(err, side);
-            Err(FaultTold::of_capture(side, CaptureFault::Read, status))
-        }
+        Err((side, fault)) => Err(tell_failed_read(side, fault, err)),
     }
 }
 

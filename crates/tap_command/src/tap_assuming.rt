@@ -1,11 +1,12 @@
 //! What is assumed of the captures that were written, where the judge refuses them.
 
-use crate::tap::{print_tap_fault, told_of_tap};
+use crate::tap::tell_tap_fault;
 use crate::tap_files::TapPaths;
+use crate::tap_naming::tell_failed_read;
 use assuming::{Assumptions, assume, tell_lines};
 use capture::{CaptureFault, Departure};
 use placing::{Assumed, Turn};
-use printing::check::{print_failed_read, print_out_of_memory};
+use printing::check::print_out_of_memory;
 use printing::fault_told::FaultTold;
 use printing::files::{Named, Wanted, opened, opened_plain};
 use std::alloc::{AllocError, Global};
@@ -66,8 +67,7 @@ pub fn tell_too_long<R: Files + AllocGlobal, E: Write>(
         kind: Departure::TooLong,
         line,
     };
-    let status = print_tap_fault(rt.alloc(), fault, err);
-    Err(told_of_tap(fault, status))
+    Err(tell_tap_fault(rt.alloc(), fault, err))
 }
 
 // What is assumed of the captures as they were written.
@@ -80,13 +80,7 @@ fn assumed_now<R: Files + AllocGlobal, E: Write>(
     let mut b = opened(rt, Wanted::by_path(Named::B, paths.b), err)?;
     match assume(rt.alloc(), &mut a, &mut b) {
         Ok(assumptions) => Ok(assumptions),
-        Err((_, CaptureFault::OutOfMemory)) => {
-            Err(FaultTold::out_of_memory(print_out_of_memory(err)))
-        }
-        Err((side, _)) => {
-            let status = print_failed_read(err, side);
-            Err(FaultTold::of_capture(side, CaptureFault::Read, status))
-        }
+        Err((side, fault)) => Err(tell_failed_read(side, fault, err)),
     }
 }
 
@@ -110,14 +104,14 @@ fn told_lines<R: Files + AllocGlobal, E: Write>(
     let wire = opened_plain(rt, Wanted::by_path(Named::Wire, paths.wire), err)?;
     match tell_lines(rt.alloc(), &mut Tally::new(wire), turns) {
         Ok(told) => Ok(told),
-        Err(fault) => {
-            let fault = match fault {
-                CaptureFault::OutOfMemory => TapFault::OutOfMemory,
-                CaptureFault::Departs { kind, line } => TapFault::Departs { kind, line },
-                CaptureFault::Read | CaptureFault::Failed => TapFault::Read,
-            };
-            let status = print_tap_fault(rt.alloc(), fault, err);
-            Err(told_of_tap(fault, status))
-        }
+        Err(fault) => Err(tell_tap_fault(rt.alloc(), wire_fault_of(fault), err)),
+    }
+}
+
+fn wire_fault_of(fault: CaptureFault) -> TapFault {
+    match fault {
+        CaptureFault::OutOfMemory => TapFault::OutOfMemory,
+        CaptureFault::Departs { kind, line } => TapFault::Departs { kind, line },
+        CaptureFault::Read | CaptureFault::Failed => TapFault::Read,
     }
 }

@@ -3,9 +3,7 @@
 ghost use Rattle.std.specs.Prelude.{◌≡◌, true, is_ok, IfOk};
 
 use crate::packet_capture::tell_packet_capture;
-use crate::tap::{
-    Captured, RefusedAt, print_no_unit, print_tap_fault, tap_line_to, tap_to, told_of_tap,
-};
+use crate::tap::{Captured, RefusedAt, print_no_unit, tap_to, tell_tap_fault};
 use crate::tap_apart::are_apart;
 use crate::tap_assuming::{assume_more, tell_too_long};
 use crate::tap_naming::named_unit;
@@ -20,7 +18,8 @@ use printing::how::Form;
 use printing::layers::Layers;
 use printing::text::FAILED;
 use printing::written::{Beside, is_on_disk, opened_pair_to_write, written_pair};
-use std::io::Write;
+use std::alloc::Global;
+use std::io::{Read, Write};
 use std::rt::Files;
 use wire_base::{Side, Tally};
 use wire_tap::{Accused, Asked, Tapped, find_accused, tap};
@@ -38,7 +37,7 @@ pub struct TapPaths<'a> {
 }
 
 impl TapPaths<'_> {
-    /// What is judged.
+    /// What is judged: nodes with queues, since nobody who taps a line sees when a node acts; or stations and line alone.
     pub fn layers(&self) -> Layers {
         match self.line_alone {
             true => Layers::Station,
@@ -75,6 +74,18 @@ fn tap_whole<R: Files + AllocGlobal, O: Write, E: Write>(
         turns: Vec::new(rt.alloc()),
         too_long: None,
     };
+    tap_again(rt, form, paths, &mut assumptions, out, err)
+}
+
+// The same, with what is assumed, until nothing more is.
+fn tap_again<R: Files + AllocGlobal, O: Write, E: Write>(
+    rt: &R,
+    form: Form,
+    paths: TapPaths<'_>,
+    assumptions: &mut Assumptions,
+    out: &mut Tally<O>,
+    err: &mut Tally<E>,
+) -> Result<u8, FaultTold> {
     let mut named = (Side::A, 0);
     for round in 0..=MOST_ROUNDS {
         let turns = assumptions.turns.as_slice();
@@ -93,7 +104,7 @@ fn tap_whole<R: Files + AllocGlobal, O: Write, E: Write>(
         match judge_captures(rt, form, paths, whole, out, err)? {
             Ok(status) => return Ok(status),
             Err(refused) => {
-                if round < MOST_ROUNDS && assume_more(rt, paths, &mut assumptions, err)? {
+                if round < MOST_ROUNDS && assume_more(rt, paths, assumptions, err)? {
                     continue;
                 }
                 named = named_unit(
@@ -108,7 +119,7 @@ fn tap_whole<R: Files + AllocGlobal, O: Write, E: Write>(
             }
         }
     }
-    tell_too_long(rt, paths, &assumptions, named, err)?;
+    tell_too_long(rt, paths, assumptions, named, err)?;
     tell_unit(
         rt,
         form,
@@ -193,10 +204,7 @@ fn units_accused<R: Files + AllocGlobal, E: Write>(
     let wire = opened_plain(rt, Wanted::by_path(Named::Wire, paths.wire), err)?;
     match find_accused(rt.alloc(), &mut Tally::new(wire), paths.line_alone) {
         Ok(accused) => Ok(accused),
-        Err(fault) => {
-            let status = print_tap_fault(rt.alloc(), fault, err);
-            Err(told_of_tap(fault, status))
-        }
+        Err(fault) => Err(tell_tap_fault(rt.alloc(), fault, err)),
     }
 }
 
@@ -233,10 +241,7 @@ pub(crate) fn write_captures<R: Files + AllocGlobal, E: Write>(
         turns,
     ) {
         Ok(tapped) => Ok(tapped),
-        Err(fault) => {
-            let status = print_tap_fault(rt.alloc(), fault, err);
-            Err(told_of_tap(fault, status))
-        }
+        Err(fault) => Err(tell_tap_fault(rt.alloc(), fault, err)),
     }
 }
 
@@ -253,21 +258,24 @@ fn judge_captures<R: Files + AllocGlobal, O: Write, E: Write>(
 {
     let mut a = opened(rt, Wanted::by_path(Named::A, paths.a), err)?;
     let mut b = opened(rt, Wanted::by_path(Named::B, paths.b), err)?;
-    if let Form::Json = form {
-        let layers = paths.layers();
-        return Ok(tap_json_to(
-            rt.alloc(),
-            layers,
-            paths.wire,
-            &mut a,
-            &mut b,
-            captured,
-            out,
-            err,
-        ));
+    Ok(judge_both(rt.alloc(), form, paths, &mut a, &mut b, captured, out, err))
+}
+
+// The same of the captures that two readers give.
+fn judge_both<A: Read, B: Read, O: Write, E: Write>(
+    alloc: Global,
+    form: Form,
+    paths: TapPaths<'_>,
+    a: &mut Tally<A>,
+    b: &mut Tally<B>,
+    captured: Captured<'_>,
+    out: &mut Tally<O>,
+    err: &mut Tally<E>,
+) -> Result<u8, RefusedAt>
+    ensures { captured.entry.is_cut ≡ true → is_ok result ≡ true }
+{
+    match form {
+        Form::Json => tap_json_to(alloc, paths.layers(), paths.wire, a, b, captured, out, err),
+        Form::Rows => tap_to(alloc, paths.layers(), a, b, captured, out, err),
     }
-    if paths.line_alone {
-        return Ok(tap_line_to(rt.alloc(), &mut a, &mut b, captured, out, err));
-    }
-    Ok(tap_to(rt.alloc(), &mut a, &mut b, captured, out, err))
 }

@@ -182,12 +182,21 @@ fn unit_of<R: Files + AllocGlobal, E: Write>(
     let mut capture = opened(rt, Wanted::by_path(named, path), err)?;
     match units_before(rt.alloc(), &mut capture, refused.place) {
         Ok(unit) => Ok((refused.side, unit)),
-        Err(CaptureFault::OutOfMemory) => {
-            Err(FaultTold::out_of_memory(print_out_of_memory(err)))
-        }
-        Err(_) => {
-            let status = print_failed_read(err, refused.side);
-            Err(FaultTold::of_capture(refused.side, CaptureFault::Read, status))
+        Err(fault) => Err(tell_failed_read(refused.side, fault, err)),
+    }
+}
+
+/// Tells that this side's capture, which was written, could not be read; or that there is no memory for it.
+pub(crate) fn tell_failed_read<E: Write>(
+    side: Side,
+    fault: CaptureFault,
+    err: &mut Tally<E>,
+) -> FaultTold {
+    match fault {
+        CaptureFault::OutOfMemory => FaultTold::out_of_memory(print_out_of_memory(err)),
+        _ => {
+            let status = print_failed_read(err, side);
+            FaultTold::of_capture(side, CaptureFault::Read, status)
         }
     }
 }

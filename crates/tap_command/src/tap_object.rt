@@ -5,7 +5,7 @@ ghost use Rattle.wire_base.specs.Tally.{tally_lent};
 ghost use Rattle.tap_answer.specs.Telling.{telling};
 ghost use Rattle.printing.specs.Statuses.{EndsWith};
 ghost use Rattle.tap_command.specs.inner.TapStatus.{EndsAsTapped, told_status};
-ghost use Rattle.printing.specs.Layers.{nodes_of};
+ghost use Rattle.pair_judge.specs.JudgedAs.{nodes_of};
 
 use crate::tap::{ACCEPTED, Captured, RefusedAt, UNEXPLAINED, to_be_cut};
 use crate::tap_accused::{put_accused, put_passed, put_recording};
@@ -107,13 +107,32 @@ fn accepted_object(
     captured: Captured<'_>,
 ) -> Result<Vec<u8>, AllocError> {
     let mut object = begun(alloc, "accepted", name)?;
-    if let Verdict::Accepted(summary) = verdict {
-        put_counts(alloc, &mut object, layers, Side::A, summary.a)?;
-        put_counts(alloc, &mut object, layers, Side::B, summary.b)?;
-    }
-    put_assumed(alloc, &mut object, captured.turns)?;
-    put_skipped(alloc, &mut object, captured.tapped)?;
+    put_accepted(alloc, &mut object, layers, verdict)?;
+    put_captured(alloc, &mut object, captured)?;
     ended(object)
+}
+
+fn put_accepted(
+    alloc: Global,
+    object: &mut Vec<u8>,
+    layers: Layers,
+    verdict: Verdict,
+) -> Result<(), AllocError> {
+    let Verdict::Accepted(summary) = verdict else {
+        return Ok(());
+    };
+    put_counts(alloc, object, layers, Side::A, summary.a)?;
+    put_counts(alloc, object, layers, Side::B, summary.b)
+}
+
+// What is assumed, and what was skipped.
+fn put_captured(
+    alloc: Global,
+    object: &mut Vec<u8>,
+    captured: Captured<'_>,
+) -> Result<(), AllocError> {
+    put_assumed(alloc, object, captured.turns)?;
+    put_skipped(alloc, object, captured.tapped)
 }
 
 // They are refused, for this reason, and end with this unit, if one is named.
@@ -125,12 +144,21 @@ fn unexplained_object(
     captured: Captured<'_>,
 ) -> Result<Vec<u8>, AllocError> {
     let mut object = begun(alloc, "unexplained", name)?;
-    put_refused(alloc, &mut object, passed, reason)?;
-    put_accused(alloc, &mut object, captured.accused)?;
-    put_recording(alloc, &mut object, captured.accused.broken)?;
-    put_assumed(alloc, &mut object, captured.turns)?;
-    put_skipped(alloc, &mut object, captured.tapped)?;
+    put_unexplained(alloc, &mut object, passed, reason, captured)?;
     ended(object)
+}
+
+fn put_unexplained(
+    alloc: Global,
+    object: &mut Vec<u8>,
+    passed: Option<Passed>,
+    reason: Reason,
+    captured: Captured<'_>,
+) -> Result<(), AllocError> {
+    put_refused(alloc, object, passed, reason)?;
+    put_accused(alloc, object, captured.accused)?;
+    put_recording(alloc, object, captured.accused.broken)?;
+    put_captured(alloc, object, captured)
 }
 
 // The same, though each side is explained by itself.
@@ -143,8 +171,7 @@ fn apart_object(
 ) -> Result<Vec<u8>, AllocError> {
     let mut object = begun(alloc, "apart", name)?;
     put_refused(alloc, &mut object, Some(passed), reason)?;
-    put_assumed(alloc, &mut object, captured.turns)?;
-    put_skipped(alloc, &mut object, captured.tapped)?;
+    put_captured(alloc, &mut object, captured)?;
     ended(object)
 }
 

@@ -13,8 +13,8 @@ use wire_base::Side;
 const UNLESS_QUEUE: &str =
     "accused  nobody, if this node has a queue between NSP and DDCMP;\n         else ";
 
-/// By whose fault a record is refused. Printed as one word, or as `other end`: of a sender `sender`, and `user` also where it may be the node. Where a
-/// queue would excuse it, `_without_queue` follows.
+/// By whose fault a record is refused. Printed as one word, or as `other end`: of a sender `sender`, and `user` also where it may be the node. Where
+/// a queue would excuse it, `_without_queue` follows.
 #[derive(Clone, Copy, Debug, PartialEq, Eq)]
 pub enum Accusation {
     /// The node that sent the unit, or composed the packet.

@@ -17,9 +17,10 @@ use Rattle.pair_judge.specs.declared.reason.Reason.{Reason}
 use Rattle.pair_judge.specs.declared.summary.SideSummary.{SideSummary}
 use Rattle.why.specs.declared.end_text.EndRefusal.{EndRefusal}
 use Rattle.printing.specs.Printed.{Moved, Writes}
-use Rattle.printing.specs.PrintedAlone.{TellsEndFault, end_of, end_text_over}
+use Rattle.pair_judge.specs.JudgedAs.{end_of}
+use Rattle.printing.specs.PrintedAlone.{TellsEndFault, end_text_over}
 use Rattle.why_answer.specs.PrintedWhyEnd.{ExplainsEnd, IsEndText, IsToldOf, PrintsPass, PrintsStop, Stop, TellsEnd, stop}
-use Rattle.printing.specs.declared.layers.Layers.{Layers}
+use Rattle.pair_judge.specs.declared.judged_as.Layers.{Layers}
 use Rattle.printing.specs.declared.how.Form.{Form}
 use Rattle.printing.specs.declared.how.Form.TheVariants.{Rows, Json}
 use Rattle.why.specs.Refused.{BeginsWith, line_of_end, refused_line}

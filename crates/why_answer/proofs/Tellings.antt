@@ -7,7 +7,7 @@ use Rattle.why.specs.declared.why_text.Refusal.{Refusal}
 use Rattle.why.specs.Refused.{BeginsWith, line_of, refused_line}
 use Rattle.printing.specs.Printed.{verdict_text}
 use Rattle.why_answer.specs.PrintedWhy.{IsTold, IsWhyText, TellsRefusal}
-use Rattle.printing.specs.declared.layers.Layers.{Layers}
+use Rattle.pair_judge.specs.declared.judged_as.Layers.{Layers}
 use Rattle.printing.specs.declared.how.Form.{Form}
 use Rattle.printing.specs.declared.how.Form.TheVariants.{Rows, Json}
 use Rattle.why_answer.specs.declared.telling.Refused.{Refused}

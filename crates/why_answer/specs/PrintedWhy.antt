@@ -20,9 +20,10 @@ use Rattle.why.specs.declared.accusation.Accusation.{Accusation}
 use Rattle.why.specs.declared.accusation.Excuse.{Excuse}
 use Rattle.why.specs.declared.why_text.Refusal.{Refusal}
 use Rattle.why.specs.Refused.{BeginsWith, accused_by, accuses, line_of, refused_line}
-use Rattle.printing.specs.Layers.{StandsOver, nodes_of, queues_of, verdict_text_over}
+use Rattle.pair_judge.specs.JudgedAs.{StandsOver, nodes_of, queues_of}
+use Rattle.printing.specs.Layers.{verdict_text_over}
 use Rattle.printing.specs.Printed.{Moved, TellsFault, Writes, fault_text, verdict_text}
-use Rattle.printing.specs.declared.layers.Layers.{Layers}
+use Rattle.pair_judge.specs.declared.judged_as.Layers.{Layers}
 use Rattle.printing.specs.declared.how.Form.{Form}
 use Rattle.printing.specs.declared.how.Form.TheVariants.{Rows, Json}
 use Rattle.why_answer.specs.declared.telling.Refused.{Refused}

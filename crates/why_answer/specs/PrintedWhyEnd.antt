@@ -16,11 +16,11 @@ use Rattle.pair_judge.specs.declared.end_verdict.EndVerdict.TheVariants.{Passed,
 use Rattle.pair_judge.specs.declared.summary.SideSummary.{SideSummary}
 use Rattle.why.specs.declared.end_text.EndRefusal.{EndRefusal}
 use Rattle.why.specs.Refused.{BeginsWith, end_accuses, line_of_end, refused_line}
-use Rattle.printing.specs.Layers.{queues_of}
+use Rattle.pair_judge.specs.JudgedAs.{end_of, queues_of}
 use Rattle.printing.specs.Printed.{Moved, Writes}
-use Rattle.printing.specs.PrintedAlone.{TellsEndFault, end_of, end_text_over}
+use Rattle.printing.specs.PrintedAlone.{TellsEndFault, end_text_over}
 use Rattle.why_answer.specs.PrintedWhy.{IsAccused}
-use Rattle.printing.specs.declared.layers.Layers.{Layers}
+use Rattle.pair_judge.specs.declared.judged_as.Layers.{Layers}
 use Rattle.printing.specs.declared.how.Form.{Form}
 use Rattle.printing.specs.declared.how.Form.TheVariants.{Rows, Json}
 

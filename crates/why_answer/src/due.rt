@@ -25,12 +25,22 @@ pub fn due_near(
     bytes: &[u8],
 ) -> Result<Vec<Due>, AllocError> {
     let mut due = Vec::new(alloc);
-    match entry {
-        Entry::Sent => add_of_unit(alloc, &mut due, stretch.line, bytes)?,
-        Entry::Up { link } => add_messages(alloc, &mut due, stretch, link)?,
-        _ => {}
-    }
+    add_near(alloc, &mut due, stretch, entry, bytes)?;
     Ok(due)
+}
+
+fn add_near(
+    alloc: Global,
+    due: &mut Vec<Due>,
+    stretch: &Stretch,
+    entry: Entry,
+    bytes: &[u8],
+) -> Result<(), AllocError> {
+    match entry {
+        Entry::Sent => add_of_unit(alloc, due, stretch.line, bytes),
+        Entry::Up { link } => add_messages(alloc, due, stretch, link),
+        _ => Ok(()),
+    }
 }
 
 /// The damage of which a record tells: a NAK that is sent names it.

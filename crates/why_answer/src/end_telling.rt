@@ -8,16 +8,16 @@ ghost use Rattle.why_answer.specs.PrintedWhyEnd.{ExplainsEnd, IsToldOf, PrintsPa
 
 use crate::last_rows::LastRows;
 use crate::queued_too::{end_with_queues, unasked};
-use crate::rows_before::ladder_text;
+use crate::rows_before::end_rungs;
 use crate::telling::{REFUSED, accusation_knowing};
 use capture::CaptureFault;
 use ladder::Ladder;
-use pair_judge::{EndVerdict, Reason, SideEnd, SideSummary, WatchedEnd};
+use pair_judge::{EndVerdict, Reason, SideEnd, SideSummary, WatchedEnd, judge_end};
 use printing::alone::print_end_fault;
 use printing::check::{print, print_out_of_memory};
 use printing::end_text::end_text;
 use printing::how::Form;
-use printing::layers::{Layers, failed_end_over, watch_end_over};
+use printing::layers::Layers;
 use side_words::subject::addresses_of;
 use std::alloc::{AllocError, Global};
 use std::io::{Read, Seek, Write};
@@ -62,7 +62,7 @@ pub fn why_end_to<A: Read, B: Read + Seek, O: Write, E: Write>(
     let Ok(rows) = LastRows::new(alloc) else {
         return print_out_of_memory(err);
     };
-    let watched = match watch_end_over(alloc, printout.layers, a, rows) {
+    let watched = match judge_end(alloc, printout.layers, a, rows) {
         Ok(watched) => watched,
         Err(fault) => return print_end_fault(alloc, fault, err),
     };
@@ -127,25 +127,36 @@ pub fn print_passed<O: Write, E: Write>(
 pub fn end_refused_text(
     alloc: Global,
     printout: EndPrintout<'_>,
-    watched: WatchedEnd<LastRows>,
+    mut watched: WatchedEnd<LastRows>,
     queued: QueuedAnswer,
 ) -> Result<String, AllocError>
     ensures { IfOk result (λ text.
         TellsEnd printout.entry.layers printout.entry.form (stop watched.verdict watched.end) (string_bytes text)) }
 {
-    let WatchedEnd {
-        verdict,
-        end,
-        observer: LastRows { mut ladder, past },
-    } = watched;
-    let Some(refusal) = refusal_of(printout.layers, verdict, &end, &past, queued) else {
+    let rows = &mut watched.observer;
+    text_of_refused_end(alloc, printout, watched.verdict, &watched.end, rows, queued)
+}
+
+/// The same of the end and the last rows, where they are lent.
+pub fn text_of_refused_end(
+    alloc: Global,
+    printout: EndPrintout<'_>,
+    verdict: EndVerdict,
+    end: &SideEnd,
+    rows: &mut LastRows,
+    queued: QueuedAnswer,
+) -> Result<String, AllocError>
+    ensures { IfOk result (λ text. TellsEnd printout.entry.layers printout.entry.form (stop verdict end.now) (string_bytes text)) }
+{
+    let Some(refusal) = refusal_of(printout.layers, verdict, end, &rows.past, queued) else {
         return end_text(alloc, printout.layers, verdict);
     };
     match printout.form {
-        Form::Json => why_end_json(alloc, refusal, &end),
+        Form::Json => why_end_json(alloc, refusal, end),
         Form::Rows => {
+            let ladder = &mut rows.ladder;
             ladder.refused(Side::A, refusal.says, refusal.bytes, false);
-            rows_text(alloc, printout, verdict, refusal, &end, &ladder)
+            rows_text(alloc, printout, verdict, refusal, end, ladder)
         }
     }
 }
@@ -179,7 +190,7 @@ fn refusal_of<'t>(
         place,
         reason,
         accusation: accusation_knowing(by_table, reason, has_begun, excuse),
-        failed: failed_end_over(layers, end, reason),
+        failed: end.failed_alone(layers, reason),
         says: entry,
         bytes,
         lines: past.lines(Side::A, addresses_of(entry, bytes)),
@@ -198,8 +209,7 @@ fn rows_text(
 ) -> Result<String, AllocError>
     ensures { IfOk result (λ text. BeginsWith (end_text_over printout.entry.layers verdict) (string_bytes text)) }
 {
-    let drawn = ladder.drawn(alloc)?;
-    let rungs = ladder_text(alloc, &drawn)?;
+    let rungs = end_rungs(alloc, ladder)?;
     let first = end_text(alloc, printout.layers, verdict)?;
     let beside = Beside {
         name: printout.name,

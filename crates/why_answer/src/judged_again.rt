@@ -2,7 +2,7 @@
 
 ghost use Rattle.pair_judge.specs.Judged.{IsAnswer};
 ghost use Rattle.why_answer.specs.inner.Edits.{with_changes};
-ghost use Rattle.printing.specs.Layers.{nodes_of};
+ghost use Rattle.pair_judge.specs.JudgedAs.{nodes_of};
 
 use edited::{Change, EditedReader};
 use pair_judge::{JudgeFault, TextFault, Verdict};

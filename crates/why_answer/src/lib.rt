@@ -2,6 +2,7 @@
 //! edits of the captures tell. It opens no file, and reads again those that it is given.
 #![tactic(auto)]
 
+mod both_near;
 mod due;
 pub mod end_telling;
 mod judged_again;

@@ -105,15 +105,25 @@ pub fn records_near<R: Read>(
     let mut capture = CaptureReader::open(alloc, reader)?;
     let mut keeper = Keeper::new(alloc, place, asked, first_form(capture.format()));
     keeper.head = (capture.own(), capture.peer());
+    let (records, has_ended) = keep_near(&mut capture, reader, &mut keeper)?;
+    Ok(keeper.finish(records, has_ended))
+}
+
+// Reads this capture on; how many records it has, and whether it has ended there: else a line departs.
+fn keep_near<R: Read>(
+    capture: &mut CaptureReader,
+    reader: &mut Tally<R>,
+    keeper: &mut Keeper,
+) -> Result<(u64, bool), CaptureFault> {
     for number in 0..MAX_RECORDS + 1 {
         match capture.advance(reader) {
-            Ok(Some(entry)) => match keeper.take(number, entry, capture.bytes()) {
-                Ok(()) => {}
-                Err(_) => return Err(CaptureFault::OutOfMemory),
-            },
+            Ok(Some(entry)) => {
+                if keeper.take(number, entry, capture.bytes()).is_err() {
+                    return Err(CaptureFault::OutOfMemory);
+                }
+            }
             Err(CaptureFault::Read) => return Err(CaptureFault::Read),
-            Ok(None) => return Ok(keeper.finish(number, true)),
-            Err(_) => return Ok(keeper.finish(number, false)),
+            ended => return Ok((number, ended.is_ok())),
         }
     }
     Err(CaptureFault::Failed)

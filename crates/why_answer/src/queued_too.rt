@@ -1,12 +1,9 @@
 //! What is answered of refused captures as those of nodes with queues.
 
-use crate::recorder::{Tried, stopped};
+use crate::recorder::Tried;
 use capture::CaptureFault;
-use pair_judge::{
-    Accused, EndVerdict, JudgeFault, Matter, Reason, TextFault, Verdict, judge_queued,
-    judge_queued_end,
-};
-use printing::layers::Layers;
+use pair_judge::{Accused, EndVerdict, JudgeFault, Matter, Reason, TextFault, Verdict};
+use printing::layers::{Layers, judge_end_over, judge_over};
 use std::alloc::{AllocError, Global};
 use std::io::{Read, Seek};
 use why::QueuedAnswer;
@@ -24,34 +21,35 @@ pub fn with_queues_too<A: Read + Seek, B: Read + Seek>(
     reason: Reason,
     mut tried: Tried,
 ) -> Result<Tried, AllocError> {
-    if !is_to_ask(layers, reason) {
-        return Ok(tried);
+    if is_to_ask(layers, reason) {
+        ask_queues(alloc, a, b, &mut tried)?;
     }
+    Ok(tried)
+}
+
+fn ask_queues<A: Read + Seek, B: Read + Seek>(
+    alloc: Global,
+    a: &mut A,
+    b: &mut B,
+    tried: &mut Tried,
+) -> Result<(), AllocError> {
     tried.queued = QueuedAnswer::NotKnown;
-    if tried.failed.is_some() {
-        return Ok(tried);
-    }
-    if a.rewind().is_err() || b.rewind().is_err() {
-        return Ok(tried);
+    if tried.failed.is_some() || a.rewind().is_err() || b.rewind().is_err() {
+        return Ok(());
     }
     let mut tally_a = Tally::new(&mut *a);
     let mut tally_b = Tally::new(&mut *b);
-    match judge_queued(alloc, &mut tally_a, &mut tally_b) {
-        Ok(verdict) => {
-            tried.queued = answer_of(verdict);
-            Ok(tried)
-        }
+    tried.queued = match judge_over(alloc, Layers::Queued, &mut tally_a, &mut tally_b) {
+        Ok(verdict) => answer_of(verdict),
         Err(
             JudgeFault::Capture {
                 side,
                 fault: TextFault::Departs { kind, line },
             },
-        ) => {
-            tried.queued = QueuedAnswer::Departs { side, kind, line };
-            Ok(tried)
-        }
-        Err(fault) => stopped(tried, fault),
-    }
+        ) => QueuedAnswer::Departs { side, kind, line },
+        Err(fault) => return tried.stop(fault),
+    };
+    Ok(())
 }
 
 fn answer_of(verdict: Verdict) -> QueuedAnswer {
@@ -83,7 +81,7 @@ pub fn end_with_queues<A: Read + Seek>(
     if a.rewind().is_err() {
         return Ok(QueuedAnswer::NotKnown);
     }
-    match judge_queued_end(alloc, &mut Tally::new(&mut *a)) {
+    match judge_end_over(alloc, Layers::Queued, &mut Tally::new(&mut *a)) {
         Ok(EndVerdict::Passed(_)) => Ok(QueuedAnswer::Accepted),
         Ok(
             EndVerdict::Refused {

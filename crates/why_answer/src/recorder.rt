@@ -1,22 +1,19 @@
 //! What small edits near a refused record tell: whether rather the recording is wrong than a node. That is told only where no single fault of the
 //! node explains the record as well.
 
-use crate::due::{damage_of, due_near};
+use crate::both_near::{BothNear, NothingNear, ToTry, near_both};
 use crate::judged_again::{PairChanges, is_run_again};
-use crate::near::{Near, near_of, what_is_asked};
 use crate::queued_too::unasked;
-use crate::unit_changes::{is_sent_at_another_time, unit_changes};
-use capture::CaptureFault;
-use capture_record::Entry;
-use edited::{Edit, MistakeOf, Refused, candidates};
-use pair_judge::{JudgeFault, JudgedEnds, Verdict};
+use crate::unit_changes::is_sent_at_another_time;
+use edited::{Edit, MistakeOf};
+use pair_judge::{JudgeFault, JudgedEnds};
 use printing::how::Form;
 use printing::layers::Layers;
 use std::alloc::{AllocError, Global};
 use std::fmt::Write as _;
 use std::io::{Read, Seek};
 use why::{AlsoAsked, EditLine, EditsTried, FEW_RECORDS, QueuedAnswer, put_edit};
-use wire_base::{Side, Tally};
+use wire_base::Side;
 
 /// How many bytes of both captures are read at most while edits are judged: about two seconds' work.
 const MOST_BYTES: u64 = 500_000_000;
@@ -110,6 +107,28 @@ impl Tried {
         }
     }
 
+    // Nothing was tried yet of what is near: the unit that the refused record names, and what comes later.
+    fn of_near(alloc: Global, records_behind: u64, near: BothNear) -> Tried {
+        let BothNear { a, b } = near;
+        let later = ComesLater {
+            is_all: a.has_all_hints && b.has_all_hints,
+            hints_a: a.hints,
+            hints_b: b.hints,
+        };
+        Tried::nothing(alloc, Some(records_behind), later, a.unit.or(b.unit))
+    }
+
+    /// No more is tried, since a read failed; or there is no memory.
+    pub fn stop(&mut self, fault: JudgeFault) -> Result<(), AllocError> {
+        match fault {
+            JudgeFault::OutOfMemory => Err(AllocError),
+            JudgeFault::Capture { side, .. } => {
+                self.failed = Some(side);
+                Ok(())
+            }
+        }
+    }
+
     // One that makes the pair a run.
     fn add(&mut self, alloc: Global, mistake: MistakeOf) -> Result<(), AllocError> {
         self.counts.accepted = self.counts.accepted.saturating_add(1);
@@ -137,40 +156,48 @@ pub fn try_edits<A: Read + Seek, B: Read + Seek>(
     ends: &JudgedEnds,
     side: Side,
 ) -> Result<Tried, AllocError> {
-    let near_a = match near_of(
-        alloc,
-        a,
-        ends.records(Side::A),
-        what_is_asked(ends, side, Side::A),
-    ) {
-        Ok(near) => near,
-        Err(fault) => return unread(alloc, Side::A, fault),
-    };
-    let near_b = match near_of(
-        alloc,
-        b,
-        ends.records(Side::B),
-        what_is_asked(ends, side, Side::B),
-    ) {
-        Ok(near) => near,
-        Err(fault) => return unread(alloc, Side::B, fault),
-    };
-    let (Some(near_a), Some(near_b)) = (near_a, near_b) else {
-        return Ok(Tried::unread(alloc, None));
-    };
-    let records = records_behind(ends, &near_a, &near_b);
-    let edits = edits_near(alloc, ends, side, &near_a, &near_b)?;
-    let units = unit_changes(alloc, layers, ends, side, &near_a, &near_b)?;
-    let (unit, later) = what_is_left(near_a, near_b);
-    let tried = Tried::nothing(alloc, Some(records), later, unit);
-    if records < FEW_RECORDS {
-        return Ok(tried);
+    match near_both(alloc, a, b, ends, side) {
+        Ok(Some(near)) => try_near(alloc, layers, a, b, ends, side, near),
+        Ok(None) | Err(NothingNear::Departs) => Ok(Tried::unread(alloc, None)),
+        Err(NothingNear::Unread(failed)) => Ok(Tried::unread(alloc, Some(failed))),
+        Err(NothingNear::OutOfMemory) => Err(AllocError),
     }
-    let tried = try_each(alloc, layers, a, b, ends, edits, tried)?;
+}
+
+// Judges the pair under what is near.
+fn try_near<A: Read + Seek, B: Read + Seek>(
+    alloc: Global,
+    layers: Layers,
+    a: &mut A,
+    b: &mut B,
+    ends: &JudgedEnds,
+    side: Side,
+    near: BothNear,
+) -> Result<Tried, AllocError> {
+    let to_try = near.to_try(alloc, layers, ends, side)?;
+    let records = near.records_behind(ends);
+    let mut tried = Tried::of_near(alloc, records, near);
+    if records >= FEW_RECORDS {
+        try_all(alloc, layers, a, b, ends, to_try, &mut tried)?;
+    }
+    Ok(tried)
+}
+
+fn try_all<A: Read + Seek, B: Read + Seek>(
+    alloc: Global,
+    layers: Layers,
+    a: &mut A,
+    b: &mut B,
+    ends: &JudgedEnds,
+    to_try: ToTry,
+    tried: &mut Tried,
+) -> Result<(), AllocError> {
+    let ToTry { edits, units } = to_try;
+    try_each(alloc, layers, a, b, ends, edits, tried)?;
     if tried.failed.is_none() && tried.counts.accepted > 0 && !tried.unit_as_well {
         return try_units(alloc, layers, a, b, units, tried);
     }
-    Ok(tried)
+    Ok(())
 }
 
 // Whether the pair is a run under one of these changes of a unit. Where a file can't be read again, nobody knows, and it may be.
@@ -180,33 +207,26 @@ fn try_units<A: Read + Seek, B: Read + Seek>(
     a: &mut A,
     b: &mut B,
     units: Vec<PairChanges>,
-    mut tried: Tried,
-) -> Result<Tried, AllocError> {
+    tried: &mut Tried,
+) -> Result<(), AllocError> {
     for changes in units {
-        match is_run_again(alloc, layers, a, b, changes) {
-            Ok(Some(false)) => {}
-            Ok(Some(true)) | Ok(None) => {
-                tried.unit_as_well = true;
-                return Ok(tried);
-            }
-            Err(fault) => {
-                tried.unit_as_well = true;
-                return stopped(tried, fault);
-            }
+        let is_run = is_run_again(alloc, layers, a, b, changes);
+        if let Ok(Some(false)) = is_run {
+            continue;
         }
+        tried.unit_as_well = true;
+        return match is_run {
+            Ok(_) => Ok(()),
+            Err(fault) => tried.stop(fault),
+        };
     }
-    Ok(tried)
+    Ok(())
 }
 
 /// No more is tried, since a read failed; or there is no memory.
 pub fn stopped(mut tried: Tried, fault: JudgeFault) -> Result<Tried, AllocError> {
-    match fault {
-        JudgeFault::OutOfMemory => Err(AllocError),
-        JudgeFault::Capture { side, .. } => {
-            tried.failed = Some(side);
-            Ok(tried)
-        }
-    }
+    tried.stop(fault)?;
+    Ok(tried)
 }
 
 // Judges the pair under one edit after another.
@@ -217,38 +237,47 @@ fn try_each<A: Read + Seek, B: Read + Seek>(
     b: &mut B,
     ends: &JudgedEnds,
     edits: Vec<Edit>,
-    mut tried: Tried,
-) -> Result<Tried, AllocError> {
+    tried: &mut Tried,
+) -> Result<(), AllocError> {
     let mut read = 0u64;
     for edit in edits {
-        if read >= MOST_BYTES {
-            return Ok(tried);
-        }
-        let Edit { of, changes } = edit;
-        let changes = PairChanges::of(of.side, changes, Vec::new(alloc));
-        let is_run = match is_run_again(alloc, layers, a, b, changes) {
-            Ok(Some(is_run)) => is_run,
-            Ok(None) => return Ok(tried),
-            Err(fault) => return stopped(tried, fault),
-        };
-        tried.counts.tried = tried.counts.tried.saturating_add(1);
-        if is_run {
-            tried.unit_as_well = tried.unit_as_well || is_sent_at_another_time(ends, of.mistake);
-            tried.add(alloc, of)?;
+        if read >= MOST_BYTES || !try_edit(alloc, layers, a, b, ends, edit, tried)? {
+            break;
         }
         read = read
             .saturating_add(bytes_read(a))
             .saturating_add(bytes_read(b));
     }
-    Ok(tried)
+    Ok(())
 }
 
-// Why a capture of this side has nothing near.
-fn unread(alloc: Global, side: Side, fault: CaptureFault) -> Result<Tried, AllocError> {
-    match fault {
-        CaptureFault::Departs { .. } | CaptureFault::Failed => Ok(Tried::unread(alloc, None)),
-        CaptureFault::Read => Ok(Tried::unread(alloc, Some(side))),
-        CaptureFault::OutOfMemory => Err(AllocError),
+// Judges the pair under this edit; whether others may be tried.
+fn try_edit<A: Read + Seek, B: Read + Seek>(
+    alloc: Global,
+    layers: Layers,
+    a: &mut A,
+    b: &mut B,
+    ends: &JudgedEnds,
+    edit: Edit,
+    tried: &mut Tried,
+) -> Result<bool, AllocError> {
+    let Edit { of, changes } = edit;
+    let changes = PairChanges::of(of.side, changes, Vec::new(alloc));
+    match is_run_again(alloc, layers, a, b, changes) {
+        Ok(Some(is_run)) => {
+            tried.counts.tried = tried.counts.tried.saturating_add(1);
+            if is_run {
+                let moves = is_sent_at_another_time(ends, of.mistake);
+                tried.unit_as_well = tried.unit_as_well || moves;
+                tried.add(alloc, of)?;
+            }
+            Ok(true)
+        }
+        Ok(None) => Ok(false),
+        Err(fault) => {
+            tried.stop(fault)?;
+            Ok(false)
+        }
     }
 }
 
@@ -258,62 +287,6 @@ fn nothing_later(alloc: Global) -> ComesLater {
         hints_b: Vec::new(alloc),
         is_all: false,
     }
-}
-
-// The unit that the refused record names, and what comes later.
-fn what_is_left(near_a: Near, near_b: Near) -> (Option<Vec<u8>>, ComesLater) {
-    let Near {
-        hints: hints_a,
-        has_all_hints: has_all_a,
-        unit: unit_a,
-        ..
-    } = near_a;
-    let Near {
-        hints: hints_b,
-        has_all_hints: has_all_b,
-        unit: unit_b,
-        ..
-    } = near_b;
-    let later = ComesLater {
-        is_all: has_all_a && has_all_b,
-        hints_a,
-        hints_b,
-    };
-    (unit_a.or(unit_b), later)
-}
-
-// How many records of both captures come after the refused one.
-fn records_behind(ends: &JudgedEnds, near_a: &Near, near_b: &Near) -> u64 {
-    let left_a = near_a.records.saturating_sub(ends.records(Side::A));
-    let left_b = near_b.records.saturating_sub(ends.records(Side::B));
-    left_a.saturating_add(left_b).saturating_sub(1)
-}
-
-// The edits that are worth a try.
-fn edits_near(
-    alloc: Global,
-    ends: &JudgedEnds,
-    side: Side,
-    near_a: &Near,
-    near_b: &Near,
-) -> Result<Vec<Edit>, AllocError> {
-    let Some((entry, bytes)) = ends.ahead(side) else {
-        return Ok(Vec::new(alloc));
-    };
-    let Verdict::Refused { reason, .. } = ends.verdict() else {
-        return Ok(Vec::new(alloc));
-    };
-    let (own, other) = match side {
-        Side::A => (&near_a.stretch, &near_b.stretch),
-        Side::B => (&near_b.stretch, &near_a.stretch),
-    };
-    let refused = Refused {
-        reason: u64::from(reason.number()),
-        due: due_near(alloc, own, entry, bytes)?,
-        damage: damage_of(entry, bytes),
-    };
-    let edits = candidates(alloc, side, &refused, own, other)?;
-    Ok(edits.into_vec())
 }
 
 // How far a file was read.

@@ -15,32 +15,41 @@ pub fn right_units(
     bytes: &[u8],
 ) -> Result<Vec<Vec<u8>>, AllocError> {
     let mut units = Vec::new(alloc);
-    let Reading::Sound(message) = read_unit(bytes) else {
-        return Ok(units);
-    };
-    let FailedCheck::StationSending(failed) = failed else {
-        return Ok(units);
-    };
+    if let (FailedCheck::StationSending(failed), Reading::Sound(message)) = (
+        failed,
+        read_unit(bytes),
+    ) {
+        add_right(alloc, &mut units, failed, station, message)?;
+    }
+    Ok(units)
+}
+
+fn add_right(
+    alloc: Global,
+    units: &mut Vec<Vec<u8>>,
+    failed: FailedSending,
+    station: StationView,
+    message: Message<'_>,
+) -> Result<(), AllocError> {
     let answer = Message::Ack {
         flags: flags_of(message),
         resp: station.received,
     };
     match failed {
-        FailedSending::State { seen } => add_of_state(alloc, &mut units, seen, answer)?,
+        FailedSending::State { seen } => add_of_state(alloc, units, seen, answer),
         FailedSending::RespIsLast { allowed, .. } => {
-            add(alloc, &mut units, with_resp(message, allowed))?;
+            add(alloc, units, with_resp(message, allowed))
         }
         FailedSending::NumIsNext { allowed, .. } | FailedSending::NumIsHighest { allowed, .. } => {
-            add(alloc, &mut units, with_num(message, allowed))?;
+            add(alloc, units, with_num(message, allowed))
         }
-        FailedSending::SomeOutstanding => add(alloc, &mut units, answer)?,
+        FailedSending::SomeOutstanding => add(alloc, units, answer),
         FailedSending::CauseIsOpen { open_causes, .. } => {
-            add_naks(alloc, &mut units, open_causes, message)?;
-            add(alloc, &mut units, answer)?;
+            add_naks(alloc, units, open_causes, message)?;
+            add(alloc, units, answer)
         }
-        FailedSending::RoomIfNew { .. } | FailedSending::AsFirstGiven { .. } => {}
+        FailedSending::RoomIfNew { .. } | FailedSending::AsFirstGiven { .. } => Ok(()),
     }
-    Ok(units)
 }
 
 // What a station in this state may send.

@@ -8,13 +8,13 @@ ghost use Rattle.why_answer.specs.PrintedWhy.{IsAccused, IsTold, PrintsAcceptanc
 
 use crate::last_rows::LastRows;
 use crate::recorder::Tried;
-use crate::rows_before::{ladder_text, tell_later, unit_text};
+use crate::rows_before::{rungs_of, tell_later};
 use capture_record::Entry;
-use ladder::{Drawn, Ladder};
+use ladder::Ladder;
 use pair_judge::{JudgedEnds, Reason, Summary, Verdict, Watched};
 use printing::check::{print, print_failed_read, print_out_of_memory};
 use printing::how::Form;
-use printing::layers::{Layers, failed_over};
+use printing::layers::Layers;
 use printing::text::{FAILED, verdict_text};
 use record_words::lines::Lines;
 use side_words::subject::addresses_of;
@@ -87,25 +87,43 @@ pub fn refused_text(
     alloc: Global,
     printout: Printout<'_>,
     refused: Refused,
-    watched: Watched<LastRows>,
+    mut watched: Watched<LastRows>,
     tried: Tried,
 ) -> Result<String, AllocError>
     ensures { IfOk result (λ text. TellsRefusal printout.entry.layers printout.entry.form watched.ends refused (string_bytes text)) }
 {
-    let Watched {
-        ends,
-        observer: LastRows { mut ladder, past },
-    } = watched;
-    let Some(refusal) = refusal_of(printout.layers, refused, &ends, &tried, &past) else {
+    text_of_refused(
+        alloc,
+        printout,
+        refused,
+        &watched.ends,
+        &mut watched.observer,
+        &tried,
+    )
+}
+
+/// The same of both ends and the last rows, where they are lent.
+pub fn text_of_refused(
+    alloc: Global,
+    printout: Printout<'_>,
+    refused: Refused,
+    ends: &JudgedEnds,
+    rows: &mut LastRows,
+    tried: &Tried,
+) -> Result<String, AllocError>
+    ensures { IfOk result (λ text. TellsRefusal printout.entry.layers printout.entry.form ends.now refused (string_bytes text)) }
+{
+    let Some(refusal) = refusal_of(printout.layers, refused, ends, tried, &rows.past) else {
         return verdict_text(alloc, Layers::Both, ends.verdict());
     };
     match printout.form {
-        Form::Json => objects_text(alloc, refusal, &ends, &tried),
+        Form::Json => objects_text(alloc, refusal, ends, tried),
         Form::Rows => {
             let is_changed = refused.reason.is_of_changed_bytes();
+            let ladder = &mut rows.ladder;
             ladder.refused(refused.side, refusal.says, refusal.bytes, is_changed);
-            tell_later(&mut ladder, &tried.later);
-            rows_text(alloc, printout, refusal, &ends, &ladder, &tried)
+            tell_later(ladder, &tried.later);
+            rows_text(alloc, printout, refusal, ends, ladder, tried)
         }
     }
 }
@@ -123,7 +141,7 @@ fn refusal_of<'t>(
     let Some((entry, bytes)) = ends.ahead(refused.side) else {
         return None;
     };
-    let Some((_, failed)) = failed_over(layers, ends) else {
+    let Some((_, failed)) = ends.failed(layers) else {
         return None;
     };
     let named = addresses_of(entry, bytes);
@@ -207,14 +225,12 @@ fn rows_text(
 ) -> Result<String, AllocError>
     ensures { IfOk result (λ text. BeginsWith (printed.verdict_text ends.now.verdict) (string_bytes text)) }
 {
-    let drawn = ladder.drawn(alloc)?;
-    let unit = unit_text(alloc, printout, &drawn)?;
-    let rungs = ladder_text(alloc, &drawn)?;
+    let rungs = rungs_of(alloc, printout, ladder)?;
     let shown = Shown {
         name: printout.name_of(refusal.side),
-        unit: unit.as_str(),
+        unit: rungs.unit.as_str(),
         full: printout.full,
-        ladder: rungs.as_str(),
+        ladder: rungs.ladder.as_str(),
         unit_as_well: tried.unit_as_well,
         asked: tried.also_asked(Form::Rows),
     };

@@ -1,12 +1,12 @@
 //! What explains a refused unit as well as a mistake of the recorder: a node that is wrong in this unit alone.
 
+use crate::both_near::BothNear;
 use crate::judged_again::PairChanges;
-use crate::near::Near;
 use crate::right_units::right_units;
 use capture_record::Entry;
 use edited::{Change, Mistake, Row, with_bytes};
 use pair_judge::{JudgedEnds, Matter, Verdict};
-use printing::layers::{Layers, failed_over};
+use printing::layers::Layers;
 use std::alloc::{AllocError, Global};
 use wire_base::Side;
 
@@ -17,30 +17,44 @@ pub fn unit_changes(
     layers: Layers,
     ends: &JudgedEnds,
     side: Side,
-    near_a: &Near,
-    near_b: &Near,
+    near: &BothNear,
 ) -> Result<Vec<PairChanges>, AllocError> {
-    let mut changes = Vec::new(alloc);
-    let (own, other) = match side {
-        Side::A => (near_a, near_b),
-        Side::B => (near_b, near_a),
-    };
-    let (Some((_, failed)), Some(row)) = (failed_over(layers, ends), own.row_ahead()) else {
-        return Ok(changes);
+    let (own, other) = near.of(side);
+    let (Some((_, failed)), Some(row)) = (ends.failed(layers), own.row_ahead()) else {
+        return Ok(Vec::new(alloc));
     };
     if row.entry != Entry::Sent {
-        return Ok(changes);
+        return Ok(Vec::new(alloc));
     }
-    for unit in right_units(alloc, failed, ends.station(side), &row.bytes)? {
-        let (sent, came) = (
-            with_bytes(alloc, row, &unit)?,
-            receipt_changes(alloc, row, &other.receipt, &unit)?,
-        );
-        if let (Some(sent), Some(came)) = (sent, came) {
-            changes.push(PairChanges::of(side, sent, came))?;
-        }
+    let units = right_units(alloc, failed, ends.station(side), &row.bytes)?;
+    let mut changes = Vec::new(alloc);
+    for unit in units.iter() {
+        add_changes(
+            alloc,
+            &mut changes,
+            side,
+            (row, &other.receipt),
+            unit.as_slice(),
+        )?;
     }
     Ok(changes)
+}
+
+// The changes by which the sent unit of this side and its receipt are this unit.
+fn add_changes(
+    alloc: Global,
+    changes: &mut Vec<PairChanges>,
+    side: Side,
+    rows: (&Row, &Option<Row>),
+    unit: &[u8],
+) -> Result<(), AllocError> {
+    let (row, receipt) = rows;
+    let sent = with_bytes(alloc, row, unit)?;
+    let came = receipt_changes(alloc, row, receipt, unit)?;
+    if let (Some(sent), Some(came)) = (sent, came) {
+        changes.push(PairChanges::of(side, sent, came))?;
+    }
+    Ok(())
 }
 
 // The changes by which the receipt of a unit is one of this unit; none where it never came, or came damaged.

@@ -7,10 +7,10 @@ use Rattle.pair_judge.specs.declared.fault.JudgeFault.TheVariants.{OutOfMemory}
 use Rattle.pair_judge.specs.declared.summary.Summary.{Summary}
 use Rattle.pair_judge.specs.declared.verdict.Verdict.{Verdict}
 use Rattle.pair_judge.specs.declared.verdict.Verdict.TheVariants.{Accepted, Refused as IsRefused}
-use Rattle.printing.specs.Layers.{StandsOver, nodes_of}
+use Rattle.pair_judge.specs.JudgedAs.{StandsOver, nodes_of}
 use Rattle.printing.specs.Printed.{Moved, TellsFault}
 use Rattle.why_answer.specs.PrintedWhy.{Explains, PrintsAcceptance, PrintsVerdict, TellsRefusal, WritesRefusal}
-use Rattle.printing.specs.declared.layers.Layers.{Layers}
+use Rattle.pair_judge.specs.declared.judged_as.Layers.{Layers}
 use Rattle.printing.specs.declared.how.Form.{Form}
 use Rattle.why_answer.specs.declared.telling.Refused.{Refused}
 use Rattle.printing.proofs.Answering.{without_memory}

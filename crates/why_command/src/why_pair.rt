@@ -4,9 +4,8 @@ ghost use Rattle.printing.specs.Printed.{moved};
 ghost use Rattle.why_answer.specs.PrintedWhy.{Explains};
 
 use crate::less_too::with_less_too;
-use pair_judge::{JudgedEnds, Verdict, Watched};
+use pair_judge::{JudgedEnds, Verdict, judge};
 use printing::check::{print_fault, print_out_of_memory};
-use printing::layers::watch_over;
 use std::alloc::{AllocError, Global};
 use std::io::{Read, Seek, Write};
 use why_answer::last_rows::LastRows;
@@ -37,15 +36,12 @@ pub fn why_to<A: Read + Seek, B: Read + Seek, O: Write, E: Write>(
     let layers = printout.layers;
     let mut tally_a = Tally::new(&mut *a);
     let mut tally_b = Tally::new(&mut *b);
-    let watched = match watch_over(alloc, layers, &mut tally_a, &mut tally_b, rows) {
+    let watched = match judge(alloc, layers.of_period(), &mut tally_a, &mut tally_b, rows) {
         Ok(watched) => watched,
         Err(fault) => return print_fault(alloc, fault, err),
     };
     match watched.ends.verdict() {
-        Verdict::Accepted(summary) => {
-            let_go(watched);
-            print_accepted(alloc, printout, summary, out, err)
-        }
+        Verdict::Accepted(summary) => print_accepted(alloc, printout, summary, out, err),
         Verdict::Refused {
             side,
             place,
@@ -58,10 +54,7 @@ pub fn why_to<A: Read + Seek, B: Read + Seek, O: Write, E: Write>(
             };
             let tried = match ask_again(alloc, printout, a, b, &watched.ends, refused) {
                 Ok(tried) => tried,
-                Err(_) => {
-                    let_go(watched);
-                    return print_out_of_memory(err);
-                }
+                Err(_) => return print_out_of_memory(err),
             };
             let failed = tried.failed;
             match refused_text(alloc, printout, refused, watched, tried) {
@@ -71,10 +64,6 @@ pub fn why_to<A: Read + Seek, B: Read + Seek, O: Write, E: Write>(
         }
     }
 }
-
-/// Drops what was judged. Where a function holds it and ends in several ways, the proof follows each way through the drop of all its parts; here it
-/// does so once.
-pub(crate) fn let_go(_watched: Watched<LastRows>) {}
 
 // What small edits tell of this refusal, and what is answered of nodes with queues, and where less is judged.
 fn ask_again<A: Read + Seek, B: Read + Seek>(

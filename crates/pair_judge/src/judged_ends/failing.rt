@@ -3,6 +3,7 @@
 ghost use Rattle.std.specs.Prelude.{◌≡◌, option_and_then, option_copied, option_map, slice_get};
 ghost use Rattle.nsp_link.specs.Kinds.{queues_of};
 ghost use Rattle.nsp_link.specs.View.{rest_of};
+ghost use Rattle.pair_judge.specs.JudgedAs.{queues_of as queues_judged};
 ghost use Rattle.pair_judge.specs.FailedIn as spec;
 ghost use Rattle.pair_judge.specs.Finding.{of_side};
 ghost use Rattle.pair_judge.specs.inner.Lines.{held};
@@ -10,16 +11,28 @@ ghost use Rattle.pair_judge.specs.inner.Lines.{held};
 use super::JudgedEnds;
 use crate::failed_cause::of_reason;
 use crate::failed_check::{Awaited, FailedCheck};
+use crate::judged_as::Layers;
 use crate::line::Line;
 use crate::reason::Reason;
 use crate::side_end::SideEnd;
 use crate::verdict::Verdict;
+use nsp_link::{WITH_QUEUES, WITHOUT_QUEUES};
 use wire_base::Side;
 
 impl JudgedEnds {
-    /// The side of the refused record, and the check that the record does not pass, with what is seen there and what is allowed: of
-    /// nodes with queues, or without, as was judged. The check is one of the reason of the verdict. `None` where the pair is accepted. Takes no memory.
-    pub fn failed<const QUEUES: u8>(&self) -> Option<(Side, FailedCheck)>
+    /// The side of the refused record, and the check that the record does not pass, with what is seen there and what is allowed: over these
+    /// layers, as was judged. The check is one of the reason of the verdict. `None` where the pair is accepted, and where none is named. Takes no memory.
+    pub fn failed(&self, layers: Layers) -> Option<(Side, FailedCheck)>
+        ensures { spec.IsFailedIn (queues_judged layers) self.now result }
+    {
+        match layers {
+            Layers::Queued => self.failed_by::<WITH_QUEUES>(),
+            Layers::Both | Layers::Station => self.failed_by::<WITHOUT_QUEUES>(),
+        }
+    }
+
+    // The same of nodes with queues, or without.
+    fn failed_by<const QUEUES: u8>(&self) -> Option<(Side, FailedCheck)>
         ensures { spec.IsFailedIn (queues_of QUEUES) self.now result }
     {
         let Verdict::Refused {

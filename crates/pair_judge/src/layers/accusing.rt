@@ -9,13 +9,13 @@ ghost use Rattle.dna_node.specs.Accusing as spec;
 ghost use Rattle.dna_node.specs.Content as read;
 ghost use Rattle.pair_judge.specs.inner.Tops.{line_end};
 
-use super::{Layers, Links, Station};
+use super::{Links, SideLayers, Station};
 use crate::packet::content;
 use ddcmp_msg::Message;
 use dna_packet::{AckWord, Nsp, read_nsp};
 use dna_station::{LinkRefusal, State, StationRefusal, StepRefusal, body_of};
 
-impl Layers {
+impl SideLayers {
     /// Why no right other end sends this message now, whether its packet is taken or not: `WrongResponse`; `BadPacket`, `BadNsp`. Takes no
     /// memory.
     pub fn wrong_unit(&self, message: &Message) -> Option<StepRefusal>

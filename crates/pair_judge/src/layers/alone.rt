@@ -2,7 +2,7 @@
 
 ghost use Rattle.pair_judge.specs.inner.Tops.{nothing_top};
 
-use super::Layers;
+use super::SideLayers;
 use crate::held_link::HeldLink;
 use crate::step_fault::StepFault;
 use crate::top::Top;
@@ -23,7 +23,7 @@ impl<const OF_PERIOD: bool> Top for NothingOnTop<OF_PERIOD> {
     ghost top = { nothing_top OF_PERIOD };
 
     #[inline(always)]
-    fn start_or_halt(layers: &mut Layers, event: StationEvent) -> Result<(), StepRefusal> {
+    fn start_or_halt(layers: &mut SideLayers, event: StationEvent) -> Result<(), StepRefusal> {
         match layers.station.user(event) {
             Ok(()) => Ok(()),
             Err(refusal) => Err(StepRefusal::Station(refusal)),
@@ -31,16 +31,16 @@ impl<const OF_PERIOD: bool> Top for NothingOnTop<OF_PERIOD> {
     }
 
     #[inline(always)]
-    fn at_links(_layers: &mut Layers, _event: LinkEvent) -> Result<(), StepFault> {
+    fn at_links(_layers: &mut SideLayers, _event: LinkEvent) -> Result<(), StepFault> {
         Ok(())
     }
 
-    fn boot(layers: &mut Layers) {
+    fn boot(layers: &mut SideLayers) {
         layers.halt();
     }
 
     #[inline(always)]
-    fn composed(_layers: &mut Layers, _packet: &[u8]) -> Result<(), StepFault> {
+    fn composed(_layers: &mut SideLayers, _packet: &[u8]) -> Result<(), StepFault> {
         Ok(())
     }
 
@@ -48,7 +48,7 @@ impl<const OF_PERIOD: bool> Top for NothingOnTop<OF_PERIOD> {
 
     // No packet has a tag.
     #[inline(always)]
-    fn sent(layers: &mut Layers, message: &Message) -> Result<UnitTag, StepFault> {
+    fn sent(layers: &mut SideLayers, message: &Message) -> Result<UnitTag, StepFault> {
         let permit = match layers.station.ask_to_send(message) {
             Ok(permit) => permit,
             Err(check) => return Err(StepFault::Refused(StepRefusal::Station(check.refusal()))),
@@ -64,7 +64,7 @@ impl<const OF_PERIOD: bool> Top for NothingOnTop<OF_PERIOD> {
 
     #[inline(always)]
     fn arrived(
-        layers: &mut Layers,
+        layers: &mut SideLayers,
         arrival: Arrival,
         _link: &HeldLink,
         fate: Fate,
@@ -81,7 +81,11 @@ impl<const OF_PERIOD: bool> Top for NothingOnTop<OF_PERIOD> {
         }
     }
 
-    fn arrived_unknown(layers: &mut Layers, arrival: Arrival, fate: Fate) -> Result<(), StepFault> {
+    fn arrived_unknown(
+        layers: &mut SideLayers,
+        arrival: Arrival,
+        fate: Fate,
+    ) -> Result<(), StepFault> {
         match layers.station.ask_arrival::<false>(arrival, fate.is_kept()) {
             Ok(permit) => {
                 layers.station.arrive(arrival, permit.row, fate.is_kept());
@@ -92,7 +96,7 @@ impl<const OF_PERIOD: bool> Top for NothingOnTop<OF_PERIOD> {
     }
 
     fn may_arrive_unknown(
-        layers: &Layers,
+        layers: &SideLayers,
         arrival: Arrival,
         fate: Fate,
     ) -> Result<(), StepRefusal> {
@@ -102,15 +106,15 @@ impl<const OF_PERIOD: bool> Top for NothingOnTop<OF_PERIOD> {
         }
     }
 
-    fn wrong_unit(layers: &Layers, message: &Message) -> Option<StepRefusal> {
+    fn wrong_unit(layers: &SideLayers, message: &Message) -> Option<StepRefusal> {
         layers.wrong_answer(message)
     }
 
-    fn wrong_taken(_layers: &Layers, _message: &Message) -> Option<StepRefusal> {
+    fn wrong_taken(_layers: &SideLayers, _message: &Message) -> Option<StepRefusal> {
         None
     }
 
-    fn links_begun(_layers: &Layers) -> u64 {
+    fn links_begun(_layers: &SideLayers) -> u64 {
         0
     }
 

@@ -11,7 +11,7 @@ ghost use Rattle.pair_judge.specs.inner.Receipts.{is_damage};
 ghost use Rattle.pair_judge.specs.inner.Steps.{IfRefused, with_link};
 ghost use Rattle.pair_judge.specs.inner.Tops.{rules_by};
 
-use super::{Layers, OF_NO_LINK};
+use super::{OF_NO_LINK, SideLayers};
 use crate::held_link::HeldLink;
 use crate::packet::{Carried, content};
 use crate::step_fault::StepFault;
@@ -22,7 +22,7 @@ use dna_packet::read_nsp;
 use dna_station::StepRefusal;
 use nsp_link::LinkFault;
 
-impl Layers {
+impl SideLayers {
     /// This came, with the tag of its packet, and the node kept the packet or did not. A packet that is kept, and not lost then, is read again and
     /// goes to the links, whose NSP has queues or has none (`QUEUES`). The station asks the rule on periods where `OF_PERIOD`, and the links ask that
     /// on partners where `OF_LINK`. Of an end whose other side is not known, no period and no link of what comes is known, so neither is asked.

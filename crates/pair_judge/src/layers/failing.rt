@@ -15,7 +15,7 @@ ghost use Rattle.nsp_link.specs.Kinds.{queues_of};
 ghost use Rattle.pair_judge.specs.FailedCheck as spec;
 ghost use Rattle.pair_judge.specs.inner.Steps.{with_link};
 
-use super::Layers;
+use super::SideLayers;
 use super::arriving::tag_of;
 use crate::carried::carried;
 use crate::failed_check::FailedCheck;
@@ -28,7 +28,7 @@ use dna_packet::read_nsp;
 use dna_station::body_of;
 use nsp_link::LinkEvent;
 
-impl Layers {
+impl SideLayers {
     /// The first check that this message does not pass, if the node sent it now; `None` where it may be sent. Takes no memory.
     pub fn failed_message<const QUEUES: u8>(&self, message: &Message) -> Option<FailedCheck>
         ensures { result ≡ spec.failed_message (queues_of QUEUES) self.now (view message.now) }

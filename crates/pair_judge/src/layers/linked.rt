@@ -3,7 +3,7 @@
 ghost use Rattle.nsp_link.specs.Kinds.{queues_of};
 ghost use Rattle.pair_judge.specs.inner.Tops.{links_top};
 
-use super::{Layers, OF_NO_LINK};
+use super::{OF_NO_LINK, SideLayers};
 use crate::held_link::HeldLink;
 use crate::step_fault::StepFault;
 use crate::top::Top;
@@ -26,33 +26,33 @@ impl<const OF_PERIOD: bool, const QUEUES: u8> Top for LinksOnTop<OF_PERIOD, QUEU
     ghost top = { links_top OF_PERIOD (queues_of QUEUES) };
 
     #[inline(always)]
-    fn start_or_halt(layers: &mut Layers, event: StationEvent) -> Result<(), StepRefusal> {
+    fn start_or_halt(layers: &mut SideLayers, event: StationEvent) -> Result<(), StepRefusal> {
         layers.start_or_halt(event)
     }
 
     #[inline(always)]
-    fn at_links(layers: &mut Layers, event: LinkEvent) -> Result<(), StepFault> {
+    fn at_links(layers: &mut SideLayers, event: LinkEvent) -> Result<(), StepFault> {
         layers.at_links::<QUEUES>(event)
     }
 
-    fn boot(layers: &mut Layers) {
+    fn boot(layers: &mut SideLayers) {
         layers.boot::<QUEUES>();
     }
 
-    fn composed(layers: &mut Layers, packet: &[u8]) -> Result<(), StepFault> {
+    fn composed(layers: &mut SideLayers, packet: &[u8]) -> Result<(), StepFault> {
         layers.composed::<QUEUES>(packet)
     }
 
     fn carries() {}
 
     #[inline(always)]
-    fn sent(layers: &mut Layers, message: &Message) -> Result<UnitTag, StepFault> {
+    fn sent(layers: &mut SideLayers, message: &Message) -> Result<UnitTag, StepFault> {
         layers.sent::<QUEUES>(message)
     }
 
     #[inline(always)]
     fn arrived(
-        layers: &mut Layers,
+        layers: &mut SideLayers,
         arrival: Arrival,
         link: &HeldLink,
         fate: Fate,
@@ -60,27 +60,31 @@ impl<const OF_PERIOD: bool, const QUEUES: u8> Top for LinksOnTop<OF_PERIOD, QUEU
         layers.arrived::<OF_PERIOD, true, QUEUES>(arrival, link, fate)
     }
 
-    fn arrived_unknown(layers: &mut Layers, arrival: Arrival, fate: Fate) -> Result<(), StepFault> {
+    fn arrived_unknown(
+        layers: &mut SideLayers,
+        arrival: Arrival,
+        fate: Fate,
+    ) -> Result<(), StepFault> {
         layers.arrived::<false, false, QUEUES>(arrival, &HeldLink::new(&Some(OF_NO_LINK)), fate)
     }
 
     fn may_arrive_unknown(
-        layers: &Layers,
+        layers: &SideLayers,
         arrival: Arrival,
         fate: Fate,
     ) -> Result<(), StepRefusal> {
         layers.may_arrive_unknown::<QUEUES>(arrival, fate)
     }
 
-    fn wrong_unit(layers: &Layers, message: &Message) -> Option<StepRefusal> {
+    fn wrong_unit(layers: &SideLayers, message: &Message) -> Option<StepRefusal> {
         layers.wrong_unit(message)
     }
 
-    fn wrong_taken(layers: &Layers, message: &Message) -> Option<StepRefusal> {
+    fn wrong_taken(layers: &SideLayers, message: &Message) -> Option<StepRefusal> {
         layers.wrong_taken(message)
     }
 
-    fn links_begun(layers: &Layers) -> u64 {
+    fn links_begun(layers: &SideLayers) -> u64 {
         layers.links_begun()
     }
 

@@ -9,14 +9,14 @@ ghost use Rattle.pair_judge.specs.inner.Packets.{lent_content};
 ghost use Rattle.pair_judge.specs.inner.Steps.{with_link};
 ghost use Rattle.pair_judge.specs.inner.Tops.{rules_by};
 
-use super::Layers;
+use super::SideLayers;
 use crate::packet::{Carried, content};
 use capture_record::Fate;
 use ddcmp_station::Arrival;
 use dna_packet::read_nsp;
 use dna_station::{LinkRefusal, StepRefusal};
 
-impl Layers {
+impl SideLayers {
     /// What `arrived::<false, false, QUEUES>` would refuse of this, asked without any change. Takes no memory.
     pub fn may_arrive_unknown<const QUEUES: u8>(
         &self,

@@ -17,7 +17,7 @@ ghost use Rattle.pair_judge.specs.inner.Steps.{IfRefused};
 ghost use Rattle.pair_judge.specs.inner.Unit.{tags_of};
 ghost use Rattle.pair_judge.specs.inner.Tops.{layers_run_by};
 
-use super::{Layers, OF_NO_LINK};
+use super::{OF_NO_LINK, SideLayers};
 use crate::packet::{Carried, content};
 use crate::step_fault::StepFault;
 use crate::unit_tag::UnitTag;
@@ -29,7 +29,7 @@ use dna_station::{StepRefusal, body_of};
 use nsp_link::LinkFault;
 use std::alloc::AllocError;
 
-impl Layers {
+impl SideLayers {
     /// The node sent this message: the tags that its unit goes with. A packet is read and goes to the links when it is first sent, and
     /// keeps the tag that it got then.
     ///

@@ -6,12 +6,12 @@ ghost use Rattle.dna_packet.specs.Nsp.{segment_view};
 ghost use Rattle.nsp_link.specs.Due.{due_at_links, due_to_user};
 ghost use Rattle.nsp_link.specs.View as link;
 
-use super::Layers;
+use super::SideLayers;
 use ddcmp_station::StationView;
 use dna_packet::Segment;
 use nsp_link::{LinkView, Nodes};
 
-impl Layers {
+impl SideLayers {
     /// The variables of the station as they are now.
     pub fn station_view(&self) -> StationView
         ensures { result ≡ view_of self.now.station }

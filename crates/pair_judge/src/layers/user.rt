@@ -12,13 +12,13 @@ ghost use Rattle.pair_judge.specs.inner.Memory.{IfNoMemory, MayEnter};
 ghost use Rattle.pair_judge.specs.inner.Steps.{IfRefused};
 ghost use Rattle.pair_judge.specs.inner.Tops.{layers_run, layers_run_by};
 
-use super::Layers;
+use super::SideLayers;
 use crate::step_fault::StepFault;
 use ddcmp_station::StationEvent;
 use dna_station::StepRefusal;
 use nsp_link::{LinkEvent, LinkFault};
 
-impl Layers {
+impl SideLayers {
     /// The user starts or halts the station. `WrongUserEvent`: a start in a state other than HALTED (DDCMP 4.1, startup state table).
     /// Takes no memory.
     pub fn start_or_halt(&mut self, event: StationEvent) -> Result<(), StepRefusal>

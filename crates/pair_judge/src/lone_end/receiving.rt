@@ -10,7 +10,7 @@ ghost use Rattle.pair_judge.specs.EndJudged.{accused_view};
 ghost use Rattle.pair_judge.specs.inner.LoneEnd.{CameIs, IfCameFails, MeetsIs, SoundIs};
 
 use crate::end_verdict::Accused;
-use crate::layers::Layers;
+use crate::layers::SideLayers;
 use crate::step_fault::StepFault;
 use crate::top::Top;
 use capture_record::Fate;
@@ -41,7 +41,11 @@ pub enum Came {
 
 /// Receives these bytes. It fails, in this order: by the other end, where they are no message of a right one in this state; by this end, as the
 /// station refuses; and, of a packet that is taken, by the other end. An error: there is no memory for what the links keep of it.
-pub fn receive<T: Top>(layers: &mut Layers, fate: Fate, bytes: &[u8]) -> Result<Came, AllocError>
+pub fn receive<T: Top>(
+    layers: &mut SideLayers,
+    fate: Fate,
+    bytes: &[u8],
+) -> Result<Came, AllocError>
     requires { load layers.old.station < 2 ^ 63 }
     ensures came { IfOk result (λ came. CameIs T.top came layers.old layers.new fate (reading bytes.now)) }
     ensures still { IfOk result (λ came. IfCameFails came (layers.new ≡ layers.old)) }
@@ -60,7 +64,7 @@ pub fn receive<T: Top>(layers: &mut Layers, fate: Fate, bytes: &[u8]) -> Result<
 
 // A sound message comes.
 fn receive_sound<T: Top>(
-    layers: &mut Layers,
+    layers: &mut SideLayers,
     fate: Fate,
     message: Message,
 ) -> Result<Came, AllocError>
@@ -85,7 +89,7 @@ fn receive_sound<T: Top>(
     }
 }
 
-fn wrong_if_met<T: Top>(layers: &Layers, fate: Fate, message: &Message) -> Option<StepRefusal>
+fn wrong_if_met<T: Top>(layers: &SideLayers, fate: Fate, message: &Message) -> Option<StepRefusal>
     ensures { result ≡ alone.if_met (is_met fate) (T.top.alone.wrong_taken layers.now (view message.now)) }
 {
     if fate.is_met() {

@@ -5,6 +5,7 @@ ghost use Rattle.capture_record.specs.Entries.{record_with};
 ghost use Rattle.ddcmp_msg.specs.Reading.{reading};
 ghost use Rattle.nsp_link.specs.Kinds.{queues_of};
 ghost use Rattle.nsp_link.specs.View.{rest_of};
+ghost use Rattle.pair_judge.specs.JudgedAs.{queues_of as queues_judged};
 ghost use Rattle.pair_judge.specs.FailedCheck as of_any;
 ghost use Rattle.pair_judge.specs.FailedIn as spec;
 ghost use Rattle.pair_judge.specs.inner.Lines.{held};
@@ -15,13 +16,15 @@ use crate::course::Ahead;
 use crate::failed_cause::of_reason;
 use crate::failed_check::{FailedCheck, NotSound};
 use crate::failed_record::{failed_own, failed_record};
-use crate::layers::Layers;
+use crate::judged_as::Layers;
+use crate::layers::SideLayers;
 use crate::line::Line;
 use crate::reason::Reason;
 use capture_record::Entry;
 use ddcmp_msg::{Message, Reading, read_unit};
 use ddcmp_station::FailedArrival;
 use dna_packet::read_nsp;
+use nsp_link::{WITH_QUEUES, WITHOUT_QUEUES};
 
 impl SideEnd {
     /// The first check that the record ahead does not pass, where this line leads from the other side; `None` where it is made, or waits, or there
@@ -37,9 +40,19 @@ impl SideEnd {
     }
 
     /// The check that the record ahead of an end alone does not pass, which is refused for this reason, with what is seen there and what is allowed:
-    /// of a node with queues, or without, as was judged. The check is one of this reason. `None` where none is named: a response or an
+    /// over these layers, as was judged. The check is one of this reason. `None` where none is named: a response or an
     /// acknowledgement that no right other end sends, or a message of other nodes, that came. Takes no memory.
-    pub fn failed_alone<const QUEUES: u8>(&self, reason: Reason) -> Option<FailedCheck>
+    pub fn failed_alone(&self, layers: Layers, reason: Reason) -> Option<FailedCheck>
+        ensures { spec.IsFailedAlone (queues_judged layers) self.now reason result }
+    {
+        match layers {
+            Layers::Queued => self.failed_alone_by::<WITH_QUEUES>(reason),
+            Layers::Both | Layers::Station => self.failed_alone_by::<WITHOUT_QUEUES>(reason),
+        }
+    }
+
+    // The same of a node with queues, or without.
+    fn failed_alone_by<const QUEUES: u8>(&self, reason: Reason) -> Option<FailedCheck>
         ensures { spec.IsFailedAlone (queues_of QUEUES) self.now reason result }
     {
         let Ahead::Waits(entry) = self.ahead else {
@@ -74,7 +87,7 @@ impl SideEnd {
 #[tactic(auto, using(crate::proofs::Entries::no_receipt))]
 fn failed_entry<const QUEUES: u8>(
     reason: Reason,
-    layers: &Layers,
+    layers: &SideLayers,
     front: u64,
     entry: Entry,
     bytes: &[u8],

@@ -10,5 +10,5 @@ returns c = record {
   accusation = subst (λ (by_table : Accusation). IsAccused c.in-Refused.reason by_table c.accusation_knowing.result)
       c.of_end-by_table.ensures c.accusation_knowing.ensures;
   ahead = c.in-Some.ensures.some;
-  failed = c.failed_end_over.ensures;
+  failed = c.failed_alone.ensures;
 }

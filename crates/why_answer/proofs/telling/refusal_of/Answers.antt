@@ -9,5 +9,5 @@ returns c = record {
   accused = c.accusation_of.ensures;
   ahead = c.in-Some.ensures.some;
   failing = _;
-  failed = c.in-Some-failed_over.ensures;
+  failed = c.in-Some-failed.ensures;
 }

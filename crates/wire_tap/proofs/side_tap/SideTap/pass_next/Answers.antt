@@ -12,10 +12,10 @@ returns-in-Some-clause-own c =
 pub returns-in-Some-2-clause-own : goal.returns-in-Some-2-clause-own
 returns-in-Some-2-clause-own c =
     let found = c.in-Completed.ensures.found in
-    ends_found _ _ _ c.in-Completed.kind c.in-Completed.strays c.completed.result.now (side_state c.args.self.now) _
-    (units_state c.skip-in-Completed.new.self) c.in-Some-2.ending c.in_ok-ending-in-Completed.field-0 (rw (← c.completed.ensures) at found.0) found.1
+    ends_found _ _ _ c.in-Completed.kind c.in-Completed.strays c.completed-unit.result.now (side_state c.args.self.now) _
+    (units_state c.skip-in-Completed.new.self) c.in-Some-2.ending c.in_ok-ending-in-Completed.field-0 (rw (← c.completed-unit.ensures) at found.0) found.1
     c.skip-in-Completed.ensures.placing c.skip-in-Completed.ensures.count c.in_ok-ending-in-Completed.ensures.own
     c.in_ok-ending-in-Completed.ensures.ends c.in-Some-2.is
 
-pub returns-after-held-piece-clause-other : goal.returns-after-held-piece-clause-other
-returns-after-held-piece-clause-other c = tells_used _ _ c.in-More.strays c.args.other.now c.in-More.ensures.found
+pub returns-in-More-clause-other : goal.returns-in-More-clause-other
+returns-in-More-clause-other c = tells_used _ _ c.in-More.strays c.args.other.now c.in-More.ensures.found
