@@ -6,6 +6,6 @@ pub returns-in-Json : goal.returns-in-Json
 returns-in-Json c = end_tells_as_objects string_bytes c.args.printout.layers _ _ c.in-Some.ensures c.args.printout.form c.in-Json.is
     c.why_end_json.result c.why_end_json.ensures
 
-pub returns : goal.returns
-returns c = end_tells_in_rows string_bytes c.args.printout.layers _ _ c.in-Some.ensures c.args.printout.form c.in-Rows.is c.rows_text.result
+pub returns-in-Rows : goal.returns-in-Rows
+returns-in-Rows c = end_tells_in_rows string_bytes c.args.printout.layers _ _ c.in-Some.ensures c.args.printout.form c.in-Rows.is c.rows_text.result
     c.rows_text.ensures
