@@ -5,7 +5,7 @@ use Rattle.pair_laws.proofs.refusals.refusal_of.Goals as goal
 pub returns-in-Refused-clause-told : goal.returns-in-Refused-clause-told
 returns-in-Refused-clause-told c = λ a b text_a text_b.
     let known = rw (c.of_period.ensures, c.new-a.ensures.lent, c.new-b.ensures.lent, sym c.verdict.ensures ∙ c.in-Refused.is)
-        at c.in-Ok.ensures.answer in
+    at c.in-Ok.ensures.answer in
     c.refused_captures.ensures.nodes a b _ _ _ _ _ text_a text_b known.refused
 
 pub returns-in-Refused-clause-any_format : goal.returns-in-Refused-clause-any_format
