@@ -130,7 +130,7 @@ def faults_of_assumed(tap, count):
         fine = out.startswith('accepted\n') and len(lines) >= 599 and lines == sorted(lines)
         yield None if fine else '600 %s: %d are told, %r' % (name, len(lines), out[:80])
         low, high = (seconds_of(tap, line(times)) for times in (count, 8 * count))
-        fine = None not in (low, high) and high <= 24 * max(low, 0.03)
+        fine = None not in (low, high) and high <= 16 * max(low, 0.05)
         yield None if fine else '%s: %r s, and %r s for eight times as many' % (name, low, high)
     printed = tap.tap(text_of(long_message(65_536, 16)))
     yield None if printed == ('', 'wire: line %d: too long\n' % (6 + 2 * 4_096), 2) else 'a message of 65,536 bytes: printed %r' % (printed,)
